@@ -1,0 +1,14 @@
+//! Heads, tasks, errors and log entries: the plain data that every layer of the relay speaks of.
+#![tactic(auto)]
+
+mod context;
+mod error;
+mod fault;
+mod peer;
+mod request;
+
+pub use context::Context;
+pub use error::{Error, ErrorSource, ErrorType, Fail, Result, RetryType};
+pub use fault::{Fault, FaultKind};
+pub use peer::{Peer, PurgeAction, Purged};
+pub use request::RequestHeader;
