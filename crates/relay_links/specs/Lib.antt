@@ -1,3 +1,4 @@
+pub mod Branch
 pub mod Connector
 pub mod Count
 pub mod Link

@@ -3,19 +3,23 @@
 #![tactic(auto)]
 
 mod branch;
+mod branch_set;
 mod connector;
 mod delay;
 mod link;
 mod purger;
+mod schedule;
 mod sink;
 mod source;
 mod watch;
 
-pub use branch::Branch;
+pub use branch::{BRANCHES, Branch};
+pub use branch_set::BranchSet;
 pub use connector::{Connector, Returned};
 pub use delay::Delay;
 pub use link::{ByteLink, Got, Pause, Put};
 pub use purger::Purger;
+pub use schedule::Schedule;
 pub use sink::{Sink, Wrote};
 pub use source::{Read, Source};
 pub use watch::ShutdownWatch;
