@@ -1,12 +1,12 @@
 -- The branches of a duplex in their order, and sets of them.
-use Rattle.std.specs.Prelude.{◌≡◌, ℕ, Bool, ◌||◌, ◌==◌, List, [], ◌∷◌, filter}
+use Rattle.std.specs.Prelude.{ℕ, Bool, ◌||◌, ◌==◌, List, [], ◌∷◌, filter}
 use Rattle.std.specs.Int.{bit_at}
 use Rattle.std.specs.List.{list_any}
 use Rattle.relay_links.specs.declared.branch.Branch.{Branch}
 use Rattle.relay_links.specs.declared.branch.Branch.TheVariants.{UpWrite, DownWrite, UpTake, DownTake, DownDrop, DownEnd, DownClosed, UpRead, DownRead, UpFinish, DownFinish, MessageUp, MessageDown}
 
 -- every branch, in order
-abbrev pub all_branches : List Branch
+unfoldable pub all_branches : List Branch
 all_branches =
     UpWrite ∷ DownWrite ∷ UpTake ∷ DownTake ∷ DownDrop ∷ DownEnd ∷ DownClosed ∷ UpRead ∷ DownRead
     ∷ UpFinish ∷ DownFinish ∷ MessageUp ∷ MessageDown ∷ []
@@ -40,5 +40,5 @@ abbrev pub with_branch : List Branch → Branch → List Branch
 with_branch set branch = filter (λ b. has set b || is_same_branch branch b) all_branches
 
 -- the branches whose bits are set, in order
-abbrev pub branches_of : ℕ → List Branch
+unfoldable pub branches_of : ℕ → List Branch
 branches_of bits = filter (λ b. bit_at bits (place_of b) == 1) all_branches

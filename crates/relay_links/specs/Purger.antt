@@ -1,6 +1,5 @@
 -- What a purger means, and what one call of it does.
 use Rattle.std.specs.Prelude.{◌≡◌, ℕ, ◌≤◌, List, [], ◌∷◌, Option}
-use Rattle.relay_tasks.specs.declared.fault.Fault.{Fault}
 use Rattle.relay_tasks.specs.declared.peer.PurgeAction.{PurgeAction}
 use Rattle.relay_tasks.specs.declared.peer.Purged.{Purged}
 use Rattle.relay_tasks.specs.declared.peer.Purged.TheVariants.{NoCache, Found, NotFound, Failed, OutOfMemory}

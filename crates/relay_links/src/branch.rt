@@ -40,7 +40,7 @@ pub const BRANCHES: [Branch; 13] = [
 impl Branch {
     /// The place of the branch in the order, from 0 to 12.
     pub fn place(self) -> u16
-        ensures place { result ≡ place_of self }
+        ensures { result ≡ place_of self }
     {
         self as u16
     }

@@ -1,5 +1,5 @@
 //! A set of branches, as those that may be taken in a turn.
-ghost use Rattle.std.specs.Prelude.{◌≡◌, ◌||◌, [], slice_get};
+ghost use Rattle.std.specs.Prelude.{◌≡◌, ◌||◌, [], find};
 ghost use Rattle.relay_links.specs.Branch.{has, with_branch, is_same_branch};
 ghost use Rattle.relay_links.specs.declared.branch.Branch.{Branch};
 
@@ -47,8 +47,11 @@ impl BranchSet {
 
     /// The first branch of the set, in the order.
     pub fn first(&self) -> Option<Branch>
-        ensures { result ≡ slice_get self.now 0 }
+        ensures { result ≡ find (has self.now) BRANCHES }
     {
-        BRANCHES.iter().copied().find(|branch| self.contains(*branch))
+        BRANCHES
+            .iter()
+            .copied()
+            .find(|branch| self.contains(*branch))
     }
 }
