@@ -1,2 +1,6 @@
 pub mod BranchLemmas
+pub mod FrontLemmas
+pub mod NumberLemmas
+pub mod ReadScriptLemmas
 pub mod SinceLemmas
+pub mod WriteScriptLemmas

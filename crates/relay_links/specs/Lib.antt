@@ -1,8 +1,11 @@
 pub mod Branch
 pub mod Connector
 pub mod Count
+pub mod Fault
 pub mod Link
 pub mod Purger
+pub mod ReadScript
 pub mod Sink
 pub mod Source
 pub mod Told
+pub mod WriteScript
