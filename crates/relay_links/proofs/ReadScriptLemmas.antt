@@ -1,5 +1,5 @@
 -- Scripts of reads: what passing an item, and answering by it, does to what was given and is left.
-use Rattle.std.proofs.Common.{◌≡◌, ℕ, zero, suc, ◌+◌, ◌-◌, ◌<◌, ◌≤◌, Bool, true, false, cond, nat_le, leb, List, [], ◌∷◌, ◌++◌, length, take, drop, get_or, slice_get, Option, Some, None, refl, sym, ap, ◌∙◌, subst, arith, append-nil, append_assoc, add-one, take_all, leb-true, leb-false, le-leb, take-append-drop, vec_len, length-drop, drop_of_length-le}
+use Rattle.std.proofs.Common.{◌≡◌, ℕ, zero, suc, ◌+◌, ◌<◌, ◌≤◌, true, false, List, [], ◌∷◌, ◌++◌, length, take, drop, get_or, slice_get, Some, refl, sym, ap, ◌∙◌, arith, append-nil, append_assoc, add-one, take_all, leb-true, take-append-drop, vec_len, length-drop, drop_of_length-le}
 use Rattle.std.proofs.Math.Seq.{take-add}
 use Rattle.std.proofs.lemmas.Option.{slice_get_past, slice_get_read}
 use Rattle.relay_tasks.specs.declared.fault.Fault.{Fault}
@@ -7,7 +7,7 @@ use Rattle.relay_links.proofs.NumberLemmas.{leb-sub}
 use Rattle.relay_links.specs.declared.read_script.ReadItem.{ReadItem}
 use Rattle.relay_links.specs.declared.read_script.ReadItem.TheVariants as item
 use Rattle.relay_links.specs.declared.read_script.ReadScript.{ReadScript}
-use Rattle.relay_links.specs.ReadScript.{bytes_of, fault_of, all_bytes, given_of, left_items, unpassed, faults_before, is_passed, rest_of, script_front, script_left, IsSettled, Passes}
+use Rattle.relay_links.specs.ReadScript.{bytes_of, fault_of, all_bytes, given_of, left_items, faults_before, is_passed, rest_of, IsSettled, Passes}
 
 -- an item that is passed has given its bytes
 short : (x : ReadItem) (done taken : ℕ) → is_passed x done taken ≡ true → length (bytes_of x) ≤ done
@@ -129,17 +129,17 @@ pub passes_one : (start script : ReadScript) (taken n : ℕ) (x : ReadItem) → 
     → Passes start (record { items = script.items; at = script.at + 1; done = 0; ended = script.ended }) taken
 passes_one start script taken n x so_far size within read passed =
     let found : slice_get script.items.items script.at ≡ Some x =
-        slice_get_read script.items.items n script.at x (size ∙ script.items.ok.0) within read in
+    slice_get_read script.items.items n script.at x (size ∙ script.items.ok.0) within read in
     let gone : is_passed (rest_of x script.done) 0 taken ≡ true = is_passed-rest_of x script.done taken ∙ passed in
     record {
-        items = so_far.items;
-        ended = so_far.ended;
-        given = rw add-one
-            (given_of-passed script.items.items script.at script.done x found (short x script.done taken passed) ∙ so_far.given);
-        faults = rw add-one
-            (faults_before-suc script.items.items script.at x found ∙ rw (no_fault x script.done taken passed, append-nil) so_far.faults);
-        front = rw add-one
-            (sym (rw (left_items-here script.items.items script.at script.done x found, gone) refl) ∙ so_far.front);
+      items = so_far.items;
+      ended = so_far.ended;
+      given = rw add-one
+          (given_of-passed script.items.items script.at script.done x found (short x script.done taken passed) ∙ so_far.given);
+      faults = rw add-one
+          (faults_before-suc script.items.items script.at x found ∙ rw (no_fault x script.done taken passed, append-nil) so_far.faults);
+      front = rw add-one
+          (sym (rw (left_items-here script.items.items script.at script.done x found, gone) refl) ∙ so_far.front);
     }
 
 -- a script that does not pass the item at its place
@@ -148,11 +148,11 @@ pub settled_here : (script : ReadScript) (taken n : ℕ) (x : ReadItem)
     → is_passed x script.done taken ≡ false → IsSettled script taken
 settled_here script taken n x size within read stays =
     let found : slice_get script.items.items script.at ≡ Some x =
-        slice_get_read script.items.items n script.at x (size ∙ script.items.ok.0) within read in
+    slice_get_read script.items.items n script.at x (size ∙ script.items.ok.0) within read in
     let here : is_passed (rest_of x script.done) 0 taken ≡ false = is_passed-rest_of x script.done taken ∙ stays in
     record {
-        front = rw (left_items-here script.items.items script.at script.done x found, here) refl;
-        stays = rw found stays;
+      front = rw (left_items-here script.items.items script.at script.done x found, here) refl;
+      stays = rw found stays;
     }
 
 -- a script past its last item
@@ -160,6 +160,6 @@ pub settled_past : (script : ReadScript) (taken n : ℕ) → n ≡ vec_len scrip
 settled_past script taken n size past =
     let beyond : length script.items.items ≤ script.at = omega (arith, script.items.ok.0) in
     record {
-        front = rw (left_items-past script.items.items script.at script.done beyond) refl;
-        stays = rw (slice_get_past script.items.items script.at beyond) tt;
+      front = rw (left_items-past script.items.items script.at script.done beyond) refl;
+      stays = rw (slice_get_past script.items.items script.at beyond) tt;
     }

@@ -1,5 +1,5 @@
 -- Scripts of writes: what passing an item, and answering by it, does to what is left.
-use Rattle.std.proofs.Common.{◌≡◌, ℕ, zero, suc, ◌+◌, ◌-◌, ◌<◌, ◌≤◌, Bool, true, false, List, [], ◌∷◌, ◌++◌, length, get_or, slice_get, Option, Some, refl, sym, ap, ◌∙◌, arith, append-nil, append_assoc, add-one, vec_len, leb-false}
+use Rattle.std.proofs.Common.{◌≡◌, ℕ, zero, suc, ◌+◌, ◌<◌, ◌≤◌, true, false, List, [], ◌∷◌, ◌++◌, length, get_or, slice_get, Some, refl, sym, ap, ◌∙◌, arith, append-nil, append_assoc, add-one, vec_len, leb-false}
 use Rattle.std.proofs.lemmas.Option.{slice_get_past, slice_get_read}
 use Rattle.relay_tasks.specs.declared.fault.Fault.{Fault}
 use Rattle.relay_links.specs.Fault.{as_write_fault}
@@ -7,8 +7,9 @@ use Rattle.relay_links.proofs.NumberLemmas.{leb-sub}
 use Rattle.relay_links.specs.declared.write_script.WriteItem.{WriteItem}
 use Rattle.relay_links.specs.declared.write_script.WriteItem.TheVariants as item
 use Rattle.relay_links.specs.declared.write_script.WriteScript.{WriteScript}
-use Rattle.relay_links.specs.declared.write_script.WriteTurn.TheVariants as turn
-use Rattle.relay_links.specs.WriteScript.{fault_of, faults_before, is_passed, rest_of, left_items, unpassed, turn_of, after_turn, turn_faults, script_faults, script_left, script_front, IsSettled, Passes}
+use Rattle.relay_links.specs.declared.write_script.WriteTurn.TheVariants.{Takes, TakesAll, Waits, Fails}
+use Rattle.relay_links.specs.Link.{IsWriteFault}
+use Rattle.relay_links.specs.WriteScript.{fault_of, faults_before, is_passed, rest_of, left_items, script_faults, script_left, script_front, IsSettled, Passes, TakesTurn}
 
 -- an item that is passed has no fault
 no_fault : (x : WriteItem) (done : ℕ) → is_passed x done ≡ true → fault_of x ≡ []
@@ -70,14 +71,14 @@ pub passes_one : (start script : WriteScript) (n : ℕ) (x : WriteItem) → Pass
     → Passes start (record { items = script.items; at = script.at + 1; done = 0 })
 passes_one start script n x so_far size within read passed =
     let found : slice_get script.items.items script.at ≡ Some x =
-        slice_get_read script.items.items n script.at x (size ∙ script.items.ok.0) within read in
+    slice_get_read script.items.items n script.at x (size ∙ script.items.ok.0) within read in
     let gone : is_passed (rest_of x script.done) 0 ≡ true = is_passed-rest_of x script.done ∙ passed in
     record {
-        items = so_far.items;
-        faults = rw add-one
-            (faults_before-suc script.items.items script.at x found ∙ rw (no_fault x script.done passed, append-nil) so_far.faults);
-        front = rw add-one
-            (sym (rw (left_items-here script.items.items script.at script.done x found, gone) refl) ∙ so_far.front);
+      items = so_far.items;
+      faults = rw add-one
+          (faults_before-suc script.items.items script.at x found ∙ rw (no_fault x script.done passed, append-nil) so_far.faults);
+      front = rw add-one
+          (sym (rw (left_items-here script.items.items script.at script.done x found, gone) refl) ∙ so_far.front);
     }
 
 -- a script that does not pass the item at its place
@@ -86,11 +87,11 @@ pub settled_here : (script : WriteScript) (n : ℕ) (x : WriteItem)
     → is_passed x script.done ≡ false → IsSettled script
 settled_here script n x size within read stays =
     let found : slice_get script.items.items script.at ≡ Some x =
-        slice_get_read script.items.items n script.at x (size ∙ script.items.ok.0) within read in
+    slice_get_read script.items.items n script.at x (size ∙ script.items.ok.0) within read in
     let here : is_passed (rest_of x script.done) 0 ≡ false = is_passed-rest_of x script.done ∙ stays in
     record {
-        front = rw (left_items-here script.items.items script.at script.done x found, here) refl;
-        stays = rw found stays;
+      front = rw (left_items-here script.items.items script.at script.done x found, here) refl;
+      stays = rw found stays;
     }
 
 -- a script past its last item
@@ -98,8 +99,8 @@ pub settled_past : (script : WriteScript) (n : ℕ) → n ≡ vec_len script.ite
 settled_past script n size past =
     let beyond : length script.items.items ≤ script.at = omega (arith, script.items.ok.0) in
     record {
-        front = rw (left_items-past script.items.items script.at script.done beyond) refl;
-        stays = rw (slice_get_past script.items.items script.at beyond) tt;
+      front = rw (left_items-past script.items.items script.at script.done beyond) refl;
+      stays = rw (slice_get_past script.items.items script.at beyond) tt;
     }
 
 -- the items behind the place of a script
@@ -112,6 +113,13 @@ pub record Front (before settled : WriteScript) (x : WriteItem) : Type 0 where
   pub stays : is_passed x settled.done ≡ false
   pub front : script_front before ≡ rest_of x settled.done ∷ behind settled
   pub faults : script_faults settled ≡ script_faults before
+  pub items : settled.items ≡ before.items
+
+-- the faults after an item that was answered at once
+faults-next : (before settled : WriteScript) (x : WriteItem) → Front before settled x
+    → faults_before settled.items.items (settled.at + 1) ≡ script_faults before ++ fault_of x
+faults-next before settled x here =
+    rw add-one (faults_before-suc settled.items.items settled.at x here.found ∙ ap (λ (t : List Fault). t ++ fault_of x) here.faults)
 
 -- the item that the code read, once the script has settled
 pub front : (before settled : WriteScript) (n : ℕ) (read x : WriteItem) → Passes before settled → IsSettled settled
@@ -119,36 +127,69 @@ pub front : (before settled : WriteScript) (n : ℕ) (read x : WriteItem) → Pa
     → Front before settled x
 front before settled n read x passes settles size within is_read is =
     let read_here : slice_get settled.items.items settled.at ≡ Some read =
-        slice_get_read settled.items.items n settled.at read (size ∙ settled.items.ok.0) within is_read in
+    slice_get_read settled.items.items n settled.at read (size ∙ settled.items.ok.0) within is_read in
     let found : slice_get settled.items.items settled.at ≡ Some x = read_here ∙ ap (λ (y : WriteItem). Some y) is in
     record {
-        found = found;
-        stays = rw found at settles.stays;
-        front = sym passes.front ∙ settles.front ∙ left_items-here settled.items.items settled.at settled.done x found;
-        faults = passes.faults;
+      found = found;
+      stays = rw found at settles.stays;
+      front = sym passes.front ∙ settles.front ∙ left_items-here settled.items.items settled.at settled.done x found;
+      faults = passes.faults;
+      items = passes.items;
     }
 
--- the script is used up past its last item
-pub front-past : (before settled : WriteScript) (n : ℕ) → Passes before settled → IsSettled settled
-    → n ≡ vec_len settled.items → n ≤ settled.at → (script_front before ≡ []) × (script_left settled ≡ [])
-front-past before settled n passes settles size past =
+-- all is taken past the last item
+pub takes_all : (before settled : WriteScript) (n : ℕ) → Passes before settled → IsSettled settled
+    → n ≡ vec_len settled.items → n ≤ settled.at → TakesTurn before settled TakesAll
+takes_all before settled n passes settles size past =
     let none : script_left settled ≡ [] =
-        left_items-past settled.items.items settled.at settled.done (omega (arith, settled.items.ok.0)) in
-    (sym passes.front ∙ settles.front ∙ none, none)
+    left_items-past settled.items.items settled.at settled.done (omega (arith, settled.items.ok.0)) in
+    let before_front : script_front before ≡ [] = sym passes.front ∙ settles.front ∙ none in
+    record {
+      exact = rw before_front refl;
+      left = none ∙ rw before_front refl;
+      faults = rw append-nil passes.faults;
+      kind = tt;
+      items = passes.items;
+    }
+
+-- a part is taken
+pub takes : (before settled : WriteScript) (n : ℕ) → Front before settled (item.Take n)
+    → TakesTurn before (record { items = settled.items; at = settled.at + 1; done = 0 }) (Takes n)
+takes before settled n here =
+    record {
+      exact = rw here.front refl;
+      left = rw (add-one, here.front) refl;
+      faults = faults-next before settled (item.Take n) here;
+      kind = omega (arith, leb-false n 0 here.stays);
+      items = here.items;
+    }
 
 -- a wait that is not over
 pub wait_is_short : (before settled : WriteScript) (n : ℕ) → Front before settled (item.Wait n) → settled.done < n
 wait_is_short before settled n here = leb-false n settled.done here.stays
 
--- the item in front after one more of it is done
-pub left-more : (before settled : WriteScript) (n : ℕ) → Front before settled (item.Wait n)
-    → left_items settled.items.items settled.at (settled.done + 1) ≡ after_turn (script_front before)
-left-more before settled n here =
-    left_items-here settled.items.items settled.at (settled.done + 1) (item.Wait n) here.found
-    ∙ sym (rw here.front (ap (λ (k : ℕ). item.Wait k ∷ behind settled) (omega arith)))
+-- a wait goes on
+pub waits : (before settled : WriteScript) (n : ℕ) → Front before settled (item.Wait n)
+    → TakesTurn before (record { items = settled.items; at = settled.at; done = settled.done + 1 }) Waits
+waits before settled n here =
+    record {
+      exact = rw here.front refl;
+      left = left_items-here settled.items.items settled.at (settled.done + 1) (item.Wait n) here.found
+          ∙ sym (rw here.front (ap (λ (k : ℕ). item.Wait k ∷ behind settled) (omega arith)));
+      faults = rw append-nil here.faults;
+      kind = tt;
+      items = here.items;
+    }
 
--- the faults after an item that was answered at once
-pub faults-next : (before settled : WriteScript) (x : WriteItem) → Front before settled x
-    → faults_before settled.items.items (settled.at + 1) ≡ script_faults before ++ fault_of x
-faults-next before settled x here =
-    rw add-one (faults_before-suc settled.items.items settled.at x here.found ∙ ap (λ (t : List Fault). t ++ fault_of x) here.faults)
+-- a fault is answered once
+pub fails : (before settled : WriteScript) (fault answered : Fault) → Front before settled (item.Fault fault)
+    → answered ≡ as_write_fault fault → IsWriteFault answered
+    → TakesTurn before (record { items = settled.items; at = settled.at + 1; done = 0 }) (Fails answered)
+fails before settled fault answered here is kind =
+    record {
+      exact = rw (here.front, is) refl;
+      left = rw (add-one, here.front) refl;
+      faults = rw is (faults-next before settled (item.Fault fault) here);
+      kind = kind;
+      items = here.items;
+    }

@@ -1,5 +1,5 @@
 -- What a script of reads gave, what it has left, and which item answers the next read.
-use Rattle.std.specs.Prelude.{◌≡◌, ℕ, zero, suc, ◌-◌, min, Bool, true, false, cond, nat_le, List, [], ◌∷◌, ◌++◌, length, take, drop, flat_map, Option, Some, None, option_map, slice_get, IfSome, ◌≤◌, ◌&&◌, not}
+use Rattle.std.specs.Prelude.{◌≡◌, ℕ, zero, suc, ◌-◌, min, Bool, true, false, cond, nat_le, List, [], ◌∷◌, ◌++◌, length, take, drop, flat_map, slice_get, IfSome, ◌≤◌, ◌&&◌, not}
 use Rattle.relay_tasks.specs.declared.fault.Fault.{Fault}
 use Rattle.relay_links.specs.Fault.{as_read_fault}
 use Rattle.relay_links.specs.Link.{IsReadFault}
@@ -130,7 +130,7 @@ script_after script taken room =
 pub record IsSettled (script : ReadScript) (taken : ℕ) : Type 0 where
   pub front : script_front script taken ≡ script_left script
   pub stays : IfSome (slice_get script.items.items script.at)
-    (λ item. is_passed item script.done taken ≡ false)
+      (λ item. is_passed item script.done taken ≡ false)
 
 -- the script has passed items that have answered all, and nothing else changed
 pub record Passes (before after : ReadScript) (taken : ℕ) : Type 0 where

@@ -1,12 +1,12 @@
 -- What a script of writes answered, and which item answers the next write.
-use Rattle.std.specs.Prelude.{◌≡◌, ℕ, zero, suc, ◌-◌, Bool, true, false, cond, nat_le, List, [], ◌∷◌, ◌++◌, Option, slice_get, IfSome, ◌≤◌}
+use Rattle.std.specs.Prelude.{◌≡◌, ℕ, zero, suc, ◌-◌, Bool, false, cond, nat_le, List, [], ◌∷◌, ◌++◌, slice_get, IfSome, ◌≤◌}
 use Rattle.relay_tasks.specs.declared.fault.Fault.{Fault}
 use Rattle.relay_links.specs.Fault.{as_write_fault}
 use Rattle.relay_links.specs.declared.write_script.WriteItem.{WriteItem}
 use Rattle.relay_links.specs.declared.write_script.WriteItem.TheVariants as item
 use Rattle.relay_links.specs.declared.write_script.WriteScript.{WriteScript}
 use Rattle.relay_links.specs.declared.write_script.WriteTurn.{WriteTurn}
-use Rattle.relay_links.specs.declared.write_script.WriteTurn.TheVariants as turn
+use Rattle.relay_links.specs.declared.write_script.WriteTurn.TheVariants.{Takes, TakesAll, Waits, Fails}
 use Rattle.relay_links.specs.Link.{IsWriteFault}
 
 -- the fault of an item
@@ -46,10 +46,10 @@ unpassed (item ∷ items) = cond (is_passed item 0) (unpassed items) (item ∷ i
 
 -- what the item in front does with a write; past the last item all is taken
 abbrev pub turn_of : List WriteItem → WriteTurn
-turn_of [] = turn.TakesAll
-turn_of (item.Take n ∷ items) = turn.Takes n
-turn_of (item.Wait n ∷ items) = turn.Waits
-turn_of (item.Fault fault ∷ items) = turn.Fails (as_write_fault fault)
+turn_of [] = TakesAll
+turn_of (item.Take n ∷ items) = Takes n
+turn_of (item.Wait n ∷ items) = Waits
+turn_of (item.Fault fault ∷ items) = Fails (as_write_fault fault)
 
 -- the items that are left after that
 abbrev pub after_turn : List WriteItem → List WriteItem
@@ -83,14 +83,23 @@ pub record Passes (before after : WriteScript) : Type 0 where
 
 -- the faults that a turn answers
 abbrev pub turn_faults : WriteTurn → List Fault
-turn_faults (turn.Takes n) = []
-turn_faults turn.TakesAll = []
-turn_faults turn.Waits = []
-turn_faults (turn.Fails fault) = fault ∷ []
+turn_faults (Takes n) = []
+turn_faults TakesAll = []
+turn_faults Waits = []
+turn_faults (Fails fault) = fault ∷ []
 
 -- a turn that fails does so by a fault of a write
 abbrev pub IsWriteTurn : WriteTurn → Type 0
-IsWriteTurn (turn.Takes n) = 1 ≤ n
-IsWriteTurn turn.TakesAll = Unit {0}
-IsWriteTurn turn.Waits = Unit {0}
-IsWriteTurn (turn.Fails fault) = IsWriteFault fault
+IsWriteTurn (Takes n) = 1 ≤ n
+IsWriteTurn TakesAll = Unit {0}
+IsWriteTurn Waits = Unit {0}
+IsWriteTurn (Fails fault) = IsWriteFault fault
+
+-- the item in front takes its turn with a write: what becomes of the write, the items that are left,
+-- and the faults; the script's items stay
+pub record TakesTurn (before : WriteScript) (after : WriteScript) (turn : WriteTurn) : Type 0 where
+  pub exact : turn ≡ turn_of (script_front before)
+  pub left : script_left after ≡ after_turn (script_front before)
+  pub faults : script_faults after ≡ script_faults before ++ turn_faults turn
+  pub kind : IsWriteTurn turn
+  pub items : after.items ≡ before.items

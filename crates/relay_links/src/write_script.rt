@@ -1,6 +1,6 @@
 //! A script of writes: a list of items, each of which answers one or more writes to a link.
-ghost use Rattle.std.specs.Prelude.{◌≡◌, ◌++◌, ◌<◌};
-ghost use Rattle.relay_links.specs.WriteScript.{is_passed, IsSettled, Passes, IsWriteTurn, turn_faults, turn_of, after_turn, script_front, script_left, script_faults};
+ghost use Rattle.std.specs.Prelude.{◌≡◌};
+ghost use Rattle.relay_links.specs.WriteScript.{is_passed, IsSettled, Passes, TakesTurn};
 
 use crate::script_fault::write_fault;
 use relay_tasks::Fault;
@@ -78,11 +78,7 @@ impl WriteScript {
 
     /// What becomes of the next write: the item in front answers it.
     pub fn turn(&mut self) -> WriteTurn
-        ensures exact { result ≡ turn_of (script_front self.old) }
-        ensures left { script_left self.new ≡ after_turn (script_front self.old) }
-        ensures faults { script_faults self.new ≡ script_faults self.old ++ turn_faults result }
-        ensures kind { IsWriteTurn result }
-        ensures items { self.new.items ≡ self.old.items }
+        ensures { TakesTurn self.old self.new result }
     {
         self.settle();
         if self.items.len() <= self.at {
