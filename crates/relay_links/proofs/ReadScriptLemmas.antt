@@ -42,17 +42,17 @@ rest_of-start (item.Fault fault) = refl
 rest_of-start item.End = refl
 
 -- nothing is given before the first item is begun
-given_of-start : (xs : List ReadItem) → given_of xs 0 0 ≡ []
+pub given_of-start : (xs : List ReadItem) → given_of xs 0 0 ≡ []
 given_of-start [] = refl
 given_of-start (x ∷ xs) = refl
 
 -- no fault is answered before the first item
-faults_before-start : (xs : List ReadItem) → faults_before xs 0 ≡ []
+pub faults_before-start : (xs : List ReadItem) → faults_before xs 0 ≡ []
 faults_before-start [] = refl
 faults_before-start (x ∷ xs) = refl
 
 -- all is left before the first item is begun
-left_items-start : (xs : List ReadItem) → left_items xs 0 0 ≡ xs
+pub left_items-start : (xs : List ReadItem) → left_items xs 0 0 ≡ xs
 left_items-start [] = refl
 left_items-start (x ∷ xs) = ap (λ (y : ReadItem). y ∷ xs) (rest_of-start x)
 

@@ -30,12 +30,12 @@ rest_of-start (item.Wait n) = ap (λ (k : ℕ). item.Wait k) (omega arith)
 rest_of-start (item.Fault fault) = refl
 
 -- no fault is answered before the first item
-faults_before-start : (xs : List WriteItem) → faults_before xs 0 ≡ []
+pub faults_before-start : (xs : List WriteItem) → faults_before xs 0 ≡ []
 faults_before-start [] = refl
 faults_before-start (x ∷ xs) = refl
 
 -- all is left before the first item is begun
-left_items-start : (xs : List WriteItem) → left_items xs 0 0 ≡ xs
+pub left_items-start : (xs : List WriteItem) → left_items xs 0 0 ≡ xs
 left_items-start [] = refl
 left_items-start (x ∷ xs) = ap (λ (y : WriteItem). y ∷ xs) (rest_of-start x)
 

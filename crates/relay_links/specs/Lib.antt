@@ -5,6 +5,7 @@ pub mod Fault
 pub mod Link
 pub mod Purger
 pub mod ReadScript
+pub mod ScriptLink
 pub mod Sink
 pub mod Source
 pub mod Told
