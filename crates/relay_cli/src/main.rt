@@ -1,0 +1,8 @@
+//! `relay`: runs a scripted exchange through the proxy, and reports what came of it.
+#![tactic(auto)]
+
+mod script;
+
+fn main(rt: HostRuntime) {
+    let _ = script::read_script(rt.alloc(), b"{}");
+}
