@@ -1,6 +1,7 @@
 //! `relay`: runs a scripted exchange through the proxy, and reports what came of it.
 #![tactic(auto)]
 
+mod report;
 mod script;
 
 fn main(rt: HostRuntime) {
