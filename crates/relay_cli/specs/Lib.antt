@@ -1,2 +1,4 @@
 pub mod Report
 pub mod Script
+pub mod Transfer
+pub mod Words

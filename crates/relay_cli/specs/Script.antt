@@ -101,8 +101,8 @@ abbrev pub peer_of : Data → Option PeerSpec
 peer_of value =
     if key_count value == has (codes "name") value + has (codes "read") value
     then where_there (get (codes "name") value) name_of None >>= (λ name.
-      option_map (λ items. record { name = name; read = items })
-        (where_there (get (codes "read") value) items_of (Some [])))
+    option_map (λ items. record { name = name; read = items })
+    (where_there (get (codes "read") value) items_of (Some [])))
     else None
 
 -- exactly one peer
@@ -120,8 +120,8 @@ abbrev pub script_of : Data → Option ScriptSpec
 script_of value =
     if key_count value == has (codes "client") value + has (codes "peers") value
     then where_there (get (codes "client") value) items_of None >>= (λ items.
-      option_map (λ peer. record { client = items; peer = peer })
-        (where_there (get (codes "peers") value) one_peer_of None))
+    option_map (λ peer. record { client = items; peer = peer })
+    (where_there (get (codes "peers") value) one_peer_of None))
     else None
 
 -- the value that the bytes spell; bytes that are no UTF-8 or no JSON spell none

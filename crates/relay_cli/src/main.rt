@@ -3,6 +3,8 @@
 
 mod report;
 mod script;
+mod transfer;
+mod words;
 
 fn main(rt: HostRuntime) {
     let _ = script::read_script(rt.alloc(), b"{}");

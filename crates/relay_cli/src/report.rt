@@ -153,7 +153,10 @@ fn push_byte(out: &mut Vec<u8>, byte: u8) -> Result<(), AllocError>
         b'\r' => push(out, b"\\r")?,
         b'\n' => push(out, b"\\n")?,
         b' '..=b'~' => push(out, &[byte])?,
-        _ => push(out, &[b'\\', b'x', hex_digit(byte / 16), hex_digit(byte % 16)])?,
+        _ => push(
+            out,
+            &[b'\\', b'x', hex_digit(byte / 16), hex_digit(byte % 16)],
+        )?,
     }
     Ok(())
 }
@@ -217,10 +220,8 @@ fn outcome_reuse(outcome: Outcome) -> bool
 {
     match outcome {
         Outcome::Served { reuse, .. } => reuse,
-        Outcome::NoRequest
-        | Outcome::Refused { .. }
-        | Outcome::TurnLimit
-        | Outcome::OutOfMemory => false,
+        Outcome::NoRequest | Outcome::Refused { .. } | Outcome::TurnLimit | Outcome::OutOfMemory =>
+            false,
     }
 }
 

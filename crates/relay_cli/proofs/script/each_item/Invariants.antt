@@ -2,7 +2,7 @@
 use Rattle.std.proofs.Common.{◌≡◌, drop}
 use Rattle.serde_json.specs.View.{items_view}
 use Rattle.relay_cli.specs.Script.{each_item}
-use Rattle.relay_cli.proofs.Items.{with_front}
+use Rattle.relay_cli.proofs.ScriptLemmas.{with_front}
 use Rattle.relay_cli.proofs.script.each_item.Given as goal
 
 abbrev pub invariant-loop-value : goal.invariant-loop-value

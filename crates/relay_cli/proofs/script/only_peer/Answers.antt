@@ -1,5 +1,5 @@
 -- Only a list of one value has a peer.
-use Rattle.relay_cli.proofs.Items.{only_peer-other}
+use Rattle.relay_cli.proofs.ScriptLemmas.{only_peer-other}
 use Rattle.relay_cli.proofs.script.only_peer.Goals as goal
 
 pub returns-then-values-ne1 : goal.returns-then-values-ne1

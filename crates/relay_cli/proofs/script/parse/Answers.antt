@@ -1,6 +1,6 @@
 -- Bytes spell the value of the text that they are.
 use Rattle.std.proofs.Common.{◌≡◌, sym, ◌∙◌, true≢false}
-use Rattle.relay_cli.proofs.Items.{reads_value-none, reads_value-text}
+use Rattle.relay_cli.proofs.ScriptLemmas.{reads_value-none, reads_value-text}
 use Rattle.relay_cli.proofs.script.parse.Goals as goal
 
 pub returns-in-Ok : goal.returns-in-Ok

@@ -28,10 +28,10 @@ with_front-more front x (Some items) = ap Some (append_assoc front (x ∷ []) it
 pub item_more : (values : List Value) (i : ℕ) (value : Value) (front : List ReadItem) (x : ReadItem)
     → i < length values → value ≡ get_or values i value → item_of (view value) ≡ Some x
     → with_front (front ++ x ∷ []) (each_item (items_view (drop (i + 1) values)))
-      ≡ with_front front (each_item (items_view (drop i values)))
+    ≡ with_front front (each_item (items_view (drop i values)))
 item_more values i value front x within is read =
     let here : drop i values ≡ value ∷ drop (i + 1) values =
-      rw add-one (drop-cons values i value within ∙ ap (λ v. v ∷ drop (suc i) values) (sym is)) in
+    rw add-one (drop-cons values i value within ∙ ap (λ v. v ∷ drop (suc i) values) (sym is)) in
     with_front-more front x _ ∙ rw (here, read)
 
 -- no item was read at a place: no list is read
@@ -40,7 +40,7 @@ pub item_none : (values : List Value) (i : ℕ) (value : Value) (front : List Re
     → with_front front (each_item (items_view (drop i values))) ≡ None
 item_none values i value front within is read =
     let here : drop i values ≡ value ∷ drop (i + 1) values =
-      rw add-one (drop-cons values i value within ∙ ap (λ v. v ∷ drop (suc i) values) (sym is)) in
+    rw add-one (drop-cons values i value within ∙ ap (λ v. v ∷ drop (suc i) values) (sym is)) in
     rw (here, read)
 
 -- a list of another length than 1 is no peer
