@@ -1,4 +1,5 @@
 pub mod Report
+pub mod Run
 pub mod Script
 pub mod Transfer
 pub mod Words

@@ -2,6 +2,7 @@
 #![tactic(auto)]
 
 mod report;
+mod run;
 mod script;
 mod transfer;
 mod words;
