@@ -63,7 +63,7 @@ pub fn run_command<S: Source, T: Sink>(
 ) -> u8
     ensures ends { (status : Status) × (result ≡ status_code status)
         × EndsCommand (map (λ word. word.items) words.now)
-          (S.state source.old) (S.state source.new) (T.state sink.old) (T.state sink.new) status }
+        (S.state source.old) (S.state source.new) (T.state sink.old) (T.state sink.new) status }
 
     // The words are refused wherever they ask for nothing, but for a sink's fault or memory.
     ensures refuses_words { command_of (map (λ word. word.items) words.now) ≡ None
@@ -82,7 +82,7 @@ pub fn run_command<S: Source, T: Sink>(
 pub fn run_script<S: Source, T: Sink>(alloc: Global, source: &mut S, sink: &mut T) -> u8
     ensures ends { (status : Status) × (result ≡ status_code status)
         × EndsScript (S.state source.old) (S.state source.new)
-          (T.state sink.old) (T.state sink.new) status }
+        (T.state sink.old) (T.state sink.new) status }
 
     // A script is refused wherever there is none, but for a sink's fault or memory.
     ensures refuses_script { TellsNoScript (S.state source.old) (S.state source.new)
