@@ -1,5 +1,5 @@
 -- Reports: what the requests of a run came to, as text.
-use Rattle.std.specs.Prelude.{ℕ, suc, ◌+◌, ◌/◌, ◌%◌, ◌==◌, ◌&&◌, nat_lt, nat_le, List, [], ◌∷◌, ◌++◌, flat_map, Bool, true, false, if◌then◌else◌, Option, Some, None, codes, decimal}
+use Rattle.std.specs.Prelude.{◌≡◌, ℕ, suc, ◌+◌, ◌<◌, ◌/◌, ◌%◌, ◌==◌, ◌&&◌, nat_lt, nat_le, List, [], ◌∷◌, ◌++◌, flat_map, Bool, true, false, if◌then◌else◌, Option, Some, None, codes, decimal}
 use Rattle.relay_tasks.specs.declared.error.Error.{Error}
 use Rattle.relay_tasks.specs.declared.error.ErrorSource.{ErrorSource}
 use Rattle.relay_tasks.specs.declared.error.ErrorSource.TheVariants as source
@@ -141,3 +141,12 @@ requests_text k (r ∷ rest) = request_text k r ++ requests_text (k + 1) rest
 -- the report of the requests of a run
 abbrev pub report_of : List RequestSpec → List ℕ
 report_of requests = requests_text 1 requests
+
+-- the numbers are bytes
+abbrev pub AreBytes : List ℕ → Type 0
+AreBytes [] = Unit {0}
+AreBytes (x ∷ xs) = (x < 256) × AreBytes xs
+
+-- no other bytes are shown as these are
+abbrev pub IsShownAlone : List ℕ → Type 0
+IsShownAlone bytes = (others : List ℕ) → AreBytes bytes → AreBytes others → shown bytes ≡ shown others → bytes ≡ others

@@ -1,7 +1,7 @@
 //! Reports: what the requests of a run came to, as text. A printer for each kind of thing; each
 //! writes its text at the end of a buffer.
-ghost use Rattle.std.specs.Prelude.{◌≡◌, ◌+◌, ◌<◌, ◌^◌, ◌++◌, [], ◌∷◌, length, decimal, map, OnOk, IfOk};
-ghost use Rattle.relay_cli.specs.Report.{request_spec, hex_digit, shown_byte, shown, yes_no, type_name, type_number, number_text, source_name, retry_name, error_text, outcome_name, outcome_error, outcome_reuse, attempt_text, attempts_text, outcome_text, client_text, request_text, report_of};
+ghost use Rattle.std.specs.Prelude.{◌≡◌, ℕ, List, ◌+◌, ◌<◌, ◌^◌, ◌++◌, [], ◌∷◌, length, decimal, map, OnOk, IfOk};
+ghost use Rattle.relay_cli.specs.Report.{request_spec, hex_digit, shown_byte, shown, yes_no, type_name, type_number, number_text, source_name, retry_name, error_text, outcome_name, outcome_error, outcome_reuse, attempt_text, attempts_text, outcome_text, client_text, request_text, report_of, IsShownAlone};
 
 use bytes::Bytes;
 use itoa::Buffer;
@@ -132,6 +132,13 @@ fn push_type_number(out: &mut Vec<u8>, etype: ErrorType) -> Result<(), AllocErro
         push(out, b")")?;
     }
     Ok(())
+}
+
+/// No two lists of bytes are shown alike.
+#[tactic(auto, using(crate::proofs::ReportLemmas::shown_alone))]
+pub fn shown_alone()
+    ensures { (bytes : List ℕ) → IsShownAlone bytes }
+{
 }
 
 /// Writes bytes so that each can be read.
