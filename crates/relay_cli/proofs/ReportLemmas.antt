@@ -1,7 +1,7 @@
 -- Shown bytes are read back: no other bytes are shown as they are.
 use Rattle.std.proofs.Common.{◌≡◌, ℕ, ◌+◌, ◌-◌, ◌*◌, ◌/◌, ◌%◌, ◌<◌, ◌≤◌, List, [], ◌∷◌, ◌++◌, Bool, true, false, if◌then◌else◌, nat_lt, nat_le, ◌==◌, ◌&&◌, codes, refl, sym, ap, ◌∙◌, arith}
 use Rattle.std.proofs.lemmas.Bool.{eqb-true, ltb-true, ltb-false, lt-ltb, le-ltb}
-use Rattle.relay_cli.specs.Report.{hex_digit, shown_byte, shown, AreBytes, IsShownAlone}
+use Rattle.relay_cli.specs.Report.{hex_digit, shown_byte, shown, AreBytes}
 
 -- the value of a digit
 abbrev unhex : ℕ → ℕ
@@ -79,7 +79,7 @@ shown_alone [] (y ∷ ys) b o is = absurd (filled y (shown ys) (sym is))
 shown_alone (x ∷ xs) [] b o is = absurd (filled x (shown xs) is)
 shown_alone (x ∷ xs) (y ∷ ys) b o is =
     let both : (x, shown xs) ≡ (y, shown ys) =
-      sym (read_byte-shown x (shown xs) b.0) ∙ ap read_byte is ∙ read_byte-shown y (shown ys) o.0 in
+    sym (read_byte-shown x (shown xs) b.0) ∙ ap read_byte is ∙ read_byte-shown y (shown ys) o.0 in
     let first : x ≡ y = ap (λ p. p.0) both in
     let rest : xs ≡ ys = shown_alone xs ys b.1 o.1 (ap (λ p. p.1) both) in
     rw (first, rest)

@@ -1,13 +1,13 @@
 -- Read items read one after another.
-use Rattle.std.proofs.Common.{◌≡◌, ℕ, suc, ◌+◌, ◌<◌, ◌≤◌, List, [], ◌∷◌, ◌++◌, length, get_or, drop, map, Option, Some, None, option_map, Bool, true, false, if◌then◌else◌, refl, sym, ap, ◌∙◌, arith, rules, append_assoc, add-one, drop-cons}
+use Rattle.std.proofs.Common.{◌≡◌, ℕ, suc, ◌+◌, ◌<◌, List, [], ◌∷◌, ◌++◌, length, get_or, drop, Option, Some, None, option_map, Bool, true, false, if◌then◌else◌, refl, sym, ap, ◌∙◌, arith, append_assoc, add-one, drop-cons}
 use Rattle.std.specs.Str.{IsUtf8, is_utf8}
 use Rattle.std.proofs.lemmas.Str.{IsUtf8-from_is_utf8, is_utf8-from_IsUtf8}
 use Rattle.serde_json.specs.Data.{Data}
 use Rattle.serde_json.specs.Read.{read}
 use Rattle.serde_json.specs.View.{view, items_view}
 use Rattle.serde_json.specs.declared.value.Value.{Value}
-use Rattle.relay_cli.specs.Script.{item_of, each_item, only_peer, peer_of, reads_value, ◌>>=◌}
-use Rattle.relay_cli.specs.declared.script.ReadItem.{ReadItem}
+use Rattle.relay_cli.specs.Script.{item_of, each_item, only_peer, peer_of, reads_value}
+use Rattle.relay_links.specs.declared.read_script.ReadItem.{ReadItem}
 
 -- what was read before, and then what is read
 abbrev pub with_front : List ReadItem → Option (List ReadItem) → Option (List ReadItem)

@@ -1,11 +1,11 @@
 -- What a source gave and what a sink took, over one call after another.
-use Rattle.std.proofs.Common.{◌≡◌, ℕ, ◌+◌, ◌≤◌, List, [], ◌∷◌, ◌++◌, length, take, drop, Option, Some, None, option_map, IfSome, refl, sym, ap, ◌∙◌, ◌-◌, arith, append_assoc}
-use Rattle.std.proofs.lemmas.List.{append-nil, take-take}
+use Rattle.std.proofs.Common.{◌≡◌, ℕ, ◌+◌, ◌≤◌, List, ◌++◌, length, take, drop, Option, Some, None, option_map, refl, sym, ap, ◌∙◌, ◌-◌, append_assoc}
+use Rattle.std.proofs.lemmas.List.{take-take}
 use Rattle.std.proofs.Math.Seq.{take-add}
 use Rattle.relay_links.specs.Sink.{SinkState, TakesFirst}
 use Rattle.relay_links.specs.Source.{SourceState}
 use Rattle.relay_links.specs.Told.{more}
-use Rattle.relay_cli.specs.Transfer.{Gives, GivesAll, GivesEnd, Takes}
+use Rattle.relay_cli.specs.Transfer.{Gives, Takes}
 
 -- one piece after another
 pub more-more : (told : Option (List ℕ)) (xs ys : List ℕ) → more (more told xs) ys ≡ more told (xs ++ ys)

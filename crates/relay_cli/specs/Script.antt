@@ -1,15 +1,15 @@
 -- Scripts: the JSON object that says what the client and the peer of a run give.
-use Rattle.std.specs.Prelude.{◌≡◌, ℕ, ◌+◌, ◌^◌, ◌==◌, nat_lt, List, [], ◌∷◌, Bool, true, false, if◌then◌else◌, Option, Some, None, option_map, is_some, unwrap_or, Result, Ok, Err, codes}
+use Rattle.std.specs.Prelude.{◌≡◌, ℕ, ◌+◌, ◌^◌, ◌==◌, nat_lt, List, [], ◌∷◌, true, false, if◌then◌else◌, Option, Some, None, option_map, is_some, unwrap_or, Result, Ok, Err, codes}
 use Rattle.std.specs.Str.{bytes_eq, is_utf8}
-use Rattle.serde_json.specs.Data.{Data, number, string, boolean, array, object, Num, unsigned, Items, no_items, item}
+use Rattle.serde_json.specs.Data.{Data, number, string, boolean, array, unsigned, Items, no_items, item}
 use Rattle.serde_json.specs.Events.{members_len}
 use Rattle.serde_json.specs.Find.{get, as_object}
 use Rattle.serde_json.specs.Read.{read as read_text}
 use Rattle.relay_tasks.specs.declared.error.RetryType.TheVariants.{Decided}
 use Rattle.relay_tasks.specs.declared.fault.FaultKind.TheVariants as kind
 use Rattle.relay_cli.specs.declared.script.PeerEntry.{PeerEntry}
-use Rattle.relay_cli.specs.declared.script.ReadItem.{ReadItem}
-use Rattle.relay_cli.specs.declared.script.ReadItem.TheVariants as give
+use Rattle.relay_links.specs.declared.read_script.ReadItem.{ReadItem}
+use Rattle.relay_links.specs.declared.read_script.ReadItem.TheVariants as give
 use Rattle.relay_cli.specs.declared.script.Script.{Script}
 use Rattle.relay_cli.specs.declared.script.ScriptError.{ScriptError}
 use Rattle.relay_cli.specs.declared.script.ScriptError.TheVariants as error

@@ -1,5 +1,5 @@
 -- Reading a source to its end and writing to a sink: what came, and what went.
-use Rattle.std.specs.Prelude.{◌≡◌, ℕ, ◌+◌, ◌<◌, ◌≤◌, List, [], ◌++◌, length, take, Bool, true, false, Option, option_map, IfSome}
+use Rattle.std.specs.Prelude.{◌≡◌, ℕ, ◌<◌, ◌≤◌, List, [], ◌++◌, length, take, true, false, option_map, IfSome}
 use Rattle.relay_links.specs.Count.{Rose}
 use Rattle.relay_links.specs.Sink.{SinkState}
 use Rattle.relay_links.specs.Source.{SourceState}

@@ -138,8 +138,7 @@ fn push_type_number(out: &mut Vec<u8>, etype: ErrorType) -> Result<(), AllocErro
 #[tactic(auto, using(crate::proofs::ReportLemmas::shown_alone))]
 pub fn shown_alone()
     ensures { (bytes : List ℕ) → IsShownAlone bytes }
-{
-}
+{}
 
 /// Writes bytes so that each can be read.
 fn push_bytes(out: &mut Vec<u8>, bytes: &[u8]) -> Result<(), AllocError>

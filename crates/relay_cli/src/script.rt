@@ -6,24 +6,10 @@ ghost use Rattle.serde_json.specs.View.{view, items_view};
 ghost use Rattle.relay_cli.specs.Script.{Reads, script_spec, reads_script, reads_value, script_of, one_peer_of, only_peer, peer_spec, peer_of, name_of, items_of, each_item, item_of, item_at_key, text_item, wait_item, end_item, fault_item, key_count, has};
 
 use bytes::Bytes;
+use relay_links::ReadItem;
 use relay_tasks::{Fault, FaultKind, RetryType};
 use serde_json::Value;
 use std::alloc::{AllocError, AllocFailed, Global};
-
-/// What a scripted link does at a read.
-#[derive(Drop)]
-pub enum ReadItem {
-    /// These bytes, which are not empty, are given.
-    Bytes(Bytes),
-    /// So many reads give nothing.
-    Wait(u32),
-    /// No read gives anything until the link has taken so many bytes.
-    After(u32),
-    /// One read fails.
-    Fault(Fault),
-    /// All has been given.
-    End,
-}
 
 /// The peer of a script: its name, and what its link gives.
 #[derive(Drop)]

@@ -1,5 +1,5 @@
 -- A map has as many keys as the object that it stands for.
-use Rattle.std.proofs.Common.{◌≡◌, sym, ap, ◌∙◌, option_map, unwrap_or}
+use Rattle.std.proofs.Common.{sym, ap, ◌∙◌, option_map, unwrap_or}
 use Rattle.serde_json.specs.Events.{members_len}
 use Rattle.serde_json.proofs.Views.{members_len-members_view}
 use Rattle.relay_cli.proofs.script.key_count.Goals as goal

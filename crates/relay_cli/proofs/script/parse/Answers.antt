@@ -1,5 +1,5 @@
 -- Bytes spell the value of the text that they are.
-use Rattle.std.proofs.Common.{◌≡◌, sym, ◌∙◌, true≢false}
+use Rattle.std.proofs.Common.{sym, ◌∙◌, true≢false}
 use Rattle.relay_cli.proofs.ScriptLemmas.{reads_value-none, reads_value-text}
 use Rattle.relay_cli.proofs.script.parse.Goals as goal
 

@@ -1,5 +1,5 @@
 -- The text is what the source has given; each turn adds to it.
-use Rattle.std.proofs.Common.{◌+◌, ◌-◌, vec_len, ℕ, List, length}
+use Rattle.std.proofs.Common.{◌+◌, ◌-◌, length}
 use Rattle.relay_cli.specs.Transfer.{Gives, input_limit}
 use Rattle.relay_cli.proofs.transfer.read_all.Given as goal
 

@@ -1,5 +1,5 @@
 -- A write goes on where the last one stopped.
-use Rattle.std.proofs.Common.{◌≤◌, ◌-◌, ◌+◌, length, drop, take, arith}
+use Rattle.std.proofs.Common.{◌≤◌, ◌-◌, length, drop, arith}
 use Rattle.std.proofs.lemmas.List.{length-take}
 use Rattle.relay_cli.proofs.TransferLemmas.{Takes-more}
 use Rattle.relay_cli.proofs.transfer.write_all.Goals as goal
