@@ -3,9 +3,15 @@ pub mod Connector
 pub mod Count
 pub mod Fault
 pub mod Link
+pub mod ListSchedule
+pub mod MemoryPurger
 pub mod Purger
 pub mod ReadScript
+pub mod RoundRobin
+pub mod ScriptConnector
+pub mod ScriptEntries
 pub mod ScriptLink
+pub mod ShutdownAt
 pub mod Sink
 pub mod Source
 pub mod Told

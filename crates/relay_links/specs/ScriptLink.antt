@@ -40,6 +40,11 @@ script_start link = record {
   reused = link.start.reused;
 }
 
+-- the links run by the same scripts, and stand at the same places
+pub record KeepsScripts (before after : ScriptLink) : Type 0 where
+  pub reads : after.reads ≡ before.reads
+  pub writes : after.writes ≡ before.writes
+
 -- the link has answered nothing: its items are left, and it stands as it is handed out first
 pub record IsFresh (link : ScriptLink) (read : List ReadItem) (write : List WriteItem) : Type 0 where
   pub state : script_state link ≡ record {

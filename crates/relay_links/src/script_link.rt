@@ -1,7 +1,7 @@
 //! A link in memory that answers by scripts: it tells all that a link means.
 ghost use Rattle.std.specs.Prelude.{◌≡◌, ◌<◌, ◌≤◌, ◌+◌, length, take, vec_len, vec_capacity, ◌++◌, Some};
 ghost use Rattle.relay_links.specs.Link.{Reads, Writes, IsHandedOut};
-ghost use Rattle.relay_links.specs.ScriptLink.{script_state, script_start, IsFresh, FollowsReads, FollowsWrites};
+ghost use Rattle.relay_links.specs.ScriptLink.{script_state, script_start, IsFresh, KeepsScripts, FollowsReads, FollowsWrites};
 
 use crate::link::{ByteLink, Got, Put};
 use crate::read_script::{ReadItem, ReadScript};
@@ -62,6 +62,7 @@ impl ScriptLink {
     /// Notes where the link stands as it is handed out, and whether it had been used before.
     pub fn hand_out(&mut self, reused: bool)
         ensures same { script_state self.new ≡ script_state self.old }
+        ensures scripts { KeepsScripts self.old self.new }
         ensures start { IsHandedOut (script_state self.new) (script_start self.new) reused }
     {
         let (waits, used, faults) = (self.waits, self.used, self.faults);
