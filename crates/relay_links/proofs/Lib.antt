@@ -5,3 +5,4 @@ pub mod ReadScriptLemmas
 pub mod ScriptLinkLemmas
 pub mod SinceLemmas
 pub mod WriteScriptLemmas
+pub mod SourceLemmas

@@ -1,10 +1,12 @@
 pub mod Branch
 pub mod Connector
 pub mod Count
+pub mod FailingCalls
 pub mod Fault
 pub mod Link
 pub mod ListSchedule
 pub mod MemoryPurger
+pub mod MuteLink
 pub mod Purger
 pub mod ReadScript
 pub mod RoundRobin
@@ -13,6 +15,8 @@ pub mod ScriptEntries
 pub mod ScriptLink
 pub mod ShutdownAt
 pub mod Sink
+pub mod SliceSource
 pub mod Source
 pub mod Told
+pub mod VecSink
 pub mod WriteScript

@@ -1,8 +1,9 @@
 //! A script of reads: a list of items, each of which answers one or more reads of a link.
-ghost use Rattle.std.specs.Prelude.{◌≡◌, ◌+◌, ◌-◌, ◌<◌, ◌≤◌, [], ◌++◌, length, min, take, drop, slice_get, Some, false};
+ghost use Rattle.std.specs.Prelude.{◌≡◌, ◌<◌, length, false};
 ghost use Rattle.relay_links.specs.ReadScript.{is_passed, IsSettled, Passes, ReadsScript};
 
 use crate::link::Got;
+use crate::room::give;
 use crate::script_fault::read_fault;
 use bytes::Bytes;
 use relay_tasks::Fault;
@@ -112,16 +113,4 @@ impl ReadScript {
             }
         }
     }
-}
-
-/// Copies the start of the bytes behind `done` into the room, and says how many.
-fn give(bytes: &[u8], done: usize, room: &mut [u8]) -> usize
-    requires { done ≤ length bytes.now }
-    ensures count { result ≡ min (length bytes.now - done) (length room.old) }
-    ensures bytes { take result room.new ≡ take result (drop done bytes.now) }
-{
-    let rest = &bytes[done..];
-    let count = rest.len().min(room.len());
-    room[..count].copy_from_slice(&rest[..count]);
-    count
 }
