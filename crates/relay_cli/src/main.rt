@@ -4,19 +4,25 @@
 mod report;
 mod run;
 mod script;
+#[cfg(test)]
+mod tests;
 mod transfer;
 mod words;
 
-use crate::run::Status;
+use crate::run::{Status, run_command};
+use relay_links::{StdSink, StdSource};
 use std::process::ExitCode;
 use std::rt::Env;
 use std::{env, io};
 
 fn main(rt: HostRuntime) -> ExitCode {
+    let mut source = StdSource::new(rt.reader());
+    let mut sink = StdSink::new(io::writer(&rt));
     let status = match arguments(&rt) {
-        Ok(_words) => 0,
+        Ok(words) => run_command(rt.alloc(), &words, &mut source, &mut sink),
         Err(error) if error.kind() == io::ErrorKind::OutOfMemory => Status::OutOfMemory.code(),
-        Err(_) => 6,
+        // Words that are no text ask for nothing.
+        Err(_) => run_command(rt.alloc(), &[], &mut source, &mut sink),
     };
     ExitCode::from(status)
 }
