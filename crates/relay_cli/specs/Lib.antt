@@ -1,3 +1,4 @@
+pub mod Exchange
 pub mod Report
 pub mod Run
 pub mod Script

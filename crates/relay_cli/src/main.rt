@@ -1,6 +1,7 @@
 //! `relay`: runs a scripted exchange through the proxy, and reports what came of it.
 #![tactic(auto)]
 
+mod exchange;
 mod report;
 mod run;
 mod script;
