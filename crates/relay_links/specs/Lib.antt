@@ -1,6 +1,7 @@
 pub mod Branch
 pub mod Connector
 pub mod Count
+pub mod CountDelay
 pub mod FailingCalls
 pub mod Fault
 pub mod Link

@@ -9,6 +9,10 @@ use Rattle.relay_links.specs.Purger.{PurgerState}
 abbrev pub purger_state : MemoryPurger → PurgerState
 purger_state purger = record { told = Some purger.calls.items; faults = purger.faults }
 
+-- the answer that it gives
+abbrev pub one_answer : MemoryPurger → Purged
+one_answer purger = purger.answer
+
 -- the purger's one answer, or want of memory
 abbrev pub AnswersAs : Purged → Purged → Type 0
 AnswersAs answer result = (result ≡ answer) ⊎ (result ≡ OutOfMemory)

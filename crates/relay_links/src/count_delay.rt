@@ -1,5 +1,6 @@
 //! A delay in memory: it counts, and waits for nothing.
-ghost use Rattle.std.specs.Prelude.{◌≡◌, ◌≤◌, ◌+◌, min};
+ghost use Rattle.std.specs.Prelude.{◌≡◌};
+ghost use Rattle.relay_links.specs.CountDelay.{delay_calls, delay_total};
 
 use crate::delay::Delay;
 
@@ -13,30 +14,31 @@ pub struct CountDelay {
 impl CountDelay {
     /// A delay that nobody has called.
     pub fn new() -> CountDelay
-        ensures { result ≡ record { calls = 0; total = 0 } }
+        ensures calls { delay_calls result ≡ 0 }
+        ensures total { delay_total result ≡ 0 }
     {
         CountDelay { calls: 0, total: 0 }
     }
 
     /// How often it was called.
     pub fn calls(&self) -> u64
-        ensures { result ≡ self.now.calls }
+        ensures { result ≡ delay_calls self.now }
     {
         self.calls
     }
 
     /// The sum of the milliseconds.
     pub fn total(&self) -> u64
-        ensures { result ≡ self.now.total }
+        ensures { result ≡ delay_total self.now }
     {
         self.total
     }
 }
 
 impl Delay for CountDelay {
-    ghost calls = { λ delay. delay.calls };
+    ghost calls = { delay_calls };
 
-    ghost total = { λ delay. delay.total };
+    ghost total = { delay_total };
 
     fn delay(&mut self, millis: u64) {
         self.calls = self.calls.saturating_add(1);

@@ -1,7 +1,7 @@
 //! A purger in memory: it keeps its calls, and gives one answer.
 ghost use Rattle.std.specs.Prelude.{◌≡◌, [], ◌∷◌, ◌++◌, Some, OnOk, OnErr};
 ghost use Rattle.relay_links.specs.Purger.{Purges};
-ghost use Rattle.relay_links.specs.MemoryPurger.{purger_state, AnswersAs};
+ghost use Rattle.relay_links.specs.MemoryPurger.{purger_state, one_answer, AnswersAs};
 
 use crate::purger::{PurgeCall, Purger};
 use bytes::Bytes;
@@ -20,7 +20,7 @@ pub struct MemoryPurger {
 impl MemoryPurger {
     /// A purger with that answer, which nobody has called.
     pub fn new(alloc: Global, answer: Purged) -> MemoryPurger
-        ensures answer { result.answer ≡ answer }
+        ensures answer { one_answer result ≡ answer }
         ensures state { purger_state result ≡ record { told = Some []; faults = 0 } }
     {
         MemoryPurger {
@@ -62,8 +62,8 @@ impl Purger for MemoryPurger {
 
     fn purge(&mut self, action: PurgeAction, host: &[u8], target: &[u8]) -> Purged
         ensures state { Purges (purger_state self.old) action host.now target.now (purger_state self.new) result }
-        ensures exact { AnswersAs self.old.answer result }
-        ensures answer { self.new.answer ≡ self.old.answer }
+        ensures exact { AnswersAs (one_answer self.old) result }
+        ensures answer { one_answer self.new ≡ one_answer self.old }
     {
         let faults = self.faults;
         if self.answer == Purged::OutOfMemory {

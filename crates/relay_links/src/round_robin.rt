@@ -1,7 +1,7 @@
 //! A schedule that goes round the branches.
 ghost use Rattle.std.specs.Prelude.{◌≡◌, None, find};
 ghost use Rattle.relay_links.specs.Branch.{has};
-ghost use Rattle.relay_links.specs.RoundRobin.{places_up_to, round_from};
+ghost use Rattle.relay_links.specs.RoundRobin.{last_of_round, places_up_to, round_from};
 
 use crate::branch::{BRANCHES, Branch};
 use crate::branch_set::BranchSet;
@@ -17,7 +17,7 @@ pub struct RoundRobin {
 impl RoundRobin {
     /// A schedule that has picked nothing.
     pub fn new() -> RoundRobin
-        ensures { result.last ≡ None }
+        ensures { last_of_round result ≡ None }
     {
         RoundRobin { last: None }
     }
@@ -34,11 +34,11 @@ fn places_up_to(last: Option<Branch>) -> usize
 }
 
 impl Schedule for RoundRobin {
-    ghost last_pick = { λ schedule. schedule.last };
+    ghost last_pick = { last_of_round };
 
     fn pick(&mut self, enabled: BranchSet) -> Option<Branch>
-        ensures last { self.new.last ≡ result }
-        ensures exact { result ≡ find (has enabled) (round_from self.old.last) }
+        ensures last { last_of_round self.new ≡ result }
+        ensures exact { result ≡ find (has enabled) (round_from (last_of_round self.old)) }
     {
         let start = places_up_to(self.last);
         let (front, behind) = BRANCHES.split_at(start);

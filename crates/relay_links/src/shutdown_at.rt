@@ -1,7 +1,7 @@
 //! A shutdown watch in memory: set from a look on.
 ghost use Rattle.std.specs.Prelude.{◌≡◌, ◌≤◌, IsTrue, false};
 ghost use Rattle.relay_links.specs.Count.{last_count, up, Rose};
-ghost use Rattle.relay_links.specs.ShutdownAt.{is_set_at};
+ghost use Rattle.relay_links.specs.ShutdownAt.{set_from, looks, times_seen, is_set_at};
 
 use crate::watch::ShutdownWatch;
 
@@ -16,7 +16,9 @@ pub struct ShutdownAt {
 impl ShutdownAt {
     /// A watch that nobody has looked at.
     pub fn new(look: Option<u64>) -> ShutdownAt
-        ensures { result ≡ record { look = look; looks = 0; seen = 0 } }
+        ensures look { set_from result ≡ look }
+        ensures looks { looks result ≡ 0 }
+        ensures seen { times_seen result ≡ 0 }
     {
         ShutdownAt {
             look,
@@ -27,15 +29,15 @@ impl ShutdownAt {
 }
 
 impl ShutdownWatch for ShutdownAt {
-    ghost sighted = { λ watch. watch.seen };
+    ghost sighted = { times_seen };
 
     fn is_set(&mut self) -> bool
-        ensures risen { IsTrue result → Rose self.old.seen self.new.seen }
-        ensures same { result ≡ false → self.new.seen ≡ self.old.seen }
-        ensures fits { (self.old.seen ≤ last_count) × (self.new.seen ≤ last_count) }
-        ensures exact { result ≡ is_set_at self.old.look (up self.old.looks) }
-        ensures looks { self.new.looks ≡ up self.old.looks }
-        ensures look { self.new.look ≡ self.old.look }
+        ensures risen { IsTrue result → Rose (times_seen self.old) (times_seen self.new) }
+        ensures same { result ≡ false → times_seen self.new ≡ times_seen self.old }
+        ensures fits { (times_seen self.old ≤ last_count) × (times_seen self.new ≤ last_count) }
+        ensures exact { result ≡ is_set_at (set_from self.old) (up (looks self.old)) }
+        ensures looks { looks self.new ≡ up (looks self.old) }
+        ensures look { set_from self.new ≡ set_from self.old }
     {
         let seen = self.seen;
         self.looks = self.looks.saturating_add(1);

@@ -1,5 +1,6 @@
 //! A source over a slice: it tells what it gave and what is left.
-ghost use Rattle.std.specs.Prelude.{◌≡◌, ◌<◌, ◌≤◌, [], length, Some, false, IsTrue};
+ghost use Rattle.std.specs.Prelude.{◌≡◌, ◌<◌, ◌≤◌, [], length, Some, false, IsTrue, if◌then◌else◌};
+ghost use Rattle.relay_links.specs.FailingCalls.{after_call};
 ghost use Rattle.relay_links.specs.Source.{Pulls};
 
 use crate::failing_calls::FailingCalls;
@@ -38,7 +39,7 @@ impl<'a> SliceSource<'a> {
 }
 
 impl<'a> Source for SliceSource<'a> {
-    ghost use Rattle.relay_links.specs.SliceSource.{source_state, source_answer};
+    ghost use Rattle.relay_links.specs.SliceSource.{source_state, source_calls, source_answer};
 
     ghost state = { source_state };
 
@@ -46,6 +47,8 @@ impl<'a> Source for SliceSource<'a> {
         requires { 0 < length room.old }
         ensures state { Pulls (source_state self.old) room.new (source_state self.new) result }
         ensures exact { result ≡ source_answer self.old (length room.old) }
+        ensures calls { source_calls self.new ≡ (if (source_state self.old).ended
+            then source_calls self.old else after_call (source_calls self.old)) }
     {
         let faults = self.faults;
         if self.ended {
