@@ -1,3 +1,3 @@
-pub mod Copies
+pub mod Clones
 pub mod Refusals
 pub mod Visible
