@@ -16,6 +16,9 @@ mod task;
 mod task_list;
 mod took;
 
+#[cfg(test)]
+mod tests;
+
 pub use context::Context;
 pub use copies::{copy_fields, copy_piece, copy_trailers};
 pub use error::{Error, ErrorSource, ErrorType, Fail, Result, RetryType};
