@@ -14,10 +14,9 @@ mod response;
 mod target;
 mod task;
 mod task_list;
-mod took;
-
 #[cfg(test)]
 mod tests;
+mod took;
 
 pub use context::Context;
 pub use copies::{copy_fields, copy_piece, copy_trailers};
