@@ -1,0 +1,7 @@
+pub mod Connector
+pub mod Count
+pub mod Link
+pub mod Purger
+pub mod Sink
+pub mod Source
+pub mod Told
