@@ -1,11 +1,20 @@
 //! The head of a request (RFC 9112, section 3; RFC 9110, section 6.2).
-ghost use Rattle.std.specs.Prelude.{◌≡◌};
+ghost use Rattle.std.specs.Prelude.{◌≡◌, ◌↔◌, Some, None, IfOk, IfErr, OnOk, OnErr, IsErrOf, IsOkUnless, IsTrue, IsUtf8, option_copied};
+ghost use Rattle.http_header.specs.HeaderMap.{RefusesInsert, RefusesAppend, get, insert, append, remove};
+ghost use Rattle.relay_tasks.specs.Error.{refused, IsMemoryOr};
 
+use crate::context::Context;
+use crate::error::{Error, ErrorType, Fail, Result};
+use crate::target::{is_raw_target, sent_target};
 use http::{Method, Version};
-use http_header::HeaderMap;
+use http_header::{HeaderMap, HeaderName, HeaderValue};
 use http_uri::Uri;
+use std::alloc::{AllocError, Global};
 use std::marker::Model;
+use std::str;
 
+/// The head of a request: a method, a version, a raw target, the URI that was set last, if the
+/// target was set by one, and a field list.
 #[derive(Drop)]
 pub struct RequestHeader {
     method: Method,
@@ -17,7 +26,7 @@ pub struct RequestHeader {
 }
 
 impl Model for RequestHeader {
-    ghost use Rattle.relay_tasks.specs.Head.{RequestHead};
+    ghost use Rattle.relay_tasks.specs.Head.{RequestHead, IsSendable};
 
     ghost Value = { RequestHead };
 
@@ -29,24 +38,211 @@ impl Model for RequestHeader {
       fields = r.headers;
       ends = r.ends;
     } };
+
+    ghost invariant = { λ r. IsSendable r.target.items };
 }
 
 impl RequestHeader {
+    ghost use Rattle.relay_tasks.specs.Head.{IsRawTarget, IsSendable, new_request, target_of};
+
+    /// A head of HTTP/1.1 without fields. The target is refused as in `set_raw_path`.
+    pub fn build(alloc: Global, method: &Method, target: &[u8]) -> Result<RequestHeader>
+        ensures ok { IfOk result (λ head. head ≡ new_request method.now target.now) }
+        ensures refused { IsErrOf result (Fail.Error (refused Context.HeadGrammar))
+            ↔ ¬ (IsRawTarget target.now) }
+        ensures causes { IfErr result (IsMemoryOr (refused Context.HeadGrammar)) }
+    {
+        if !is_raw_target(target) {
+            return Err(Fail::Error(Error::explain(
+                ErrorType::InvalidHTTPHeader,
+                Context::HeadGrammar,
+            )));
+        }
+        let method = method.clone()?;
+        let target = Vec::from_slice(alloc, target)?;
+        Ok(RequestHeader {
+            method,
+            version: Version::HTTP_11,
+            target,
+            uri: None,
+            headers: HeaderMap::new(alloc),
+            ends: true,
+        })
+    }
+
+    /// The method.
     pub fn method(&self) -> &Method
         ensures { result.now ≡ self.now.method }
     {
         &self.method
     }
 
+    /// Sets the method.
+    pub fn set_method(&mut self, method: Method)
+        ensures { self.new ≡ record self.old { method = method } }
+    {
+        self.method = method;
+    }
+
+    /// The version.
     pub fn version(&self) -> Version
         ensures { result ≡ self.now.version }
     {
         self.version
     }
 
+    /// Sets the version.
+    pub fn set_version(&mut self, version: Version)
+        ensures { self.new ≡ record self.old { version = version } }
+    {
+        self.version = version;
+    }
+
+    /// The URI that `set_uri` gave last, and none after `set_raw_path`.
+    pub fn uri(&self) -> Option<&Uri>
+        ensures { option_copied result ≡ self.now.uri }
+    {
+        self.uri.as_ref()
+    }
+
+    /// Sets the URI. The raw target becomes its path and query, `/` where it has none.
+    pub fn set_uri(&mut self, uri: Uri) -> Result<()>
+        ensures ok { OnOk result (self.new
+            ≡ record self.old { target = target_of uri; uri = Some uri }) }
+        ensures memory { IsOkUnless result Fail.OutOfMemory }
+        ensures err { OnErr result (self.new ≡ self.old) }
+    {
+        let target = sent_target(*self.target.allocator(), &uri)?;
+        self.target = target;
+        self.uri = Some(uri);
+        Ok(())
+    }
+
+    /// Sets the raw target, and leaves no URI. Refused is a target that is empty or longer than
+    /// 65,534 bytes, or that has a blank or a control byte; the head then stays as it was.
+    pub fn set_raw_path(&mut self, target: &[u8]) -> Result<()>
+        ensures ok { OnOk result (self.new
+            ≡ record self.old { target = target.now; uri = None }) }
+        ensures refused { IsErrOf result (Fail.Error (refused Context.HeadGrammar))
+            ↔ ¬ (IsRawTarget target.now) }
+        ensures causes { IfErr result (IsMemoryOr (refused Context.HeadGrammar)) }
+        ensures err { OnErr result (self.new ≡ self.old) }
+    {
+        if !is_raw_target(target) {
+            return Err(Fail::Error(Error::explain(
+                ErrorType::InvalidHTTPHeader,
+                Context::HeadGrammar,
+            )));
+        }
+        let target = Vec::from_slice(*self.target.allocator(), target)?;
+        self.target = target;
+        self.uri = None;
+        Ok(())
+    }
+
+    /// The raw target, as it stands in the request line.
+    pub fn raw_path(&self) -> &[u8]
+        ensures value { result.now ≡ self.now.target }
+        ensures valid { IsSendable result.now }
+    {
+        self.target.as_slice()
+    }
+
+    /// Whether the raw target is UTF-8.
+    pub fn raw_path_is_utf8(&self) -> bool
+        ensures { IsTrue result ↔ IsUtf8 self.now.target }
+    {
+        str::from_utf8(self.target.as_slice()).is_ok()
+    }
+
+    /// The field list.
     pub fn headers(&self) -> &HeaderMap
         ensures { result.now ≡ self.now.fields }
     {
         &self.headers
+    }
+
+    /// Puts the value in place of all those under the name. Refused exactly where the list is
+    /// full; the head then stays as it was.
+    pub fn insert_header(&mut self, name: HeaderName, value: HeaderValue) -> Result<()>
+        ensures ok { OnOk result (self.new
+            ≡ record self.old { fields = insert self.old.fields name value }) }
+        ensures full { IsErrOf result (Fail.Error (refused Context.HeadTooLong))
+            ↔ RefusesInsert self.old.fields name }
+        ensures causes { IfErr result (IsMemoryOr (refused Context.HeadTooLong)) }
+        ensures err { OnErr result (self.new ≡ self.old) }
+    {
+        self.headers.insert(name, value)?;
+        Ok(())
+    }
+
+    /// Adds the value after those under the name. Refused exactly where the list is full; the
+    /// head then stays as it was.
+    pub fn append_header(&mut self, name: HeaderName, value: HeaderValue) -> Result<()>
+        ensures ok { OnOk result (self.new
+            ≡ record self.old { fields = append self.old.fields name value }) }
+        ensures full { IsErrOf result (Fail.Error (refused Context.HeadTooLong))
+            ↔ RefusesAppend self.old.fields name }
+        ensures causes { IfErr result (IsMemoryOr (refused Context.HeadTooLong)) }
+        ensures err { OnErr result (self.new ≡ self.old) }
+    {
+        self.headers.append(name, value)?;
+        Ok(())
+    }
+
+    /// Removes all values under the name, and hands back the first.
+    pub fn remove_header(&mut self, name: &HeaderName) -> Option<HeaderValue>
+        ensures value { result ≡ get self.old.fields name.now }
+        ensures after { self.new
+            ≡ record self.old { fields = remove self.old.fields name.now } }
+    {
+        self.headers.remove(name)
+    }
+
+    /// Sets whether an HTTP/2 stream ends with its body.
+    pub fn set_send_end_stream(&mut self, on: bool)
+        ensures { self.new ≡ record self.old { ends = on } }
+    {
+        self.ends = on;
+    }
+
+    /// Whether the stream ends with its body; none unless the version is HTTP/2.
+    pub fn send_end_stream(&self) -> Option<bool>
+        ensures h2 { self.now.version ≡ Version.HTTP_2 → result ≡ Some self.now.ends }
+        ensures others { ¬ (self.now.version ≡ Version.HTTP_2) → result ≡ None }
+    {
+        if self.version == Version::HTTP_2 {
+            Some(self.ends)
+        } else {
+            None
+        }
+    }
+
+    /// An equal head.
+    pub fn copy(&self) -> Result<RequestHeader>
+        ensures ok { IfOk result (λ copy. copy ≡ self.now) }
+        ensures memory { IsOkUnless result Fail.OutOfMemory }
+    {
+        let method = self.method.clone()?;
+        let target = self.target.clone()?;
+        let uri = copy_uri(&self.uri)?;
+        let headers = self.headers.clone()?;
+        Ok(RequestHeader {
+            method,
+            version: self.version,
+            target,
+            uri,
+            headers,
+            ends: self.ends,
+        })
+    }
+}
+
+fn copy_uri(uri: &Option<Uri>) -> std::result::Result<Option<Uri>, AllocError>
+    ensures { IfOk result (λ copy. copy ≡ uri.now) }
+{
+    match uri {
+        Some(uri) => Ok(Some(uri.clone()?)),
+        None => Ok(None),
     }
 }

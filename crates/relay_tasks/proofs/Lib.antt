@@ -1,0 +1,3 @@
+pub mod Clones
+pub mod Refusals
+pub mod Visible
