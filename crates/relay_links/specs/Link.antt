@@ -1,7 +1,6 @@
 -- What a link means, and what one call of it does.
 use Rattle.std.specs.Prelude.{◌≡◌, ℕ, ◌≤◌, Bool, true, false, List, [], ◌∷◌, ◌⊎◌, length, take, Option, IsTrue}
 use Rattle.relay_tasks.specs.declared.fault.Fault.{Fault}
-use Rattle.relay_tasks.specs.declared.fault.FaultKind.{FaultKind}
 use Rattle.relay_tasks.specs.declared.fault.FaultKind.TheVariants as kind
 use Rattle.relay_links.specs.declared.link.Got.{Got}
 use Rattle.relay_links.specs.declared.link.Got.TheVariants as got
