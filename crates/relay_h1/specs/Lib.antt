@@ -1,1 +1,3 @@
 pub mod HeadEnd
+pub mod Head
+pub mod Framing
