@@ -1,5 +1,5 @@
 -- Where the body of a message ends, told by its head alone (RFC 9112, section 6.3).
-use Rattle.std.specs.Prelude.{◌≡◌, ℕ, ◌^◌, Bool, true, false, ◌&&◌, ◌||◌, List, [], ◌∷◌, length, nat_lt, nat_le, ◌==◌, if◌then◌else◌, codes, bytes_eq, Option, Some, None}
+use Rattle.std.specs.Prelude.{◌≡◌, ℕ, ◌^◌, Bool, true, false, ◌&&◌, ◌||◌, List, [], ◌∷◌, length, nat_lt, nat_le, ◌==◌, if◌then◌else◌, codes, bytes_eq, Option, Some, None, Result, Ok, Err}
 use Rattle.std.specs.List.{list_all}
 use Rattle.std.specs.Char.{is_ascii_digit}
 use Rattle.std.specs.Str.Parse.{digits_value}
@@ -9,6 +9,9 @@ use Rattle.http.specs.declared.version.Http.TheVariants.{Http09, Http10, Http11,
 use Rattle.http_header.specs.FieldValue.{FieldValue}
 use Rattle.http_header.specs.HeaderMap.{get_all, remove}
 use Rattle.http_header.specs.Token.{lowercase}
+use Rattle.relay_tasks.specs.declared.error.Error.{Error}
+use Rattle.relay_tasks.specs.declared.context.Context.TheVariants.{BadFraming}
+use Rattle.relay_tasks.specs.Error.{refused}
 use Rattle.relay_tasks.specs.Head.{Fields, RequestHead, ResponseHead}
 use Rattle.relay_h1.specs.declared.framing.Framing.{Framing}
 use Rattle.relay_h1.specs.declared.framing.Framing.TheVariants as framing
@@ -94,3 +97,8 @@ response_framing method asked head =
     if bytes_eq method (codes "HEAD") || is_bodiless head.status then Some framing.Empty
     else response_table (length_said (get_all head.fields (codes "content-length")))
         (coding_said (get_all head.fields (codes "transfer-encoding"))))
+
+-- a body that is framed so, or the refusal of its head, exactly where the table has no framing
+abbrev pub IsFramedBy : Result Framing Error → Option Framing → Type 0
+IsFramedBy result (Some framing) = result ≡ Ok framing
+IsFramedBy result None = result ≡ Err (refused BadFraming)
