@@ -87,14 +87,21 @@ request_framing head =
 abbrev pub is_bodiless : ℕ → Bool
 is_bodiless status = (nat_le 100 status && nat_lt status 200) || (status == 204 || status == 304)
 
+-- a response that ends with its head, whatever its fields say
+abbrev pub has_no_body : List ℕ → ℕ → Bool
+has_no_body method status = bytes_eq method (codes "HEAD") || is_bodiless status
+
+-- an upgrade that was asked for is accepted, whatever the method
+abbrev pub opens_tunnel : Bool → ℕ → Bool
+opens_tunnel asked status = asked && status == 101
+
 -- the framing of a response to that method, or none where it is refused; `asked` is whether the
--- request asked for an upgrade. A 101 that was asked for opens a tunnel, whatever the method; a
--- response that has no body ends with its head, whatever its fields say
+-- request asked for an upgrade
 unfoldable pub response_framing : List ℕ → Bool → ResponseHead → Option Framing
 response_framing method asked head =
-    if asked && head.status == 101 then Some framing.Tunnel
+    if opens_tunnel asked head.status then Some framing.Tunnel
     else (
-    if bytes_eq method (codes "HEAD") || is_bodiless head.status then Some framing.Empty
+    if has_no_body method head.status then Some framing.Empty
     else response_table (length_said (get_all head.fields (codes "content-length")))
         (coding_said (get_all head.fields (codes "transfer-encoding"))))
 

@@ -1,10 +1,10 @@
 //! Where the body of a message ends, told by its head alone (RFC 9112, section 6.3).
-ghost use Rattle.std.specs.Prelude.{◌≡◌, ◌^◌, codes, if◌then◌else◌, Some, None, IsTrue, nat_lt, bytes_eq};
+ghost use Rattle.std.specs.Prelude.{◌≡◌, ◌^◌, codes, if◌then◌else◌, Some, None, IsTrue, nat_lt};
 ghost use Rattle.std.specs.Char.{is_ascii_digit, digit_value};
 ghost use Rattle.std.specs.List.{list_all};
 ghost use Rattle.std.specs.Str.Parse.{digits_value};
 ghost use Rattle.http_header.specs.HeaderMap.{get_all};
-ghost use Rattle.relay_h1.specs.Framing.{is_length, is_chunked, is_http_10, length_said, coding_said, request_table, response_table, is_bodiless, request_framing, response_framing, IsFramedBy};
+ghost use Rattle.relay_h1.specs.Framing.{is_length, is_chunked, is_http_10, length_said, coding_said, request_table, response_table, is_bodiless, has_no_body, opens_tunnel, request_framing, response_framing, IsFramedBy};
 
 use http::{Method, Version};
 use http_header::HeaderMap;
@@ -45,6 +45,7 @@ pub(crate) enum CodingField {
 ///
 /// `InvalidHTTPHeader`, about `BadFraming`: Content-Length stands twice or is no number below
 /// 2^64, Transfer-Encoding stands twice, is not `chunked` or comes in HTTP/1.0, or both stand.
+#[tactic(auto, unfolding(crate::specs::Framing::request_framing))]
 pub fn request_framing(head: &RequestHeader) -> std::result::Result<Framing, Error>
     ensures { IsFramedBy result (request_framing head.now) }
 {
@@ -58,6 +59,7 @@ pub fn request_framing(head: &RequestHeader) -> std::result::Result<Framing, Err
 ///
 /// `InvalidHTTPHeader`, about `BadFraming`: the response may have a body, and Content-Length
 /// stands twice or is no number below 2^64, or Transfer-Encoding stands twice or is not `chunked`.
+#[tactic(auto, unfolding(crate::specs::Framing::response_framing))]
 pub fn response_framing(
     method: &Method,
     asked: bool,
@@ -65,10 +67,10 @@ pub fn response_framing(
 ) -> std::result::Result<Framing, Error>
     ensures { IsFramedBy result (response_framing method.now asked head.now) }
 {
-    if asked && head.status() == 101 {
+    if opens_tunnel(asked, head.status()) {
         return Ok(Framing::Tunnel);
     }
-    if is_head(method) || is_bodiless(head.status()) {
+    if has_no_body(method, head.status()) {
         return Ok(Framing::Empty);
     }
     let length = length_said(head.headers());
@@ -82,10 +84,16 @@ fn framed(framing: Option<Framing>) -> std::result::Result<Framing, Error>
     framing.ok_or(Error::explain(ErrorType::InvalidHTTPHeader, Context::BadFraming))
 }
 
-fn is_head(method: &Method) -> bool
-    ensures { result ≡ bytes_eq method.now (codes "HEAD") }
+fn opens_tunnel(asked: bool, status: u16) -> bool
+    ensures { result ≡ opens_tunnel asked status }
 {
-    method.as_str() == "HEAD"
+    asked && status == 101
+}
+
+fn has_no_body(method: &Method, status: u16) -> bool
+    ensures { result ≡ has_no_body method.now status }
+{
+    method.as_str() == "HEAD" || is_bodiless(status)
 }
 
 fn is_bodiless(status: u16) -> bool
