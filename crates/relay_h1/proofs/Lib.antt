@@ -1,1 +1,2 @@
 pub mod HeadEndLemmas
+pub mod WireLemmas

@@ -103,7 +103,7 @@ response_framing method asked head =
     else (
     if has_no_body method head.status then Some framing.Empty
     else response_table (length_said (get_all head.fields (codes "content-length")))
-        (coding_said (get_all head.fields (codes "transfer-encoding"))))
+    (coding_said (get_all head.fields (codes "transfer-encoding"))))
 
 -- a body that is framed so, or the refusal of its head, exactly where the table has no framing
 abbrev pub IsFramedBy : Result Framing Error → Option Framing → Type 0

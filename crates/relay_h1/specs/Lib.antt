@@ -1,3 +1,4 @@
 pub mod HeadEnd
 pub mod Head
 pub mod Framing
+pub mod Wire

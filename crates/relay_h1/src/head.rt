@@ -35,8 +35,5 @@ fn has_mark_at(bytes: &[u8], at: usize) -> bool
     requires { at + 4 ≤ length bytes.now }
     ensures { result ≡ begins_with_mark (drop at bytes.now) }
 {
-    bytes[at] == b'\r'
-        && bytes[at + 1] == b'\n'
-        && bytes[at + 2] == b'\r'
-        && bytes[at + 3] == b'\n'
+    bytes[at] == b'\r' && bytes[at + 1] == b'\n' && bytes[at + 2] == b'\r' && bytes[at + 3] == b'\n'
 }

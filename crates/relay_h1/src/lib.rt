@@ -3,6 +3,8 @@
 
 mod framing;
 mod head;
+mod wire;
 
 pub use framing::Framing;
 pub use head::HeadReader;
+pub use wire::{write_generated, write_request_head, write_response_head};

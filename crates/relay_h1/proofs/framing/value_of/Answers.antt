@@ -44,5 +44,5 @@ pub returns : goal.returns
 returns c =
     let ds = c.args.digits.now in
     let whole : c.loop-digit.value ≡ digits_value 10 ds =
-        c.loop-digit.invariant.so_far ∙ ap (digits_value 10) (take_all c.loop-digit.digit-index ds c.loop-digit-test.false) in
+    c.loop-digit.invariant.so_far ∙ ap (digits_value 10) (take_all c.loop-digit.digit-index ds c.loop-digit-test.false) in
     ap Some whole ∙ sym (cond-true _ _ _ (lt-ltb (digits_value 10 ds) (2 ^ 64) (omega arith)))
