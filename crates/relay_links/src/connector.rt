@@ -1,0 +1,55 @@
+//! The connector: it hands out links to peers, and takes each of them back.
+ghost use Rattle.std.specs.Prelude.{◌≡◌, ℕ, ◌+◌, ◌<◌, ◌≤◌, List, [], ◌∷◌, Option, is_ok, if◌then◌else◌, IfOk, IfErr, OnOk};
+ghost use Rattle.relay_links.specs.declared.connector.Returned.{Returned};
+ghost use Rattle.relay_links.specs.Count.{last_count, Rose};
+ghost use Rattle.relay_links.specs.Told.{more};
+ghost use Rattle.relay_links.specs.Link.{IsHandedOut};
+ghost use Rattle.relay_links.specs.Connector.{IsConnectFault};
+
+use crate::link::ByteLink;
+use relay_tasks::{Fault, Peer};
+
+/// A link as it was handed back: the peer that it is for, the link, and whether it may be used
+/// again.
+#[derive(Drop)]
+pub struct Returned<L> {
+    pub peer: Peer,
+    pub link: L,
+    pub keep: bool,
+}
+
+/// Hands out links and takes them back. It means the list of the links handed back, where it tells
+/// that, how many of its links are out, and how many of its calls failed.
+pub trait Connector {
+    /// Its links.
+    type Byte: ByteLink;
+
+    ghost returned: { Self → Option (List (Returned Self.Byte)) };
+
+    ghost out: { Self → ℕ };
+
+    ghost fault_count: { Self → ℕ };
+
+    /// A link to the peer, and whether it had been used before. A fault is of the kind `Connect`,
+    /// and the count of faults rose then.
+    fn get(&mut self, peer: &Peer) -> Result<(Self::Byte, bool), Fault>
+        ensures handed { IfOk result (λ got. IsHandedOut (Self.Byte.state got.0) (Self.Byte.start got.0) got.1) }
+        ensures out { out self.new ≡ (if is_ok result then out self.old + 1 else out self.old) }
+        ensures returned { returned self.new ≡ returned self.old }
+        ensures no_fault { OnOk result (fault_count self.new ≡ fault_count self.old) }
+        ensures fault { IfErr result IsConnectFault }
+        ensures rose { IfErr result (λ _. Rose (fault_count self.old) (fault_count self.new)) }
+        ensures fits { (fault_count self.old ≤ last_count) × (fault_count self.new ≤ last_count) };
+
+    /// Takes back a link that was handed out. It takes no memory.
+    fn release(&mut self, peer: Peer, link: Self::Byte, keep: bool)
+        requires { 0 < out self.old }
+        ensures out { out self.new + 1 ≡ out self.old }
+        ensures returned { returned self.new
+            ≡ more (returned self.old) (record { peer = peer; link = link; keep = keep } ∷ []) }
+        ensures faults { fault_count self.new ≡ fault_count self.old };
+
+    /// How many calls failed; the count stands still at its last value.
+    fn faults(&self) -> u64
+        ensures { result ≡ fault_count self.now };
+}
