@@ -1,13 +1,15 @@
 -- What the text of a message head says (RFC 9112, sections 2 to 5).
-use Rattle.std.specs.Prelude.{◌≡◌, ℕ, ◌≤◌, List, [], length, map, if◌then◌else◌, ◌==◌, None, true}
+use Rattle.std.specs.Prelude.{◌≡◌, ℕ, ◌≤◌, List, [], length, map, if◌then◌else◌, ◌==◌, nat_lt, None, true}
 use Rattle.http.specs.declared.Version.{Version}
 use Rattle.http.specs.declared.version.TheConstants.Version.{HTTP_10, HTTP_11}
-use Rattle.http.specs.StatusCode.{IsStatusCode}
 use Rattle.http_header.specs.FieldValue.{FieldValue, plain_value}
 use Rattle.http_header.specs.HeaderMap.{append_all}
 use Rattle.http_header.specs.Token.{lowercase}
 use Rattle.httparse.specs.Grammar as grammar
-use Rattle.relay_tasks.specs.Head.{Fields, RequestHead, ResponseHead, IsRawTarget}
+use Rattle.relay_tasks.specs.declared.context.Context.TheVariants.{HeadGrammar, HeadTooLong}
+use Rattle.relay_tasks.specs.declared.error.Error.{Error}
+use Rattle.relay_tasks.specs.Error.{refused}
+use Rattle.relay_tasks.specs.Head.{Fields, RequestHead, ResponseHead, IsRawTarget, IsStatus}
 
 -- how many fields a head may have
 abbrev pub most_fields : ℕ
@@ -61,7 +63,7 @@ pub record IsRequestText (text : List ℕ) (form : grammar.RequestHead) : Type 0
 pub record IsResponseText (text : List ℕ) (form : grammar.ResponseHead) : Type 0 where
   pub reads : grammar.ReadsResponse text form []
   pub few_fields : length form.fields ≤ most_fields
-  pub status : IsStatusCode (grammar.status_code form)
+  pub status : IsStatus (grammar.status_code form)
   pub short : length text ≤ most_bytes
 
 -- the text is a request head that says `head`
@@ -83,3 +85,7 @@ RefusesRequest text = (head : RequestHead) → ¬ (ReadsRequest text head)
 -- the text is no response head
 abbrev pub RefusesResponse : List ℕ → Type 0
 RefusesResponse text = (head : ResponseHead) → ¬ (ReadsResponse text head)
+
+-- why a text is no head: it is too long, or the grammar does not read it
+abbrev pub head_refusal : List ℕ → Error
+head_refusal text = if nat_lt most_bytes (length text) then refused HeadTooLong else refused HeadGrammar

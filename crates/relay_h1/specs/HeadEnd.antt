@@ -1,5 +1,5 @@
 -- Where a head ends in the bytes of a message (RFC 9112, section 2.1).
-use Rattle.std.specs.Prelude.{ℕ, suc, ◌+◌, Bool, List, [], ◌∷◌, take, bytes_eq, if◌then◌else◌, Option, Some, None, option_map}
+use Rattle.std.specs.Prelude.{◌≡◌, ℕ, suc, ◌+◌, ◌<◌, Bool, false, List, [], ◌∷◌, take, drop, bytes_eq, if◌then◌else◌, Option, Some, None, option_map}
 
 -- CR LF CR LF: the end of the last line, and the empty line
 abbrev pub end_mark : List ℕ
@@ -17,3 +17,7 @@ head_end (b ∷ bytes) = if begins_with_mark (b ∷ bytes) then Some 4 else opti
 -- a place in the rest of a list, counted from the list's start
 abbrev pub shifted : ℕ → Option ℕ → Option ℕ
 shifted n place = option_map (λ k. k + n) place
+
+-- no CR LF CR LF begins before the place
+abbrev pub NoMarkBefore : ℕ → List ℕ → Type 0
+NoMarkBefore place bytes = (k : ℕ) → k < place → begins_with_mark (drop k bytes) ≡ false

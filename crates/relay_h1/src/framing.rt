@@ -128,7 +128,7 @@ fn request_table(is_old: bool, length: LengthField, coding: CodingField) -> Opti
     }
 }
 
-fn is_http_10(version: Version) -> bool
+pub(crate) fn is_http_10(version: Version) -> bool
     ensures { result ≡ is_http_10 version }
 {
     version == Version::HTTP_10
