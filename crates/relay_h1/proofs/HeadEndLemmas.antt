@@ -1,6 +1,8 @@
 -- How the end of a head is found from a place in the middle.
-use Rattle.std.proofs.Common.{◌≡◌, ℕ, zero, suc, ◌+◌, ◌-◌, ◌<◌, ◌≤◌, List, [], ◌∷◌, length, drop, take, Bool, false, true, ◌&&◌, refl, sym, ◌∙◌, ap, arith, Option, Some, None, get_or, eqb, add-one, drop-cons, option_map}
-use Rattle.relay_h1.specs.HeadEnd.{begins_with_mark, end_mark, head_end, shifted}
+use Rattle.std.proofs.Common.{◌≡◌, ℕ, zero, suc, ◌+◌, ◌-◌, ◌<◌, ◌≤◌, List, [], ◌∷◌, length, drop, take, Bool, false, true, ◌&&◌, refl, sym, ◌∙◌, ap, arith, Option, Some, None, get_or, eqb, add-one, drop-cons, option_map, ◌++◌, inl, inr}
+use Rattle.std.proofs.lemmas.List.{drop-drop, drop-append-le, take-append-le, length-drop}
+use Rattle.std.proofs.lemmas.Bool.{cases_Bool}
+use Rattle.relay_h1.specs.HeadEnd.{begins_with_mark, end_mark, head_end, shifted, NoMarkBefore}
 
 -- what is shifted by one more
 pub shifted-suc : (n : ℕ) (place : Option ℕ) → shifted (n + 1) place ≡ shifted n (shifted 1 place)
@@ -46,3 +48,46 @@ head_end-short (a ∷ []) few = simp and-false
 head_end-short (a ∷ b ∷ []) few = simp and-false
 head_end-short (a ∷ b ∷ c ∷ []) few = simp and-false
 head_end-short (a ∷ b ∷ c ∷ d ∷ rest) few = absurd (omega arith)
+
+-- where no mark begins before a place, the search may start there
+pub head_end-from : (place : ℕ) (bytes : List ℕ) → place ≤ length bytes → NoMarkBefore place bytes
+    → head_end bytes ≡ shifted place (head_end (drop place bytes))
+head_end-from zero bytes within none_before = shifted-zero (head_end bytes)
+head_end-from (suc n) bytes within none_before =
+    let so_far = head_end-from n bytes (omega arith) (λ k less. none_before k (omega arith)) in
+    let here = head_end-skip bytes n (omega arith) (none_before n (omega arith)) in
+    rw (← add-one) (so_far ∙ ap (shifted n) here ∙ sym (shifted-suc n (head_end (drop (n + 1) bytes))))
+
+-- what is shifted to nothing was nothing
+pub shifted-none : (n : ℕ) (place : Option ℕ) → shifted n place ≡ None → place ≡ None
+shifted-none n None none = refl
+shifted-none n (Some k) none = cc
+
+-- where no head ends, none ends behind the first byte either, and no mark begins here
+no_end_here : (b : ℕ) (bytes : List ℕ) → head_end (b ∷ bytes) ≡ None
+    → (begins_with_mark (b ∷ bytes) ≡ false) × (head_end bytes ≡ None)
+no_end_here b bytes none =
+    elim (cases_Bool (begins_with_mark (b ∷ bytes))) [
+      | inl here ↦ let ends = head_end-here (b ∷ bytes) here in cc
+      | inr none_here ↦ (none_here, shifted-none 1 (head_end bytes) (sym (head_end-cons b bytes none_here) ∙ none))
+    ]
+
+-- where no head ends, no mark begins at all
+pub no_mark_without_end : (bytes : List ℕ) → head_end bytes ≡ None → (k : ℕ) → begins_with_mark (drop k bytes) ≡ false
+no_mark_without_end [] none zero = refl
+no_mark_without_end [] none (suc k) = refl
+no_mark_without_end (b ∷ bytes) none zero = (no_end_here b bytes none).0
+no_mark_without_end (b ∷ bytes) none (suc k) = no_mark_without_end bytes (no_end_here b bytes none).1 k
+
+-- what is dropped begins no mark
+pub NoMarkBefore-drop : (n place : ℕ) (bytes : List ℕ) → NoMarkBefore place bytes
+    → NoMarkBefore (place - n) (drop n bytes)
+NoMarkBefore-drop n place bytes none_before = λ k less. rw drop-drop (none_before (n + k) (omega arith))
+
+-- what follows the last three bytes begins no mark before them
+pub NoMarkBefore-append : (place : ℕ) (bytes more : List ℕ) → place + 3 ≤ length bytes → NoMarkBefore place bytes
+    → NoMarkBefore place (bytes ++ more)
+NoMarkBefore-append place bytes more margin none_before = λ k less.
+    let inside : k ≤ length bytes = omega arith in
+    let room : 4 ≤ length (drop k bytes) = omega (arith, length-drop k bytes) in
+    rw (drop-append-le k bytes more inside, take-append-le 4 (drop k bytes) more room) (none_before k less)

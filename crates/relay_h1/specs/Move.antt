@@ -1,17 +1,16 @@
 -- How bytes move between a link and the relay.
-use Rattle.std.specs.Prelude.{◌≡◌, ℕ, List, ◌++◌, length, take, drop}
+use Rattle.std.specs.Prelude.{◌≡◌, ℕ, List, ◌++◌, take, drop}
 use Rattle.relay_links.specs.declared.link.Got.{Got}
 use Rattle.relay_links.specs.declared.link.Got.TheVariants as got
 use Rattle.relay_links.specs.declared.link.Put.{Put}
 use Rattle.relay_links.specs.declared.link.Put.TheVariants as put
 use Rattle.relay_links.specs.Link.{LinkState, GivesBytes, WaitsOnRead, IsSilentOnRead, EndsRead, FailsRead, Writes}
 
--- the link gave a piece of n bytes, which follows the bytes that were ahead
+-- the link gave the first n bytes of a room, and they follow the bytes that were ahead
 pub record GrowsBy (before after : LinkState) (old new : List ℕ) (n : ℕ) : Type 0 where
-  pub piece : List ℕ
-  pub length_is : length piece ≡ n
-  pub gives : GivesBytes before piece n after
-  pub grown : new ≡ old ++ piece
+  pub room : List ℕ
+  pub gives : GivesBytes before room n after
+  pub grown : new ≡ old ++ take n room
 
 -- one read of a link behind the bytes ahead, by its answer
 abbrev pub ReadsMore : LinkState → LinkState → List ℕ → List ℕ → Got → Type 0

@@ -1,5 +1,5 @@
 //! The bytes that were read from a link and not consumed yet.
-ghost use Rattle.std.specs.Prelude.{◌≡◌, ◌≤◌, ◌==◌, [], length, drop, take, vec_len, IfOk, OnOk, OnErr};
+ghost use Rattle.std.specs.Prelude.{◌≡◌, ◌≤◌, ◌==◌, ◌+◌, [], length, drop, take, vec_len, IfOk, OnOk, OnErr};
 ghost use Rattle.relay_h1.specs.HeadEnd.{head_end};
 ghost use Rattle.relay_h1.specs.Move.{ReadsMore, given};
 
@@ -82,11 +82,13 @@ impl Ahead {
         ensures place { result ≡ head_end self.old }
         ensures same { self.new ≡ self.old }
     {
-        let found = find_from(self.bytes(), self.searched);
-        if found.is_none() {
-            self.searched = self.len().saturating_sub(3);
+        match find_from(self.bytes(), self.searched) {
+            Some(place) => Some(place),
+            None => {
+                self.searched = (self.end - self.start).saturating_sub(3);
+                None
+            }
         }
-        found
     }
 
     /// One read of the link, for up to 16,384 bytes. Their memory is taken first: where it is
@@ -99,7 +101,7 @@ impl Ahead {
         self.move_to_front();
         let end = self.end;
         grow_to(&mut self.buffer, end + READ_SIZE)?;
-        let got = link.read(&mut self.buffer.as_mut_slice()[end..end + READ_SIZE]);
+        let got = read_behind(link, &mut self.buffer, end);
         self.end += given(got);
         Ok(got)
     }
@@ -117,6 +119,17 @@ impl Ahead {
         self.end -= self.start;
         self.start = 0;
     }
+}
+
+/// One read of the link into the buffer, behind its first `end` bytes.
+fn read_behind<L: ByteLink>(link: &mut L, buffer: &mut Vec<u8>, end: usize) -> Got
+    requires { end + READ_SIZE ≤ vec_len buffer.old }
+    ensures answer { ReadsMore (L.state link.old) (L.state link.new)
+        (take end buffer.old.items) (take (end + given result) buffer.new.items) result }
+    ensures start { L.start link.new ≡ L.start link.old }
+    ensures within { end + given result ≤ vec_len buffer.new }
+{
+    link.read(&mut buffer.as_mut_slice()[end..end + READ_SIZE])
 }
 
 /// How many bytes a read gave.
