@@ -1,3 +1,4 @@
 pub mod AheadLemmas
 pub mod HeadEndLemmas
+pub mod HeadLemmas
 pub mod WireLemmas

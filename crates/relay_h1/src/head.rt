@@ -4,6 +4,7 @@ ghost use Rattle.http_header.specs.FieldName.{IsFieldName};
 ghost use Rattle.http_header.specs.FieldValue.{IsFieldValue, plain_value};
 ghost use Rattle.http_header.specs.Token.{IsToken, lowercase};
 ghost use Rattle.relay_tasks.specs.Error.{IsMemoryOr};
+ghost use Rattle.relay_tasks.specs.Head.{RequestHead, ResponseHead};
 ghost use Rattle.relay_h1.specs.Head.{ReadsRequest, ReadsResponse, RefusesRequest, RefusesResponse, head_refusal, version_of};
 ghost use Rattle.relay_h1.specs.HeadEnd.{begins_with_mark, head_end, NoMarkBefore};
 ghost use Rattle.relay_h1.specs.HeadSpans.{IsFieldAt, IsRequestFound, IsResponseFound, kept_fields_at};
@@ -44,6 +45,8 @@ impl HeadReader {
         ensures ok { IfOk result (ReadsRequest bytes.now) }
         ensures refused { IsErrOf result (Fail.Error (head_refusal bytes.now))
             ↔ RefusesRequest bytes.now }
+        ensures memory { IsErrOf result Fail.OutOfMemory
+            → (head : RequestHead) × ReadsRequest bytes.now head }
         ensures causes { IfErr result (IsMemoryOr (head_refusal bytes.now)) }
     {
         let mut spans = [EMPTY_HEADER_SPAN; MAX_FIELDS];
@@ -62,6 +65,8 @@ impl HeadReader {
         ensures ok { IfOk result (ReadsResponse bytes.now) }
         ensures refused { IsErrOf result (Fail.Error (head_refusal bytes.now))
             ↔ RefusesResponse bytes.now }
+        ensures memory { IsErrOf result Fail.OutOfMemory
+            → (head : ResponseHead) × ReadsResponse bytes.now head }
         ensures causes { IfErr result (IsMemoryOr (head_refusal bytes.now)) }
     {
         let mut spans = [EMPTY_HEADER_SPAN; MAX_FIELDS];
