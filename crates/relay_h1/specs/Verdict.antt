@@ -24,6 +24,22 @@ pub record IsOpen (bytes : List ℕ) : Type 0 where
   pub no_end : head_end bytes ≡ None
   pub may_end : length bytes < most_bytes
 
+-- no head ends in the bytes that one may have
+pub data IsTooLong (bytes : List ℕ) : Type 0 where
+  never_ends : head_end bytes ≡ None → most_bytes ≤ length bytes → IsTooLong bytes
+  ends_late : (len : ℕ) → head_end bytes ≡ Some len → most_bytes < len → IsTooLong bytes
+
+-- where the head at the front ends, if it does
+abbrev pub LocatesHead : List ℕ → Result (Option ℕ) Error → Type 0
+LocatesHead bytes (Ok None) = IsOpen bytes
+LocatesHead bytes (Ok (Some len)) = (head_end bytes ≡ Some len) × (len ≤ most_bytes)
+LocatesHead bytes (Err error) = (error ≡ refused HeadTooLong) × IsTooLong bytes
+
+-- the failure, as one of that side
+abbrev pub fail_from : Fail → ErrorSource → Fail
+fail_from fail.OutOfMemory side = fail.OutOfMemory
+fail_from (fail.Error error) side = fail.Error (record error { esource = side })
+
 -- a head of HTTP/1.1 names its host once
 abbrev pub has_host : RequestHead → Bool
 has_host head = is_http_10 head.version || length (get_all head.fields (codes "host")) == 1
@@ -33,27 +49,31 @@ pub record StartsWithRequest (bytes : List ℕ) (head : RequestHead) (len : ℕ)
   pub ends : head_end bytes ≡ Some len
   pub reads : ReadsRequest (take len bytes) head
 
+-- the head is let in, with that framing
+pub record IsLetIn (head : RequestHead) (framing : Framing) : Type 0 where
+  pub framed : request_framing head ≡ Some framing
+  pub hosted : has_host head ≡ true
+
+-- the head is not let in, for that reason
+pub data IsTurnedAway (head : RequestHead) (why : Context) : Type 0 where
+  has_no_framing : request_framing head ≡ None → why ≡ BadFraming → IsTurnedAway head why
+  has_no_host : (framing : Framing) → request_framing head ≡ Some framing → has_host head ≡ false
+      → why ≡ HostCount → IsTurnedAway head why
+
 -- the first `len` bytes are a request head that is let in, with its framing
 pub record HasRequest (bytes : List ℕ) (head : RequestHead) (framing : Framing) (len : ℕ) : Type 0 where
   pub starts : StartsWithRequest bytes head len
-  pub framed : request_framing head ≡ Some framing
-  pub hosted : has_host head ≡ true
+  pub let_in : IsLetIn head framing
 
 -- the text is no request head that is let in
 pub data IsRefusedText (text : List ℕ) (why : Context) : Type 0 where
   is_no_head : RefusesRequest text → why ≡ HeadGrammar → IsRefusedText text why
-  has_no_framing : (head : RequestHead) → ReadsRequest text head → request_framing head ≡ None
-      → why ≡ BadFraming → IsRefusedText text why
-  has_no_host : (head : RequestHead) (framing : Framing) → ReadsRequest text head
-      → request_framing head ≡ Some framing → has_host head ≡ false → why ≡ HostCount
+  is_turned_away : (head : RequestHead) → ReadsRequest text head → IsTurnedAway head why
       → IsRefusedText text why
 
 -- the bytes begin with no request head that is let in, whatever follows them
 pub data IsRefusedRequest (bytes : List ℕ) (why : Context) : Type 0 where
-  never_ends : head_end bytes ≡ None → most_bytes ≤ length bytes → why ≡ HeadTooLong
-      → IsRefusedRequest bytes why
-  ends_late : (len : ℕ) → head_end bytes ≡ Some len → most_bytes < len → why ≡ HeadTooLong
-      → IsRefusedRequest bytes why
+  is_too_long : IsTooLong bytes → why ≡ HeadTooLong → IsRefusedRequest bytes why
   has_bad_text : (len : ℕ) → head_end bytes ≡ Some len → len ≤ most_bytes
       → IsRefusedText (take len bytes) why → IsRefusedRequest bytes why
 
@@ -61,11 +81,15 @@ pub data IsRefusedRequest (bytes : List ℕ) (why : Context) : Type 0 where
 abbrev pub refused_from : ErrorSource → Context → Error
 refused_from side why = record (refused why) { esource = side }
 
--- the answer on the text of a request head, which has no side yet
+-- the answer on a head that was read, which has no side yet
+abbrev pub AdmitsHead : RequestHead → Result Framing Error → Type 0
+AdmitsHead head (Ok framing) = IsLetIn head framing
+AdmitsHead head (Err error) = (why : Context) × (error ≡ refused why) × IsTurnedAway head why
+
+-- the answer on the text of a request head
 abbrev pub AdmitsRequest : List ℕ → Result RequestRead Fail → Type 0
 AdmitsRequest text (Ok read) =
-    ReadsRequest text read.head × (request_framing read.head ≡ Some read.framing)
-    × (has_host read.head ≡ true) × (read.len ≡ length text)
+    ReadsRequest text read.head × IsLetIn read.head read.framing × (read.len ≡ length text)
 AdmitsRequest text (Err fail.OutOfMemory) = (head : RequestHead) × ReadsRequest text head
 AdmitsRequest text (Err (fail.Error error)) =
     (why : Context) × (error ≡ refused why) × IsRefusedText text why
@@ -110,14 +134,11 @@ pub data IsRefusedAnswer (method : List ℕ) (asked : Bool) (text : List ℕ) (w
 
 -- the bytes begin with no response head, whatever follows them
 pub data IsRefusedResponse (method : List ℕ) (asked : Bool) (bytes : List ℕ) (why : Context) : Type 0 where
-  never_ends : head_end bytes ≡ None → most_bytes ≤ length bytes → why ≡ HeadTooLong
-      → IsRefusedResponse method asked bytes why
-  ends_late : (len : ℕ) → head_end bytes ≡ Some len → most_bytes < len → why ≡ HeadTooLong
-      → IsRefusedResponse method asked bytes why
+  is_too_long : IsTooLong bytes → why ≡ HeadTooLong → IsRefusedResponse method asked bytes why
   has_bad_text : (len : ℕ) → head_end bytes ≡ Some len → len ≤ most_bytes
       → IsRefusedAnswer method asked (take len bytes) why → IsRefusedResponse method asked bytes why
 
--- the answer on the text of a response head, which has no side yet
+-- the answer on the text of a response head
 abbrev pub AdmitsResponse : List ℕ → Bool → List ℕ → Result ResponseRead Fail → Type 0
 AdmitsResponse method asked text (Ok read) =
     (given : ResponseHead) × ReadsResponse text given

@@ -3,14 +3,16 @@
 ghost use Rattle.std.specs.Prelude.{◌≡◌, ◌≤◌, length};
 ghost use Rattle.relay_tasks.specs.Error.{refused};
 ghost use Rattle.relay_h1.specs.Head.{most_bytes};
-ghost use Rattle.relay_h1.specs.Verdict.{JudgesRequest, JudgesResponse, AdmitsRequest, AdmitsResponse, has_host, settled};
+ghost use Rattle.relay_h1.specs.Verdict.{JudgesRequest, JudgesResponse, LocatesHead, fail_from, AdmitsHead, AdmitsRequest, AdmitsResponse, has_host, settled};
 
 use crate::ahead::Ahead;
 use crate::framing::{Framing, is_http_10, request_framing, response_framing};
 use crate::head::{HeadReader, MAX_HEAD};
 use http::Method;
 use http_header::CONTENT_LENGTH;
-use relay_tasks::{Context, Error, ErrorType, Fail, RequestHeader, ResponseHeader, Result};
+use relay_tasks::{
+    Context, Error, ErrorSource, ErrorType, Fail, RequestHeader, ResponseHeader, Result,
+};
 use std::alloc::Global;
 
 /// A request head that was read and let in.
@@ -41,20 +43,33 @@ pub fn judge_request(alloc: Global, ahead: &mut Ahead) -> Result<Option<RequestR
     ensures verdict { JudgesRequest ahead.old result }
     ensures same { ahead.new ≡ ahead.old }
 {
-    let Some(len) = ahead.head_end() else {
-        if ahead.len() < MAX_HEAD {
-            return Ok(None);
-        }
-        return Err(Fail::Error(too_long().into_down()));
-    };
-    if len > MAX_HEAD {
-        return Err(Fail::Error(too_long().into_down()));
+    match locate_head(ahead) {
+        Ok(Some(len)) => match admit_request(alloc, &ahead.bytes()[..len]) {
+            Ok(read) => Ok(Some(read)),
+            Err(fail) => Err(fail_from(fail, ErrorSource::Downstream)),
+        },
+        Ok(None) => Ok(None),
+        Err(error) => Err(Fail::Error(error.into_down())),
     }
-    match admit_request(alloc, &ahead.bytes()[..len]) {
-        Ok(read) => Ok(Some(read)),
-        Err(Fail::OutOfMemory) => Err(Fail::OutOfMemory),
-        Err(Fail::Error(error)) => Err(Fail::Error(error.into_down())),
+}
+
+/// How long the head at the front is; none as long as none ends, unless it is too long.
+fn locate_head(ahead: &mut Ahead) -> std::result::Result<Option<usize>, Error>
+    ensures place { LocatesHead ahead.old result }
+    ensures same { ahead.new ≡ ahead.old }
+{
+    match ahead.head_end() {
+        Some(len) if len > MAX_HEAD => Err(too_long()),
+        Some(len) => Ok(Some(len)),
+        None if ahead.len() < MAX_HEAD => Ok(None),
+        None => Err(too_long()),
     }
+}
+
+fn too_long() -> Error
+    ensures { result ≡ refused Context.HeadTooLong }
+{
+    Error::explain(ErrorType::InvalidHTTPHeader, Context::HeadTooLong)
 }
 
 /// Reads the text of a request head, frames it and looks at its host.
@@ -63,15 +78,24 @@ fn admit_request(alloc: Global, text: &[u8]) -> Result<RequestRead>
     ensures { AdmitsRequest text.now result }
 {
     let head = HeadReader::read_request(alloc, text)?;
-    let framing = request_framing(&head)?;
-    if !has_host(&head) {
-        return Err(Fail::Error(Error::explain(ErrorType::InvalidHTTPHeader, Context::HostCount)));
+    match admit_head(&head) {
+        Ok(framing) => Ok(RequestRead {
+            head,
+            framing,
+            len: text.len(),
+        }),
+        Err(error) => Err(Fail::Error(error)),
     }
-    Ok(RequestRead {
-        head,
-        framing,
-        len: text.len(),
-    })
+}
+
+fn admit_head(head: &RequestHeader) -> std::result::Result<Framing, Error>
+    ensures { AdmitsHead head.now result }
+{
+    let framing = request_framing(head)?;
+    if !has_host(head) {
+        return Err(Error::explain(ErrorType::InvalidHTTPHeader, Context::HostCount));
+    }
+    Ok(framing)
 }
 
 fn has_host(head: &RequestHeader) -> bool
@@ -80,10 +104,17 @@ fn has_host(head: &RequestHeader) -> bool
     is_http_10(head.version()) || head.headers().get_all("host").iter().count() == 1
 }
 
-fn too_long() -> Error
-    ensures { result ≡ refused Context.HeadTooLong }
+/// The failure, as one of that side.
+fn fail_from(fail: Fail, side: ErrorSource) -> Fail
+    ensures { result ≡ fail_from fail side }
 {
-    Error::explain(ErrorType::InvalidHTTPHeader, Context::HeadTooLong)
+    match fail {
+        Fail::OutOfMemory => Fail::OutOfMemory,
+        Fail::Error(error) => Fail::Error(Error {
+            esource: side,
+            ..error
+        }),
+    }
 }
 
 /// The response head at the front of the bytes ahead, none as long as it has not come whole, read
@@ -102,19 +133,13 @@ pub fn judge_response(
     ensures verdict { JudgesResponse method.now asked ahead.old result }
     ensures same { ahead.new ≡ ahead.old }
 {
-    let Some(len) = ahead.head_end() else {
-        if ahead.len() < MAX_HEAD {
-            return Ok(None);
-        }
-        return Err(Fail::Error(too_long().into_up()));
-    };
-    if len > MAX_HEAD {
-        return Err(Fail::Error(too_long().into_up()));
-    }
-    match admit_response(alloc, &ahead.bytes()[..len], method, asked) {
-        Ok(read) => Ok(Some(read)),
-        Err(Fail::OutOfMemory) => Err(Fail::OutOfMemory),
-        Err(Fail::Error(error)) => Err(Fail::Error(error.into_up())),
+    match locate_head(ahead) {
+        Ok(Some(len)) => match admit_response(alloc, &ahead.bytes()[..len], method, asked) {
+            Ok(read) => Ok(Some(read)),
+            Err(fail) => Err(fail_from(fail, ErrorSource::Upstream)),
+        },
+        Ok(None) => Ok(None),
+        Err(error) => Err(Fail::Error(error.into_up())),
     }
 }
 
@@ -124,13 +149,17 @@ fn admit_response(alloc: Global, text: &[u8], method: &Method, asked: bool) -> R
     ensures { AdmitsResponse method.now asked text.now result }
 {
     let mut head = HeadReader::read_response(alloc, text)?;
-    let framing = response_framing(method, asked, &head)?;
-    settle(framing, &mut head);
-    Ok(ResponseRead {
-        head,
-        framing,
-        len: text.len(),
-    })
+    match response_framing(method, asked, &head) {
+        Ok(framing) => {
+            settle(framing, &mut head);
+            Ok(ResponseRead {
+                head,
+                framing,
+                len: text.len(),
+            })
+        }
+        Err(error) => Err(Fail::Error(error)),
+    }
 }
 
 fn settle(framing: Framing, head: &mut ResponseHeader)
