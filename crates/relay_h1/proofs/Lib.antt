@@ -1,0 +1,6 @@
+pub mod AheadLemmas
+pub mod HeadEndLemmas
+pub mod HeadLemmas
+pub mod JudgeLemmas
+pub mod VerdictLemmas
+pub mod WireLemmas

@@ -1,0 +1,25 @@
+-- No mark begins before the place that the search has come to.
+use Rattle.std.proofs.Common.{◌≡◌, ◌+◌, ◌<◌, length, length-drop, drop, sym, ◌∙◌, ap, arith, Some, below_more}
+use Rattle.relay_h1.specs.HeadEnd.{begins_with_mark, shifted}
+use Rattle.relay_h1.proofs.HeadEndLemmas.{head_end-from, head_end-here, head_end-short}
+use Rattle.relay_h1.proofs.head.find_from.Goals as goal
+
+pub loop-at-preserved : goal.loop-at-preserved
+loop-at-preserved c = record {
+  within = omega arith;
+  none_before = below_more _ _ c.loop-at.invariant.none_before (sym c.if-has_mark_at.ensures);
+}
+
+pub returns-then-has_mark_at : goal.returns-then-has_mark_at
+returns-then-has_mark_at c =
+    let at = c.loop-at.at in
+    let from = head_end-from at c.args.bytes.now c.loop-at.invariant.within c.loop-at.invariant.none_before in
+    let here = head_end-here (drop at c.args.bytes.now) (sym c.if-has_mark_at.ensures) in
+    ap Some (omega arith) ∙ sym (from ∙ ap (shifted at) here)
+
+pub returns : goal.returns
+returns c =
+    let at = c.loop-at.at in
+    let from = head_end-from at c.args.bytes.now c.loop-at.invariant.within c.loop-at.invariant.none_before in
+    let few : length (drop at c.args.bytes.now) < 4 = omega (arith, length-drop at c.args.bytes.now) in
+    sym (from ∙ ap (shifted at) (head_end-short (drop at c.args.bytes.now) few))

@@ -1,0 +1,21 @@
+use Rattle.std.proofs.Common.{◌≡◌, sym, ◌∙◌, subst, refl}
+use Rattle.relay_tasks.specs.declared.context.Context.TheVariants.{BadFraming}
+use Rattle.relay_h1.specs.Verdict.{AdmitsResponse}
+use Rattle.relay_h1.specs.Verdict as verdict
+use Rattle.relay_h1.proofs.JudgeLemmas.{err_is, admits_no_answer, not_framed}
+use Rattle.relay_h1.proofs.verdict.admit_response.Goals as goal
+
+pub returns-in_err-head : goal.returns-in_err-head
+returns-in_err-head c =
+    let failure = c.in_err-head.field-0.0 in
+    let is = err_is c.from_residual.result failure c.from_residual.ensures.1 in
+    let answer =
+        admits_no_answer c.args.method.now c.args.asked c.args.text.now failure c.requires c.in_err-head.ensures.causes
+        c.in_err-head.ensures.refused.0 c.in_err-head.ensures.memory
+    in
+    subst (AdmitsResponse c.args.method.now c.args.asked c.args.text.now) (sym is) answer
+
+pub returns-in-Err : goal.returns-in-Err
+returns-in-Err c =
+    let none = not_framed c.in-Err.error _ c.in-Err.ensures in
+    (BadFraming, none.1, verdict.IsRefusedAnswer.has_no_framing c.in_ok-head.head c.in_ok-head.ensures.ok none.0 refl)

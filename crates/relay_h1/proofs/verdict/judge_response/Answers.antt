@@ -1,0 +1,40 @@
+use Rattle.std.proofs.Common.{◌≡◌, length, take, sym, ap, ◌∙◌, refl, subst, List, ℕ, Err}
+use Rattle.std.proofs.lemmas.List.{length-take-le}
+use Rattle.relay_tasks.specs.declared.context.Context.TheVariants.{HeadTooLong}
+use Rattle.relay_tasks.specs.declared.error.Error.{Error}
+use Rattle.relay_tasks.specs.declared.error.ErrorSource.TheVariants.{Upstream}
+use Rattle.relay_h1.specs.Verdict as verdict
+use Rattle.relay_h1.proofs.HeadEndLemmas.{head_end-within}
+use Rattle.relay_h1.proofs.JudgeLemmas.{judges_response, judges_no_response}
+use Rattle.relay_h1.proofs.verdict.judge_response.Goals as goal
+
+pub slice_bounds-admit_response-end : goal.slice_bounds-admit_response-end
+slice_bounds-admit_response-end c =
+    let bytes = c.args.ahead.now in
+    let len = c.in-Ok-Some.len in
+    let place = rw c.in-Ok-Some.field-0-is at c.in-Ok-Some.ensures.place in
+    let same : c.bytes.result.now ≡ bytes = c.bytes.ensures ∙ c.locate_head.ensures.same in
+    rw same (sym (length-take-le len bytes (head_end-within bytes len place.0).1))
+
+pub returns-in-Ok-clause-verdict : goal.returns-in-Ok-clause-verdict
+returns-in-Ok-clause-verdict c =
+    let place = rw c.in-Ok-Some.field-0-is at c.in-Ok-Some.ensures.place in
+    let same : c.bytes.result.now ≡ c.args.ahead.now = c.bytes.ensures ∙ c.locate_head.ensures.same in
+    judges_response c.args.method.now c.args.asked c.args.ahead.now c.in-Ok-Some.len c.in-Ok.read place.0 (rw same at c.in-Ok.ensures)
+
+pub returns-in-Err-admit_response-clause-verdict : goal.returns-in-Err-admit_response-clause-verdict
+returns-in-Err-admit_response-clause-verdict c =
+    let place = rw c.in-Ok-Some.field-0-is at c.in-Ok-Some.ensures.place in
+    let same : c.bytes.result.now ≡ c.args.ahead.now = c.bytes.ensures ∙ c.locate_head.ensures.same in
+    rw c.fail_from.ensures
+    (judges_no_response c.args.method.now c.args.asked c.args.ahead.now c.in-Ok-Some.len c.in-Err-admit_response.fail place.0 place.1
+        (subst (λ (b : List ℕ). verdict.AdmitsResponse c.args.method.now c.args.asked (take c.in-Ok-Some.len b) (Err c.in-Err-admit_response.fail)) same
+            c.in-Err-admit_response.ensures))
+
+pub returns-in-Err-clause-verdict : goal.returns-in-Err-clause-verdict
+returns-in-Err-clause-verdict c =
+    let place = c.in-Err.ensures.place in (
+      HeadTooLong,
+      c.into_up.ensures ∙ ap {A = Error} (λ e. record e { esource = Upstream }) place.0,
+      verdict.IsRefusedResponse.is_too_long place.1 refl,
+    )

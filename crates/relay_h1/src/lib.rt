@@ -1,0 +1,18 @@
+//! HTTP/1 on a link: heads, framing and wire form (RFC 9112, sections 2 to 6).
+#![tactic(auto)]
+
+mod ahead;
+mod connection;
+mod framing;
+mod head;
+mod output;
+mod verdict;
+mod wire;
+
+pub use ahead::{Ahead, READ_SIZE};
+pub use connection::Connection;
+pub use framing::{Framing, request_framing, response_framing};
+pub use head::{HeadReader, MAX_FIELDS, MAX_HEAD};
+pub use output::Output;
+pub use verdict::{RequestRead, ResponseRead, judge_request, judge_response};
+pub use wire::{write_generated, write_request_head, write_response_head};
