@@ -3,15 +3,9 @@ use Rattle.std.specs.Prelude.{◌≡◌, ℕ, ◌≤◌, List, [], ◌∷◌, Op
 use Rattle.relay_tasks.specs.declared.peer.PurgeAction.{PurgeAction}
 use Rattle.relay_tasks.specs.declared.peer.Purged.{Purged}
 use Rattle.relay_tasks.specs.declared.peer.Purged.TheVariants.{NoCache, Found, NotFound, Failed, OutOfMemory}
+use Rattle.relay_links.specs.declared.purger.PurgeCall.{PurgeCall}
 use Rattle.relay_links.specs.Count.{last_count, Rose}
 use Rattle.relay_links.specs.Told.{more}
-
--- a call: what was asked, and the answer
-pub record PurgeCall : Type 0 where
-  pub action : PurgeAction
-  pub host : List ℕ
-  pub target : List ℕ
-  pub answer : Purged
 
 -- a purger: its calls in order, where it tells them, and how many failed
 pub record PurgerState : Type 0 where

@@ -2,7 +2,17 @@
 ghost use Rattle.std.specs.Prelude.{◌≡◌};
 ghost use Rattle.relay_links.specs.Purger.{PurgerState, Purges};
 
+use bytes::Bytes;
 use relay_tasks::{PurgeAction, Purged};
+
+/// A call of a purger: what was asked, and the answer.
+#[derive(Drop)]
+pub struct PurgeCall {
+    pub action: PurgeAction,
+    pub host: Bytes,
+    pub target: Bytes,
+    pub answer: Purged,
+}
 
 /// Drops or expires what a cache keeps. It means the list of its calls, each with what was asked
 /// and answered, where it tells that list.

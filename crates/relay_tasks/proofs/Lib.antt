@@ -1,2 +1,3 @@
-pub mod Copies
+pub mod Clones
 pub mod Refusals
+pub mod Visible

@@ -32,7 +32,12 @@ pub record ResponseHead : Type 0 where
 abbrev pub is_target_byte : ℕ → Bool
 is_target_byte b = nat_le 33 b && not (b == 127)
 
--- a raw target that can be sent
+-- a text that can stand in a request line as its target
+pub record IsSendable (target : List ℕ) : Type 0 where
+  pub filled : 0 < length target
+  pub visible : All (λ b. IsTrue (is_target_byte b)) target
+
+-- a raw target that can be sent, at a length that `http_uri` takes
 pub record IsRawTarget (target : List ℕ) : Type 0 where
   pub filled : 0 < length target
   pub fits : length target ≤ 65534

@@ -1,3 +1,5 @@
+pub mod Context
 pub mod Error
 pub mod Fields
 pub mod Head
+pub mod Task

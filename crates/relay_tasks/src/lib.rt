@@ -2,17 +2,33 @@
 #![tactic(auto)]
 
 mod context;
+mod copies;
 mod error;
 mod fault;
+mod hook;
+mod log;
+mod message;
 mod peer;
 mod request;
 mod response;
 mod target;
+mod task;
+mod task_list;
+#[cfg(test)]
+mod tests;
+mod took;
 
 pub use context::Context;
+pub use copies::{copy_fields, copy_piece, copy_trailers};
 pub use error::{Error, ErrorSource, ErrorType, Fail, Result, RetryType};
 pub use fault::{Fault, FaultKind};
+pub use hook::Hook;
+pub use log::{Item, LogEntry, PhaseLog, View};
+pub use message::{Injected, MessageList};
 pub use peer::{Peer, PurgeAction, Purged};
 pub use request::RequestHeader;
 pub use response::ResponseHeader;
 pub use target::MAX_TARGET;
+pub use task::HttpTask;
+pub use task_list::TaskList;
+pub use took::{Pause, Took};

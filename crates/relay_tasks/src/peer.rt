@@ -1,5 +1,7 @@
 //! Where a request is sent to, and what a purger is asked and answers.
+ghost use Rattle.std.specs.Prelude.{◌≡◌, IfOk, IsOkUnless};
 
+use crate::error::{Fail, Result};
 use crate::fault::Fault;
 use bytes::Bytes;
 
@@ -10,6 +12,21 @@ pub struct Peer {
     pub address: Bytes,
     pub tls: bool,
     pub allows_h1: bool,
+}
+
+impl Peer {
+    /// An equal peer. It shares the bytes of the address.
+    pub fn copy(&self) -> Result<Peer>
+        ensures ok { IfOk result (λ copy. copy ≡ self.now) }
+        ensures memory { IsOkUnless result Fail.OutOfMemory }
+    {
+        let address = self.address.clone()?;
+        Ok(Peer {
+            address,
+            tls: self.tls,
+            allows_h1: self.allows_h1,
+        })
+    }
 }
 
 /// What a purger does with what it keeps for a target.

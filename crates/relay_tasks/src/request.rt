@@ -26,7 +26,7 @@ pub struct RequestHeader {
 }
 
 impl Model for RequestHeader {
-    ghost use Rattle.relay_tasks.specs.Head.{RequestHead};
+    ghost use Rattle.relay_tasks.specs.Head.{RequestHead, IsSendable};
 
     ghost Value = { RequestHead };
 
@@ -38,10 +38,12 @@ impl Model for RequestHeader {
       fields = r.headers;
       ends = r.ends;
     } };
+
+    ghost invariant = { λ r. IsSendable r.target.items };
 }
 
 impl RequestHeader {
-    ghost use Rattle.relay_tasks.specs.Head.{IsRawTarget, new_request, target_of};
+    ghost use Rattle.relay_tasks.specs.Head.{IsRawTarget, IsSendable, new_request, target_of};
 
     /// A head of HTTP/1.1 without fields. The target is refused as in `set_raw_path`.
     pub fn build(alloc: Global, method: &Method, target: &[u8]) -> Result<RequestHeader>
@@ -140,7 +142,8 @@ impl RequestHeader {
 
     /// The raw target, as it stands in the request line.
     pub fn raw_path(&self) -> &[u8]
-        ensures { result.now ≡ self.now.target }
+        ensures value { result.now ≡ self.now.target }
+        ensures valid { IsSendable result.now }
     {
         self.target.as_slice()
     }

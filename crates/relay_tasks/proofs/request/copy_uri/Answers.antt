@@ -1,5 +1,5 @@
 use Rattle.std.proofs.Common.{◌∙◌, Some, ap, sym}
-use Rattle.relay_tasks.proofs.Copies.{uri_equal}
+use Rattle.relay_tasks.proofs.Clones.{uri_equal}
 use Rattle.relay_tasks.proofs.request.copy_uri.Goals as goal
 
 -- the clone of the URI is that URI

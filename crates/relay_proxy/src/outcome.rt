@@ -1,0 +1,29 @@
+//! How a request ended.
+
+use crate::record::RunRecord;
+use relay_tasks::Error;
+
+/// How a request ended for its client.
+///
+/// - `NoRequest`: the client ended before any byte of a request.
+/// - `Refused`: no hook was called; the error is what was wrong with the request, or the fault of
+///   the client's link.
+/// - `Served`: the request was relayed, or failed while it was; `reuse` says that the client's
+///   connection goes back for another request.
+/// - `TurnLimit`: the request has not ended, and no more turns were given or could help.
+/// - `OutOfMemory`: want of memory ended it early.
+#[derive(Clone, Copy, Debug, PartialEq, Eq)]
+pub enum Outcome {
+    NoRequest,
+    Refused { error: Option<Error> },
+    Served { error: Option<Error>, reuse: bool },
+    TurnLimit,
+    OutOfMemory,
+}
+
+/// An ended request: its outcome, and what was done for it.
+#[derive(Drop)]
+pub struct Processed {
+    pub outcome: Outcome,
+    pub history: RunRecord,
+}

@@ -1,0 +1,87 @@
+//! What was done for a request: its attempts, and how much work they took.
+ghost use Rattle.std.specs.Prelude.{◌≡◌, [], ◌∷◌, ◌++◌, length, slice_get, IsTrue, OnErr, OnOk, IfSome, IsSome, ◌↔◌, ◌<◌};
+
+use relay_tasks::{Error, Peer};
+use std::alloc::{AllocError, Global};
+use std::marker::Model;
+
+/// One attempt at a peer: whom it asked for, whether its connection had been used before, whether
+/// that connection was kept for another request, and the error that ended it.
+#[derive(Drop)]
+pub struct AttemptRecord {
+    pub peer: Peer,
+    pub reused: bool,
+    pub kept: bool,
+    pub error: Option<Error>,
+}
+
+/// The attempts of a request, in order.
+#[derive(Drop)]
+pub struct AttemptList {
+    items: Vec<AttemptRecord>,
+}
+
+impl Model for AttemptList {
+    ghost use Rattle.std.specs.Prelude.{List};
+    ghost use Rattle.relay_proxy.specs.declared.record.AttemptRecord.{AttemptRecord};
+
+    ghost Value = { List AttemptRecord };
+
+    ghost view = { λ a. a.items.items };
+}
+
+impl AttemptList {
+    /// No attempts.
+    pub fn new(alloc: Global) -> AttemptList
+        ensures { result ≡ [] }
+    {
+        AttemptList {
+            items: Vec::new(alloc),
+        }
+    }
+
+    /// Adds an attempt; an `Err` leaves the list as it was.
+    pub fn push(&mut self, attempt: AttemptRecord) -> Result<(), AllocError>
+        ensures ok { OnOk result (self.new ≡ self.old ++ attempt ∷ []) }
+        ensures err { OnErr result (self.new ≡ self.old) }
+    {
+        self.items.push(attempt)?;
+        Ok(())
+    }
+
+    /// How many attempts there were.
+    pub fn len(&self) -> usize
+        ensures { result ≡ length self.now }
+    {
+        self.items.len()
+    }
+
+    /// Whether there was no attempt.
+    pub fn is_empty(&self) -> bool
+        ensures { IsTrue result ↔ (self.now ≡ []) }
+    {
+        self.items.is_empty()
+    }
+
+    /// The attempt at a place, counted from 0.
+    pub fn get(&self, at: usize) -> Option<&AttemptRecord>
+        ensures found { IsSome result ↔ (at < length self.now) }
+        ensures value { IfSome result (λ a. slice_get self.now at ≡ Some a.now) }
+    {
+        self.items.get(at)
+    }
+}
+
+/// What was done for a request. Numbers stand still at their type's last value.
+#[derive(Drop)]
+pub struct RunRecord {
+    pub attempts: AttemptList,
+    /// The turns that were counted.
+    pub turns_taken: u64,
+    /// Heads, pieces and tasks that were put, taken or dropped.
+    pub tasks_moved: u64,
+    /// Answers of the request's links, `Silent` aside.
+    pub items_used: u64,
+    /// Requests, responses, bodies and halves that ended, and refusals.
+    pub sides_ended: u64,
+}
