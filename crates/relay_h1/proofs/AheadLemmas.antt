@@ -1,5 +1,5 @@
 -- The bytes ahead, as their buffer changes.
-use Rattle.std.proofs.Common.{◌≡◌, ℕ, zero, suc, ◌+◌, ◌-◌, ◌<◌, ◌≤◌, List, [], ◌++◌, length, take, drop, slice_range, refl, sym, ◌∙◌, ap, arith, add-zero, None}
+use Rattle.std.proofs.Common.{◌≡◌, ℕ, ◌+◌, ◌-◌, ◌≤◌, List, ◌++◌, length, take, drop, slice_range, sym, ◌∙◌, ap, arith, None}
 use Rattle.std.proofs.lemmas.List.{length-take-le, take-take, take-append-le, append-nil, drop-append-le}
 use Rattle.std.proofs.lemmas.List.Edits.{length-between}
 use Rattle.std.proofs.lemmas.Slice.{between_is}
@@ -9,7 +9,7 @@ use Rattle.relay_links.specs.declared.link.Got.TheVariants as got
 use Rattle.relay_links.specs.Link.{LinkState, Reads}
 use Rattle.relay_h1.specs.Ahead.{IsAhead}
 use Rattle.relay_h1.specs.HeadEnd.{head_end, NoMarkBefore}
-use Rattle.relay_h1.specs.Move.{GrowsBy, ReadsMore, given}
+use Rattle.relay_h1.specs.Move.{ReadsMore, given}
 use Rattle.relay_h1.proofs.HeadEndLemmas.{NoMarkBefore-drop, NoMarkBefore-append, no_mark_without_end}
 
 -- the front is consumed

@@ -1,5 +1,5 @@
 -- How the end of a head is found from a place in the middle.
-use Rattle.std.proofs.Common.{◌≡◌, ℕ, zero, suc, ◌+◌, ◌-◌, ◌<◌, ◌≤◌, List, [], ◌∷◌, length, drop, take, Bool, false, true, ◌&&◌, refl, sym, ◌∙◌, ap, arith, Option, Some, None, get_or, eqb, add-one, drop-cons, option_map, ◌++◌, inl, inr, bytes_eq}
+use Rattle.std.proofs.Common.{◌≡◌, ℕ, zero, suc, ◌+◌, ◌-◌, ◌<◌, ◌≤◌, List, [], ◌∷◌, length, drop, Bool, false, true, ◌&&◌, refl, sym, ◌∙◌, ap, arith, Option, Some, None, get_or, add-one, drop-cons, option_map, ◌++◌, inl, inr, bytes_eq}
 use Rattle.std.proofs.lemmas.List.{drop-drop, drop-append-le, take-append-le, length-drop}
 use Rattle.std.proofs.lemmas.Bool.{cases_Bool, cases_lt}
 use Rattle.relay_h1.specs.HeadEnd.{begins_with_mark, end_mark, head_end, shifted, NoMarkBefore}
@@ -104,8 +104,8 @@ ends_at_four : (bytes : List ℕ) (len : ℕ) → head_end bytes ≡ Some len �
 ends_at_four bytes len ends four =
     let same : len ≡ 4 = cc in
     elim (cases_lt (length bytes) 4) [
-      inl few ↦ let none = head_end-short bytes few in cc
-    | inr enough ↦ (omega arith, omega arith)
+      | inl few ↦ let none = head_end-short bytes few in cc
+      | inr enough ↦ (omega arith, omega arith)
     ]
 
 -- a head has four bytes at least, and ends in the bytes
@@ -113,11 +113,11 @@ pub head_end-within : (bytes : List ℕ) (len : ℕ) → head_end bytes ≡ Some
 head_end-within [] len ends = cc
 head_end-within (b ∷ bytes) len ends =
     elim (cases_Bool (begins_with_mark (b ∷ bytes))) [
-      inl here ↦ ends_at_four (b ∷ bytes) len ends (head_end-here (b ∷ bytes) here)
-    | inr none_here ↦
-        let behind = shifted-some 1 len (head_end bytes) (sym (head_end-cons b bytes none_here) ∙ ends) in
-        let within = head_end-within bytes behind.0 behind.1 in
-        (omega (arith, within.0, behind.2), omega (arith, within.1, behind.2))
+      | inl here ↦ ends_at_four (b ∷ bytes) len ends (head_end-here (b ∷ bytes) here)
+      | inr none_here ↦
+          let behind = shifted-some 1 len (head_end bytes) (sym (head_end-cons b bytes none_here) ∙ ends) in
+          let within = head_end-within bytes behind.0 behind.1 in
+          (omega (arith, within.0, behind.2), omega (arith, within.1, behind.2))
     ]
 
 -- what follows four bytes does not change whether they are a mark
@@ -131,12 +131,12 @@ head_end-append (b ∷ bytes) more len ends =
     let within = head_end-within (b ∷ bytes) len ends in
     let same = mark-append (b ∷ bytes) more (omega (arith, within.0, within.1)) in
     elim (cases_Bool (begins_with_mark (b ∷ bytes))) [
-      inl here ↦ head_end-here (b ∷ (bytes ++ more)) (same ∙ here) ∙ sym (head_end-here (b ∷ bytes) here) ∙ ends
-    | inr none_here ↦
-        let behind = shifted-some 1 len (head_end bytes) (sym (head_end-cons b bytes none_here) ∙ ends) in
-        head_end-cons b (bytes ++ more) (same ∙ none_here)
-        ∙ ap (shifted 1) (head_end-append bytes more behind.0 behind.1 ∙ sym behind.1)
-        ∙ sym (head_end-cons b bytes none_here) ∙ ends
+      | inl here ↦ head_end-here (b ∷ (bytes ++ more)) (same ∙ here) ∙ sym (head_end-here (b ∷ bytes) here) ∙ ends
+      | inr none_here ↦
+          let behind = shifted-some 1 len (head_end bytes) (sym (head_end-cons b bytes none_here) ∙ ends) in
+          head_end-cons b (bytes ++ more) (same ∙ none_here)
+          ∙ ap (shifted 1) (head_end-append bytes more behind.0 behind.1 ∙ sym behind.1)
+          ∙ sym (head_end-cons b bytes none_here) ∙ ends
     ]
 
 -- a mark stands before an end
@@ -145,11 +145,11 @@ mark_at_end : (bytes : List ℕ) (len : ℕ) → head_end bytes ≡ Some len
 mark_at_end [] len ends = cc
 mark_at_end (b ∷ bytes) len ends =
     elim (cases_Bool (begins_with_mark (b ∷ bytes))) [
-      inl here ↦ let four = head_end-here (b ∷ bytes) here in (0, cc, here)
-    | inr none_here ↦
-        let behind = shifted-some 1 len (head_end bytes) (sym (head_end-cons b bytes none_here) ∙ ends) in
-        let mark = mark_at_end bytes behind.0 behind.1 in
-        (suc mark.0, omega (arith, behind.2, mark.1), mark.2)
+      | inl here ↦ let four = head_end-here (b ∷ bytes) here in (0, cc, here)
+      | inr none_here ↦
+          let behind = shifted-some 1 len (head_end bytes) (sym (head_end-cons b bytes none_here) ∙ ends) in
+          let mark = mark_at_end bytes behind.0 behind.1 in
+          (suc mark.0, omega (arith, behind.2, mark.1), mark.2)
     ]
 
 -- where no head ends yet, one that ends later ends behind these bytes
@@ -158,13 +158,13 @@ pub head_end-later : (bytes more : List ℕ) (len : ℕ) → head_end bytes ≡ 
 head_end-later bytes more len none ends =
     let mark = mark_at_end (bytes ++ more) len ends in
     elim (cases_lt (length bytes) len) [
-      inl later ↦ later
-    | inr not_later ↦
-        let k = mark.0 in
-        let inside : k ≤ length bytes = omega (arith, mark.1) in
-        let room : 4 ≤ length (drop k bytes) = omega (arith, mark.1, length-drop k bytes) in
-        let seen : begins_with_mark (drop k bytes ++ more) ≡ true = rw (drop-append-le k bytes more inside) at mark.2 in
-        let none_here = no_mark_without_end bytes none k in
-        let same = mark-append (drop k bytes) more room in
-        cc
+      | inl later ↦ later
+      | inr not_later ↦
+          let k = mark.0 in
+          let inside : k ≤ length bytes = omega (arith, mark.1) in
+          let room : 4 ≤ length (drop k bytes) = omega (arith, mark.1, length-drop k bytes) in
+          let seen : begins_with_mark (drop k bytes ++ more) ≡ true = rw (drop-append-le k bytes more inside) at mark.2 in
+          let none_here = no_mark_without_end bytes none k in
+          let same = mark-append (drop k bytes) more room in
+          cc
     ]

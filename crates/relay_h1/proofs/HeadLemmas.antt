@@ -1,19 +1,19 @@
 -- What the grammar and the limits of a head allow, no other check refuses.
-use Rattle.std.proofs.Common.{◌≡◌, ◌≢◌, ℕ, zero, suc, ◌+◌, ◌<◌, ◌≤◌, Bool, true, false, not, ◌&&◌, eqb, ltb, leb, List, [], ◌∷◌, ◌++◌, length, map, take, drop, get_or, refl, sym, ◌∙◌, ap, subst, arith, inl, inr, lit≤, cond, bytes_eq}
-use Rattle.std.specs.List.{All, fold, sum_by}
-use Rattle.std.specs.Prelude.{IsTrue, flat_map, ◌⊎◌, Result, Ok, Err, IsOkUnless, IsErrOf}
+use Rattle.std.proofs.Common.{◌≡◌, ℕ, ◌+◌, ◌<◌, ◌≤◌, true, false, ltb, leb, List, [], ◌∷◌, ◌++◌, length, map, take, get_or, refl, sym, ◌∙◌, ap, subst, arith, inl, inr, lit≤, cond, bytes_eq}
+use Rattle.std.specs.List.{All}
+use Rattle.std.specs.Prelude.{flat_map, Result, Ok, Err, IsOkUnless, IsErrOf}
 use Rattle.std.proofs.lemmas.Bool.{cases_lt, lt-ltb, le-ltb, le-leb, lt-leb}
-use Rattle.std.proofs.lemmas.List.{length-append, length-map, length-take-le, take_more, map_push, drop_all, append-nil, get_or-map, get_or-take}
+use Rattle.std.proofs.lemmas.List.{length-append, length-map, length-take-le, drop_all, get_or-map}
 use Rattle.std.proofs.lemmas.Simd.{map-map}
 use Rattle.std.proofs.lemmas.List.Folds.{length-flat_map-take}
 use Rattle.std.proofs.lemmas.List.Sums.{fold_push, sum_by-cons}
 use Rattle.http_header.specs.FieldName.{IsFieldName}
 use Rattle.http_header.specs.FieldValue.{FieldValue, IsFieldValue, plain_value}
-use Rattle.http_header.specs.HeaderMap.{Entries, append, append_all, update, value_count, RefusesAppend, RefusesInsert, IsFullOfNames, IsFullOfValues}
+use Rattle.http_header.specs.HeaderMap.{Entries, append, append_all, value_count, RefusesAppend}
 use Rattle.http_header.specs.Token.{lowercase, IsToken}
 use Rattle.http_header.specs.Token as kept
 use Rattle.httparse.specs.Grammar as grammar
-use Rattle.httparse.specs.Spans.{span_bytes, header_bytes, name_and_value, AreFieldsAt, IsHeaderWithin, IsSectionWithin, IsRequestWithin, IsRequestAt}
+use Rattle.httparse.specs.Spans.{header_bytes, name_and_value, AreFieldsAt, IsHeaderWithin, IsRequestWithin, IsRequestAt}
 use Rattle.httparse.specs.declared.spans.HeaderSpan.{HeaderSpan}
 use Rattle.httparse.specs.declared.spans.RequestSpans.{RequestSpans}
 use Rattle.httparse.specs.declared.spans.ResponseSpans.{ResponseSpans}
@@ -23,8 +23,8 @@ use Rattle.relay_tasks.specs.declared.error.Error.{Error}
 use Rattle.relay_tasks.specs.declared.error.Fail.{Fail}
 use Rattle.relay_tasks.specs.declared.error.Fail.TheVariants as fail
 use Rattle.relay_tasks.specs.Error.{IsMemoryOr}
-use Rattle.relay_tasks.specs.Head.{Fields, RequestHead, ResponseHead, is_target_byte, IsRawTarget, new_request, new_response}
-use Rattle.relay_h1.specs.Head.{most_fields, most_bytes, kept_field, kept_fields, version_of, request_of, response_of, IsRequestText, ReadsRequest, ReadsResponse}
+use Rattle.relay_tasks.specs.Head.{Fields, RequestHead, ResponseHead, IsRawTarget, new_request, new_response}
+use Rattle.relay_h1.specs.Head.{most_fields, most_bytes, kept_fields, version_of, request_of, response_of, ReadsRequest, ReadsResponse}
 use Rattle.relay_h1.specs.HeadSpans.{kept_at, kept_fields_at, IsFieldAt, IsRequestFound, IsResponseFound}
 
 -- above a blank is from the first visible byte on

@@ -1,10 +1,9 @@
 -- From the answer on a text to the verdict on the bytes.
-use Rattle.std.proofs.Common.{◌≡◌, ℕ, ◌+◌, ◌≤◌, Bool, List, length, take, refl, sym, ◌∙◌, ap, subst, arith, Option, Some, None}
+use Rattle.std.proofs.Common.{◌≡◌, ℕ, ◌≤◌, Bool, List, length, take, refl, sym, ◌∙◌, ap, Option, Some, None}
 use Rattle.std.specs.Prelude.{Result, Ok, Err, IsErrOf, IsErrAnd}
 use Rattle.std.proofs.lemmas.Bool.{le-ltb, cond-false}
 use Rattle.std.proofs.lemmas.List.{length-take-le}
-use Rattle.relay_tasks.specs.declared.context.Context.{Context}
-use Rattle.relay_tasks.specs.declared.context.Context.TheVariants.{HeadGrammar, HeadTooLong, BadFraming, HostCount}
+use Rattle.relay_tasks.specs.declared.context.Context.TheVariants.{HeadGrammar, BadFraming}
 use Rattle.relay_tasks.specs.declared.error.Error.{Error}
 use Rattle.relay_tasks.specs.declared.error.ErrorSource.TheVariants.{Upstream, Downstream}
 use Rattle.relay_tasks.specs.declared.error.Fail.{Fail}

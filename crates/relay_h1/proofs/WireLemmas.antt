@@ -1,5 +1,5 @@
 -- What is appended leaves what stood before.
-use Rattle.std.proofs.Common.{◌≡◌, ℕ, List, ◌++◌, length, take, refl, sym, ◌∙◌, ap, Option, [], unwrap_or}
+use Rattle.std.proofs.Common.{◌≡◌, ℕ, List, ◌++◌, ap, Option, [], unwrap_or}
 use Rattle.std.proofs.Math.Seq.{take-append_seam, take-length}
 use Rattle.relay_h1.specs.Wire.{KeepsFront, reason}
 use Rattle.http.specs.StatusCode.{reason_phrase}

@@ -1,5 +1,5 @@
 -- The bytes that were read ahead, as they lie in their buffer.
-use Rattle.std.specs.Prelude.{◌≡◌, ℕ, ◌-◌, ◌≤◌, List, length, slice_range}
+use Rattle.std.specs.Prelude.{ℕ, ◌-◌, ◌≤◌, List, length, slice_range}
 use Rattle.relay_h1.specs.HeadEnd.{NoMarkBefore}
 
 -- the bytes ahead lie in the buffer from `start` to `end`, and none of the first `searched` of

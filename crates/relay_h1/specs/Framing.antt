@@ -7,12 +7,12 @@ use Rattle.http.specs.declared.Version.{Version}
 use Rattle.http.specs.declared.version.Http.{Http}
 use Rattle.http.specs.declared.version.Http.TheVariants.{Http09, Http10, Http11, H2, H3}
 use Rattle.http_header.specs.FieldValue.{FieldValue}
-use Rattle.http_header.specs.HeaderMap.{get_all, remove}
+use Rattle.http_header.specs.HeaderMap.{get_all}
 use Rattle.http_header.specs.Token.{lowercase}
 use Rattle.relay_tasks.specs.declared.error.Error.{Error}
 use Rattle.relay_tasks.specs.declared.context.Context.TheVariants.{BadFraming}
 use Rattle.relay_tasks.specs.Error.{refused}
-use Rattle.relay_tasks.specs.Head.{Fields, RequestHead, ResponseHead}
+use Rattle.relay_tasks.specs.Head.{RequestHead, ResponseHead}
 use Rattle.relay_h1.specs.declared.framing.Framing.{Framing}
 use Rattle.relay_h1.specs.declared.framing.Framing.TheVariants as framing
 use Rattle.relay_h1.specs.declared.framing.LengthField.{LengthField}

@@ -1,5 +1,5 @@
 -- A head as the parser found it: offsets into its text.
-use Rattle.std.specs.Prelude.{◌≡◌, ℕ, ◌≤◌, List, [], length, map, Bool}
+use Rattle.std.specs.Prelude.{ℕ, List, [], length, map}
 use Rattle.http_header.specs.FieldName.{IsFieldName}
 use Rattle.http_header.specs.FieldValue.{FieldValue, IsFieldValue, plain_value}
 use Rattle.http_header.specs.HeaderMap.{append_all}

@@ -3,7 +3,7 @@ use Rattle.std.specs.Prelude.{◌≡◌, ℕ, List, [], ◌∷◌, ◌++◌, tak
 use Rattle.http.specs.StatusCode.{code_digits, reason_phrase}
 use Rattle.http_header.specs.FieldValue.{FieldValue}
 use Rattle.http_header.specs.HeaderMap.{pairs}
-use Rattle.relay_tasks.specs.Head.{Fields, RequestHead, ResponseHead}
+use Rattle.relay_tasks.specs.Head.{RequestHead, ResponseHead}
 
 -- CR LF
 abbrev pub line_end : List ℕ

@@ -6,6 +6,8 @@ mod connection;
 mod framing;
 mod head;
 mod output;
+#[cfg(test)]
+mod tests;
 mod verdict;
 mod wire;
 

@@ -1,0 +1,6 @@
+pub mod Built
+pub mod Endings
+pub mod Offer
+pub mod Passed
+pub mod Phases
+pub mod Turn

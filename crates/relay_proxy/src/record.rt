@@ -1,5 +1,5 @@
 //! What was done for a request: its attempts, and how much work they took.
-ghost use Rattle.std.specs.Prelude.{◌≡◌, [], ◌∷◌, ◌++◌, length, slice_get, IsTrue, OnErr, OnOk, IfSome, IsSome, ◌↔◌, ◌<◌};
+ghost use Rattle.std.specs.Prelude.{◌≡◌, [], ◌∷◌, ◌++◌, length, slice_get, vec_len, vec_capacity, IsTrue, OnErr, OnOk, IfSome, IsSome, ◌↔◌, ◌<◌};
 
 use relay_tasks::{Error, Peer};
 use std::alloc::{AllocError, Global};
@@ -69,6 +69,32 @@ impl AttemptList {
         ensures value { IfSome result (λ a. slice_get self.now at ≡ Some a.now) }
     {
         self.items.get(at)
+    }
+}
+
+/// Room for the record of one attempt, taken before the connector is asked, so that the end of the
+/// attempt takes no memory.
+#[derive(Drop)]
+pub(crate) struct AttemptRoom {
+    items: Vec<AttemptRecord>,
+    ghost none: { vec_len items ≡ 0 },
+    ghost room: { 0 < vec_capacity items },
+}
+
+impl AttemptRoom {
+    /// Takes the room.
+    pub(crate) fn new(alloc: Global) -> Result<AttemptRoom, AllocError> {
+        let items = Vec::with_capacity(alloc, 1)?;
+        Ok(AttemptRoom { items })
+    }
+
+    /// The attempts of a request that made this one alone.
+    pub(crate) fn fill(self, attempt: AttemptRecord) -> AttemptList
+        ensures { result ≡ attempt ∷ [] }
+    {
+        let mut items = self.items;
+        items.push(attempt).unwrap();
+        AttemptList { items }
     }
 }
 

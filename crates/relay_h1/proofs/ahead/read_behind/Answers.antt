@@ -1,4 +1,4 @@
-use Rattle.std.proofs.Common.{◌≡◌, ℕ, ◌+◌, ◌-◌, ◌≤◌, ◌++◌, length, take, sym, ap, ◌∙◌, rules}
+use Rattle.std.proofs.Common.{◌≡◌, ℕ, ◌+◌, ◌-◌, ◌≤◌, ◌++◌, length, take, ap, ◌∙◌, rules}
 use Rattle.std.proofs.lemmas.List.{with_items_is, length-take-le, places}
 use borrow.Rule.Slice.PartMut.{put_mid, post_of}
 use Rattle.relay_h1.proofs.AheadLemmas.{ReadsMore-room, take-behind}

@@ -1,6 +1,6 @@
 -- No mark begins before the place that the search has come to.
-use Rattle.std.proofs.Common.{◌≡◌, ◌+◌, ◌<◌, length, length-drop, drop, sym, ◌∙◌, ap, arith, Some, below_more}
-use Rattle.relay_h1.specs.HeadEnd.{begins_with_mark, shifted}
+use Rattle.std.proofs.Common.{◌<◌, length, length-drop, drop, sym, ◌∙◌, ap, arith, Some, below_more}
+use Rattle.relay_h1.specs.HeadEnd.{shifted}
 use Rattle.relay_h1.proofs.HeadEndLemmas.{head_end-from, head_end-here, head_end-short}
 use Rattle.relay_h1.proofs.head.find_from.Goals as goal
 

@@ -1,4 +1,4 @@
-use Rattle.std.proofs.Common.{◌≡◌, subst, sym, ap, ◌∙◌, take}
+use Rattle.std.proofs.Common.{subst, sym, ap, ◌∙◌}
 use Rattle.http_header.specs.Token.{IsToken}
 use Rattle.relay_h1.proofs.HeadLemmas.{token_is_kept, request_fields_at, made_request, kept_same}
 use Rattle.relay_h1.proofs.head.make_request.Goals as goal

@@ -1,4 +1,4 @@
-use Rattle.std.proofs.Common.{◌≡◌, ap, ◌∙◌, take}
+use Rattle.std.proofs.Common.{ap, ◌∙◌}
 use Rattle.relay_h1.proofs.HeadLemmas.{response_fields_at, made_response, kept_same}
 use Rattle.relay_h1.proofs.head.make_response.Goals as goal
 

@@ -1,4 +1,4 @@
-use Rattle.std.proofs.Common.{◌≡◌, ap, ◌∙◌, arith, Err, rules}
+use Rattle.std.proofs.Common.{◌≡◌, ap, arith, Err, rules}
 use Rattle.relay_tasks.specs.declared.error.Fail.TheVariants.{OutOfMemory}
 use Rattle.relay_h1.proofs.HeadLemmas.{takes_one_more_kept, memory_alone}
 use Rattle.relay_h1.proofs.head.push_response_fields.Goals as goal

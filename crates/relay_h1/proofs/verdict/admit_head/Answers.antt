@@ -1,4 +1,4 @@
-use Rattle.std.proofs.Common.{◌≡◌, sym, ◌∙◌, false, refl, rules}
+use Rattle.std.proofs.Common.{sym, refl}
 use Rattle.relay_tasks.specs.declared.context.Context.TheVariants.{HostCount}
 use Rattle.relay_h1.specs.Verdict.{has_no_host}
 use Rattle.relay_h1.proofs.JudgeLemmas.{framed_is}

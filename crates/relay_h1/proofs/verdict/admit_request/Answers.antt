@@ -1,4 +1,4 @@
-use Rattle.std.proofs.Common.{◌≡◌, sym, ◌∙◌, subst}
+use Rattle.std.proofs.Common.{sym, subst}
 use Rattle.relay_h1.specs.Verdict.{AdmitsRequest, is_turned_away}
 use Rattle.relay_h1.proofs.JudgeLemmas.{err_is, admits_refusal}
 use Rattle.relay_h1.proofs.verdict.admit_request.Goals as goal
@@ -8,8 +8,8 @@ returns-in_err-head c =
     let failure = c.in_err-head.field-0.0 in
     let is = err_is c.from_residual.result failure c.from_residual.ensures.1 in
     let answer =
-        admits_refusal c.args.text.now failure c.requires c.in_err-head.ensures.causes c.in_err-head.ensures.refused.0
-        c.in_err-head.ensures.memory
+    admits_refusal c.args.text.now failure c.requires c.in_err-head.ensures.causes c.in_err-head.ensures.refused.0
+    c.in_err-head.ensures.memory
     in
     subst (AdmitsRequest c.args.text.now) (sym is) answer
 

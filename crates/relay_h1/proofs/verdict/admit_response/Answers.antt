@@ -1,4 +1,4 @@
-use Rattle.std.proofs.Common.{◌≡◌, sym, ◌∙◌, subst, refl}
+use Rattle.std.proofs.Common.{sym, subst, refl}
 use Rattle.relay_tasks.specs.declared.context.Context.TheVariants.{BadFraming}
 use Rattle.relay_h1.specs.Verdict.{AdmitsResponse}
 use Rattle.relay_h1.specs.Verdict as verdict
@@ -10,8 +10,8 @@ returns-in_err-head c =
     let failure = c.in_err-head.field-0.0 in
     let is = err_is c.from_residual.result failure c.from_residual.ensures.1 in
     let answer =
-        admits_no_answer c.args.method.now c.args.asked c.args.text.now failure c.requires c.in_err-head.ensures.causes
-        c.in_err-head.ensures.refused.0 c.in_err-head.ensures.memory
+    admits_no_answer c.args.method.now c.args.asked c.args.text.now failure c.requires c.in_err-head.ensures.causes
+    c.in_err-head.ensures.refused.0 c.in_err-head.ensures.memory
     in
     subst (AdmitsResponse c.args.method.now c.args.asked c.args.text.now) (sym is) answer
 

@@ -1,4 +1,4 @@
-use Rattle.std.proofs.Common.{◌≡◌, length, take, sym, ap, ◌∙◌, refl, subst, List, ℕ, Err}
+use Rattle.std.proofs.Common.{◌≡◌, take, sym, ap, ◌∙◌, refl, subst, List, ℕ, Err}
 use Rattle.std.proofs.lemmas.List.{length-take-le}
 use Rattle.relay_tasks.specs.declared.context.Context.TheVariants.{HeadTooLong}
 use Rattle.relay_tasks.specs.declared.error.Error.{Error}
@@ -28,8 +28,8 @@ returns-in-Err-admit_request-clause-verdict c =
     let same : c.bytes.result.now ≡ c.args.ahead.now = c.bytes.ensures ∙ c.locate_head.ensures.same in
     rw c.fail_from.ensures
     (judges_no_request c.args.ahead.now c.in-Ok-Some.len c.in-Err-admit_request.fail place.0 place.1
-        (subst (λ (b : List ℕ). verdict.AdmitsRequest (take c.in-Ok-Some.len b) (Err c.in-Err-admit_request.fail)) same
-            c.in-Err-admit_request.ensures))
+    (subst (λ (b : List ℕ). verdict.AdmitsRequest (take c.in-Ok-Some.len b) (Err c.in-Err-admit_request.fail)) same
+    c.in-Err-admit_request.ensures))
 
 pub returns-in-Err-clause-verdict : goal.returns-in-Err-clause-verdict
 returns-in-Err-clause-verdict c =

@@ -1,6 +1,5 @@
 use Rattle.std.proofs.Common.{◌≡◌, ◌++◌, take}
 use Rattle.std.specs.List.{flat_map}
-use Rattle.relay_h1.specs.Wire.{KeepsFront}
 use Rattle.relay_h1.proofs.wire.push_parts.Given as goal
 
 abbrev pub invariant-loop-part : goal.invariant-loop-part

@@ -1,4 +1,4 @@
-use Rattle.std.proofs.Common.{◌≡◌, ◌∙◌, Some, None}
+use Rattle.std.proofs.Common.{◌∙◌, Some, None}
 use Rattle.relay_h1.proofs.WireLemmas.{reason_is}
 use Rattle.relay_h1.proofs.wire.reason.Goals as goal
 

@@ -1,4 +1,4 @@
-use Rattle.std.proofs.Common.{◌≡◌, ◌+◌, ◌≤◌, length, drop, slice_range, sym, ap, ◌∙◌, arith}
+use Rattle.std.proofs.Common.{◌≤◌, length, drop, slice_range, sym, ap, ◌∙◌, arith}
 use Rattle.std.proofs.lemmas.List.Edits.{length-between}
 use Rattle.bytes.proofs.Ranges.{drop-slice_range}
 use Rattle.relay_h1.proofs.AheadLemmas.{IsAhead-consume}

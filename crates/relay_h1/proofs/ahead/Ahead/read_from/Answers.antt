@@ -1,7 +1,6 @@
 -- The buffer was lengthened, which changes none of the bytes ahead, and then read into behind them.
-use Rattle.std.proofs.Common.{◌≡◌, ◌+◌, ◌≤◌, length, take, slice_range, refl, ap, ◌∙◌, rules, vec_len}
+use Rattle.std.proofs.Common.{◌≤◌, slice_range, refl, ◌∙◌, rules, vec_len}
 use Rattle.std.proofs.lemmas.List.{places}
-use Rattle.relay_h1.specs.Move.{ReadsMore, given}
 use Rattle.relay_h1.proofs.AheadLemmas.{IsAhead-grow, ReadsMore-ahead, take_lengthened}
 use Rattle.relay_h1.proofs.ahead.Ahead.read_from.Goals as goal
 

@@ -1,0 +1,6 @@
+//! Outside texts and numbers, and each public call once with ample memory.
+
+mod connection;
+mod framing;
+mod head;
+mod wire;

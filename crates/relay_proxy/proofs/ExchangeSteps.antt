@@ -1,0 +1,645 @@
+-- Turns of an attempt: the head is sent, the response's head comes and is written, the body is relayed.
+use Rattle.std.proofs.Common.{◌≡◌, ◌≢◌, ℕ, ◌+◌, ◌-◌, ◌<◌, ◌≤◌, ◌⊎◌, Bool, true, false, List, [], ◌∷◌, ◌++◌, length, take, drop, None, Some, IsTrue, refl, sym, ap, subst, ◌∙◌, inl, inr, arith, length-append, append_assoc, append-nil}
+use Rattle.relay_tasks.specs.declared.Context.{Context}
+use Rattle.relay_tasks.specs.declared.Error.{Error}
+use Rattle.relay_tasks.specs.declared.ErrorSource.TheVariants.{Upstream, Downstream}
+use Rattle.relay_tasks.specs.declared.Fault.{Fault}
+use Rattle.relay_tasks.specs.Head.{RequestHead, ResponseHead}
+use Rattle.relay_links.specs.Count.{last_count, Rose}
+use Rattle.relay_links.specs.Connector.{IsConnectFault}
+use Rattle.relay_links.specs.Link.{LinkState, LinkStart, IsSound, IsHandedOut, GivesBytes, WaitsOnRead, EndsRead, FailsRead, TakesBytes, WaitsOnWrite, FailsWrite, WantsMemory}
+use Rattle.relay_links.specs.Told.{Since, told_length}
+use Rattle.relay_links.specs.declared.Pause.TheVariants.{NotReady, Silent}
+use Rattle.relay_links.proofs.SinceLemmas.{Since-start, Counted-start}
+use Rattle.relay_h1.specs.Verdict.{IsOpen, HasResponse, IsRefusedResponse}
+use Rattle.relay_h1.specs.Wire.{request_text, response_text}
+use Rattle.relay_h1.specs.declared.Connection.{Connection}
+use Rattle.relay_h1.specs.declared.Framing.{Framing}
+use Rattle.relay_h1.specs.declared.Framing.TheVariants.{Length}
+use Rattle.relay_h1.proofs.HeadEndLemmas.{head_end-within}
+use Rattle.relay_h1.proofs.VerdictLemmas.{HasResponse-append}
+use Rattle.relay_proxy.specs.Built.{get_method, IsBuiltResponse}
+use Rattle.relay_proxy.specs.Passed.{World, Start, Passed, Waited, amount, asked, TellsClient, TellsLink}
+use Rattle.relay_proxy.specs.Endings.{IsPrefixOf, IsInOrder, IsAccepted, IsAnswered, response_so_far, IsSentWhole, IsInBody, EndsUnlinked, EndsLinked, AttemptsUnlinked, IsAskedPeer, fault_error, unrelayed}
+use Rattle.relay_proxy.specs.Phases.{IsAsking, IsConnecting, IsSending, IsAwaiting, IsAnswering, IsWritingHead, IsRelayingBody, IsAttempt, RunSoFar, allowance}
+use Rattle.relay_proxy.specs.Turn.{Advances, failed, IsRest, total_work}
+use Rattle.relay_proxy.specs.Offer.{TakesFront}
+use Rattle.relay_proxy.specs.declared.machine.Attempt.{Attempt}
+use Rattle.relay_proxy.specs.declared.machine.BodyLeft.{BodyLeft}
+use Rattle.relay_proxy.specs.declared.machine.Next.{Next}
+use Rattle.relay_proxy.specs.declared.machine.Phase.{Phase}
+use Rattle.relay_proxy.specs.declared.machine.Phase.TheVariants.{Connect, SendHead, ReadResponse, WriteHead, RelayBody, Close, Ended}
+use Rattle.relay_proxy.specs.declared.machine.RunStep.{RunStep}
+use Rattle.relay_proxy.specs.declared.machine.RunStep.TheVariants as step
+use Rattle.relay_proxy.specs.declared.outcome.Outcome.{Outcome}
+use Rattle.relay_proxy.specs.declared.outcome.Outcome.TheVariants as outcome
+use Rattle.relay_proxy.specs.declared.pending.Pending.{Pending}
+use Rattle.relay_proxy.specs.declared.record.AttemptRecord.{AttemptRecord}
+use Rattle.relay_proxy.proofs.Tells.{Rose-le, written_more, got_more, sent_more, client_waited, link_waited, client_took, client_still, client_waits, client_same, link_gave, link_took, link_still, link_waits, link_same, take_some, take_whole, take_rest}
+
+-- what was accepted stays accepted while the client gives nothing
+abbrev pub asking_as : (s : Start) (p q : Passed) (ahead : List ℕ) (head : RequestHead) → q.came ≡ p.came
+    → IsAsking s p ahead head → IsAsking s q ahead head
+asking_as s p q ahead head same asking = record {
+    len = asking.len;
+    accepted = record {
+      has = rw same asking.accepted.has;
+      built = asking.accepted.built;
+    };
+    taken = rw same asking.taken;
+  }
+
+-- what was sent is the front of the head, and nothing was written
+pub order_of_sending : (s : Start) (p : Passed) (ahead : List ℕ) (head : RequestHead) (rest : List ℕ)
+    → IsAsking s p ahead head → p.sent ++ rest ≡ request_text head → p.written ≡ [] → IsInOrder s p
+order_of_sending s p ahead head rest asking joined written = record {
+    sent = inr (record {
+      head = head;
+      len = asking.len;
+      accepted = asking.accepted;
+      part = record { rest = rest; joined = joined };
+    });
+    written = inl written;
+  }
+
+-- the head was sent whole
+pub sent_whole_by : (s : Start) (p : Passed) (ahead : List ℕ) (head : RequestHead)
+    → IsAsking s p ahead head → p.sent ≡ request_text head → IsSentWhole s p
+sent_whole_by s p ahead head asking sent =
+    record { request = head; request_len = asking.len; accepted = asking.accepted; sent = sent }
+
+-- what was written is the front of the response
+pub order_of_answering : (s : Start) (p : Passed) (ahead : List ℕ) (link : LinkState) (a : IsAnswering s p ahead link)
+    → IsPrefixOf p.written (response_so_far p a.response a.len a.n) → IsInOrder s p
+order_of_answering s p ahead link a part = record {
+    sent = inr (record {
+      head = a.head;
+      len = a.asking.len;
+      accepted = a.asking.accepted;
+      part = record { rest = []; joined = append-nil p.sent ∙ a.sent };
+    });
+    written = inr (inr (record {
+      request = a.head;
+      request_len = a.asking.len;
+      accepted = a.asking.accepted;
+      sent = a.sent;
+      head = a.response;
+      len = a.len;
+      n = a.n;
+      answered = a.answered;
+      part = part;
+    }));
+  }
+
+-- a response that was accepted stays accepted when more is written
+abbrev pub answering_wrote : (s : Start) (p : Passed) (ahead more : List ℕ) (link : LinkState)
+    → IsAnswering s p ahead link → IsAnswering s (written_more p more) ahead link
+answering_wrote s p ahead more link a = record {
+    head = a.head;
+    asking = asking_as s p (written_more p more) ahead a.head refl a.asking;
+    sent = a.sent;
+    response = a.response;
+    len = a.len;
+    n = a.n;
+    answered = record { has = a.answered.has; built = a.answered.built };
+    within = a.within;
+    ended = a.ended;
+  }
+
+-- a response that was accepted stays accepted when more comes
+abbrev pub answering_got : (s : Start) (p : Passed) (ahead more : List ℕ) (link after : LinkState) → after.ended ≡ false
+    → IsAnswering s p ahead link → IsAnswering s (got_more p more) ahead after
+answering_got s p ahead more link after open_end a = record {
+    head = a.head;
+    asking = asking_as s p (got_more p more) ahead a.head refl a.asking;
+    sent = a.sent;
+    response = a.response;
+    len = a.len;
+    n = a.n;
+    answered = record { has = HasResponse-append get_method false p.got more a.response (Length a.n) a.len a.answered.has; built = a.answered.built };
+    within = omega (arith, a.within, length-append p.got more);
+    ended = open_end;
+  }
+
+-- the same response, as the client's bytes and the link stand now
+abbrev pub answering_as : (s : Start) (p : Passed) (ahead now : List ℕ) (link after : LinkState)
+    → now ≡ ahead → after.ended ≡ link.ended → IsAnswering s p ahead link → IsAnswering s p now after
+answering_as s p ahead now link after same ended a = record {
+    head = a.head;
+    asking = subst (λ (xs : List ℕ). IsAsking s p xs a.head) (sym same) a.asking;
+    sent = a.sent;
+    response = a.response;
+    len = a.len;
+    n = a.n;
+    answered = a.answered;
+    within = a.within;
+    ended = ended ∙ a.ended;
+  }
+
+-- the text of the head and then of the body, as far as it has come
+pub head_then_body : (front text head body : List ℕ) → front ++ text ≡ head → front ++ (text ++ body) ≡ head ++ body
+head_then_body front text head body joined =
+    sym (append_assoc front text body) ∙ ap (λ (xs : List ℕ). xs ++ body) joined
+
+module _ {L C : Type 0} (state : L → LinkState) (start_at : L → LinkStart) where
+  -- an attempt whose link passed something
+  pub attempt_as : (p q : Passed) (v u : Waited) (a b : Attempt L C)
+      → TellsLink q u (state b.connection.link) (start_at a.connection.link) → IsSound (state b.connection.link)
+      → start_at b.connection.link ≡ start_at a.connection.link → b.peer ≡ a.peer → b.reused ≡ a.reused
+      → IsAttempt state start_at p v a → IsAttempt state start_at q u b
+  attempt_as p q v u a b tells sound same peer reused h = record {
+      tells = subst (λ (at : LinkStart). TellsLink q u (state b.connection.link) at) (sym same) tells;
+      sound = sound;
+      peer = peer ∙ h.peer;
+      reused = reused ∙ h.reused ∙ ap (λ (at : LinkStart). at.reused) (sym same);
+    }
+
+  -- a link was handed out
+  pub link_given : (s : Start) (p : Passed) (v : Waited) (w x : World) (context : C) (text : Pending) (a : Attempt L C)
+      → x.client ≡ w.client → x.ahead ≡ w.ahead → w.connect_faults ≤ x.connect_faults
+      → IsHandedOut (state a.connection.link) (start_at a.connection.link) a.reused
+      → a.connection.ahead ≡ [] → IsAskedPeer a.peer
+      → RunSoFar {C = C} state start_at s p v w [] (Connect context text)
+      → Advances {C = C} state start_at s p v x (Connect context text) (SendHead a text) step.Moved
+  link_given s p v w x context text a client ahead faults handed none peer run = record {
+      passed = p;
+      waited = v;
+      run = record {
+        tells = client_still s p v w x faults (ap (λ (l : LinkState). l.given) client)
+          (ap (λ (l : LinkState). l.taken) client) (ap (λ (l : LinkState). l.waits) client)
+          (omega (arith, ap (λ (l : LinkState). l.faults) client)) run.tells;
+        sound = subst (λ (l : LinkState). IsSound l) (sym client) run.sound;
+        order = run.order;
+        idle = tt;
+        holds = (record {
+            tells = record {
+              got = since (state a.connection.link).given (start_at a.connection.link).given handed.given p.got run.holds.unsent.got;
+              sent = since (state a.connection.link).taken (start_at a.connection.link).taken handed.taken p.sent run.holds.unsent.sent;
+              waits = λ below. omega (arith, handed.waits, run.idle);
+              faults = omega (arith, handed.faults);
+            };
+            sound = handed.sound;
+            peer = peer;
+            reused = sym handed.marked;
+          }, record {
+            head = run.holds.head;
+            asking = subst (λ (xs : List ℕ). IsAsking s p xs run.holds.head) (sym ahead) run.holds.asking;
+            joined = ap (λ (xs : List ℕ). xs ++ text.output) run.holds.unsent.sent ∙ run.holds.whole;
+            written = run.holds.written;
+            got = run.holds.unsent.got;
+            none_held = none;
+          });
+      };
+      spends = omega arith;
+    }
+    where
+      since : (told : _) (place : ℕ) → place ≡ told_length told → (items : List ℕ) → items ≡ [] → Since [] place told items
+      since told place at items nothing = rw (at, nothing) (Since-start [] told)
+
+  -- the connector gave no link
+  pub link_denied : (s : Start) (p : Passed) (v : Waited) (w x : World) (context : C) (text : Pending) (fault : Fault)
+      (e : Error) (attempt : AttemptRecord) (attempts : List AttemptRecord)
+      → x.client ≡ w.client → x.ahead ≡ w.ahead → w.connect_faults ≤ x.connect_faults
+      → IsConnectFault fault → Rose w.connect_faults x.connect_faults → e ≡ fault_error Upstream fault
+      → attempts ≡ attempt ∷ [] → IsAskedPeer attempt.peer
+      → attempt.reused ≡ false → attempt.kept ≡ false → attempt.error ≡ Some e
+      → RunSoFar {C = C} state start_at s p v w [] (Connect context text)
+      → Advances {C = C} state start_at s p v x (Connect context text) (Ended (outcome.Served (Some e) false) attempts) step.Ended
+  link_denied s p v w x context text fault e attempt attempts client ahead faults kind rose is one peer reused kept error run = record {
+      passed = p;
+      waited = v;
+      run = record {
+        tells = client_still s p v w x faults (ap (λ (l : LinkState). l.given) client)
+          (ap (λ (l : LinkState). l.taken) client) (ap (λ (l : LinkState). l.waits) client)
+          (omega (arith, ap (λ (l : LinkState). l.faults) client)) run.tells;
+        sound = subst (λ (l : LinkState). IsSound l) (sym client) run.sound;
+        order = run.order;
+        idle = tt;
+        holds = ((record {
+            fault = fault;
+            kind = kind;
+            error = is;
+            rose = λ below. omega (arith, run.tells.connect_faults, rose below);
+            head = run.holds.head;
+            len = run.holds.asking.len;
+            accepted = run.holds.asking.accepted;
+            written = run.holds.written;
+            unsent = run.holds.unsent;
+          }, refl), (attempt, one, record { peer = peer; reused = reused; kept = kept; error = error }));
+      };
+      spends = omega arith;
+    }
+
+  -- the head was sent whole
+  pub sent_all : (s : Start) (p : Passed) (v : Waited) (w : World) (a b : Attempt L C) (text : Pending)
+      → start_at b.connection.link ≡ start_at a.connection.link → b.peer ≡ a.peer → b.reused ≡ a.reused
+      → b.connection.ahead ≡ a.connection.ahead
+      → TakesFront (state a.connection.link) (state b.connection.link) text.output []
+      → RunSoFar {C = C} state start_at s p v w [] (SendHead a text)
+      → Advances {C = C} state start_at s p v w (SendHead a text) (ReadResponse b) step.Moved
+  sent_all s p v w a b text same peer reused held takes run = record {
+      passed = sent_more p (take takes.n text.output);
+      waited = v;
+      run = record {
+        tells = client_same s p (sent_more p (take takes.n text.output)) v v w refl refl refl run.tells;
+        sound = run.sound;
+        order = order_of_sending s (sent_more p (take takes.n text.output)) w.ahead run.holds.1.head []
+          asking (append-nil _ ∙ all) run.holds.1.written;
+        idle = tt;
+        holds = (attempt_as p (sent_more p (take takes.n text.output)) v v a b
+            (link_took p v (state a.connection.link) (state b.connection.link) (start_at a.connection.link) text.output
+              takes.n takes.takes run.holds.0.tells)
+            takes.takes.sound same peer reused run.holds.0,
+          record {
+            head = run.holds.1.head;
+            asking = asking;
+            sent = all;
+            written = run.holds.1.written;
+            all_held = held ∙ run.holds.1.none_held ∙ sym run.holds.1.got;
+            open_end = λ some. absurd (omega (arith, ap length (held ∙ run.holds.1.none_held)));
+          });
+      };
+      spends = omega (arith, length-append p.sent (take takes.n text.output),
+        take_some text.output takes.n takes.takes.some takes.takes.fits);
+    }
+    where
+      all : p.sent ++ take takes.n text.output ≡ request_text run.holds.1.head
+      all = ap (λ (xs : List ℕ). p.sent ++ xs) (take_whole text.output takes.n takes.left) ∙ run.holds.1.joined
+      asking : IsAsking s (sent_more p (take takes.n text.output)) w.ahead run.holds.1.head
+      asking = asking_as s p (sent_more p (take takes.n text.output)) w.ahead run.holds.1.head refl run.holds.1.asking
+
+  -- some of the head was sent
+  pub sent_part : (s : Start) (p : Passed) (v : Waited) (w : World) (a b : Attempt L C) (text left : Pending)
+      → start_at b.connection.link ≡ start_at a.connection.link → b.peer ≡ a.peer → b.reused ≡ a.reused
+      → b.connection.ahead ≡ a.connection.ahead
+      → TakesFront (state a.connection.link) (state b.connection.link) text.output left.output
+      → RunSoFar {C = C} state start_at s p v w [] (SendHead a text)
+      → Advances {C = C} state start_at s p v w (SendHead a text) (SendHead b left) step.Moved
+  sent_part s p v w a b text left same peer reused held takes run = record {
+      passed = sent_more p (take takes.n text.output);
+      waited = v;
+      run = record {
+        tells = client_same s p (sent_more p (take takes.n text.output)) v v w refl refl refl run.tells;
+        sound = run.sound;
+        order = order_of_sending s (sent_more p (take takes.n text.output)) w.ahead run.holds.1.head left.output
+          asking all run.holds.1.written;
+        idle = tt;
+        holds = (attempt_as p (sent_more p (take takes.n text.output)) v v a b
+            (link_took p v (state a.connection.link) (state b.connection.link) (start_at a.connection.link) text.output
+              takes.n takes.takes run.holds.0.tells)
+            takes.takes.sound same peer reused run.holds.0,
+          record {
+            head = run.holds.1.head;
+            asking = asking;
+            joined = all;
+            written = run.holds.1.written;
+            got = run.holds.1.got;
+            none_held = held ∙ run.holds.1.none_held;
+          });
+      };
+      spends = omega (arith, length-append p.sent (take takes.n text.output),
+        take_some text.output takes.n takes.takes.some takes.takes.fits);
+    }
+    where
+      all : (p.sent ++ take takes.n text.output) ++ left.output ≡ request_text run.holds.1.head
+      all = take_rest p.sent text.output left.output takes.n takes.left ∙ run.holds.1.joined
+      asking : IsAsking s (sent_more p (take takes.n text.output)) w.ahead run.holds.1.head
+      asking = asking_as s p (sent_more p (take takes.n text.output)) w.ahead run.holds.1.head refl run.holds.1.asking
+
+  -- the link is not ready for the head
+  pub sending_waits : (s : Start) (p : Passed) (v : Waited) (w : World) (a b : Attempt L C) (text left : Pending)
+      → start_at b.connection.link ≡ start_at a.connection.link → b.peer ≡ a.peer → b.reused ≡ a.reused
+      → b.connection.ahead ≡ a.connection.ahead
+      → WaitsOnWrite (state a.connection.link) (state b.connection.link) → left.output ≡ text.output
+      → RunSoFar {C = C} state start_at s p v w [] (SendHead a text)
+      → Advances {C = C} state start_at s p v w (SendHead a text) (SendHead b left) (step.Waited NotReady)
+  sending_waits s p v w a b text left same peer reused held waits kept run = record {
+      passed = p;
+      waited = link_waited v;
+      run = record {
+        tells = client_same s p p v (link_waited v) w refl refl refl run.tells;
+        sound = run.sound;
+        order = run.order;
+        idle = tt;
+        holds = (attempt_as p p v (link_waited v) a b
+            (link_waits p v (state a.connection.link) (state b.connection.link) (start_at a.connection.link)
+              waits.given waits.taken waits.waits waits.faults run.holds.0.tells)
+            waits.sound same peer reused run.holds.0,
+          record {
+            head = run.holds.1.head;
+            asking = run.holds.1.asking;
+            joined = ap (λ (xs : List ℕ). p.sent ++ xs) kept ∙ run.holds.1.joined;
+            written = run.holds.1.written;
+            got = run.holds.1.got;
+            none_held = held ∙ run.holds.1.none_held;
+          });
+      };
+      spends = (refl, omega arith, refl);
+    }
+
+  -- an attempt that fails where nothing passed in the turn
+  pub fails_with : (s : Start) (p : Passed) (v : Waited) (x : World) (phase next : Phase L C) (b : Attempt L C) (e : Error)
+      → next ≡ failed b e → TellsClient s p v x → IsSound x.client → IsInOrder s p
+      → IsAttempt state start_at p v b
+      → EndsLinked s p x (state b.connection.link) (start_at b.connection.link) false (outcome.Served (Some e) false)
+      → allowance state start_at phase < 4
+      → Advances {C = C} state start_at s p v x phase next step.Ended
+  fails_with s p v x phase next b e is tells sound order attempt ends less =
+      subst (λ (n : Phase L C). Advances state start_at s p v x phase n step.Ended) (sym is) (record {
+        passed = p;
+        waited = v;
+        run = record { tells = tells; sound = sound; order = order; idle = tt; holds = (attempt, ends) };
+        spends = omega arith;
+      })
+
+  -- a write of the head failed
+  pub sending_fails : (s : Start) (p : Passed) (v : Waited) (w : World) (a b : Attempt L C) (text : Pending)
+      (fault : Fault) (next : Phase L C)
+      → start_at b.connection.link ≡ start_at a.connection.link → b.peer ≡ a.peer → b.reused ≡ a.reused
+      → FailsWrite (state a.connection.link) fault (state b.connection.link)
+      → next ≡ failed b (fault_error Upstream fault)
+      → RunSoFar {C = C} state start_at s p v w [] (SendHead a text)
+      → Advances {C = C} state start_at s p v w (SendHead a text) next step.Ended
+  sending_fails s p v w a b text fault next same peer reused fails is run =
+      fails_with s p v w (SendHead a text) next b (fault_error Upstream fault) is run.tells run.sound run.order
+      (attempt_as p p v v a b
+        (link_still p v (state a.connection.link) (state b.connection.link) (start_at a.connection.link)
+          fails.given fails.taken fails.waits
+          (Rose-le (state a.connection.link).faults (state b.connection.link).faults fails.sound_before.faults_fit fails.faults)
+          run.holds.0.tells)
+        fails.sound same peer reused run.holds.0)
+      (record {
+        why = inr (inl (record {
+          fault = fault;
+          error = refl;
+          rose = λ below. omega (arith, run.holds.0.tells.faults, fails.faults below, ap (λ (at : LinkStart). at.faults) same);
+          place = inl (record {
+            head = run.holds.1.head;
+            len = run.holds.1.asking.len;
+            accepted = run.holds.1.asking.accepted;
+            left = λ whole. absurd (omega (arith, text.some, length-append p.sent text.output,
+              ap length run.holds.1.joined, ap length whole));
+            got = run.holds.1.got;
+          });
+        }));
+        not_kept = refl;
+        stays = refl;
+      })
+      (omega arith)
+
+  -- more of the response's head came
+  pub response_came : (s : Start) (p : Passed) (v : Waited) (w : World) (a b : Attempt L C) (room : List ℕ) (n : ℕ)
+      → start_at b.connection.link ≡ start_at a.connection.link → b.peer ≡ a.peer → b.reused ≡ a.reused
+      → b.connection.ahead ≡ a.connection.ahead ++ take n room
+      → GivesBytes (state a.connection.link) room n (state b.connection.link)
+      → RunSoFar {C = C} state start_at s p v w [] (ReadResponse a)
+      → Advances {C = C} state start_at s p v w (ReadResponse a) (ReadResponse b) step.Moved
+  response_came s p v w a b room n same peer reused grown gives run = record {
+      passed = got_more p (take n room);
+      waited = v;
+      run = record {
+        tells = client_same s p (got_more p (take n room)) v v w refl refl refl run.tells;
+        sound = run.sound;
+        order = order_of_sending s (got_more p (take n room)) w.ahead run.holds.1.head []
+          (asking_as s p (got_more p (take n room)) w.ahead run.holds.1.head refl run.holds.1.asking)
+          (append-nil p.sent ∙ run.holds.1.sent) run.holds.1.written;
+        idle = tt;
+        holds = (attempt_as p (got_more p (take n room)) v v a b
+            (link_gave p v (state a.connection.link) (state b.connection.link) (start_at a.connection.link) room n
+              gives run.holds.0.tells)
+            gives.sound same peer reused run.holds.0,
+          record {
+            head = run.holds.1.head;
+            asking = asking_as s p (got_more p (take n room)) w.ahead run.holds.1.head refl run.holds.1.asking;
+            sent = run.holds.1.sent;
+            written = run.holds.1.written;
+            all_held = grown ∙ ap (λ (xs : List ℕ). xs ++ take n room) run.holds.1.all_held;
+            open_end = λ some. gives.ended;
+          });
+      };
+      spends = omega (arith, length-append p.got (take n room), take_some room n gives.some gives.fits);
+    }
+
+  -- the link is not ready for the response's head
+  pub response_waits : (s : Start) (p : Passed) (v : Waited) (w : World) (a b : Attempt L C)
+      → start_at b.connection.link ≡ start_at a.connection.link → b.peer ≡ a.peer → b.reused ≡ a.reused
+      → b.connection.ahead ≡ a.connection.ahead
+      → WaitsOnRead (state a.connection.link) (state b.connection.link)
+      → RunSoFar {C = C} state start_at s p v w [] (ReadResponse a)
+      → Advances {C = C} state start_at s p v w (ReadResponse a) (ReadResponse b) (step.Waited NotReady)
+  response_waits s p v w a b same peer reused held waits run = record {
+      passed = p;
+      waited = link_waited v;
+      run = record {
+        tells = client_same s p p v (link_waited v) w refl refl refl run.tells;
+        sound = run.sound;
+        order = run.order;
+        idle = tt;
+        holds = (attempt_as p p v (link_waited v) a b
+            (link_waits p v (state a.connection.link) (state b.connection.link) (start_at a.connection.link)
+              waits.given waits.taken waits.waits waits.faults run.holds.0.tells)
+            waits.sound same peer reused run.holds.0,
+          record {
+            head = run.holds.1.head;
+            asking = run.holds.1.asking;
+            sent = run.holds.1.sent;
+            written = run.holds.1.written;
+            all_held = held ∙ run.holds.1.all_held;
+            open_end = λ some. waits.ended;
+          });
+      };
+      spends = (refl, omega arith, refl);
+    }
+
+  -- an attempt whose link ended
+  pub attempt_ended : (p : Passed) (v : Waited) (a b : Attempt L C)
+      → start_at b.connection.link ≡ start_at a.connection.link → b.peer ≡ a.peer → b.reused ≡ a.reused
+      → EndsRead (state a.connection.link) (state b.connection.link)
+      → IsAttempt state start_at p v a → IsAttempt state start_at p v b
+  attempt_ended p v a b same peer reused ends h =
+      attempt_as p p v v a b
+      (link_still p v (state a.connection.link) (state b.connection.link) (start_at a.connection.link)
+        ends.given ends.taken ends.waits (omega (arith, ends.faults)) h.tells)
+      ends.sound same peer reused h
+
+  -- an attempt whose read failed
+  pub attempt_read_failed : (p : Passed) (v : Waited) (a b : Attempt L C) (fault : Fault)
+      → start_at b.connection.link ≡ start_at a.connection.link → b.peer ≡ a.peer → b.reused ≡ a.reused
+      → FailsRead (state a.connection.link) fault (state b.connection.link)
+      → IsAttempt state start_at p v a → IsAttempt state start_at p v b
+  attempt_read_failed p v a b fault same peer reused fails h =
+      attempt_as p p v v a b
+      (link_still p v (state a.connection.link) (state b.connection.link) (start_at a.connection.link)
+        fails.given fails.taken fails.waits
+        (Rose-le (state a.connection.link).faults (state b.connection.link).faults fails.sound_before.faults_fit fails.faults)
+        h.tells)
+      fails.sound same peer reused h
+
+  -- the link ended in the response's head
+  pub response_cut : (s : Start) (p : Passed) (v : Waited) (w : World) (a b : Attempt L C) (next : Phase L C)
+      → start_at b.connection.link ≡ start_at a.connection.link → b.peer ≡ a.peer → b.reused ≡ a.reused
+      → EndsRead (state a.connection.link) (state b.connection.link) → IsOpen a.connection.ahead
+      → next ≡ failed b (unrelayed Upstream)
+      → RunSoFar {C = C} state start_at s p v w [] (ReadResponse a)
+      → Advances {C = C} state start_at s p v w (ReadResponse a) next step.Ended
+  response_cut s p v w a b next same peer reused ends open_head is run =
+      fails_with s p v w (ReadResponse a) next b (unrelayed Upstream) is run.tells run.sound run.order
+      (attempt_ended p v a b same peer reused ends run.holds.0)
+      (record {
+        why = inl (record {
+          error = refl;
+          whole = sent_whole_by s p w.ahead run.holds.1.head run.holds.1.asking run.holds.1.sent;
+          why = inr (inr (inl (record {
+            open_head = subst (λ (xs : List ℕ). IsOpen xs) run.holds.1.all_held open_head;
+            ended = ends.ended;
+            written = run.holds.1.written;
+          })));
+        });
+        not_kept = refl;
+        stays = refl;
+      })
+      (omega arith)
+
+  -- a read of the response's head failed
+  pub response_fails : (s : Start) (p : Passed) (v : Waited) (w : World) (a b : Attempt L C) (fault : Fault)
+      (next : Phase L C)
+      → start_at b.connection.link ≡ start_at a.connection.link → b.peer ≡ a.peer → b.reused ≡ a.reused
+      → FailsRead (state a.connection.link) fault (state b.connection.link) → IsOpen a.connection.ahead
+      → next ≡ failed b (fault_error Upstream fault)
+      → RunSoFar {C = C} state start_at s p v w [] (ReadResponse a)
+      → Advances {C = C} state start_at s p v w (ReadResponse a) next step.Ended
+  response_fails s p v w a b fault next same peer reused fails open_head is run =
+      fails_with s p v w (ReadResponse a) next b (fault_error Upstream fault) is run.tells run.sound run.order
+      (attempt_read_failed p v a b fault same peer reused fails run.holds.0)
+      (record {
+        why = inr (inl (record {
+          fault = fault;
+          error = refl;
+          rose = λ below. omega (arith, run.holds.0.tells.faults, fails.faults below, ap (λ (at : LinkStart). at.faults) same);
+          place = inr (inl (record {
+            whole = sent_whole_by s p w.ahead run.holds.1.head run.holds.1.asking run.holds.1.sent;
+            open_head = subst (λ (xs : List ℕ). IsOpen xs) run.holds.1.all_held open_head;
+            ended = fails.ended;
+          }));
+        }));
+        not_kept = refl;
+        stays = refl;
+      })
+      (omega arith)
+
+  -- the response's head is refused
+  pub response_broken : (s : Start) (p : Passed) (v : Waited) (w : World) (a : Attempt L C) (why : Context)
+      (next : Phase L C)
+      → IsRefusedResponse get_method false a.connection.ahead why → next ≡ failed a (unrelayed Upstream)
+      → RunSoFar {C = C} state start_at s p v w [] (ReadResponse a)
+      → Advances {C = C} state start_at s p v w (ReadResponse a) next step.Ended
+  response_broken s p v w a why next refused is run =
+      fails_with s p v w (ReadResponse a) next a (unrelayed Upstream) is run.tells run.sound run.order
+      run.holds.0
+      (record {
+        why = inl (record {
+          error = refl;
+          whole = sent_whole_by s p w.ahead run.holds.1.head run.holds.1.asking run.holds.1.sent;
+          why = inl (record {
+            why = why;
+            refused = subst (λ (xs : List ℕ). IsRefusedResponse get_method false xs why) run.holds.1.all_held refused;
+            written = run.holds.1.written;
+          });
+        });
+        not_kept = refl;
+        stays = refl;
+      })
+      (omega arith)
+
+  -- the response's head is valid, and not of a form that is relayed
+  pub response_unbuilt : (s : Start) (p : Passed) (v : Waited) (w : World) (a : Attempt L C) (head : ResponseHead)
+      (framing : Framing) (len : ℕ) (next : Phase L C)
+      → HasResponse get_method false a.connection.ahead head framing len
+      → ((n : ℕ) → ¬ (IsBuiltResponse head framing n)) → next ≡ failed a (unrelayed Upstream)
+      → RunSoFar {C = C} state start_at s p v w [] (ReadResponse a)
+      → Advances {C = C} state start_at s p v w (ReadResponse a) next step.Ended
+  response_unbuilt s p v w a head framing len next has unbuilt is run =
+      fails_with s p v w (ReadResponse a) next a (unrelayed Upstream) is run.tells run.sound run.order
+      run.holds.0
+      (record {
+        why = inl (record {
+          error = refl;
+          whole = sent_whole_by s p w.ahead run.holds.1.head run.holds.1.asking run.holds.1.sent;
+          why = inr (inl (record {
+            head = head;
+            framing = framing;
+            len = len;
+            has = subst (λ (xs : List ℕ). HasResponse get_method false xs head framing len) run.holds.1.all_held has;
+            unbuilt = unbuilt;
+            written = run.holds.1.written;
+          }));
+        });
+        not_kept = refl;
+        stays = refl;
+      })
+      (omega arith)
+
+  -- the response's head was accepted, and taken from what is held
+  pub response_accepted : (s : Start) (p : Passed) (v : Waited) (w : World) (a b : Attempt L C) (head : ResponseHead)
+      (framing : Framing) (len n : ℕ) (text : Pending)
+      → b.connection.link ≡ a.connection.link → b.peer ≡ a.peer → b.reused ≡ a.reused
+      → b.connection.ahead ≡ drop len a.connection.ahead
+      → HasResponse get_method false a.connection.ahead head framing len
+      → IsBuiltResponse head framing n → text.output ≡ response_text head
+      → RunSoFar {C = C} state start_at s p v w [] (ReadResponse a)
+      → Advances {C = C} state start_at s p v w (ReadResponse a) (WriteHead b text n) step.Moved
+  response_accepted s p v w a b head framing len n text link peer reused held has built whole run = record {
+      passed = p;
+      waited = v;
+      run = record {
+        tells = run.tells;
+        sound = run.sound;
+        order = run.order;
+        idle = tt;
+        holds = (record {
+            tells = rw link run.holds.0.tells;
+            sound = rw link run.holds.0.sound;
+            peer = peer ∙ run.holds.0.peer;
+            reused = rw link (reused ∙ run.holds.0.reused);
+          }, record {
+            answering = record {
+              head = run.holds.1.head;
+              asking = run.holds.1.asking;
+              sent = run.holds.1.sent;
+              response = head;
+              len = len;
+              n = n;
+              answered = record {
+                has = subst (λ (f : Framing). HasResponse get_method false p.got head f len) built.length
+                  (subst (λ (xs : List ℕ). HasResponse get_method false xs head framing len) run.holds.1.all_held has);
+                built = subst (λ (f : Framing). IsBuiltResponse head f n) built.length built;
+              };
+              within = omega (arith, ends_within.1, ap length run.holds.1.all_held);
+              ended = rw link (run.holds.1.open_end (omega (arith, ends_within.0, ends_within.1)));
+            };
+            joined = ap (λ (xs : List ℕ). xs ++ text.output) run.holds.1.written ∙ whole;
+            rest_held = held ∙ ap (λ (xs : List ℕ). drop len xs) run.holds.1.all_held;
+            body = refl;
+          });
+      };
+      spends = omega arith;
+    }
+    where
+      ends_within : (4 ≤ len) × (len ≤ length a.connection.ahead)
+      ends_within = head_end-within a.connection.ahead len has.starts.ends
+
+  -- a turn of an attempt whose connection is as it was
+  pub turn_as : (s : Start) (p : Passed) (v : Waited) (w : World) (a : Attempt L C) (now : Connection L (Unit {0}))
+      (next : Phase L C) (step : RunStep)
+      → now ≡ a.connection
+      → (RunSoFar {C = C} state start_at s p v w [] (ReadResponse (record a { connection = now }))
+        → Advances {C = C} state start_at s p v w (ReadResponse (record a { connection = now })) next step)
+      → RunSoFar {C = C} state start_at s p v w [] (ReadResponse a)
+      → Advances {C = C} state start_at s p v w (ReadResponse a) next step
+  turn_as s p v w a now next step same =
+      subst (λ (k : Connection L (Unit {0})).
+        (RunSoFar {C = C} state start_at s p v w [] (ReadResponse (record a { connection = k }))
+          → Advances {C = C} state start_at s p v w (ReadResponse (record a { connection = k })) next step)
+        → RunSoFar {C = C} state start_at s p v w [] (ReadResponse a)
+        → Advances {C = C} state start_at s p v w (ReadResponse a) next step)
+      (sym same) (λ turn run. turn run)

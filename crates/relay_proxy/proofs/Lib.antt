@@ -1,0 +1,4 @@
+pub mod Tells
+pub mod HeadSteps
+pub mod ExchangeSteps
+pub mod BodySteps

@@ -1,0 +1,359 @@
+-- How a request may end: each outcome with its cause, in terms of what passed.
+use Rattle.std.specs.Prelude.{◌≡◌, ◌≢◌, ℕ, ◌+◌, ◌<◌, ◌≤◌, ◌⊎◌, ◌↔◌, Bool, true, false, List, [], ◌∷◌, ◌++◌, length, take, drop, IsTrue, Option, None, Some}
+use Rattle.relay_tasks.specs.Error.{new_error, error_of_fault}
+use Rattle.relay_tasks.specs.Head.{RequestHead, ResponseHead}
+use Rattle.relay_tasks.specs.declared.Context.{Context}
+use Rattle.relay_tasks.specs.declared.Error.{Error}
+use Rattle.relay_tasks.specs.declared.ErrorType.TheVariants as kind
+use Rattle.relay_tasks.specs.declared.ErrorSource.{ErrorSource}
+use Rattle.relay_tasks.specs.declared.ErrorSource.TheVariants.{Upstream, Downstream}
+use Rattle.relay_tasks.specs.declared.Fault.{Fault}
+use Rattle.relay_tasks.specs.declared.Peer.{Peer}
+use Rattle.relay_links.specs.Count.{Rose}
+use Rattle.relay_links.specs.Connector.{IsConnectFault}
+use Rattle.relay_links.specs.Link.{LinkState, LinkStart}
+use Rattle.relay_links.specs.declared.Returned.{Returned}
+use Rattle.relay_h1.specs.Verdict.{IsOpen, HasRequest, IsRefusedRequest, HasResponse, IsRefusedResponse, refused_from}
+use Rattle.relay_h1.specs.Wire.{request_text, response_text, generated}
+use Rattle.relay_h1.specs.declared.Framing.{Framing}
+use Rattle.relay_h1.specs.declared.Framing.TheVariants.{Empty, Length}
+use Rattle.relay_proxy.specs.Built.{get_method, IsBuiltRequest, IsBuiltResponse}
+use Rattle.relay_proxy.specs.Passed.{World, Start, Passed, Waited, asked, TellsClient, TellsLink, IsUnsent}
+use Rattle.relay_proxy.specs.declared.outcome.Outcome.{Outcome}
+use Rattle.relay_proxy.specs.declared.outcome.Outcome.TheVariants.{NoRequest, Refused, Served, TurnLimit, OutOfMemory}
+use Rattle.relay_proxy.specs.declared.record.AttemptRecord.{AttemptRecord}
+
+-- the first list is the front of the second
+pub record IsPrefixOf (front whole : List ℕ) : Type 0 where
+  pub rest : List ℕ
+  pub joined : front ++ rest ≡ whole
+
+-- the client's first len bytes are this head, which is of a form that is relayed
+pub record IsAccepted (s : Start) (p : Passed) (head : RequestHead) (len : ℕ) : Type 0 where
+  pub has : HasRequest (asked s p) head Empty len
+  pub built : IsBuiltRequest head Empty
+
+-- the link's first len bytes are this head, which has a body of n bytes and is of a form that is relayed
+pub record IsAnswered (p : Passed) (head : ResponseHead) (len n : ℕ) : Type 0 where
+  pub has : HasResponse get_method false p.got head (Length n) len
+  pub built : IsBuiltResponse head (Length n) n
+
+-- the response as far as its body has come
+abbrev pub response_so_far : Passed → ResponseHead → ℕ → ℕ → List ℕ
+response_so_far p head len n = response_text head ++ take n (drop len p.got)
+
+-- the generated answer to a head that is refused
+abbrev pub refusal : List ℕ
+refusal = generated 400
+
+-- what was sent is the front of the client's head
+pub record SendsHead (s : Start) (p : Passed) : Type 0 where
+  pub head : RequestHead
+  pub len : ℕ
+  pub accepted : IsAccepted s p head len
+  pub part : IsPrefixOf p.sent (request_text head)
+
+-- what was written is the front of the generated answer to a refused head
+pub record WritesRefusal (s : Start) (p : Passed) : Type 0 where
+  pub why : Context
+  pub refused : IsRefusedRequest (asked s p) why
+  pub part : IsPrefixOf p.written refusal
+
+-- the whole head was sent, and what was written is the front of the response that came for it
+pub record WritesResponse (s : Start) (p : Passed) : Type 0 where
+  pub request : RequestHead
+  pub request_len : ℕ
+  pub accepted : IsAccepted s p request request_len
+  pub sent : p.sent ≡ request_text request
+  pub head : ResponseHead
+  pub len : ℕ
+  pub n : ℕ
+  pub answered : IsAnswered p head len n
+  pub part : IsPrefixOf p.written (response_so_far p head len n)
+
+-- what was sent and what was written, whatever the outcome
+pub record IsInOrder (s : Start) (p : Passed) : Type 0 where
+  pub sent : (p.sent ≡ []) ⊎ SendsHead s p
+  pub written : (p.written ≡ []) ⊎ (WritesRefusal s p ⊎ WritesResponse s p)
+
+-- an error of that side which tells of the fault
+abbrev pub fault_error : ErrorSource → Fault → Error
+fault_error side fault = record (error_of_fault fault) { esource = side }
+
+-- the error of an exchange that is not relayed
+abbrev pub unrelayed : ErrorSource → Error
+unrelayed side = new_error (kind.Custom 1) side
+
+-- the client ended before any byte
+pub record IsNoRequest (s : Start) (p : Passed) (w : World) : Type 0 where
+  pub no_byte : asked s p ≡ []
+  pub ended : w.client.ended ≡ true
+  pub written : p.written ≡ []
+  pub unsent : IsUnsent p
+
+-- the head is refused, and the generated answer was written whole
+pub record IsRefusedHead (s : Start) (p : Passed) (e : Error) : Type 0 where
+  pub why : Context
+  pub refused : IsRefusedRequest (asked s p) why
+  pub error : e ≡ refused_from Downstream why
+  pub whole : p.written ≡ refusal
+  pub unsent : IsUnsent p
+
+-- the client ended inside its head, after at least one byte
+pub record EndsInHead (s : Start) (p : Passed) (w : World) : Type 0 where
+  pub begun : asked s p ≢ []
+  pub open_head : IsOpen (asked s p)
+  pub ended : w.client.ended ≡ true
+
+-- the head is valid, and is not of a form that is relayed
+pub record IsUnbuiltRequest (s : Start) (p : Passed) : Type 0 where
+  pub head : RequestHead
+  pub framing : Framing
+  pub len : ℕ
+  pub has : HasRequest (asked s p) head framing len
+  pub unbuilt : ¬ (IsBuiltRequest head framing)
+
+-- nothing is relayed, and nothing was written: the head did not end, or is of another form
+pub record IsNotRelayed (s : Start) (p : Passed) (w : World) (e : Error) : Type 0 where
+  pub error : e ≡ unrelayed Downstream
+  pub why : EndsInHead s p w ⊎ IsUnbuiltRequest s p
+  pub written : p.written ≡ []
+  pub unsent : IsUnsent p
+
+-- a read of the client's head failed
+pub record FailsInHead (s : Start) (p : Passed) (w : World) : Type 0 where
+  pub open_head : IsOpen (asked s p)
+  pub ended : w.client.ended ≡ false
+  pub written : p.written ≡ []
+
+-- a write of the generated answer failed
+pub record FailsInRefusal (s : Start) (p : Passed) : Type 0 where
+  pub why : Context
+  pub refused : IsRefusedRequest (asked s p) why
+  pub part : IsPrefixOf p.written refusal
+  pub left : p.written ≢ refusal
+
+-- the client's link failed before a link was asked for
+pub record IsClientFault (s : Start) (p : Passed) (w : World) (e : Error) : Type 0 where
+  pub fault : Fault
+  pub error : e ≡ fault_error Downstream fault
+  pub rose : Rose s.faults w.client.faults
+  pub place : FailsInHead s p w ⊎ FailsInRefusal s p
+  pub unsent : IsUnsent p
+
+-- the connector gave no link
+pub record FailsToConnect (s : Start) (p : Passed) (w : World) (e : Error) : Type 0 where
+  pub fault : Fault
+  pub kind : IsConnectFault fault
+  pub error : e ≡ fault_error Upstream fault
+  pub rose : Rose s.connect_faults w.connect_faults
+  pub head : RequestHead
+  pub len : ℕ
+  pub accepted : IsAccepted s p head len
+  pub written : p.written ≡ []
+  pub unsent : IsUnsent p
+
+-- how it ends where the client ended with these bytes of its head
+abbrev pub ended_outcome : List ℕ → Outcome
+ended_outcome [] = NoRequest
+ended_outcome (b ∷ bytes) = Refused (Some (unrelayed Downstream))
+
+-- how a request ends that had no link
+abbrev pub EndsUnlinked : Start → Passed → World → Outcome → Type 0
+EndsUnlinked s p w NoRequest = IsNoRequest s p w
+EndsUnlinked s p w (Refused None) = ⊥
+EndsUnlinked s p w (Refused (Some e)) =
+    IsRefusedHead s p e ⊎ (IsNotRelayed s p w e ⊎ IsClientFault s p w e)
+EndsUnlinked s p w (Served None reuse) = ⊥
+EndsUnlinked s p w (Served (Some e) reuse) = FailsToConnect s p w e × (reuse ≡ false)
+EndsUnlinked s p w TurnLimit = IsUnsent p
+EndsUnlinked s p w OutOfMemory = IsUnsent p
+
+-- request and response were relayed whole
+pub record IsRelayedWhole (s : Start) (p : Passed) (w : World) (keep reuse : Bool) : Type 0 where
+  pub request : RequestHead
+  pub request_len : ℕ
+  pub accepted : IsAccepted s p request request_len
+  pub sent : p.sent ≡ request_text request
+  pub head : ResponseHead
+  pub len : ℕ
+  pub n : ℕ
+  pub answered : IsAnswered p head len n
+  pub body : len + n ≤ length p.got
+  pub written : p.written ≡ response_so_far p head len n
+  -- the link is kept where no byte past the response was read
+  pub kept : IsTrue keep ↔ (length p.got ≡ len + n)
+  -- the client goes back where no byte past the request was read
+  pub goes_back : IsTrue reuse ↔ (w.ahead ≡ [])
+  pub ahead : w.ahead ≡ drop request_len (asked s p)
+
+-- the whole head was sent
+pub record IsSentWhole (s : Start) (p : Passed) : Type 0 where
+  pub request : RequestHead
+  pub request_len : ℕ
+  pub accepted : IsAccepted s p request request_len
+  pub sent : p.sent ≡ request_text request
+
+-- the response's head is of a form that is relayed, and its body has not come whole
+pub record IsInBody (p : Passed) : Type 0 where
+  pub head : ResponseHead
+  pub len : ℕ
+  pub n : ℕ
+  pub answered : IsAnswered p head len n
+  pub short : length p.got < len + n
+
+-- the response's head is refused, and nothing was written
+pub record IsBrokenHead (p : Passed) : Type 0 where
+  pub why : Context
+  pub refused : IsRefusedResponse get_method false p.got why
+  pub written : p.written ≡ []
+
+-- the response's head is valid, and not of a form that is relayed, and nothing was written
+pub record IsUnbuiltHead (p : Passed) : Type 0 where
+  pub head : ResponseHead
+  pub framing : Framing
+  pub len : ℕ
+  pub has : HasResponse get_method false p.got head framing len
+  pub unbuilt : (n : ℕ) → ¬ (IsBuiltResponse head framing n)
+  pub written : p.written ≡ []
+
+-- the link ended inside the response's head, and nothing was written
+pub record IsCutInHead (p : Passed) (link : LinkState) : Type 0 where
+  pub open_head : IsOpen p.got
+  pub ended : link.ended ≡ true
+  pub written : p.written ≡ []
+
+-- the link ended inside the response's body
+pub record IsCutInBody (p : Passed) (link : LinkState) : Type 0 where
+  pub body : IsInBody p
+  pub ended : link.ended ≡ true
+
+-- the response is broken, of a form that is not relayed, or cut off
+abbrev pub IsUnfit : Passed → LinkState → Type 0
+IsUnfit p link = IsBrokenHead p ⊎ (IsUnbuiltHead p ⊎ (IsCutInHead p link ⊎ IsCutInBody p link))
+
+-- the response is unfit: the error says no more
+pub record IsUnfitResponse (s : Start) (p : Passed) (link : LinkState) (e : Error) : Type 0 where
+  pub error : e ≡ unrelayed Upstream
+  pub whole : IsSentWhole s p
+  pub why : IsUnfit p link
+
+-- the head was not sent whole
+pub record IsInSending (s : Start) (p : Passed) : Type 0 where
+  pub head : RequestHead
+  pub len : ℕ
+  pub accepted : IsAccepted s p head len
+  pub left : p.sent ≢ request_text head
+  pub got : p.got ≡ []
+
+-- the response's head has not come whole, and the link did not end
+pub record IsInHead (s : Start) (p : Passed) (link : LinkState) : Type 0 where
+  pub whole : IsSentWhole s p
+  pub open_head : IsOpen p.got
+  pub ended : link.ended ≡ false
+
+-- the response's body has not come whole, and the link did not end
+pub record IsInOpenBody (s : Start) (p : Passed) (link : LinkState) : Type 0 where
+  pub whole : IsSentWhole s p
+  pub body : IsInBody p
+  pub ended : link.ended ≡ false
+
+-- the attempt's link failed
+pub record IsLinkFault
+    (s : Start) (p : Passed) (link : LinkState) (start : LinkStart) (e : Error) : Type 0 where
+  pub fault : Fault
+  pub error : e ≡ fault_error Upstream fault
+  pub rose : Rose start.faults link.faults
+  pub place : IsInSending s p ⊎ (IsInHead s p link ⊎ IsInOpenBody s p link)
+
+-- the client's link failed while the response was written to it
+pub record IsLateClientFault
+    (s : Start) (p : Passed) (w : World) (link : LinkState) (e : Error) : Type 0 where
+  pub fault : Fault
+  pub error : e ≡ fault_error Downstream fault
+  pub rose : Rose s.faults w.client.faults
+  pub whole : IsSentWhole s p
+  pub head : ResponseHead
+  pub len : ℕ
+  pub n : ℕ
+  pub answered : IsAnswered p head len n
+  pub ended : link.ended ≡ false
+
+-- an attempt failed: its link is not kept, and the client does not go back
+pub record IsFailedAttempt
+    (s : Start) (p : Passed) (w : World) (link : LinkState) (start : LinkStart) (keep reuse : Bool)
+    (e : Error) : Type 0 where
+  pub why : IsUnfitResponse s p link e ⊎ (IsLinkFault s p link start e ⊎ IsLateClientFault s p w link e)
+  pub not_kept : keep ≡ false
+  pub stays : reuse ≡ false
+
+-- how a request ends that had this link, which was handed back with that mark
+abbrev pub EndsLinked : Start → Passed → World → LinkState → LinkStart → Bool → Outcome → Type 0
+EndsLinked s p w link start keep NoRequest = ⊥
+EndsLinked s p w link start keep (Refused error) = ⊥
+EndsLinked s p w link start keep (Served None reuse) = IsRelayedWhole s p w keep reuse
+EndsLinked s p w link start keep (Served (Some e) reuse) = IsFailedAttempt s p w link start keep reuse e
+EndsLinked s p w link start keep TurnLimit = keep ≡ false
+EndsLinked s p w link start keep OutOfMemory = keep ≡ false
+
+-- the error that an outcome gives
+abbrev pub error_of : Outcome → Option Error
+error_of NoRequest = None
+error_of (Refused error) = error
+error_of (Served error reuse) = error
+error_of TurnLimit = None
+error_of OutOfMemory = None
+
+-- the peer that each attempt asks for
+abbrev pub IsAskedPeer : Peer → Type 0
+IsAskedPeer peer = peer ≡ record { address = []; tls = false; allows_h1 = true }
+
+-- the record of an attempt that had a link
+pub record IsRecordOf (a : AttemptRecord) (start : LinkStart) (keep : Bool) (outcome : Outcome) : Type 0 where
+  pub peer : IsAskedPeer a.peer
+  pub reused : a.reused ≡ start.reused
+  pub kept : a.kept ≡ keep
+  pub error : a.error ≡ error_of outcome
+
+-- the record of an attempt that was given no link
+pub record IsFailedRecord (a : AttemptRecord) (outcome : Outcome) : Type 0 where
+  pub peer : IsAskedPeer a.peer
+  pub reused : a.reused ≡ false
+  pub kept : a.kept ≡ false
+  pub error : a.error ≡ error_of outcome
+
+-- the attempts of a request that had no link: one where the connector gave none
+abbrev pub AttemptsUnlinked : List AttemptRecord → Outcome → Type 0
+AttemptsUnlinked attempts NoRequest = attempts ≡ []
+AttemptsUnlinked attempts (Refused error) = attempts ≡ []
+AttemptsUnlinked attempts (Served error reuse) =
+    (a : AttemptRecord) × (attempts ≡ a ∷ []) × IsFailedRecord a (Served error reuse)
+AttemptsUnlinked attempts TurnLimit = attempts ≡ []
+AttemptsUnlinked attempts OutOfMemory = attempts ≡ []
+
+module _ {L : Type 0} (state : L → LinkState) (start_at : L → LinkStart) where
+  -- how a request ends that handed back this link
+  pub record EndsReturned
+      (s : Start) (p : Passed) (v : Waited) (w : World) (r : Returned L)
+      (attempts : List AttemptRecord) (outcome : Outcome) : Type 0 where
+    pub tells : TellsLink p v (state r.link) (start_at r.link)
+    pub peer : IsAskedPeer r.peer
+    pub ends : EndsLinked s p w (state r.link) (start_at r.link) r.keep outcome
+    pub attempt : AttemptRecord
+    pub attempts_are : attempts ≡ attempt ∷ []
+    pub is_record : IsRecordOf attempt (start_at r.link) r.keep outcome
+
+  -- how a request ends, by the links that it handed back: none or one
+  abbrev pub EndsWith :
+      Start → Passed → Waited → World → List (Returned L) → List AttemptRecord → Outcome → Type 0
+  EndsWith s p v w [] attempts outcome = EndsUnlinked s p w outcome × AttemptsUnlinked attempts outcome
+  EndsWith s p v w (r ∷ []) attempts outcome = EndsReturned s p v w r attempts outcome
+  EndsWith s p v w (r ∷ q ∷ rest) attempts outcome = ⊥
+
+  -- an ended request: what passed is told by the links, in order, and the outcome has its cause
+  pub record IsEnded
+      (s : Start) (p : Passed) (v : Waited) (w : World) (own : List (Returned L))
+      (attempts : List AttemptRecord) (outcome : Outcome) : Type 0 where
+    pub tells : TellsClient s p v w
+    pub order : IsInOrder s p
+    pub ends : EndsWith s p v w own attempts outcome

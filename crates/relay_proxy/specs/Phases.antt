@@ -1,0 +1,171 @@
+-- The phases of a request: what has passed when it stands in each of them, and what is left to do.
+use Rattle.std.specs.Prelude.{◌≡◌, ◌≢◌, ℕ, ◌+◌, ◌<◌, ◌≤◌, Bool, false, List, [], ◌∷◌, ◌++◌, length, take, drop}
+use Rattle.relay_tasks.specs.Head.{RequestHead, ResponseHead}
+use Rattle.relay_tasks.specs.declared.Context.{Context}
+use Rattle.relay_tasks.specs.declared.Error.{Error}
+use Rattle.relay_tasks.specs.declared.ErrorSource.TheVariants.{Downstream}
+use Rattle.relay_links.specs.Link.{LinkState, LinkStart, IsSound}
+use Rattle.relay_links.specs.declared.Returned.{Returned}
+use Rattle.relay_h1.specs.Verdict.{IsRefusedRequest, refused_from}
+use Rattle.relay_h1.specs.Wire.{request_text, response_text}
+use Rattle.relay_proxy.specs.Passed.{World, Start, Passed, Waited, asked, TellsClient, TellsLink, IsUnsent}
+use Rattle.relay_proxy.specs.Endings.{IsAccepted, IsAnswered, IsSentWhole, refusal, IsInOrder, EndsUnlinked, EndsLinked, EndsWith, IsEnded, IsAskedPeer, AttemptsUnlinked}
+use Rattle.relay_proxy.specs.declared.machine.Phase.{Phase}
+use Rattle.relay_proxy.specs.declared.machine.Phase.TheVariants.{ReadHead, Refuse, Connect, SendHead, ReadResponse, WriteHead, RelayBody, Close, Ended}
+use Rattle.relay_proxy.specs.declared.machine.Attempt.{Attempt}
+
+-- the client's head is read: nothing was taken from what is ahead
+pub record IsReadingHead (s : Start) (p : Passed) (ahead : List ℕ) : Type 0 where
+  pub whole : ahead ≡ asked s p
+  pub written : p.written ≡ []
+  pub unsent : IsUnsent p
+
+-- the head is refused, and this is left of the generated answer
+pub record IsRefusing (s : Start) (p : Passed) (answer : List ℕ) (e : Error) : Type 0 where
+  pub why : Context
+  pub refused : IsRefusedRequest (asked s p) why
+  pub error : e ≡ refused_from Downstream why
+  pub joined : p.written ++ answer ≡ refusal
+  pub unsent : IsUnsent p
+
+-- the head was accepted, and taken from what is ahead
+pub record IsAsking (s : Start) (p : Passed) (ahead : List ℕ) (head : RequestHead) : Type 0 where
+  pub len : ℕ
+  pub accepted : IsAccepted s p head len
+  pub taken : ahead ≡ drop len (asked s p)
+
+-- a link is wanted for the head whose text this is
+pub record IsConnecting (s : Start) (p : Passed) (ahead text : List ℕ) : Type 0 where
+  pub head : RequestHead
+  pub asking : IsAsking s p ahead head
+  pub whole : text ≡ request_text head
+  pub written : p.written ≡ []
+  pub unsent : IsUnsent p
+
+-- this is left of the head's text
+pub record IsSending (s : Start) (p : Passed) (ahead held text : List ℕ) : Type 0 where
+  pub head : RequestHead
+  pub asking : IsAsking s p ahead head
+  pub joined : p.sent ++ text ≡ request_text head
+  pub written : p.written ≡ []
+  pub got : p.got ≡ []
+  pub none_held : held ≡ []
+
+-- the head was sent whole, and the response's head is read: nothing was taken from what is held
+pub record IsAwaiting (s : Start) (p : Passed) (ahead : List ℕ) (link : LinkState) (held : List ℕ)
+    : Type 0 where
+  pub head : RequestHead
+  pub asking : IsAsking s p ahead head
+  pub sent : p.sent ≡ request_text head
+  pub written : p.written ≡ []
+  pub all_held : held ≡ p.got
+  -- a link that gave bytes has not ended
+  pub open_end : 0 < length held → link.ended ≡ false
+
+-- the response's head was accepted, with a body of n bytes
+pub record IsAnswering (s : Start) (p : Passed) (ahead : List ℕ) (link : LinkState) : Type 0 where
+  pub head : RequestHead
+  pub asking : IsAsking s p ahead head
+  pub sent : p.sent ≡ request_text head
+  pub response : ResponseHead
+  pub len : ℕ
+  pub n : ℕ
+  pub answered : IsAnswered p response len n
+  pub within : len ≤ length p.got
+  pub ended : link.ended ≡ false
+
+-- this is left of the response head's text, and all of its body
+pub record IsWritingHead
+    (s : Start) (p : Passed) (ahead : List ℕ) (link : LinkState) (held text : List ℕ) (left : ℕ)
+    : Type 0 where
+  pub answering : IsAnswering s p ahead link
+  pub joined : p.written ++ text ≡ response_text answering.response
+  pub rest_held : held ≡ drop answering.len p.got
+  pub body : left ≡ answering.n
+
+-- the head's text was written, and done bytes of the body
+pub record IsRelayingBody
+    (s : Start) (p : Passed) (ahead : List ℕ) (link : LinkState) (held : List ℕ) (left : ℕ)
+    : Type 0 where
+  pub answering : IsAnswering s p ahead link
+  pub done : ℕ
+  pub within : answering.len + done ≤ length p.got
+  pub written : p.written ≡ response_text answering.response ++ take done (drop answering.len p.got)
+  pub rest_held : held ≡ drop (answering.len + done) p.got
+  pub body : done + left ≡ answering.n
+
+module _ {L C : Type 0} (state : L → LinkState) (start_at : L → LinkStart) where
+  -- the attempt's link tells what passed
+  pub record IsAttempt (p : Passed) (v : Waited) (a : Attempt L C) : Type 0 where
+    pub tells : TellsLink p v (state a.connection.link) (start_at a.connection.link)
+    pub sound : IsSound (state a.connection.link)
+    pub peer : IsAskedPeer a.peer
+    pub reused : a.reused ≡ (start_at a.connection.link).reused
+
+  -- what has passed in each phase that is not the last
+  abbrev pub IsAt : Start → Passed → Waited → World → Phase L C → Type 0
+  IsAt s p v w ReadHead = IsReadingHead s p w.ahead
+  IsAt s p v w (Refuse answer e) = IsRefusing s p answer.output e
+  IsAt s p v w (Connect context text) = IsConnecting s p w.ahead text.output
+  IsAt s p v w (SendHead a text) =
+      IsAttempt p v a × IsSending s p w.ahead a.connection.ahead text.output
+  IsAt s p v w (ReadResponse a) = IsAttempt p v a × IsAwaiting s p w.ahead (state a.connection.link) a.connection.ahead
+  IsAt s p v w (WriteHead a text left) =
+      IsAttempt p v a
+      × IsWritingHead s p w.ahead (state a.connection.link) a.connection.ahead text.output left
+  IsAt s p v w (RelayBody a left) =
+      IsAttempt p v a
+      × IsRelayingBody s p w.ahead (state a.connection.link) a.connection.ahead left.bytes
+  IsAt s p v w (Close a keep outcome) =
+      IsAttempt p v a
+      × EndsLinked s p w (state a.connection.link) (start_at a.connection.link) keep outcome
+  IsAt s p v w (Ended outcome attempts) = EndsUnlinked s p w outcome × AttemptsUnlinked attempts outcome
+
+  -- what has passed in each phase, by the links that the request handed back: a request that has
+  -- handed one back has ended
+  abbrev pub PhaseHolds : Start → Passed → Waited → World → List (Returned L) → Phase L C → Type 0
+  PhaseHolds s p v w [] phase = IsAt s p v w phase
+  PhaseHolds s p v w (r ∷ own) ReadHead = ⊥
+  PhaseHolds s p v w (r ∷ own) (Refuse answer e) = ⊥
+  PhaseHolds s p v w (r ∷ own) (Connect context text) = ⊥
+  PhaseHolds s p v w (r ∷ own) (SendHead a text) = ⊥
+  PhaseHolds s p v w (r ∷ own) (ReadResponse a) = ⊥
+  PhaseHolds s p v w (r ∷ own) (WriteHead a text left) = ⊥
+  PhaseHolds s p v w (r ∷ own) (RelayBody a left) = ⊥
+  PhaseHolds s p v w (r ∷ own) (Close a keep outcome) = ⊥
+  PhaseHolds s p v w (r ∷ own) (Ended outcome attempts) =
+      EndsWith state start_at s p v w (r ∷ own) attempts outcome
+
+  -- a request without a link has waited for none
+  abbrev pub IsIdle : Waited → Phase L C → Type 0
+  IsIdle v ReadHead = v.link ≡ 0
+  IsIdle v (Refuse answer e) = v.link ≡ 0
+  IsIdle v (Connect context text) = v.link ≡ 0
+  IsIdle v (SendHead a text) = Unit {0}
+  IsIdle v (ReadResponse a) = Unit {0}
+  IsIdle v (WriteHead a text left) = Unit {0}
+  IsIdle v (RelayBody a left) = Unit {0}
+  IsIdle v (Close a keep outcome) = Unit {0}
+  IsIdle v (Ended outcome attempts) = Unit {0}
+
+  -- the run so far: what passed is told by the links, in order, and the phase says what is left
+  pub record RunSoFar
+      (s : Start) (p : Passed) (v : Waited) (w : World) (own : List (Returned L)) (phase : Phase L C)
+      : Type 0 where
+    pub tells : TellsClient s p v w
+    pub sound : IsSound w.client
+    pub order : IsInOrder s p
+    pub idle : IsIdle v phase
+    pub holds : PhaseHolds s p v w own phase
+
+  -- the turns beside one for each byte and wait that a request has taken when it comes to a phase
+  abbrev pub allowance : Phase L C → ℕ
+  allowance ReadHead = 0
+  allowance (Refuse answer e) = 1
+  allowance (Connect context text) = 1
+  allowance (SendHead a text) = 2
+  allowance (ReadResponse a) = 2
+  allowance (WriteHead a text left) = 3
+  allowance (RelayBody a left) = 3
+  allowance (Close a keep outcome) = 4
+  allowance (Ended outcome attempts) = 4

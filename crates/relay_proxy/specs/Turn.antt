@@ -1,0 +1,100 @@
+-- What one turn makes of a phase.
+use Rattle.std.specs.Prelude.{◌≡◌, ℕ, ◌+◌, ◌<◌, ◌⊎◌, ◌↔◌, IsTrue, Bool, true, false, List, [], Option, None, Some}
+use Rattle.relay_links.specs.Link.{LinkState, LinkStart}
+use Rattle.relay_links.specs.declared.Pause.TheVariants.{NotReady, Silent}
+use Rattle.relay_h1.specs.declared.Connection.{Connection}
+use Rattle.relay_proxy.specs.Passed.{World, Start, Passed, Waited, amount}
+use Rattle.relay_proxy.specs.Phases.{RunSoFar, allowance}
+use Rattle.relay_proxy.specs.declared.machine.Phase.{Phase}
+use Rattle.relay_proxy.specs.declared.machine.Phase.TheVariants.{ReadHead, Refuse, Connect, SendHead, ReadResponse, WriteHead, RelayBody, Close, Ended}
+use Rattle.relay_proxy.specs.declared.machine.Next.{Next}
+use Rattle.relay_proxy.specs.declared.machine.Attempt.{Attempt}
+use Rattle.relay_proxy.specs.declared.machine.BodyLeft.{BodyLeft}
+use Rattle.relay_proxy.specs.declared.outcome.Outcome.TheVariants.{Served}
+use Rattle.relay_tasks.specs.declared.Error.{Error}
+use Rattle.relay_proxy.specs.declared.machine.Work.{Work}
+use Rattle.relay_proxy.specs.declared.machine.RunStep.{RunStep}
+use Rattle.relay_proxy.specs.declared.machine.RunStep.TheVariants as step
+
+-- the world, by its parts
+abbrev pub world_with : LinkState → List ℕ → ℕ → World
+world_with client ahead faults = record { client = client; ahead = ahead; connect_faults = faults }
+
+-- the world, by the client's connection and the connector's count of faults
+abbrev pub world_of : {D U : Type 0} → (D → LinkState) → Connection D U → ℕ → World
+world_of state client faults =
+    world_with (state client.link) client.ahead faults
+
+-- all the work of a turn
+abbrev pub total_work : Work → ℕ
+total_work work = work.used + work.moved + work.ended
+
+-- a turn that moved or ended did some work, one that waited used a link, and one that met silence did none
+abbrev pub DoesWork : RunStep → Work → Type 0
+DoesWork step.Moved work = 0 < total_work work
+DoesWork step.Ended work = 0 < total_work work
+DoesWork (step.Waited NotReady) work = total_work work ≡ 1
+DoesWork (step.Waited Silent) work = total_work work ≡ 0
+
+module _ {L C : Type 0} (state : L → LinkState) (start_at : L → LinkStart) where
+  -- how many links a phase holds
+  abbrev pub links_held : Phase L C → ℕ
+  links_held ReadHead = 0
+  links_held (Refuse answer e) = 0
+  links_held (Connect context text) = 0
+  links_held (SendHead a text) = 1
+  links_held (ReadResponse a) = 1
+  links_held (WriteHead a text left) = 1
+  links_held (RelayBody a left) = 1
+  links_held (Close a keep outcome) = 1
+  links_held (Ended outcome attempts) = 0
+
+  -- the link that a phase waits for is silent
+  abbrev pub IsStalled : World → Phase L C → Type 0
+  IsStalled w ReadHead = w.client.silent_on_read ≡ true
+  IsStalled w (Refuse answer e) = w.client.silent_on_write ≡ true
+  IsStalled w (Connect context text) = ⊥
+  IsStalled w (SendHead a text) = (state a.connection.link).silent_on_write ≡ true
+  IsStalled w (ReadResponse a) = (state a.connection.link).silent_on_read ≡ true
+  IsStalled w (WriteHead a text left) = w.client.silent_on_write ≡ true
+  IsStalled w (RelayBody a left) =
+      ((state a.connection.link).silent_on_read ≡ true) ⊎ (w.client.silent_on_write ≡ true)
+  IsStalled w (Close a keep outcome) = ⊥
+  IsStalled w (Ended outcome attempts) = ⊥
+
+  -- what passed in the turn, by its answer: something moved, one link waited, or nothing changed
+  abbrev pub Spends : Passed → Waited → Passed → Waited → World → Phase L C → Phase L C → RunStep → Type 0
+  Spends p v q u w phase next step.Moved =
+      allowance state start_at phase + amount p v < allowance state start_at next + amount q u
+  Spends p v q u w phase next step.Ended =
+      allowance state start_at phase + amount p v < allowance state start_at next + amount q u
+  Spends p v q u w phase next (step.Waited NotReady) =
+      (q ≡ p) × (u.client + u.link ≡ v.client + v.link + 1)
+      × (allowance state start_at next ≡ allowance state start_at phase)
+  Spends p v q u w phase next (step.Waited Silent) =
+      (q ≡ p) × (u ≡ v) × IsStalled w next
+      × (allowance state start_at next ≡ allowance state start_at phase)
+
+  -- a turn took the run so far from one phase to the next; `w` is the world after it
+  pub record Advances
+      (s : Start) (p : Passed) (v : Waited) (w : World) (phase next : Phase L C) (step : RunStep)
+      : Type 0 where
+    pub passed : Passed
+    pub waited : Waited
+    pub run : RunSoFar state start_at s passed waited w [] next
+    pub spends : Spends p v passed waited w phase next step
+
+-- the attempt failed with that error
+abbrev pub failed : {L C : Type 0} → Attempt L C → Error → Phase L C
+failed a e = Close a false (Served (Some e) false)
+
+-- what follows a write to the client: more of the body, or the end of a response that is whole
+abbrev pub IsRest : {L C : Type 0} → List ℕ → Attempt L C → ℕ → Next L C → Type 0
+IsRest ahead a left next =
+    (0 < left → ((rest : BodyLeft) × (rest.bytes ≡ left) × (next.phase ≡ RelayBody a rest))
+    × (next.step ≡ step.Moved))
+    × (left ≡ 0 → ((keep : Bool) × (reuse : Bool)
+    × (IsTrue keep ↔ (a.connection.ahead ≡ [])) × (IsTrue reuse ↔ (ahead ≡ []))
+    × (next.phase ≡ Close a keep (Served None reuse)))
+    × (next.step ≡ step.Ended))
+    × (0 < total_work next.work)

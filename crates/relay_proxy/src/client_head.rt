@@ -1,0 +1,244 @@
+//! The client's head: read, judged, and refused where it must be (RFC 9112, sections 2 and 3).
+ghost use Rattle.std.specs.Prelude.{◌≡◌, ◌≤◌, ℕ, [], length, Err};
+ghost use Rattle.relay_h1.specs.Verdict.{IsOpen, HasRequest, JudgesRequest};
+ghost use Rattle.relay_proxy.specs.Endings.{ended_outcome};
+ghost use Rattle.relay_proxy.specs.Passed.{World, Start, Passed, Waited, asked};
+ghost use Rattle.relay_proxy.specs.Phases.{RunSoFar};
+ghost use Rattle.relay_proxy.specs.Turn.{world_of, DoesWork, links_held, Advances};
+
+use crate::built::is_built_request;
+use crate::hooks::ProxyHttp;
+use crate::machine::{Next, Phase, RunStep, Work};
+use crate::outcome::Outcome;
+use crate::pending::{Offered, Pending};
+use crate::record::AttemptList;
+use relay_h1::{Connection, Output, RequestRead, write_generated, write_request_head};
+use relay_links::{ByteLink, Got, Pause};
+use relay_tasks::{Error, ErrorType, Fail};
+use std::alloc::Global;
+
+/// The client's head: judged where it stands, else its link is read once.
+pub(crate) fn read_head<SV: ProxyHttp, D: ByteLink, U, L: ByteLink>(
+    alloc: Global,
+    hooks: &SV,
+    client: &mut Connection<D, U>,
+) -> Next<L, SV::CTX>
+    ensures run { (s : Start) (p : Passed) (v : Waited) (faults : ℕ)
+        → RunSoFar {C = SV.CTX} L.state L.start s p v (world_of D.state client.old faults) [] (Phase.ReadHead)
+        → Advances L.state L.start s p v (world_of D.state client.new faults) (Phase.ReadHead)
+        result.phase result.step }
+    ensures work { DoesWork result.step result.work }
+    ensures unlinked { links_held L.state L.start result.phase ≡ 0 }
+    ensures kept { client.new.kept ≡ client.old.kept }
+{
+    match client.judge_request(alloc) {
+        Ok(None) => await_head(alloc, client),
+        Ok(Some(read)) => accept_head(alloc, hooks, client, read),
+        Err(Fail::Error(error)) => refuse_head(alloc, error),
+        Err(Fail::OutOfMemory) => Next {
+            phase: Phase::Ended(Outcome::OutOfMemory, AttemptList::new(alloc)),
+            step: RunStep::Ended,
+            work: Work::ENDED,
+        },
+    }
+}
+
+/// One read of the client's link, for more of its head.
+fn await_head<D: ByteLink, U, L: ByteLink, C>(
+    alloc: Global,
+    client: &mut Connection<D, U>,
+) -> Next<L, C>
+    ensures run { (s : Start) (p : Passed) (v : Waited) (faults : ℕ)
+        → RunSoFar {C = C} L.state L.start s p v (world_of D.state client.old faults) [] (Phase.ReadHead)
+        → IsOpen client.old.ahead
+        → Advances L.state L.start s p v (world_of D.state client.new faults) (Phase.ReadHead)
+        result.phase result.step }
+    ensures work { DoesWork result.step result.work }
+    ensures unlinked { links_held L.state L.start result.phase ≡ 0 }
+    ensures kept { client.new.kept ≡ client.old.kept }
+{
+    match client.read_more() {
+        Err(_) => Next {
+            phase: Phase::Ended(Outcome::OutOfMemory, AttemptList::new(alloc)),
+            step: RunStep::Ended,
+            work: Work::ENDED,
+        },
+        Ok(Got::Bytes(_)) => Next {
+            phase: Phase::ReadHead,
+            step: RunStep::Moved,
+            work: Work::USED,
+        },
+        Ok(Got::NotReady) => Next {
+            phase: Phase::ReadHead,
+            step: RunStep::Waited(Pause::NotReady),
+            work: Work::USED,
+        },
+        Ok(Got::Silent) => Next {
+            phase: Phase::ReadHead,
+            step: RunStep::Waited(Pause::Silent),
+            work: Work::NONE,
+        },
+        Ok(Got::End) => Next {
+            phase: Phase::Ended(end_of_client(client.ahead()), AttemptList::new(alloc)),
+            step: RunStep::Ended,
+            work: Work::USED_AND_ENDED,
+        },
+        Ok(Got::Failed(fault)) => {
+            let error = Error::of_fault(fault).into_down();
+            Next {
+                phase: Phase::Ended(
+                    Outcome::Refused { error: Some(error) },
+                    AttemptList::new(alloc),
+                ),
+                step: RunStep::Ended,
+                work: Work::USED_AND_ENDED,
+            }
+        }
+    }
+}
+
+/// The outcome where the client ended, by what had come of its head.
+fn end_of_client(came: &[u8]) -> Outcome
+    ensures { result ≡ ended_outcome came.now }
+{
+    if came.is_empty() {
+        Outcome::NoRequest
+    } else {
+        Outcome::Refused {
+            error: Some(Error::new_down(ErrorType::Custom(1))),
+        }
+    }
+}
+
+/// A head that is valid: it is taken from what is ahead, and its text is made.
+fn accept_head<SV: ProxyHttp, D: ByteLink, U, L: ByteLink>(
+    alloc: Global,
+    hooks: &SV,
+    client: &mut Connection<D, U>,
+    read: RequestRead,
+) -> Next<L, SV::CTX>
+    requires { read.len ≤ length client.old.ahead }
+    ensures run { (s : Start) (p : Passed) (v : Waited) (faults : ℕ)
+        → RunSoFar {C = SV.CTX} L.state L.start s p v (world_of D.state client.old faults) [] (Phase.ReadHead)
+        → HasRequest client.old.ahead read.head read.framing read.len
+        → Advances L.state L.start s p v (world_of D.state client.new faults) (Phase.ReadHead)
+        result.phase result.step }
+    ensures work { DoesWork result.step result.work }
+    ensures unlinked { links_held L.state L.start result.phase ≡ 0 }
+    ensures kept { client.new.kept ≡ client.old.kept }
+{
+    if !is_built_request(&read.head, read.framing) {
+        let error = Error::new_down(ErrorType::Custom(1));
+        return Next {
+            phase: Phase::Ended(
+                Outcome::Refused { error: Some(error) },
+                AttemptList::new(alloc),
+            ),
+            step: RunStep::Ended,
+            work: Work::ENDED,
+        };
+    }
+    let mut text = Vec::new(alloc);
+    let Ok(()) = write_request_head(&mut text, &read.head) else {
+        return Next {
+            phase: Phase::Ended(Outcome::OutOfMemory, AttemptList::new(alloc)),
+            step: RunStep::Ended,
+            work: Work::ENDED,
+        };
+    };
+    let Some(text) = Pending::new(Output::new(text)) else {
+        unreachable!()
+    };
+    client.consume(read.len);
+    Next {
+        phase: Phase::Connect(hooks.new_ctx(), text),
+        step: RunStep::Moved,
+        work: Work::ENDED,
+    }
+}
+
+/// A head that is refused: the generated answer is made.
+fn refuse_head<L: ByteLink, C>(alloc: Global, error: Error) -> Next<L, C>
+    ensures run { (s : Start) (p : Passed) (v : Waited) (w : World)
+        → RunSoFar {C = C} L.state L.start s p v w [] (Phase.ReadHead)
+        → JudgesRequest w.ahead (Err (Fail.Error error))
+        → Advances L.state L.start s p v w (Phase.ReadHead)
+        result.phase result.step }
+    ensures work { DoesWork result.step result.work }
+    ensures unlinked { links_held L.state L.start result.phase ≡ 0 }
+{
+    let mut text = Vec::new(alloc);
+    let Ok(()) = write_generated(&mut text, 400) else {
+        return Next {
+            phase: Phase::Ended(Outcome::OutOfMemory, AttemptList::new(alloc)),
+            step: RunStep::Ended,
+            work: Work::ENDED,
+        };
+    };
+    let Some(answer) = Pending::new(Output::new(text)) else {
+        unreachable!()
+    };
+    Next {
+        phase: Phase::Refuse(answer, error),
+        step: RunStep::Moved,
+        work: Work::ENDED,
+    }
+}
+
+/// One write of the generated answer.
+pub(crate) fn write_refusal<D: ByteLink, U, L: ByteLink, C>(
+    alloc: Global,
+    client: &mut Connection<D, U>,
+    answer: Pending,
+    error: Error,
+) -> Next<L, C>
+    ensures run { (s : Start) (p : Passed) (v : Waited) (faults : ℕ)
+        → RunSoFar {C = C} L.state L.start s p v (world_of D.state client.old faults) [] (Phase.Refuse answer error)
+        → Advances L.state L.start s p v (world_of D.state client.new faults) (Phase.Refuse answer error)
+        result.phase result.step }
+    ensures work { DoesWork result.step result.work }
+    ensures unlinked { links_held L.state L.start result.phase ≡ 0 }
+    ensures kept { client.new.kept ≡ client.old.kept }
+{
+    match answer.write_to(client) {
+        Offered::Whole => Next {
+            phase: Phase::Ended(
+                Outcome::Refused { error: Some(error) },
+                AttemptList::new(alloc),
+            ),
+            step: RunStep::Ended,
+            work: Work::USED,
+        },
+        Offered::Left(answer) => Next {
+            phase: Phase::Refuse(answer, error),
+            step: RunStep::Moved,
+            work: Work::USED,
+        },
+        Offered::NotReady(answer) => Next {
+            phase: Phase::Refuse(answer, error),
+            step: RunStep::Waited(Pause::NotReady),
+            work: Work::USED,
+        },
+        Offered::Silent(answer) => Next {
+            phase: Phase::Refuse(answer, error),
+            step: RunStep::Waited(Pause::Silent),
+            work: Work::NONE,
+        },
+        Offered::Failed(fault) => {
+            let error = Error::of_fault(fault).into_down();
+            Next {
+                phase: Phase::Ended(
+                    Outcome::Refused { error: Some(error) },
+                    AttemptList::new(alloc),
+                ),
+                step: RunStep::Ended,
+                work: Work::USED,
+            }
+        }
+        Offered::OutOfMemory => Next {
+            phase: Phase::Ended(Outcome::OutOfMemory, AttemptList::new(alloc)),
+            step: RunStep::Ended,
+            work: Work::USED,
+        },
+    }
+}

@@ -1,0 +1,399 @@
+//! The attempt: the head goes to the link, and the response's head and body come back.
+ghost use Rattle.std.specs.Prelude.{◌≡◌, ◌≤◌, ◌<◌, ℕ, [], length, false, true};
+ghost use Rattle.relay_h1.specs.Verdict.{IsOpen, HasResponse};
+ghost use Rattle.relay_proxy.specs.Built.{get_method};
+ghost use Rattle.relay_proxy.specs.Endings.{fault_error, unrelayed};
+ghost use Rattle.relay_proxy.specs.Passed.{World, Start, Passed, Waited, asked};
+ghost use Rattle.relay_proxy.specs.Phases.{RunSoFar};
+ghost use Rattle.relay_proxy.specs.Turn.{failed, IsRest, world_of, DoesWork, links_held, Advances};
+
+use crate::built::built_length;
+use crate::machine::{Attempt, BodyLeft, Next, Phase, RunStep, Work};
+use crate::outcome::Outcome;
+use crate::pending::{Offered, Pending};
+use http::Method;
+use relay_h1::{Connection, Output, ResponseRead, write_response_head};
+use relay_links::{ByteLink, Got, Pause, Put};
+use relay_tasks::{Error, ErrorSource, ErrorType, Fail, Fault};
+use std::alloc::Global;
+
+/// One write of the request's head.
+pub(crate) fn send_head<L: ByteLink, C: Drop>(
+    mut attempt: Attempt<L, C>,
+    text: Pending,
+) -> Next<L, C>
+    ensures run { (s : Start) (p : Passed) (v : Waited) (w : World)
+        → RunSoFar {C = C} L.state L.start s p v w [] (Phase.SendHead attempt text)
+        → Advances L.state L.start s p v w (Phase.SendHead attempt text)
+        result.phase result.step }
+    ensures work { DoesWork result.step result.work }
+    ensures linked { links_held L.state L.start result.phase ≡ 1 }
+{
+    match text.write_to(&mut attempt.connection) {
+        Offered::Whole => Next {
+            phase: Phase::ReadResponse(attempt),
+            step: RunStep::Moved,
+            work: Work::USED,
+        },
+        Offered::Left(text) => Next {
+            phase: Phase::SendHead(attempt, text),
+            step: RunStep::Moved,
+            work: Work::USED,
+        },
+        Offered::NotReady(text) => Next {
+            phase: Phase::SendHead(attempt, text),
+            step: RunStep::Waited(Pause::NotReady),
+            work: Work::USED,
+        },
+        Offered::Silent(text) => Next {
+            phase: Phase::SendHead(attempt, text),
+            step: RunStep::Waited(Pause::Silent),
+            work: Work::NONE,
+        },
+        Offered::Failed(fault) => Next {
+            phase: link_failed(attempt, fault),
+            step: RunStep::Ended,
+            work: Work::USED,
+        },
+        Offered::OutOfMemory => Next {
+            phase: Phase::Close(attempt, false, Outcome::OutOfMemory),
+            step: RunStep::Ended,
+            work: Work::USED,
+        },
+    }
+}
+
+/// The attempt ends with a fault of its link.
+fn link_failed<L, C>(attempt: Attempt<L, C>, fault: Fault) -> Phase<L, C>
+    ensures { result ≡ failed attempt (fault_error ErrorSource.Upstream fault) }
+{
+    let error = Some(Error::of_fault(fault).into_up());
+    Phase::Close(
+        attempt,
+        false,
+        Outcome::Served {
+            error,
+            reuse: false,
+        },
+    )
+}
+
+/// The attempt ends with a fault of the client's link.
+fn client_failed<L, C>(attempt: Attempt<L, C>, fault: Fault) -> Phase<L, C>
+    ensures { result ≡ failed attempt (fault_error ErrorSource.Downstream fault) }
+{
+    let error = Some(Error::of_fault(fault).into_down());
+    Phase::Close(
+        attempt,
+        false,
+        Outcome::Served {
+            error,
+            reuse: false,
+        },
+    )
+}
+
+/// The attempt ends since its response is broken, cut off, or of a form that is not relayed.
+fn response_unfit<L, C>(attempt: Attempt<L, C>) -> Phase<L, C>
+    ensures { result ≡ failed attempt (unrelayed ErrorSource.Upstream) }
+{
+    let error = Some(Error::new_up(ErrorType::Custom(1)));
+    Phase::Close(
+        attempt,
+        false,
+        Outcome::Served {
+            error,
+            reuse: false,
+        },
+    )
+}
+
+/// The response's head: judged where it stands, else the link is read once.
+pub(crate) fn read_response<L: ByteLink, C: Drop>(
+    alloc: Global,
+    mut attempt: Attempt<L, C>,
+) -> Next<L, C>
+    ensures run { (s : Start) (p : Passed) (v : Waited) (w : World)
+        → RunSoFar {C = C} L.state L.start s p v w [] (Phase.ReadResponse attempt)
+        → Advances L.state L.start s p v w (Phase.ReadResponse attempt)
+        result.phase result.step }
+    ensures work { DoesWork result.step result.work }
+    ensures linked { links_held L.state L.start result.phase ≡ 1 }
+{
+    match attempt
+        .connection
+        .judge_response(alloc, &Method::GET, false)
+    {
+        Ok(None) => await_response(attempt),
+        Ok(Some(read)) => accept_response(alloc, attempt, read),
+        Err(Fail::Error(_)) => Next {
+            phase: response_unfit(attempt),
+            step: RunStep::Ended,
+            work: Work::ENDED,
+        },
+        Err(Fail::OutOfMemory) => Next {
+            phase: Phase::Close(attempt, false, Outcome::OutOfMemory),
+            step: RunStep::Ended,
+            work: Work::ENDED,
+        },
+    }
+}
+
+/// One read of the link, for more of the response's head.
+fn await_response<L: ByteLink, C: Drop>(mut attempt: Attempt<L, C>) -> Next<L, C>
+    ensures run { (s : Start) (p : Passed) (v : Waited) (w : World)
+        → RunSoFar {C = C} L.state L.start s p v w [] (Phase.ReadResponse attempt)
+        → IsOpen attempt.connection.ahead
+        → Advances L.state L.start s p v w (Phase.ReadResponse attempt)
+        result.phase result.step }
+    ensures work { DoesWork result.step result.work }
+    ensures linked { links_held L.state L.start result.phase ≡ 1 }
+{
+    match attempt.connection.read_more() {
+        Err(_) => Next {
+            phase: Phase::Close(attempt, false, Outcome::OutOfMemory),
+            step: RunStep::Ended,
+            work: Work::ENDED,
+        },
+        Ok(Got::Bytes(_)) => Next {
+            phase: Phase::ReadResponse(attempt),
+            step: RunStep::Moved,
+            work: Work::USED,
+        },
+        Ok(Got::NotReady) => Next {
+            phase: Phase::ReadResponse(attempt),
+            step: RunStep::Waited(Pause::NotReady),
+            work: Work::USED,
+        },
+        Ok(Got::Silent) => Next {
+            phase: Phase::ReadResponse(attempt),
+            step: RunStep::Waited(Pause::Silent),
+            work: Work::NONE,
+        },
+        Ok(Got::End) => Next {
+            phase: response_unfit(attempt),
+            step: RunStep::Ended,
+            work: Work::USED_AND_ENDED,
+        },
+        Ok(Got::Failed(fault)) => Next {
+            phase: link_failed(attempt, fault),
+            step: RunStep::Ended,
+            work: Work::USED,
+        },
+    }
+}
+
+/// A response's head that is valid: it is taken from what is held, and its text is made.
+fn accept_response<L: ByteLink, C: Drop>(
+    alloc: Global,
+    mut attempt: Attempt<L, C>,
+    read: ResponseRead,
+) -> Next<L, C>
+    requires { read.len ≤ length attempt.connection.ahead }
+    ensures run { (s : Start) (p : Passed) (v : Waited) (w : World)
+        → RunSoFar {C = C} L.state L.start s p v w [] (Phase.ReadResponse attempt)
+        → HasResponse get_method false attempt.connection.ahead read.head read.framing read.len
+        → Advances L.state L.start s p v w (Phase.ReadResponse attempt)
+        result.phase result.step }
+    ensures work { DoesWork result.step result.work }
+    ensures linked { links_held L.state L.start result.phase ≡ 1 }
+{
+    let Some(left) = built_length(&read.head, read.framing) else {
+        return Next {
+            phase: response_unfit(attempt),
+            step: RunStep::Ended,
+            work: Work::ENDED,
+        };
+    };
+    let mut text = Vec::new(alloc);
+    let Ok(()) = write_response_head(&mut text, &read.head) else {
+        return Next {
+            phase: Phase::Close(attempt, false, Outcome::OutOfMemory),
+            step: RunStep::Ended,
+            work: Work::ENDED,
+        };
+    };
+    let Some(text) = Pending::new(Output::new(text)) else {
+        unreachable!()
+    };
+    attempt.connection.consume(read.len);
+    Next {
+        phase: Phase::WriteHead(attempt, text, left),
+        step: RunStep::Moved,
+        work: Work::MOVED,
+    }
+}
+
+/// One write of the response's head to the client.
+pub(crate) fn write_head<D: ByteLink, U, L: ByteLink, C: Drop>(
+    client: &mut Connection<D, U>,
+    attempt: Attempt<L, C>,
+    text: Pending,
+    left: u64,
+) -> Next<L, C>
+    ensures run { (s : Start) (p : Passed) (v : Waited) (faults : ℕ)
+        → RunSoFar {C = C} L.state L.start s p v (world_of D.state client.old faults) [] (Phase.WriteHead attempt text left)
+        → Advances L.state L.start s p v (world_of D.state client.new faults) (Phase.WriteHead attempt text left)
+        result.phase result.step }
+    ensures work { DoesWork result.step result.work }
+    ensures linked { links_held L.state L.start result.phase ≡ 1 }
+    ensures kept { client.new.kept ≡ client.old.kept }
+{
+    match text.write_to(client) {
+        Offered::Whole => relay_rest(client, attempt, left),
+        Offered::Left(text) => Next {
+            phase: Phase::WriteHead(attempt, text, left),
+            step: RunStep::Moved,
+            work: Work::USED,
+        },
+        Offered::NotReady(text) => Next {
+            phase: Phase::WriteHead(attempt, text, left),
+            step: RunStep::Waited(Pause::NotReady),
+            work: Work::USED,
+        },
+        Offered::Silent(text) => Next {
+            phase: Phase::WriteHead(attempt, text, left),
+            step: RunStep::Waited(Pause::Silent),
+            work: Work::NONE,
+        },
+        Offered::Failed(fault) => Next {
+            phase: client_failed(attempt, fault),
+            step: RunStep::Ended,
+            work: Work::USED,
+        },
+        Offered::OutOfMemory => Next {
+            phase: Phase::Close(attempt, false, Outcome::OutOfMemory),
+            step: RunStep::Ended,
+            work: Work::USED,
+        },
+    }
+}
+
+/// What follows a write to the client, when that many bytes of the body are still to come.
+fn relay_rest<D, U, L, C>(
+    client: &Connection<D, U>,
+    attempt: Attempt<L, C>,
+    left: u64,
+) -> Next<L, C>
+    ensures { IsRest client.now.ahead attempt left result }
+{
+    if left > 0 {
+        return Next {
+            phase: Phase::RelayBody(attempt, BodyLeft { bytes: left }),
+            step: RunStep::Moved,
+            work: Work::USED,
+        };
+    }
+    let keep = attempt.connection.ahead().is_empty();
+    let reuse = client.ahead().is_empty();
+    Next {
+        phase: Phase::Close(attempt, keep, Outcome::Served { error: None, reuse }),
+        step: RunStep::Ended,
+        work: Work::USED_AND_ENDED,
+    }
+}
+
+/// The body: what is held of it is offered to the client, else the link is read once.
+pub(crate) fn relay_body<D: ByteLink, U, L: ByteLink, C: Drop>(
+    client: &mut Connection<D, U>,
+    attempt: Attempt<L, C>,
+    left: BodyLeft,
+) -> Next<L, C>
+    ensures run { (s : Start) (p : Passed) (v : Waited) (faults : ℕ)
+        → RunSoFar {C = C} L.state L.start s p v (world_of D.state client.old faults) [] (Phase.RelayBody attempt left)
+        → Advances L.state L.start s p v (world_of D.state client.new faults) (Phase.RelayBody attempt left)
+        result.phase result.step }
+    ensures work { DoesWork result.step result.work }
+    ensures linked { links_held L.state L.start result.phase ≡ 1 }
+    ensures kept { client.new.kept ≡ client.old.kept }
+{
+    if attempt.connection.ahead().is_empty() {
+        read_body(attempt, left)
+    } else {
+        write_body(client, attempt, left)
+    }
+}
+
+/// One read of the link, for more of the body.
+fn read_body<L: ByteLink, C: Drop>(mut attempt: Attempt<L, C>, left: BodyLeft) -> Next<L, C>
+    ensures run { (s : Start) (p : Passed) (v : Waited) (w : World)
+        → RunSoFar {C = C} L.state L.start s p v w [] (Phase.RelayBody attempt left)
+        → attempt.connection.ahead ≡ []
+        → Advances L.state L.start s p v w (Phase.RelayBody attempt left)
+        result.phase result.step }
+    ensures work { DoesWork result.step result.work }
+    ensures linked { links_held L.state L.start result.phase ≡ 1 }
+{
+    match attempt.connection.read_more() {
+        Err(_) => Next {
+            phase: Phase::Close(attempt, false, Outcome::OutOfMemory),
+            step: RunStep::Ended,
+            work: Work::ENDED,
+        },
+        Ok(Got::Bytes(_)) => Next {
+            phase: Phase::RelayBody(attempt, left),
+            step: RunStep::Moved,
+            work: Work::USED,
+        },
+        Ok(Got::NotReady) => Next {
+            phase: Phase::RelayBody(attempt, left),
+            step: RunStep::Waited(Pause::NotReady),
+            work: Work::USED,
+        },
+        Ok(Got::Silent) => Next {
+            phase: Phase::RelayBody(attempt, left),
+            step: RunStep::Waited(Pause::Silent),
+            work: Work::NONE,
+        },
+        Ok(Got::End) => Next {
+            phase: response_unfit(attempt),
+            step: RunStep::Ended,
+            work: Work::USED_AND_ENDED,
+        },
+        Ok(Got::Failed(fault)) => Next {
+            phase: link_failed(attempt, fault),
+            step: RunStep::Ended,
+            work: Work::USED,
+        },
+    }
+}
+
+/// One write to the client of what is held of the body.
+fn write_body<D: ByteLink, U, L: ByteLink, C: Drop>(
+    client: &mut Connection<D, U>,
+    mut attempt: Attempt<L, C>,
+    left: BodyLeft,
+) -> Next<L, C>
+    requires { 0 < length attempt.connection.ahead }
+    ensures run { (s : Start) (p : Passed) (v : Waited) (faults : ℕ)
+        → RunSoFar {C = C} L.state L.start s p v (world_of D.state client.old faults) [] (Phase.RelayBody attempt left)
+        → Advances L.state L.start s p v (world_of D.state client.new faults) (Phase.RelayBody attempt left)
+        result.phase result.step }
+    ensures work { DoesWork result.step result.work }
+    ensures linked { links_held L.state L.start result.phase ≡ 1 }
+    ensures kept { client.new.kept ≡ client.old.kept }
+{
+    match attempt.connection.relay_body(client, left.bytes) {
+        Put::Took(n) => relay_rest(client, attempt, left.bytes - n as u64),
+        Put::NotReady => Next {
+            phase: Phase::RelayBody(attempt, left),
+            step: RunStep::Waited(Pause::NotReady),
+            work: Work::USED,
+        },
+        Put::Silent => Next {
+            phase: Phase::RelayBody(attempt, left),
+            step: RunStep::Waited(Pause::Silent),
+            work: Work::NONE,
+        },
+        Put::Failed(fault) => Next {
+            phase: client_failed(attempt, fault),
+            step: RunStep::Ended,
+            work: Work::USED,
+        },
+        Put::OutOfMemory => Next {
+            phase: Phase::Close(attempt, false, Outcome::OutOfMemory),
+            step: RunStep::Ended,
+            work: Work::USED,
+        },
+    }
+}

@@ -1,0 +1,14 @@
+//! The application: what it decides of each request.
+
+/// An application over the proxy. So far it makes a context for each request, and nothing is asked
+/// of it after that.
+pub trait ProxyHttp {
+    /// What the application keeps for one request.
+    type CTX: Drop;
+
+    /// What it keeps from one request of a connection for the next.
+    type Kept: Drop;
+
+    /// A context for a request whose head was accepted.
+    fn new_ctx(&self) -> Self::CTX;
+}

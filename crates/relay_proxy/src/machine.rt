@@ -1,0 +1,116 @@
+//! The machine of one request: its phases, and what a turn makes of one.
+//!
+//! ```text
+//! ReadHead -> Connect -> SendHead -> ReadResponse -> WriteHead -> RelayBody -> Close -> Ended
+//!    |           |          |             |             |            |
+//!    +-> Refuse  +-> Ended  +-------------+-------------+------------+--> Close (the attempt failed)
+//!    +-> Ended (nothing asked, nothing relayed)
+//! ```
+
+ghost use Rattle.std.specs.Prelude.{◌<◌};
+
+use crate::outcome::Outcome;
+use crate::pending::Pending;
+use crate::record::{AttemptList, AttemptRoom};
+use relay_h1::Connection;
+use relay_links::Pause;
+use relay_tasks::{Error, Peer};
+
+/// What one turn of a request did.
+#[derive(Clone, Copy, Debug, PartialEq, Eq)]
+pub enum RunStep {
+    /// Something moved.
+    Moved,
+    /// Nothing moved: the link that was asked is not ready, or is silent.
+    Waited(Pause),
+    /// The request has ended.
+    Ended,
+}
+
+/// An attempt whose link is held.
+pub(crate) struct Attempt<L, C> {
+    pub(crate) connection: Connection<L, ()>,
+    pub(crate) peer: Peer,
+    pub(crate) reused: bool,
+    pub(crate) room: AttemptRoom,
+    pub(crate) context: C,
+}
+
+/// How many bytes of a body are still to come: at least one.
+#[derive(Clone, Copy)]
+pub(crate) struct BodyLeft {
+    pub(crate) bytes: u64,
+    ghost some: { 0 < bytes },
+}
+
+/// Where a request stands.
+pub(crate) enum Phase<L, C> {
+    /// The client's head is read.
+    ReadHead,
+    /// The head was refused, and the generated answer is written.
+    Refuse(Pending, Error),
+    /// The head was accepted, and a link is wanted for its text.
+    Connect(C, Pending),
+    /// The head's text is written to the link.
+    SendHead(Attempt<L, C>, Pending),
+    /// The response's head is read.
+    ReadResponse(Attempt<L, C>),
+    /// The text of the response's head is written; a body of that length follows.
+    WriteHead(Attempt<L, C>, Pending, u64),
+    /// The body is relayed.
+    RelayBody(Attempt<L, C>, BodyLeft),
+    /// The request has ended, and its link is to be handed back.
+    Close(Attempt<L, C>, bool, Outcome),
+    /// The request has ended.
+    Ended(Outcome, AttemptList),
+}
+
+/// How much work a turn was.
+#[derive(Clone, Copy)]
+pub(crate) struct Work {
+    /// Answers of links, `Silent` aside.
+    pub(crate) used: u64,
+    /// Heads and pieces that were put.
+    pub(crate) moved: u64,
+    /// Sides that ended, and refusals.
+    pub(crate) ended: u64,
+}
+
+impl Work {
+    pub(crate) const NONE: Work = Work {
+        used: 0,
+        moved: 0,
+        ended: 0,
+    };
+
+    pub(crate) const USED: Work = Work {
+        used: 1,
+        moved: 0,
+        ended: 0,
+    };
+
+    pub(crate) const MOVED: Work = Work {
+        used: 0,
+        moved: 1,
+        ended: 0,
+    };
+
+    pub(crate) const ENDED: Work = Work {
+        used: 0,
+        moved: 0,
+        ended: 1,
+    };
+
+    pub(crate) const USED_AND_ENDED: Work = Work {
+        used: 1,
+        moved: 0,
+        ended: 1,
+    };
+}
+
+/// What a turn made of a phase.
+pub(crate) struct Next<L, C> {
+    pub(crate) phase: Phase<L, C>,
+    pub(crate) step: RunStep,
+    pub(crate) work: Work,
+}
