@@ -24,7 +24,12 @@ impl<R: io::Read + Drop> StdSource<R> {
 }
 
 impl<R: io::Read + Drop> Source for StdSource<R> {
-    ghost state = { λ source. record { given = None; left = None; ended = source.ended; faults = source.faults } };
+    ghost state = { λ source. record {
+      given = None;
+      left = None;
+      ended = source.ended;
+      faults = source.faults;
+    } };
 
     fn read(&mut self, room: &mut [u8]) -> Read {
         let faults = self.faults;
