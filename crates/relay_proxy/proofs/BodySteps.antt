@@ -12,7 +12,7 @@ use Rattle.relay_h1.specs.Wire.{request_text, response_text}
 use Rattle.relay_proxy.specs.Passed.{World, Start, Passed, Waited, amount, asked, TellsClient, TellsLink}
 use Rattle.relay_proxy.specs.Endings.{IsPrefixOf, IsInOrder, IsAnswered, response_so_far, IsInBody, EndsLinked, fault_error, unrelayed}
 use Rattle.relay_proxy.specs.Phases.{IsAsking, IsAnswering, IsWritingHead, IsRelayingBody, IsAttempt, RunSoFar, allowance}
-use Rattle.relay_proxy.specs.Turn.{Advances, failed, IsRest, total_work}
+use Rattle.relay_proxy.specs.Turn.{Advances, failed, IsRest}
 use Rattle.relay_proxy.specs.Offer.{TakesFront}
 use Rattle.relay_proxy.specs.declared.machine.Attempt.{Attempt}
 use Rattle.relay_proxy.specs.declared.machine.BodyLeft.{BodyLeft}
@@ -51,72 +51,75 @@ all_dropped bytes n is = rw (← is) (drop-length bytes)
 in_body : (s : Start) (p : Passed) (ahead held : List ℕ) (link : LinkState) (left : BodyLeft)
     → held ≡ [] → IsRelayingBody s p ahead link held left.bytes → IsInBody p
 in_body s p ahead held link left none h = record {
-    head = h.answering.response;
-    len = h.answering.len;
-    n = h.answering.n;
-    answered = h.answering.answered;
-    short = omega (arith, left.some, h.body, nothing_left p.got (h.answering.len + h.done) h.within (sym h.rest_held ∙ none));
-  }
+  head = h.answering.response;
+  len = h.answering.len;
+  n = h.answering.n;
+  answered = h.answering.answered;
+  short = omega (arith, left.some, h.body, nothing_left p.got (h.answering.len + h.done) h.within (sym h.rest_held ∙ none));
+}
 
 module _ {L C : Type 0} (state : L → LinkState) (start_at : L → LinkStart) where
   -- an attempt whose link passed nothing, while the client's side moved
   attempt_same : (p q : Passed) (v u : Waited) (a : Attempt L C) → q.got ≡ p.got → q.sent ≡ p.sent → u.link ≡ v.link
       → IsAttempt state start_at p v a → IsAttempt state start_at q u a
   attempt_same p q v u a got sent waits h = record {
-      tells = link_same p q v u (state a.connection.link) (start_at a.connection.link) got sent waits h.tells;
-      sound = h.sound;
-      peer = h.peer;
-      reused = h.reused;
-    }
+    tells = link_same p q v u (state a.connection.link) (start_at a.connection.link) got sent waits h.tells;
+    sound = h.sound;
+    peer = h.peer;
+    reused = h.reused;
+  }
 
   -- what follows a write: more of the body, or the end of a response that is whole
   rest_follows : (s : Start) (p q : Passed) (v : Waited) (x : World) (phase : Phase L C) (a : Attempt L C)
       (answering : IsAnswering s q x.ahead (state a.connection.link)) (done left : ℕ) (next : Next L C)
-      → TellsClient s q v x → IsSound x.client → IsAttempt state start_at q v a
+      → TellsClient s q v x → IsAttempt state start_at q v a
       → answering.len + done ≤ length q.got
       → q.written ≡ response_text answering.response ++ take done (drop answering.len q.got)
       → a.connection.ahead ≡ drop (answering.len + done) q.got → done + left ≡ answering.n
       → IsRest x.ahead a left next
       → allowance state start_at phase + amount p v < 3 + amount q v
       → Advances {C = C} state start_at s p v x phase next.phase next.step
-  rest_follows s p q v x phase a answering done left next tells sound attempt within written held body rest paid =
+  rest_follows s p q v x phase a answering done left next tells attempt within written held body rest paid =
       elim (zero_or_more left) as (λ _. Advances {C = C} state start_at s p v x phase next.phase next.step) [
-        inl more ↦
-          let go = rest.0 more in
-          subst (λ (t : RunStep). Advances {C = C} state start_at s p v x phase next.phase t) (sym go.1)
-          (subst (λ (n : Phase L C). Advances {C = C} state start_at s p v x phase n step.Moved) (sym go.0.2)
+        | inl more ↦
+            let go = rest.0 more in
+            subst (λ (t : RunStep). Advances {C = C} state start_at s p v x phase next.phase t) (sym go.1)
+            (subst (λ (n : Phase L C). Advances {C = C} state start_at s p v x phase n step.Moved) (sym go.0.2)
             (record {
               passed = q;
               waited = v;
               run = record {
                 tells = tells;
-                sound = sound;
                 order = order_of_answering s q x.ahead (state a.connection.link) answering part;
-                idle = tt;
-                holds = (attempt, record {
+                going = tt;
+                holds = (
+                  attempt,
+                  record {
                     answering = answering;
                     done = done;
                     within = within;
                     written = written;
                     rest_held = held;
                     body = omega (arith, go.0.1);
-                  });
+                  },
+                );
               };
               spends = paid;
             }))
-      | inr none ↦
-          let end = rest.1 none in
-          subst (λ (t : RunStep). Advances {C = C} state start_at s p v x phase next.phase t) (sym end.1)
-          (subst (λ (n : Phase L C). Advances {C = C} state start_at s p v x phase n step.Ended) (sym end.0.4)
+        | inr none ↦
+            let end = rest.1 none in
+            subst (λ (t : RunStep). Advances {C = C} state start_at s p v x phase next.phase t) (sym end.1)
+            (subst (λ (n : Phase L C). Advances {C = C} state start_at s p v x phase n step.Ended) (sym end.0.4)
             (record {
               passed = q;
               waited = v;
               run = record {
                 tells = tells;
-                sound = sound;
                 order = order_of_answering s q x.ahead (state a.connection.link) answering part;
-                idle = tt;
-                holds = (attempt, record {
+                going = λ limit. cc;
+                holds = (
+                  attempt,
+                  record {
                     request = answering.head;
                     request_len = answering.asking.len;
                     accepted = answering.asking.accepted;
@@ -127,11 +130,14 @@ module _ {L C : Type 0} (state : L → LinkState) (start_at : L → LinkStart) w
                     answered = answering.answered;
                     body = omega arith;
                     written = rw (← all none) written;
-                    kept = (λ keeps. omega (arith, nothing_left q.got (answering.len + done) within (sym held ∙ end.0.2.0 keeps)),
-                      λ is. end.0.2.1 (held ∙ all_dropped q.got (answering.len + done) (omega (arith, is))));
+                    kept = (
+                      λ keeps. omega (arith, nothing_left q.got (answering.len + done) within (sym held ∙ end.0.2.0 keeps)),
+                      λ is. end.0.2.1 (held ∙ all_dropped q.got (answering.len + done) (omega (arith, is))),
+                    );
                     goes_back = end.0.3;
                     ahead = answering.asking.taken;
-                  });
+                  },
+                );
               };
               spends = omega (arith, paid);
             }))
@@ -140,14 +146,16 @@ module _ {L C : Type 0} (state : L → LinkState) (start_at : L → LinkStart) w
       zero_or_more : (n : ℕ) → (0 < n) ⊎ (n ≡ 0)
       zero_or_more zero = inr refl
       zero_or_more (suc n) = inl (omega arith)
+
       all : left ≡ 0 → done ≡ answering.n
       all none = omega arith
+
       part : IsPrefixOf q.written (response_so_far q answering.response answering.len answering.n)
       part = record {
-          rest = drop done (take answering.n (drop answering.len q.got));
-          joined = ap (λ (xs : List ℕ). xs ++ drop done (take answering.n (drop answering.len q.got))) written
+        rest = drop done (take answering.n (drop answering.len q.got));
+        joined = ap (λ (xs : List ℕ). xs ++ drop done (take answering.n (drop answering.len q.got))) written
             ∙ body_part (response_text answering.response) (drop answering.len q.got) done answering.n (omega arith);
-        }
+      }
 
   -- the text of the response's head was written whole
   pub head_wrote_all : (s : Start) (p : Passed) (v : Waited) (w x : World) (a : Attempt L C) (text : Pending) (n : ℕ)
@@ -159,19 +167,21 @@ module _ {L C : Type 0} (state : L → LinkState) (start_at : L → LinkStart) w
   head_wrote_all s p v w x a text n next ahead same takes rest run =
       rest_follows s p (written_more p (take takes.n text.output)) v x (WriteHead a text n) a
       (answering_as s (written_more p (take takes.n text.output)) w.ahead x.ahead (state a.connection.link) (state a.connection.link)
-        ahead refl (answering_wrote s p w.ahead (take takes.n text.output) (state a.connection.link) run.holds.1.answering))
+      ahead refl (answering_wrote s p w.ahead (take takes.n text.output) (state a.connection.link) run.holds.1.answering))
       0 n next
       (client_took s p v w x text.output takes.n same takes.takes run.tells)
-      takes.takes.sound
       (attempt_same p (written_more p (take takes.n text.output)) v v a refl refl refl run.holds.0)
       (omega (arith, run.holds.1.answering.within))
       (ap (λ (xs : List ℕ). p.written ++ xs) (take_whole text.output takes.n takes.left) ∙ run.holds.1.joined
-        ∙ sym (append-nil (response_text run.holds.1.answering.response)))
+      ∙ sym (append-nil (response_text run.holds.1.answering.response)))
       (run.holds.1.rest_held ∙ ap (λ (k : ℕ). drop k p.got) (plus_zero run.holds.1.answering.len))
       (omega (arith, run.holds.1.body))
       rest
-      (omega (arith, length-append p.written (take takes.n text.output),
-        take_some text.output takes.n takes.takes.some takes.takes.fits))
+      (omega (
+        arith,
+        length-append p.written (take takes.n text.output),
+        take_some text.output takes.n takes.takes.some takes.takes.fits,
+      ))
     where
       plus_zero : (k : ℕ) → k ≡ k + 0
       plus_zero k = omega arith
@@ -182,33 +192,38 @@ module _ {L C : Type 0} (state : L → LinkState) (start_at : L → LinkStart) w
       → RunSoFar {C = C} state start_at s p v w [] (WriteHead a text n)
       → Advances {C = C} state start_at s p v x (WriteHead a text n) (WriteHead a left n) step.Moved
   head_wrote_part s p v w x a text left n ahead same takes run = record {
-      passed = written_more p (take takes.n text.output);
-      waited = v;
-      run = record {
-        tells = client_took s p v w x text.output takes.n same takes.takes run.tells;
-        sound = takes.takes.sound;
-        order = order_of_answering s (written_more p (take takes.n text.output)) x.ahead (state a.connection.link) answering
+    passed = written_more p (take takes.n text.output);
+    waited = v;
+    run = record {
+      tells = client_took s p v w x text.output takes.n same takes.takes run.tells;
+      order = order_of_answering s (written_more p (take takes.n text.output)) x.ahead (state a.connection.link) answering
           (record {
             rest = left.output ++ take answering.n (drop answering.len p.got);
             joined = head_then_body (p.written ++ take takes.n text.output) left.output (response_text answering.response)
-              (take answering.n (drop answering.len p.got)) all;
+                (take answering.n (drop answering.len p.got)) all;
           });
-        idle = tt;
-        holds = (attempt_same p (written_more p (take takes.n text.output)) v v a refl refl refl run.holds.0,
-          record {
-            answering = answering;
-            joined = all;
-            rest_held = run.holds.1.rest_held;
-            body = run.holds.1.body;
-          });
-      };
-      spends = omega (arith, length-append p.written (take takes.n text.output),
-        take_some text.output takes.n takes.takes.some takes.takes.fits);
-    }
+      going = tt;
+      holds = (
+        attempt_same p (written_more p (take takes.n text.output)) v v a refl refl refl run.holds.0,
+        record {
+          answering = answering;
+          joined = all;
+          rest_held = run.holds.1.rest_held;
+          body = run.holds.1.body;
+        },
+      );
+    };
+    spends = omega (
+      arith,
+      length-append p.written (take takes.n text.output),
+      take_some text.output takes.n takes.takes.some takes.takes.fits,
+    );
+  }
     where
       answering : IsAnswering s (written_more p (take takes.n text.output)) x.ahead (state a.connection.link)
       answering = answering_as s (written_more p (take takes.n text.output)) w.ahead x.ahead (state a.connection.link) (state a.connection.link)
           ahead refl (answering_wrote s p w.ahead (take takes.n text.output) (state a.connection.link) run.holds.1.answering)
+
       all : (p.written ++ take takes.n text.output) ++ left.output ≡ response_text run.holds.1.answering.response
       all = take_rest p.written text.output left.output takes.n takes.left ∙ run.holds.1.joined
 
@@ -219,19 +234,20 @@ module _ {L C : Type 0} (state : L → LinkState) (start_at : L → LinkStart) w
       → RunSoFar {C = C} state start_at s p v w [] (WriteHead a text n)
       → Advances {C = C} state start_at s p v x (WriteHead a text n) (WriteHead a left n) (step.Waited NotReady)
   head_write_waits s p v w x a text left n ahead same waits kept run = record {
-      passed = p;
-      waited = client_waited v;
-      run = record {
-        tells = client_waits s p v w x same waits.given waits.taken waits.waits waits.faults run.tells;
-        sound = waits.sound;
-        order = run.order;
-        idle = tt;
-        holds = (attempt_same p p v (client_waited v) a refl refl refl run.holds.0,
-          subst (λ (xs : List ℕ). IsWritingHead s p xs (state a.connection.link) a.connection.ahead left.output n) (sym ahead)
-          (subst (λ (xs : List ℕ). IsWritingHead s p w.ahead (state a.connection.link) a.connection.ahead xs n) (sym kept) run.holds.1));
-      };
-      spends = (refl, omega arith, refl);
-    }
+    passed = p;
+    waited = client_waited v;
+    run = record {
+      tells = client_waits s p v w x same waits.given waits.taken waits.waits waits.faults run.tells;
+      order = run.order;
+      going = tt;
+      holds = (
+        attempt_same p p v (client_waited v) a refl refl refl run.holds.0,
+        subst (λ (xs : List ℕ). IsWritingHead s p xs (state a.connection.link) a.connection.ahead left.output n) (sym ahead)
+            (subst (λ (xs : List ℕ). IsWritingHead s p w.ahead (state a.connection.link) a.connection.ahead xs n) (sym kept) run.holds.1),
+      );
+    };
+    spends = (refl, omega arith, refl);
+  }
 
   -- a write to the client failed while the response was relayed
   client_write_fails : (s : Start) (p : Passed) (v : Waited) (w x : World) (a : Attempt L C) (phase next : Phase L C)
@@ -243,8 +259,8 @@ module _ {L C : Type 0} (state : L → LinkState) (start_at : L → LinkStart) w
   client_write_fails s p v w x a phase next fault answering same fails is tells order attempt less =
       fails_with state start_at s p v x phase next a (fault_error Downstream fault) is
       (client_still s p v w x (omega arith) fails.given fails.taken fails.waits
-        (Rose-le w.client.faults x.client.faults fails.sound_before.faults_fit fails.faults) tells)
-      fails.sound order attempt
+      (Rose-le w.client.faults x.client.faults fails.sound_before.faults_fit fails.faults) tells)
+      order attempt
       (record {
         why = inr (inr (record {
           fault = fault;
@@ -284,17 +300,17 @@ module _ {L C : Type 0} (state : L → LinkState) (start_at : L → LinkStart) w
   body_write_fails s p v w x a left fault b next same fails link peer reused is run =
       client_write_fails s p v w x b (RelayBody a left) next fault
       (answering_as s p w.ahead w.ahead (state a.connection.link) (state b.connection.link) refl
-        (ap (λ (l : L). (state l).ended) link) run.holds.1.answering)
+      (ap (λ (l : L). (state l).ended) link) run.holds.1.answering)
       same fails is run.tells run.order (attempt_moved p v a b link peer reused run.holds.0) (omega arith)
     where
       attempt_moved : (p : Passed) (v : Waited) (a b : Attempt L C) → b.connection.link ≡ a.connection.link
           → b.peer ≡ a.peer → b.reused ≡ a.reused → IsAttempt state start_at p v a → IsAttempt state start_at p v b
       attempt_moved p v a b link peer reused h = record {
-          tells = rw link h.tells;
-          sound = rw link h.sound;
-          peer = peer ∙ h.peer;
-          reused = rw link (reused ∙ h.reused);
-        }
+        tells = rw link h.tells;
+        sound = rw link h.sound;
+        peer = peer ∙ h.peer;
+        reused = rw link (reused ∙ h.reused);
+      }
 
   -- the client is not ready for the body
   pub body_write_waits : (s : Start) (p : Passed) (v : Waited) (w x : World) (a b : Attempt L C) (left : BodyLeft)
@@ -304,31 +320,33 @@ module _ {L C : Type 0} (state : L → LinkState) (start_at : L → LinkStart) w
       → RunSoFar {C = C} state start_at s p v w [] (RelayBody a left)
       → Advances {C = C} state start_at s p v x (RelayBody a left) (RelayBody b left) (step.Waited NotReady)
   body_write_waits s p v w x a b left ahead same waits link peer reused held run = record {
-      passed = p;
-      waited = client_waited v;
-      run = record {
-        tells = client_waits s p v w x same waits.given waits.taken waits.waits waits.faults run.tells;
-        sound = waits.sound;
-        order = run.order;
-        idle = tt;
-        holds = (record {
-            tells = link_same p p v (client_waited v) (state b.connection.link) (start_at b.connection.link) refl refl refl
+    passed = p;
+    waited = client_waited v;
+    run = record {
+      tells = client_waits s p v w x same waits.given waits.taken waits.waits waits.faults run.tells;
+      order = run.order;
+      going = tt;
+      holds = (
+        record {
+          tells = link_same p p v (client_waited v) (state b.connection.link) (start_at b.connection.link) refl refl refl
               (rw link run.holds.0.tells);
-            sound = rw link run.holds.0.sound;
-            peer = peer ∙ run.holds.0.peer;
-            reused = rw link (reused ∙ run.holds.0.reused);
-          }, record {
-            answering = answering_as s p w.ahead x.ahead (state a.connection.link) (state b.connection.link) ahead
+          sound = rw link run.holds.0.sound;
+          peer = peer ∙ run.holds.0.peer;
+          reused = rw link (reused ∙ run.holds.0.reused);
+        },
+        record {
+          answering = answering_as s p w.ahead x.ahead (state a.connection.link) (state b.connection.link) ahead
               (ap (λ (l : L). (state l).ended) link) run.holds.1.answering;
-            done = run.holds.1.done;
-            within = run.holds.1.within;
-            written = run.holds.1.written;
-            rest_held = held ∙ run.holds.1.rest_held;
-            body = run.holds.1.body;
-          });
-      };
-      spends = (refl, omega arith, refl);
-    }
+          done = run.holds.1.done;
+          within = run.holds.1.within;
+          written = run.holds.1.written;
+          rest_held = held ∙ run.holds.1.rest_held;
+          body = run.holds.1.body;
+        },
+      );
+    };
+    spends = (refl, omega arith, refl);
+  }
 
   -- some of the body was written
   pub body_wrote : (s : Start) (p : Passed) (v : Waited) (w x : World) (a b : Attempt L C) (left : BodyLeft) (k : ℕ)
@@ -343,39 +361,47 @@ module _ {L C : Type 0} (state : L → LinkState) (start_at : L → LinkStart) w
   body_wrote s p v w x a b left k next ahead same takes link peer reused held rest run =
       rest_follows s p (written_more p (take k (take left.bytes a.connection.ahead))) v x (RelayBody a left) b
       (answering_as s (written_more p (take k (take left.bytes a.connection.ahead))) w.ahead x.ahead
-        (state a.connection.link) (state b.connection.link) ahead (ap (λ (l : L). (state l).ended) link)
-        (answering_wrote s p w.ahead (take k (take left.bytes a.connection.ahead)) (state a.connection.link) run.holds.1.answering))
+      (state a.connection.link) (state b.connection.link) ahead (ap (λ (l : L). (state l).ended) link)
+      (answering_wrote s p w.ahead (take k (take left.bytes a.connection.ahead)) (state a.connection.link) run.holds.1.answering))
       (run.holds.1.done + k) (left.bytes - k) next
       (client_took s p v w x (take left.bytes a.connection.ahead) k same takes run.tells)
-      takes.sound
       (record {
         tells = link_same p (written_more p (take k (take left.bytes a.connection.ahead))) v v (state b.connection.link)
-          (start_at b.connection.link) refl refl refl (rw link run.holds.0.tells);
+            (start_at b.connection.link) refl refl refl (rw link run.holds.0.tells);
         sound = rw link run.holds.0.sound;
         peer = peer ∙ run.holds.0.peer;
         reused = rw link (reused ∙ run.holds.0.reused);
       })
       (omega (arith, few.0, few.1))
       (ap (λ (xs : List ℕ). p.written ++ xs) piece ∙ ap (λ (xs : List ℕ). xs ++ take k (drop run.holds.1.done body)) run.holds.1.written
-        ∙ append_assoc (response_text run.holds.1.answering.response) (take run.holds.1.done body) (take k (drop run.holds.1.done body))
-        ∙ ap (λ (xs : List ℕ). response_text run.holds.1.answering.response ++ xs) (sym (take-add run.holds.1.done k body)))
+      ∙ append_assoc (response_text run.holds.1.answering.response) (take run.holds.1.done body) (take k (drop run.holds.1.done body))
+      ∙ ap (λ (xs : List ℕ). response_text run.holds.1.answering.response ++ xs) (sym (take-add run.holds.1.done k body)))
       (held ∙ ap (λ (xs : List ℕ). drop k xs) run.holds.1.rest_held
-        ∙ drop-drop k (run.holds.1.answering.len + run.holds.1.done) p.got
-        ∙ ap (λ (n : ℕ). drop n p.got) (regroup run.holds.1.answering.len run.holds.1.done k))
+      ∙ drop-drop k (run.holds.1.answering.len + run.holds.1.done) p.got
+      ∙ ap (λ (n : ℕ). drop n p.got) (regroup run.holds.1.answering.len run.holds.1.done k))
       (omega (arith, few.0, run.holds.1.body))
       rest
-      (omega (arith, length-append p.written (take k (take left.bytes a.connection.ahead)),
-        take_some (take left.bytes a.connection.ahead) k takes.some takes.fits))
+      (omega (
+        arith,
+        length-append p.written (take k (take left.bytes a.connection.ahead)),
+        take_some (take left.bytes a.connection.ahead) k takes.some takes.fits,
+      ))
     where
       body : List ℕ
       body = drop run.holds.1.answering.len p.got
+
       regroup : (a b c : ℕ) → (a + b) + c ≡ a + (b + c)
       regroup a b c = omega arith
+
       held_length : length a.connection.ahead ≡ length p.got - (run.holds.1.answering.len + run.holds.1.done)
       held_length = ap length run.holds.1.rest_held ∙ length-drop (run.holds.1.answering.len + run.holds.1.done) p.got
+
       few : (k ≤ left.bytes) × (run.holds.1.answering.len + (run.holds.1.done + k) ≤ length p.got)
-      few = (omega (arith, takes.fits, length-take left.bytes a.connection.ahead),
-          omega (arith, takes.fits, length-take left.bytes a.connection.ahead, held_length, run.holds.1.within))
+      few = (
+        omega (arith, takes.fits, length-take left.bytes a.connection.ahead),
+        omega (arith, takes.fits, length-take left.bytes a.connection.ahead, held_length, run.holds.1.within),
+      )
+
       piece : take k (take left.bytes a.connection.ahead) ≡ take k (drop run.holds.1.done body)
       piece = take-take k left.bytes a.connection.ahead few.0
           ∙ ap (λ (xs : List ℕ). take k xs) (run.holds.1.rest_held ∙ sym (drop-drop run.holds.1.done run.holds.1.answering.len p.got))
@@ -389,46 +415,50 @@ module _ {L C : Type 0} (state : L → LinkState) (start_at : L → LinkStart) w
       → RunSoFar {C = C} state start_at s p v w [] (RelayBody a left)
       → Advances {C = C} state start_at s p v w (RelayBody a left) (RelayBody b left) step.Moved
   body_came s p v w a b left room n same peer reused grown gives run = record {
-      passed = got_more p (take n room);
-      waited = v;
-      run = record {
-        tells = client_same s p (got_more p (take n room)) v v w refl refl refl run.tells;
-        sound = run.sound;
-        order = order_of_answering s (got_more p (take n room)) w.ahead (state b.connection.link) answering
+    passed = got_more p (take n room);
+    waited = v;
+    run = record {
+      tells = client_same s p (got_more p (take n room)) v v w refl refl refl run.tells;
+      order = order_of_answering s (got_more p (take n room)) w.ahead (state b.connection.link) answering
           (record {
             rest = drop run.holds.1.done (take answering.n (drop answering.len (p.got ++ take n room)));
             joined = ap (λ (xs : List ℕ). xs ++ drop run.holds.1.done (take answering.n (drop answering.len (p.got ++ take n room)))) written
-              ∙ body_part (response_text answering.response) (drop answering.len (p.got ++ take n room)) run.holds.1.done
+                ∙ body_part (response_text answering.response) (drop answering.len (p.got ++ take n room)) run.holds.1.done
                 answering.n (omega (arith, run.holds.1.body));
           });
-        idle = tt;
-        holds = (attempt_as state start_at p (got_more p (take n room)) v v a b
+      going = tt;
+      holds = (
+        attempt_as state start_at p (got_more p (take n room)) v v a b
             (link_gave p v (state a.connection.link) (state b.connection.link) (start_at a.connection.link) room n
-              gives run.holds.0.tells)
+            gives run.holds.0.tells)
             gives.sound same peer reused run.holds.0,
-          record {
-            answering = answering;
-            done = run.holds.1.done;
-            within = omega (arith, run.holds.1.within, length-append p.got (take n room));
-            written = written;
-            rest_held = grown ∙ ap (λ (xs : List ℕ). xs ++ take n room) run.holds.1.rest_held
+        record {
+          answering = answering;
+          done = run.holds.1.done;
+          within = omega (arith, run.holds.1.within, length-append p.got (take n room));
+          written = written;
+          rest_held = grown ∙ ap (λ (xs : List ℕ). xs ++ take n room) run.holds.1.rest_held
               ∙ sym (drop-append-le (answering.len + run.holds.1.done) p.got (take n room) run.holds.1.within);
-            body = run.holds.1.body;
-          });
-      };
-      spends = omega (arith, length-append p.got (take n room), take_some room n gives.some gives.fits);
-    }
+          body = run.holds.1.body;
+        },
+      );
+    };
+    spends = omega (arith, length-append p.got (take n room), take_some room n gives.some gives.fits);
+  }
     where
       answering : IsAnswering s (got_more p (take n room)) w.ahead (state b.connection.link)
       answering = answering_got s p w.ahead (take n room) (state a.connection.link) (state b.connection.link) gives.ended run.holds.1.answering
+
       longer : drop run.holds.1.answering.len (p.got ++ take n room) ≡ drop run.holds.1.answering.len p.got ++ take n room
       longer = drop-append-le run.holds.1.answering.len p.got (take n room) run.holds.1.answering.within
+
       enough : run.holds.1.done ≤ length (drop run.holds.1.answering.len p.got)
       enough = omega (arith, run.holds.1.within, length-drop run.holds.1.answering.len p.got)
+
       written : p.written ≡ response_text run.holds.1.answering.response ++ take run.holds.1.done (drop run.holds.1.answering.len (p.got ++ take n room))
       written = run.holds.1.written ∙ ap (λ (xs : List ℕ). response_text run.holds.1.answering.response ++ xs)
           (sym (take-append-le run.holds.1.done (drop run.holds.1.answering.len p.got) (take n room) enough)
-            ∙ ap (λ (xs : List ℕ). take run.holds.1.done xs) (sym longer))
+          ∙ ap (λ (xs : List ℕ). take run.holds.1.done xs) (sym longer))
 
   -- the link is not ready for the body
   pub body_waits : (s : Start) (p : Passed) (v : Waited) (w : World) (a b : Attempt L C) (left : BodyLeft)
@@ -438,29 +468,30 @@ module _ {L C : Type 0} (state : L → LinkState) (start_at : L → LinkStart) w
       → RunSoFar {C = C} state start_at s p v w [] (RelayBody a left)
       → Advances {C = C} state start_at s p v w (RelayBody a left) (RelayBody b left) (step.Waited NotReady)
   body_waits s p v w a b left same peer reused held waits run = record {
-      passed = p;
-      waited = link_waited v;
-      run = record {
-        tells = client_same s p p v (link_waited v) w refl refl refl run.tells;
-        sound = run.sound;
-        order = run.order;
-        idle = tt;
-        holds = (attempt_as state start_at p p v (link_waited v) a b
+    passed = p;
+    waited = link_waited v;
+    run = record {
+      tells = client_same s p p v (link_waited v) w refl refl refl run.tells;
+      order = run.order;
+      going = tt;
+      holds = (
+        attempt_as state start_at p p v (link_waited v) a b
             (link_waits p v (state a.connection.link) (state b.connection.link) (start_at a.connection.link)
-              waits.given waits.taken waits.waits waits.faults run.holds.0.tells)
+            waits.given waits.taken waits.waits waits.faults run.holds.0.tells)
             waits.sound same peer reused run.holds.0,
-          record {
-            answering = answering_as s p w.ahead w.ahead (state a.connection.link) (state b.connection.link) refl
+        record {
+          answering = answering_as s p w.ahead w.ahead (state a.connection.link) (state b.connection.link) refl
               (waits.ended ∙ sym run.holds.1.answering.ended) run.holds.1.answering;
-            done = run.holds.1.done;
-            within = run.holds.1.within;
-            written = run.holds.1.written;
-            rest_held = held ∙ run.holds.1.rest_held;
-            body = run.holds.1.body;
-          });
-      };
-      spends = (refl, omega arith, refl);
-    }
+          done = run.holds.1.done;
+          within = run.holds.1.within;
+          written = run.holds.1.written;
+          rest_held = held ∙ run.holds.1.rest_held;
+          body = run.holds.1.body;
+        },
+      );
+    };
+    spends = (refl, omega arith, refl);
+  }
 
   -- the link ended in the body
   pub body_cut : (s : Start) (p : Passed) (v : Waited) (w : World) (a b : Attempt L C) (left : BodyLeft) (next : Phase L C)
@@ -470,7 +501,7 @@ module _ {L C : Type 0} (state : L → LinkState) (start_at : L → LinkStart) w
       → RunSoFar {C = C} state start_at s p v w [] (RelayBody a left)
       → Advances {C = C} state start_at s p v w (RelayBody a left) next step.Ended
   body_cut s p v w a b left next same peer reused ends none is run =
-      fails_with state start_at s p v w (RelayBody a left) next b (unrelayed Upstream) is run.tells run.sound run.order
+      fails_with state start_at s p v w (RelayBody a left) next b (unrelayed Upstream) is run.tells run.order
       (attempt_ended state start_at p v a b same peer reused ends run.holds.0)
       (record {
         why = inl (record {
@@ -495,7 +526,7 @@ module _ {L C : Type 0} (state : L → LinkState) (start_at : L → LinkStart) w
       → RunSoFar {C = C} state start_at s p v w [] (RelayBody a left)
       → Advances {C = C} state start_at s p v w (RelayBody a left) next step.Ended
   body_read_fails s p v w a b left fault next same peer reused fails none is run =
-      fails_with state start_at s p v w (RelayBody a left) next b (fault_error Upstream fault) is run.tells run.sound run.order
+      fails_with state start_at s p v w (RelayBody a left) next b (fault_error Upstream fault) is run.tells run.order
       (attempt_read_failed state start_at p v a b fault same peer reused fails run.holds.0)
       (record {
         why = inr (inl (record {

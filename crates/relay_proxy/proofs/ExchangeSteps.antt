@@ -22,7 +22,7 @@ use Rattle.relay_proxy.specs.Built.{get_method, IsBuiltResponse}
 use Rattle.relay_proxy.specs.Passed.{World, Start, Passed, Waited, amount, asked, TellsClient, TellsLink}
 use Rattle.relay_proxy.specs.Endings.{IsPrefixOf, IsInOrder, IsAccepted, IsAnswered, response_so_far, IsSentWhole, IsInBody, EndsUnlinked, EndsLinked, AttemptsUnlinked, IsAskedPeer, fault_error, unrelayed}
 use Rattle.relay_proxy.specs.Phases.{IsAsking, IsConnecting, IsSending, IsAwaiting, IsAnswering, IsWritingHead, IsRelayingBody, IsAttempt, RunSoFar, allowance}
-use Rattle.relay_proxy.specs.Turn.{Advances, failed, IsRest, total_work}
+use Rattle.relay_proxy.specs.Turn.{Advances, failed, IsRest}
 use Rattle.relay_proxy.specs.Offer.{TakesFront}
 use Rattle.relay_proxy.specs.declared.machine.Attempt.{Attempt}
 use Rattle.relay_proxy.specs.declared.machine.BodyLeft.{BodyLeft}
@@ -41,26 +41,26 @@ use Rattle.relay_proxy.proofs.Tells.{Rose-le, written_more, got_more, sent_more,
 abbrev pub asking_as : (s : Start) (p q : Passed) (ahead : List ℕ) (head : RequestHead) → q.came ≡ p.came
     → IsAsking s p ahead head → IsAsking s q ahead head
 asking_as s p q ahead head same asking = record {
-    len = asking.len;
-    accepted = record {
-      has = rw same asking.accepted.has;
-      built = asking.accepted.built;
-    };
-    taken = rw same asking.taken;
-  }
+  len = asking.len;
+  accepted = record {
+    has = rw same asking.accepted.has;
+    built = asking.accepted.built;
+  };
+  taken = rw same asking.taken;
+}
 
 -- what was sent is the front of the head, and nothing was written
 pub order_of_sending : (s : Start) (p : Passed) (ahead : List ℕ) (head : RequestHead) (rest : List ℕ)
     → IsAsking s p ahead head → p.sent ++ rest ≡ request_text head → p.written ≡ [] → IsInOrder s p
 order_of_sending s p ahead head rest asking joined written = record {
-    sent = inr (record {
-      head = head;
-      len = asking.len;
-      accepted = asking.accepted;
-      part = record { rest = rest; joined = joined };
-    });
-    written = inl written;
-  }
+  sent = inr (record {
+    head = head;
+    len = asking.len;
+    accepted = asking.accepted;
+    part = record { rest = rest; joined = joined };
+  });
+  written = inl written;
+}
 
 -- the head was sent whole
 pub sent_whole_by : (s : Start) (p : Passed) (ahead : List ℕ) (head : RequestHead)
@@ -72,69 +72,69 @@ sent_whole_by s p ahead head asking sent =
 pub order_of_answering : (s : Start) (p : Passed) (ahead : List ℕ) (link : LinkState) (a : IsAnswering s p ahead link)
     → IsPrefixOf p.written (response_so_far p a.response a.len a.n) → IsInOrder s p
 order_of_answering s p ahead link a part = record {
-    sent = inr (record {
-      head = a.head;
-      len = a.asking.len;
-      accepted = a.asking.accepted;
-      part = record { rest = []; joined = append-nil p.sent ∙ a.sent };
-    });
-    written = inr (inr (record {
-      request = a.head;
-      request_len = a.asking.len;
-      accepted = a.asking.accepted;
-      sent = a.sent;
-      head = a.response;
-      len = a.len;
-      n = a.n;
-      answered = a.answered;
-      part = part;
-    }));
-  }
+  sent = inr (record {
+    head = a.head;
+    len = a.asking.len;
+    accepted = a.asking.accepted;
+    part = record { rest = []; joined = append-nil p.sent ∙ a.sent };
+  });
+  written = inr (inr (record {
+    request = a.head;
+    request_len = a.asking.len;
+    accepted = a.asking.accepted;
+    sent = a.sent;
+    head = a.response;
+    len = a.len;
+    n = a.n;
+    answered = a.answered;
+    part = part;
+  }));
+}
 
 -- a response that was accepted stays accepted when more is written
 abbrev pub answering_wrote : (s : Start) (p : Passed) (ahead more : List ℕ) (link : LinkState)
     → IsAnswering s p ahead link → IsAnswering s (written_more p more) ahead link
 answering_wrote s p ahead more link a = record {
-    head = a.head;
-    asking = asking_as s p (written_more p more) ahead a.head refl a.asking;
-    sent = a.sent;
-    response = a.response;
-    len = a.len;
-    n = a.n;
-    answered = record { has = a.answered.has; built = a.answered.built };
-    within = a.within;
-    ended = a.ended;
-  }
+  head = a.head;
+  asking = asking_as s p (written_more p more) ahead a.head refl a.asking;
+  sent = a.sent;
+  response = a.response;
+  len = a.len;
+  n = a.n;
+  answered = record { has = a.answered.has; built = a.answered.built };
+  within = a.within;
+  ended = a.ended;
+}
 
 -- a response that was accepted stays accepted when more comes
 abbrev pub answering_got : (s : Start) (p : Passed) (ahead more : List ℕ) (link after : LinkState) → after.ended ≡ false
     → IsAnswering s p ahead link → IsAnswering s (got_more p more) ahead after
 answering_got s p ahead more link after open_end a = record {
-    head = a.head;
-    asking = asking_as s p (got_more p more) ahead a.head refl a.asking;
-    sent = a.sent;
-    response = a.response;
-    len = a.len;
-    n = a.n;
-    answered = record { has = HasResponse-append get_method false p.got more a.response (Length a.n) a.len a.answered.has; built = a.answered.built };
-    within = omega (arith, a.within, length-append p.got more);
-    ended = open_end;
-  }
+  head = a.head;
+  asking = asking_as s p (got_more p more) ahead a.head refl a.asking;
+  sent = a.sent;
+  response = a.response;
+  len = a.len;
+  n = a.n;
+  answered = record { has = HasResponse-append get_method false p.got more a.response (Length a.n) a.len a.answered.has; built = a.answered.built };
+  within = omega (arith, a.within, length-append p.got more);
+  ended = open_end;
+}
 
 -- the same response, as the client's bytes and the link stand now
 abbrev pub answering_as : (s : Start) (p : Passed) (ahead now : List ℕ) (link after : LinkState)
     → now ≡ ahead → after.ended ≡ link.ended → IsAnswering s p ahead link → IsAnswering s p now after
 answering_as s p ahead now link after same ended a = record {
-    head = a.head;
-    asking = subst (λ (xs : List ℕ). IsAsking s p xs a.head) (sym same) a.asking;
-    sent = a.sent;
-    response = a.response;
-    len = a.len;
-    n = a.n;
-    answered = a.answered;
-    within = a.within;
-    ended = ended ∙ a.ended;
-  }
+  head = a.head;
+  asking = subst (λ (xs : List ℕ). IsAsking s p xs a.head) (sym same) a.asking;
+  sent = a.sent;
+  response = a.response;
+  len = a.len;
+  n = a.n;
+  answered = a.answered;
+  within = a.within;
+  ended = ended ∙ a.ended;
+}
 
 -- the text of the head and then of the body, as far as it has come
 pub head_then_body : (front text head body : List ℕ) → front ++ text ≡ head → front ++ (text ++ body) ≡ head ++ body
@@ -148,11 +148,11 @@ module _ {L C : Type 0} (state : L → LinkState) (start_at : L → LinkStart) w
       → start_at b.connection.link ≡ start_at a.connection.link → b.peer ≡ a.peer → b.reused ≡ a.reused
       → IsAttempt state start_at p v a → IsAttempt state start_at q u b
   attempt_as p q v u a b tells sound same peer reused h = record {
-      tells = subst (λ (at : LinkStart). TellsLink q u (state b.connection.link) at) (sym same) tells;
-      sound = sound;
-      peer = peer ∙ h.peer;
-      reused = reused ∙ h.reused ∙ ap (λ (at : LinkStart). at.reused) (sym same);
-    }
+    tells = subst (λ (at : LinkStart). TellsLink q u (state b.connection.link) at) (sym same) tells;
+    sound = sound;
+    peer = peer ∙ h.peer;
+    reused = reused ∙ h.reused ∙ ap (λ (at : LinkStart). at.reused) (sym same);
+  }
 
   -- a link was handed out
   pub link_given : (s : Start) (p : Passed) (v : Waited) (w x : World) (context : C) (text : Pending) (a : Attempt L C)
@@ -162,36 +162,38 @@ module _ {L C : Type 0} (state : L → LinkState) (start_at : L → LinkStart) w
       → RunSoFar {C = C} state start_at s p v w [] (Connect context text)
       → Advances {C = C} state start_at s p v x (Connect context text) (SendHead a text) step.Moved
   link_given s p v w x context text a client ahead faults handed none peer run = record {
-      passed = p;
-      waited = v;
-      run = record {
-        tells = client_still s p v w x faults (ap (λ (l : LinkState). l.given) client)
+    passed = p;
+    waited = v;
+    run = record {
+      tells = client_still s p v w x faults (ap (λ (l : LinkState). l.given) client)
           (ap (λ (l : LinkState). l.taken) client) (ap (λ (l : LinkState). l.waits) client)
           (omega (arith, ap (λ (l : LinkState). l.faults) client)) run.tells;
-        sound = subst (λ (l : LinkState). IsSound l) (sym client) run.sound;
-        order = run.order;
-        idle = tt;
-        holds = (record {
-            tells = record {
-              got = since (state a.connection.link).given (start_at a.connection.link).given handed.given p.got run.holds.unsent.got;
-              sent = since (state a.connection.link).taken (start_at a.connection.link).taken handed.taken p.sent run.holds.unsent.sent;
-              waits = λ below. omega (arith, handed.waits, run.idle);
-              faults = omega (arith, handed.faults);
-            };
-            sound = handed.sound;
-            peer = peer;
-            reused = sym handed.marked;
-          }, record {
-            head = run.holds.head;
-            asking = subst (λ (xs : List ℕ). IsAsking s p xs run.holds.head) (sym ahead) run.holds.asking;
-            joined = ap (λ (xs : List ℕ). xs ++ text.output) run.holds.unsent.sent ∙ run.holds.whole;
-            written = run.holds.written;
-            got = run.holds.unsent.got;
-            none_held = none;
-          });
-      };
-      spends = omega arith;
-    }
+      order = run.order;
+      going = tt;
+      holds = (
+        record {
+          tells = record {
+            got = since (state a.connection.link).given (start_at a.connection.link).given handed.given p.got run.holds.unsent.got;
+            sent = since (state a.connection.link).taken (start_at a.connection.link).taken handed.taken p.sent run.holds.unsent.sent;
+            waits = λ below. omega (arith, handed.waits, run.going);
+            faults = omega (arith, handed.faults);
+          };
+          sound = handed.sound;
+          peer = peer;
+          reused = sym handed.marked;
+        },
+        record {
+          head = run.holds.head;
+          asking = subst (λ (xs : List ℕ). IsAsking s p xs run.holds.head) (sym ahead) run.holds.asking;
+          joined = ap (λ (xs : List ℕ). xs ++ text.output) run.holds.unsent.sent ∙ run.holds.whole;
+          written = run.holds.written;
+          got = run.holds.unsent.got;
+          none_held = none;
+        },
+      );
+    };
+    spends = omega arith;
+  }
     where
       since : (told : _) (place : ℕ) → place ≡ told_length told → (items : List ℕ) → items ≡ [] → Since [] place told items
       since told place at items nothing = rw (at, nothing) (Since-start [] told)
@@ -206,16 +208,17 @@ module _ {L C : Type 0} (state : L → LinkState) (start_at : L → LinkStart) w
       → RunSoFar {C = C} state start_at s p v w [] (Connect context text)
       → Advances {C = C} state start_at s p v x (Connect context text) (Ended (outcome.Served (Some e) false) attempts) step.Ended
   link_denied s p v w x context text fault e attempt attempts client ahead faults kind rose is one peer reused kept error run = record {
-      passed = p;
-      waited = v;
-      run = record {
-        tells = client_still s p v w x faults (ap (λ (l : LinkState). l.given) client)
+    passed = p;
+    waited = v;
+    run = record {
+      tells = client_still s p v w x faults (ap (λ (l : LinkState). l.given) client)
           (ap (λ (l : LinkState). l.taken) client) (ap (λ (l : LinkState). l.waits) client)
           (omega (arith, ap (λ (l : LinkState). l.faults) client)) run.tells;
-        sound = subst (λ (l : LinkState). IsSound l) (sym client) run.sound;
-        order = run.order;
-        idle = tt;
-        holds = ((record {
+      order = run.order;
+      going = λ limit. cc;
+      holds = (
+        (
+          record {
             fault = fault;
             kind = kind;
             error = is;
@@ -225,10 +228,14 @@ module _ {L C : Type 0} (state : L → LinkState) (start_at : L → LinkStart) w
             accepted = run.holds.asking.accepted;
             written = run.holds.written;
             unsent = run.holds.unsent;
-          }, refl), (attempt, one, record { peer = peer; reused = reused; kept = kept; error = error }));
-      };
-      spends = omega arith;
-    }
+          },
+          refl,
+        ),
+        (attempt, one, record { peer = peer; reused = reused; kept = kept; error = error }),
+      );
+    };
+    spends = omega arith;
+  }
 
   -- the head was sent whole
   pub sent_all : (s : Start) (p : Passed) (v : Waited) (w : World) (a b : Attempt L C) (text : Pending)
@@ -238,33 +245,38 @@ module _ {L C : Type 0} (state : L → LinkState) (start_at : L → LinkStart) w
       → RunSoFar {C = C} state start_at s p v w [] (SendHead a text)
       → Advances {C = C} state start_at s p v w (SendHead a text) (ReadResponse b) step.Moved
   sent_all s p v w a b text same peer reused held takes run = record {
-      passed = sent_more p (take takes.n text.output);
-      waited = v;
-      run = record {
-        tells = client_same s p (sent_more p (take takes.n text.output)) v v w refl refl refl run.tells;
-        sound = run.sound;
-        order = order_of_sending s (sent_more p (take takes.n text.output)) w.ahead run.holds.1.head []
+    passed = sent_more p (take takes.n text.output);
+    waited = v;
+    run = record {
+      tells = client_same s p (sent_more p (take takes.n text.output)) v v w refl refl refl run.tells;
+      order = order_of_sending s (sent_more p (take takes.n text.output)) w.ahead run.holds.1.head []
           asking (append-nil _ ∙ all) run.holds.1.written;
-        idle = tt;
-        holds = (attempt_as p (sent_more p (take takes.n text.output)) v v a b
+      going = tt;
+      holds = (
+        attempt_as p (sent_more p (take takes.n text.output)) v v a b
             (link_took p v (state a.connection.link) (state b.connection.link) (start_at a.connection.link) text.output
-              takes.n takes.takes run.holds.0.tells)
+            takes.n takes.takes run.holds.0.tells)
             takes.takes.sound same peer reused run.holds.0,
-          record {
-            head = run.holds.1.head;
-            asking = asking;
-            sent = all;
-            written = run.holds.1.written;
-            all_held = held ∙ run.holds.1.none_held ∙ sym run.holds.1.got;
-            open_end = λ some. absurd (omega (arith, ap length (held ∙ run.holds.1.none_held)));
-          });
-      };
-      spends = omega (arith, length-append p.sent (take takes.n text.output),
-        take_some text.output takes.n takes.takes.some takes.takes.fits);
-    }
+        record {
+          head = run.holds.1.head;
+          asking = asking;
+          sent = all;
+          written = run.holds.1.written;
+          all_held = held ∙ run.holds.1.none_held ∙ sym run.holds.1.got;
+          open_end = λ some. absurd (omega (arith, ap length (held ∙ run.holds.1.none_held)));
+        },
+      );
+    };
+    spends = omega (
+      arith,
+      length-append p.sent (take takes.n text.output),
+      take_some text.output takes.n takes.takes.some takes.takes.fits,
+    );
+  }
     where
       all : p.sent ++ take takes.n text.output ≡ request_text run.holds.1.head
       all = ap (λ (xs : List ℕ). p.sent ++ xs) (take_whole text.output takes.n takes.left) ∙ run.holds.1.joined
+
       asking : IsAsking s (sent_more p (take takes.n text.output)) w.ahead run.holds.1.head
       asking = asking_as s p (sent_more p (take takes.n text.output)) w.ahead run.holds.1.head refl run.holds.1.asking
 
@@ -276,33 +288,38 @@ module _ {L C : Type 0} (state : L → LinkState) (start_at : L → LinkStart) w
       → RunSoFar {C = C} state start_at s p v w [] (SendHead a text)
       → Advances {C = C} state start_at s p v w (SendHead a text) (SendHead b left) step.Moved
   sent_part s p v w a b text left same peer reused held takes run = record {
-      passed = sent_more p (take takes.n text.output);
-      waited = v;
-      run = record {
-        tells = client_same s p (sent_more p (take takes.n text.output)) v v w refl refl refl run.tells;
-        sound = run.sound;
-        order = order_of_sending s (sent_more p (take takes.n text.output)) w.ahead run.holds.1.head left.output
+    passed = sent_more p (take takes.n text.output);
+    waited = v;
+    run = record {
+      tells = client_same s p (sent_more p (take takes.n text.output)) v v w refl refl refl run.tells;
+      order = order_of_sending s (sent_more p (take takes.n text.output)) w.ahead run.holds.1.head left.output
           asking all run.holds.1.written;
-        idle = tt;
-        holds = (attempt_as p (sent_more p (take takes.n text.output)) v v a b
+      going = tt;
+      holds = (
+        attempt_as p (sent_more p (take takes.n text.output)) v v a b
             (link_took p v (state a.connection.link) (state b.connection.link) (start_at a.connection.link) text.output
-              takes.n takes.takes run.holds.0.tells)
+            takes.n takes.takes run.holds.0.tells)
             takes.takes.sound same peer reused run.holds.0,
-          record {
-            head = run.holds.1.head;
-            asking = asking;
-            joined = all;
-            written = run.holds.1.written;
-            got = run.holds.1.got;
-            none_held = held ∙ run.holds.1.none_held;
-          });
-      };
-      spends = omega (arith, length-append p.sent (take takes.n text.output),
-        take_some text.output takes.n takes.takes.some takes.takes.fits);
-    }
+        record {
+          head = run.holds.1.head;
+          asking = asking;
+          joined = all;
+          written = run.holds.1.written;
+          got = run.holds.1.got;
+          none_held = held ∙ run.holds.1.none_held;
+        },
+      );
+    };
+    spends = omega (
+      arith,
+      length-append p.sent (take takes.n text.output),
+      take_some text.output takes.n takes.takes.some takes.takes.fits,
+    );
+  }
     where
       all : (p.sent ++ take takes.n text.output) ++ left.output ≡ request_text run.holds.1.head
       all = take_rest p.sent text.output left.output takes.n takes.left ∙ run.holds.1.joined
+
       asking : IsAsking s (sent_more p (take takes.n text.output)) w.ahead run.holds.1.head
       asking = asking_as s p (sent_more p (take takes.n text.output)) w.ahead run.holds.1.head refl run.holds.1.asking
 
@@ -314,41 +331,42 @@ module _ {L C : Type 0} (state : L → LinkState) (start_at : L → LinkStart) w
       → RunSoFar {C = C} state start_at s p v w [] (SendHead a text)
       → Advances {C = C} state start_at s p v w (SendHead a text) (SendHead b left) (step.Waited NotReady)
   sending_waits s p v w a b text left same peer reused held waits kept run = record {
-      passed = p;
-      waited = link_waited v;
-      run = record {
-        tells = client_same s p p v (link_waited v) w refl refl refl run.tells;
-        sound = run.sound;
-        order = run.order;
-        idle = tt;
-        holds = (attempt_as p p v (link_waited v) a b
+    passed = p;
+    waited = link_waited v;
+    run = record {
+      tells = client_same s p p v (link_waited v) w refl refl refl run.tells;
+      order = run.order;
+      going = tt;
+      holds = (
+        attempt_as p p v (link_waited v) a b
             (link_waits p v (state a.connection.link) (state b.connection.link) (start_at a.connection.link)
-              waits.given waits.taken waits.waits waits.faults run.holds.0.tells)
+            waits.given waits.taken waits.waits waits.faults run.holds.0.tells)
             waits.sound same peer reused run.holds.0,
-          record {
-            head = run.holds.1.head;
-            asking = run.holds.1.asking;
-            joined = ap (λ (xs : List ℕ). p.sent ++ xs) kept ∙ run.holds.1.joined;
-            written = run.holds.1.written;
-            got = run.holds.1.got;
-            none_held = held ∙ run.holds.1.none_held;
-          });
-      };
-      spends = (refl, omega arith, refl);
-    }
+        record {
+          head = run.holds.1.head;
+          asking = run.holds.1.asking;
+          joined = ap (λ (xs : List ℕ). p.sent ++ xs) kept ∙ run.holds.1.joined;
+          written = run.holds.1.written;
+          got = run.holds.1.got;
+          none_held = held ∙ run.holds.1.none_held;
+        },
+      );
+    };
+    spends = (refl, omega arith, refl);
+  }
 
   -- an attempt that fails where nothing passed in the turn
   pub fails_with : (s : Start) (p : Passed) (v : Waited) (x : World) (phase next : Phase L C) (b : Attempt L C) (e : Error)
-      → next ≡ failed b e → TellsClient s p v x → IsSound x.client → IsInOrder s p
+      → next ≡ failed b e → TellsClient s p v x → IsInOrder s p
       → IsAttempt state start_at p v b
       → EndsLinked s p x (state b.connection.link) (start_at b.connection.link) false (outcome.Served (Some e) false)
       → allowance state start_at phase < 4
       → Advances {C = C} state start_at s p v x phase next step.Ended
-  fails_with s p v x phase next b e is tells sound order attempt ends less =
+  fails_with s p v x phase next b e is tells order attempt ends less =
       subst (λ (n : Phase L C). Advances state start_at s p v x phase n step.Ended) (sym is) (record {
         passed = p;
         waited = v;
-        run = record { tells = tells; sound = sound; order = order; idle = tt; holds = (attempt, ends) };
+        run = record { tells = tells; order = order; going = λ limit. cc; holds = (attempt, ends) };
         spends = omega arith;
       })
 
@@ -361,13 +379,13 @@ module _ {L C : Type 0} (state : L → LinkState) (start_at : L → LinkStart) w
       → RunSoFar {C = C} state start_at s p v w [] (SendHead a text)
       → Advances {C = C} state start_at s p v w (SendHead a text) next step.Ended
   sending_fails s p v w a b text fault next same peer reused fails is run =
-      fails_with s p v w (SendHead a text) next b (fault_error Upstream fault) is run.tells run.sound run.order
+      fails_with s p v w (SendHead a text) next b (fault_error Upstream fault) is run.tells run.order
       (attempt_as p p v v a b
-        (link_still p v (state a.connection.link) (state b.connection.link) (start_at a.connection.link)
-          fails.given fails.taken fails.waits
-          (Rose-le (state a.connection.link).faults (state b.connection.link).faults fails.sound_before.faults_fit fails.faults)
-          run.holds.0.tells)
-        fails.sound same peer reused run.holds.0)
+      (link_still p v (state a.connection.link) (state b.connection.link) (start_at a.connection.link)
+      fails.given fails.taken fails.waits
+      (Rose-le (state a.connection.link).faults (state b.connection.link).faults fails.sound_before.faults_fit fails.faults)
+      run.holds.0.tells)
+      fails.sound same peer reused run.holds.0)
       (record {
         why = inr (inl (record {
           fault = fault;
@@ -377,8 +395,13 @@ module _ {L C : Type 0} (state : L → LinkState) (start_at : L → LinkStart) w
             head = run.holds.1.head;
             len = run.holds.1.asking.len;
             accepted = run.holds.1.asking.accepted;
-            left = λ whole. absurd (omega (arith, text.some, length-append p.sent text.output,
-              ap length run.holds.1.joined, ap length whole));
+            left = λ whole. absurd (omega (
+              arith,
+              text.some,
+              length-append p.sent text.output,
+              ap length run.holds.1.joined,
+              ap length whole,
+            ));
             got = run.holds.1.got;
           });
         }));
@@ -395,30 +418,31 @@ module _ {L C : Type 0} (state : L → LinkState) (start_at : L → LinkStart) w
       → RunSoFar {C = C} state start_at s p v w [] (ReadResponse a)
       → Advances {C = C} state start_at s p v w (ReadResponse a) (ReadResponse b) step.Moved
   response_came s p v w a b room n same peer reused grown gives run = record {
-      passed = got_more p (take n room);
-      waited = v;
-      run = record {
-        tells = client_same s p (got_more p (take n room)) v v w refl refl refl run.tells;
-        sound = run.sound;
-        order = order_of_sending s (got_more p (take n room)) w.ahead run.holds.1.head []
+    passed = got_more p (take n room);
+    waited = v;
+    run = record {
+      tells = client_same s p (got_more p (take n room)) v v w refl refl refl run.tells;
+      order = order_of_sending s (got_more p (take n room)) w.ahead run.holds.1.head []
           (asking_as s p (got_more p (take n room)) w.ahead run.holds.1.head refl run.holds.1.asking)
           (append-nil p.sent ∙ run.holds.1.sent) run.holds.1.written;
-        idle = tt;
-        holds = (attempt_as p (got_more p (take n room)) v v a b
+      going = tt;
+      holds = (
+        attempt_as p (got_more p (take n room)) v v a b
             (link_gave p v (state a.connection.link) (state b.connection.link) (start_at a.connection.link) room n
-              gives run.holds.0.tells)
+            gives run.holds.0.tells)
             gives.sound same peer reused run.holds.0,
-          record {
-            head = run.holds.1.head;
-            asking = asking_as s p (got_more p (take n room)) w.ahead run.holds.1.head refl run.holds.1.asking;
-            sent = run.holds.1.sent;
-            written = run.holds.1.written;
-            all_held = grown ∙ ap (λ (xs : List ℕ). xs ++ take n room) run.holds.1.all_held;
-            open_end = λ some. gives.ended;
-          });
-      };
-      spends = omega (arith, length-append p.got (take n room), take_some room n gives.some gives.fits);
-    }
+        record {
+          head = run.holds.1.head;
+          asking = asking_as s p (got_more p (take n room)) w.ahead run.holds.1.head refl run.holds.1.asking;
+          sent = run.holds.1.sent;
+          written = run.holds.1.written;
+          all_held = grown ∙ ap (λ (xs : List ℕ). xs ++ take n room) run.holds.1.all_held;
+          open_end = λ some. gives.ended;
+        },
+      );
+    };
+    spends = omega (arith, length-append p.got (take n room), take_some room n gives.some gives.fits);
+  }
 
   -- the link is not ready for the response's head
   pub response_waits : (s : Start) (p : Passed) (v : Waited) (w : World) (a b : Attempt L C)
@@ -428,28 +452,29 @@ module _ {L C : Type 0} (state : L → LinkState) (start_at : L → LinkStart) w
       → RunSoFar {C = C} state start_at s p v w [] (ReadResponse a)
       → Advances {C = C} state start_at s p v w (ReadResponse a) (ReadResponse b) (step.Waited NotReady)
   response_waits s p v w a b same peer reused held waits run = record {
-      passed = p;
-      waited = link_waited v;
-      run = record {
-        tells = client_same s p p v (link_waited v) w refl refl refl run.tells;
-        sound = run.sound;
-        order = run.order;
-        idle = tt;
-        holds = (attempt_as p p v (link_waited v) a b
+    passed = p;
+    waited = link_waited v;
+    run = record {
+      tells = client_same s p p v (link_waited v) w refl refl refl run.tells;
+      order = run.order;
+      going = tt;
+      holds = (
+        attempt_as p p v (link_waited v) a b
             (link_waits p v (state a.connection.link) (state b.connection.link) (start_at a.connection.link)
-              waits.given waits.taken waits.waits waits.faults run.holds.0.tells)
+            waits.given waits.taken waits.waits waits.faults run.holds.0.tells)
             waits.sound same peer reused run.holds.0,
-          record {
-            head = run.holds.1.head;
-            asking = run.holds.1.asking;
-            sent = run.holds.1.sent;
-            written = run.holds.1.written;
-            all_held = held ∙ run.holds.1.all_held;
-            open_end = λ some. waits.ended;
-          });
-      };
-      spends = (refl, omega arith, refl);
-    }
+        record {
+          head = run.holds.1.head;
+          asking = run.holds.1.asking;
+          sent = run.holds.1.sent;
+          written = run.holds.1.written;
+          all_held = held ∙ run.holds.1.all_held;
+          open_end = λ some. waits.ended;
+        },
+      );
+    };
+    spends = (refl, omega arith, refl);
+  }
 
   -- an attempt whose link ended
   pub attempt_ended : (p : Passed) (v : Waited) (a b : Attempt L C)
@@ -459,7 +484,7 @@ module _ {L C : Type 0} (state : L → LinkState) (start_at : L → LinkStart) w
   attempt_ended p v a b same peer reused ends h =
       attempt_as p p v v a b
       (link_still p v (state a.connection.link) (state b.connection.link) (start_at a.connection.link)
-        ends.given ends.taken ends.waits (omega (arith, ends.faults)) h.tells)
+      ends.given ends.taken ends.waits (omega (arith, ends.faults)) h.tells)
       ends.sound same peer reused h
 
   -- an attempt whose read failed
@@ -470,9 +495,9 @@ module _ {L C : Type 0} (state : L → LinkState) (start_at : L → LinkStart) w
   attempt_read_failed p v a b fault same peer reused fails h =
       attempt_as p p v v a b
       (link_still p v (state a.connection.link) (state b.connection.link) (start_at a.connection.link)
-        fails.given fails.taken fails.waits
-        (Rose-le (state a.connection.link).faults (state b.connection.link).faults fails.sound_before.faults_fit fails.faults)
-        h.tells)
+      fails.given fails.taken fails.waits
+      (Rose-le (state a.connection.link).faults (state b.connection.link).faults fails.sound_before.faults_fit fails.faults)
+      h.tells)
       fails.sound same peer reused h
 
   -- the link ended in the response's head
@@ -483,7 +508,7 @@ module _ {L C : Type 0} (state : L → LinkState) (start_at : L → LinkStart) w
       → RunSoFar {C = C} state start_at s p v w [] (ReadResponse a)
       → Advances {C = C} state start_at s p v w (ReadResponse a) next step.Ended
   response_cut s p v w a b next same peer reused ends open_head is run =
-      fails_with s p v w (ReadResponse a) next b (unrelayed Upstream) is run.tells run.sound run.order
+      fails_with s p v w (ReadResponse a) next b (unrelayed Upstream) is run.tells run.order
       (attempt_ended p v a b same peer reused ends run.holds.0)
       (record {
         why = inl (record {
@@ -509,7 +534,7 @@ module _ {L C : Type 0} (state : L → LinkState) (start_at : L → LinkStart) w
       → RunSoFar {C = C} state start_at s p v w [] (ReadResponse a)
       → Advances {C = C} state start_at s p v w (ReadResponse a) next step.Ended
   response_fails s p v w a b fault next same peer reused fails open_head is run =
-      fails_with s p v w (ReadResponse a) next b (fault_error Upstream fault) is run.tells run.sound run.order
+      fails_with s p v w (ReadResponse a) next b (fault_error Upstream fault) is run.tells run.order
       (attempt_read_failed p v a b fault same peer reused fails run.holds.0)
       (record {
         why = inr (inl (record {
@@ -534,7 +559,7 @@ module _ {L C : Type 0} (state : L → LinkState) (start_at : L → LinkStart) w
       → RunSoFar {C = C} state start_at s p v w [] (ReadResponse a)
       → Advances {C = C} state start_at s p v w (ReadResponse a) next step.Ended
   response_broken s p v w a why next refused is run =
-      fails_with s p v w (ReadResponse a) next a (unrelayed Upstream) is run.tells run.sound run.order
+      fails_with s p v w (ReadResponse a) next a (unrelayed Upstream) is run.tells run.order
       run.holds.0
       (record {
         why = inl (record {
@@ -559,7 +584,7 @@ module _ {L C : Type 0} (state : L → LinkState) (start_at : L → LinkStart) w
       → RunSoFar {C = C} state start_at s p v w [] (ReadResponse a)
       → Advances {C = C} state start_at s p v w (ReadResponse a) next step.Ended
   response_unbuilt s p v w a head framing len next has unbuilt is run =
-      fails_with s p v w (ReadResponse a) next a (unrelayed Upstream) is run.tells run.sound run.order
+      fails_with s p v w (ReadResponse a) next a (unrelayed Upstream) is run.tells run.order
       run.holds.0
       (record {
         why = inl (record {
@@ -589,41 +614,43 @@ module _ {L C : Type 0} (state : L → LinkState) (start_at : L → LinkStart) w
       → RunSoFar {C = C} state start_at s p v w [] (ReadResponse a)
       → Advances {C = C} state start_at s p v w (ReadResponse a) (WriteHead b text n) step.Moved
   response_accepted s p v w a b head framing len n text link peer reused held has built whole run = record {
-      passed = p;
-      waited = v;
-      run = record {
-        tells = run.tells;
-        sound = run.sound;
-        order = run.order;
-        idle = tt;
-        holds = (record {
-            tells = rw link run.holds.0.tells;
-            sound = rw link run.holds.0.sound;
-            peer = peer ∙ run.holds.0.peer;
-            reused = rw link (reused ∙ run.holds.0.reused);
-          }, record {
-            answering = record {
-              head = run.holds.1.head;
-              asking = run.holds.1.asking;
-              sent = run.holds.1.sent;
-              response = head;
-              len = len;
-              n = n;
-              answered = record {
-                has = subst (λ (f : Framing). HasResponse get_method false p.got head f len) built.length
+    passed = p;
+    waited = v;
+    run = record {
+      tells = run.tells;
+      order = run.order;
+      going = tt;
+      holds = (
+        record {
+          tells = rw link run.holds.0.tells;
+          sound = rw link run.holds.0.sound;
+          peer = peer ∙ run.holds.0.peer;
+          reused = rw link (reused ∙ run.holds.0.reused);
+        },
+        record {
+          answering = record {
+            head = run.holds.1.head;
+            asking = run.holds.1.asking;
+            sent = run.holds.1.sent;
+            response = head;
+            len = len;
+            n = n;
+            answered = record {
+              has = subst (λ (f : Framing). HasResponse get_method false p.got head f len) built.length
                   (subst (λ (xs : List ℕ). HasResponse get_method false xs head framing len) run.holds.1.all_held has);
-                built = subst (λ (f : Framing). IsBuiltResponse head f n) built.length built;
-              };
-              within = omega (arith, ends_within.1, ap length run.holds.1.all_held);
-              ended = rw link (run.holds.1.open_end (omega (arith, ends_within.0, ends_within.1)));
+              built = subst (λ (f : Framing). IsBuiltResponse head f n) built.length built;
             };
-            joined = ap (λ (xs : List ℕ). xs ++ text.output) run.holds.1.written ∙ whole;
-            rest_held = held ∙ ap (λ (xs : List ℕ). drop len xs) run.holds.1.all_held;
-            body = refl;
-          });
-      };
-      spends = omega arith;
-    }
+            within = omega (arith, ends_within.1, ap length run.holds.1.all_held);
+            ended = rw link (run.holds.1.open_end (omega (arith, ends_within.0, ends_within.1)));
+          };
+          joined = ap (λ (xs : List ℕ). xs ++ text.output) run.holds.1.written ∙ whole;
+          rest_held = held ∙ ap (λ (xs : List ℕ). drop len xs) run.holds.1.all_held;
+          body = refl;
+        },
+      );
+    };
+    spends = omega arith;
+  }
     where
       ends_within : (4 ≤ len) × (len ≤ length a.connection.ahead)
       ends_within = head_end-within a.connection.ahead len has.starts.ends
@@ -633,13 +660,13 @@ module _ {L C : Type 0} (state : L → LinkState) (start_at : L → LinkStart) w
       (next : Phase L C) (step : RunStep)
       → now ≡ a.connection
       → (RunSoFar {C = C} state start_at s p v w [] (ReadResponse (record a { connection = now }))
-        → Advances {C = C} state start_at s p v w (ReadResponse (record a { connection = now })) next step)
+      → Advances {C = C} state start_at s p v w (ReadResponse (record a { connection = now })) next step)
       → RunSoFar {C = C} state start_at s p v w [] (ReadResponse a)
       → Advances {C = C} state start_at s p v w (ReadResponse a) next step
   turn_as s p v w a now next step same =
       subst (λ (k : Connection L (Unit {0})).
-        (RunSoFar {C = C} state start_at s p v w [] (ReadResponse (record a { connection = k }))
-          → Advances {C = C} state start_at s p v w (ReadResponse (record a { connection = k })) next step)
-        → RunSoFar {C = C} state start_at s p v w [] (ReadResponse a)
-        → Advances {C = C} state start_at s p v w (ReadResponse a) next step)
+      (RunSoFar {C = C} state start_at s p v w [] (ReadResponse (record a { connection = k }))
+      → Advances {C = C} state start_at s p v w (ReadResponse (record a { connection = k })) next step)
+      → RunSoFar {C = C} state start_at s p v w [] (ReadResponse a)
+      → Advances {C = C} state start_at s p v w (ReadResponse a) next step)
       (sym same) (λ turn run. turn run)

@@ -46,6 +46,11 @@ end_of_head s p w (b ∷ bytes) is open_head ended written unsent =
       unsent = unsent;
     }))
 
+-- the client's end is no limit of turns
+no_limit : (bytes : List ℕ) → ended_outcome bytes ≢ outcome.TurnLimit
+no_limit [] limit = cc
+no_limit (b ∷ bytes) limit = cc
+
 -- no attempt was made
 no_attempts : (bytes : List ℕ) (attempts : List AttemptRecord) → attempts ≡ []
     → AttemptsUnlinked attempts (ended_outcome bytes)
@@ -64,9 +69,8 @@ module _ {L C : Type 0} (state : L → LinkState) (start_at : L → LinkStart) w
     waited = v;
     run = record {
       tells = client_gave s p v w x room n same gives run.tells;
-      sound = gives.sound;
       order = order_of_nothing s (came_more p (take n room)) run.holds.unsent.sent run.holds.written;
-      idle = run.idle;
+      going = run.going;
       holds = record {
         whole = grown ∙ ap (λ (xs : List ℕ). xs ++ take n room) run.holds.whole ∙ append_assoc s.ahead p.came (take n room);
         written = run.holds.written;
@@ -86,9 +90,8 @@ module _ {L C : Type 0} (state : L → LinkState) (start_at : L → LinkStart) w
     waited = client_waited v;
     run = record {
       tells = client_waits s p v w x same waits.given waits.taken waits.waits waits.faults run.tells;
-      sound = waits.sound;
       order = run.order;
-      idle = run.idle;
+      going = run.going;
       holds = record { whole = ahead ∙ run.holds.whole; written = run.holds.written; unsent = run.holds.unsent };
     };
     spends = (refl, omega arith, refl);
@@ -106,9 +109,8 @@ module _ {L C : Type 0} (state : L → LinkState) (start_at : L → LinkStart) w
     waited = v;
     run = record {
       tells = client_still s p v w x (omega arith) ends.given ends.taken ends.waits (omega (arith, ends.faults)) run.tells;
-      sound = ends.sound;
       order = run.order;
-      idle = tt;
+      going = λ limit. no_limit x.ahead (sym is ∙ limit);
       holds = subst (λ (o : Outcome). EndsUnlinked s p x o × AttemptsUnlinked attempts o) (sym is) (
         end_of_head s p x x.ahead (ahead ∙ run.holds.whole) (subst (λ (xs : List ℕ). IsOpen xs) (sym ahead) open_head)
             ends.ended run.holds.written run.holds.unsent,
@@ -131,9 +133,8 @@ module _ {L C : Type 0} (state : L → LinkState) (start_at : L → LinkStart) w
     run = record {
       tells = client_still s p v w x (omega arith) fails.given fails.taken fails.waits
           (Rose-le w.client.faults x.client.faults fails.sound_before.faults_fit fails.faults) run.tells;
-      sound = fails.sound;
       order = run.order;
-      idle = tt;
+      going = λ limit. cc;
       holds = (
         inr (inr (record {
           fault = fault;
@@ -165,9 +166,8 @@ module _ {L C : Type 0} (state : L → LinkState) (start_at : L → LinkStart) w
     run = record {
       tells = subst (λ (y : World). TellsClient s p v y) (sym is)
           (client_still s p v w (record w { ahead = drop len w.ahead }) (omega arith) refl refl refl (omega arith) run.tells);
-      sound = subst (λ (y : World). IsSound y.client) (sym is) run.sound;
       order = run.order;
-      idle = run.idle;
+      going = run.going;
       holds = record {
         head = head;
         asking = record {
@@ -199,9 +199,8 @@ module _ {L C : Type 0} (state : L → LinkState) (start_at : L → LinkStart) w
     waited = v;
     run = record {
       tells = run.tells;
-      sound = run.sound;
       order = run.order;
-      idle = tt;
+      going = λ limit. cc;
       holds = (
         inr (inl (record {
           error = is;
@@ -231,9 +230,8 @@ module _ {L C : Type 0} (state : L → LinkState) (start_at : L → LinkStart) w
     waited = v;
     run = record {
       tells = run.tells;
-      sound = run.sound;
       order = run.order;
-      idle = run.idle;
+      going = run.going;
       holds = record {
         why = why;
         refused = subst (λ (xs : List ℕ). IsRefusedRequest xs why) run.holds.whole refused;
@@ -256,7 +254,6 @@ module _ {L C : Type 0} (state : L → LinkState) (start_at : L → LinkStart) w
     waited = v;
     run = record {
       tells = client_took s p v w x answer.output takes.n same takes.takes run.tells;
-      sound = takes.takes.sound;
       order = record {
         sent = inl run.holds.unsent.sent;
         written = inr (inl (record {
@@ -265,7 +262,7 @@ module _ {L C : Type 0} (state : L → LinkState) (start_at : L → LinkStart) w
           part = record { rest = []; joined = append-nil _ ∙ all };
         }));
       };
-      idle = tt;
+      going = λ limit. cc;
       holds = (
         inl (record {
           why = run.holds.why;
@@ -293,7 +290,6 @@ module _ {L C : Type 0} (state : L → LinkState) (start_at : L → LinkStart) w
     waited = v;
     run = record {
       tells = client_took s p v w x answer.output takes.n same takes.takes run.tells;
-      sound = takes.takes.sound;
       order = record {
         sent = inl run.holds.unsent.sent;
         written = inr (inl (record {
@@ -302,7 +298,7 @@ module _ {L C : Type 0} (state : L → LinkState) (start_at : L → LinkStart) w
           part = record { rest = left.output; joined = all };
         }));
       };
-      idle = run.idle;
+      going = run.going;
       holds = record {
         why = run.holds.why;
         refused = run.holds.refused;
@@ -331,9 +327,8 @@ module _ {L C : Type 0} (state : L → LinkState) (start_at : L → LinkStart) w
     waited = client_waited v;
     run = record {
       tells = client_waits s p v w x same waits.given waits.taken waits.waits waits.faults run.tells;
-      sound = waits.sound;
       order = run.order;
-      idle = run.idle;
+      going = run.going;
       holds = subst (λ (xs : List ℕ). IsRefusing s p xs e) (sym kept) run.holds;
     };
     spends = (refl, omega arith, refl);
@@ -352,9 +347,8 @@ module _ {L C : Type 0} (state : L → LinkState) (start_at : L → LinkStart) w
     run = record {
       tells = client_still s p v w x (omega arith) fails.given fails.taken fails.waits
           (Rose-le w.client.faults x.client.faults fails.sound_before.faults_fit fails.faults) run.tells;
-      sound = fails.sound;
       order = run.order;
-      idle = tt;
+      going = λ limit. cc;
       holds = (
         inr (inr (record {
           fault = fault;
@@ -393,9 +387,8 @@ module _ {L C : Type 0} (state : L → LinkState) (start_at : L → LinkStart) w
       tells = client_still s p v w x (omega arith) (ap (λ (l : LinkState). l.given) wants.same)
           (ap (λ (l : LinkState). l.taken) wants.same) (ap (λ (l : LinkState). l.waits) wants.same)
           (omega (arith, ap (λ (l : LinkState). l.faults) wants.same)) run.tells;
-      sound = wants.sound;
       order = run.order;
-      idle = tt;
+      going = λ limit. cc;
       holds = (run.holds.unsent, none);
     };
     spends = omega arith;

@@ -1,5 +1,5 @@
 -- What the two links tell of what passed, carried over one answer of a link.
-use Rattle.std.proofs.Common.{◌≡◌, IsTrue, false, ℕ, ◌+◌, ◌<◌, ◌≤◌, List, [], ◌∷◌, ◌++◌, length, take, drop, refl, sym, ap, subst, ◌∙◌, arith, length-append, append_assoc, append-nil, take-append-drop, length-take}
+use Rattle.std.proofs.Common.{◌≡◌, ◌==◌, Bool, IsTrue, true, false, ℕ, ◌+◌, ◌<◌, ◌≤◌, List, [], ◌∷◌, ◌++◌, length, take, drop, eqb-true, refl, sym, ap, subst, ◌∙◌, arith, length-append, append_assoc, append-nil, take-append-drop, length-take}
 use Rattle.relay_links.specs.Count.{last_count, up, Rose}
 use Rattle.relay_links.specs.Told.{more}
 use Rattle.relay_links.specs.Link.{LinkState, LinkStart, IsSound, GivesBytes, TakesBytes}
@@ -184,3 +184,8 @@ take_rest front xs rest n left =
 -- false is not true
 pub not_true : IsTrue false → ⊥
 not_true h = cc
+
+-- a list of no items
+pub is_nil : (xs : List ℕ) (test : Bool) → test ≡ (length xs == 0) → test ≡ true → xs ≡ []
+is_nil [] test is holds = refl
+is_nil (x ∷ xs) test is holds = absurd (omega (arith, eqb-true (length (x ∷ xs)) 0 (sym is ∙ holds)))

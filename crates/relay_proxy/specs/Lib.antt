@@ -4,3 +4,5 @@ pub mod Offer
 pub mod Passed
 pub mod Phases
 pub mod Turn
+pub mod Work
+pub mod Closing

@@ -10,6 +10,7 @@ use Rattle.relay_h1.specs.Verdict.{IsRefusedRequest, refused_from}
 use Rattle.relay_h1.specs.Wire.{request_text, response_text}
 use Rattle.relay_proxy.specs.Passed.{World, Start, Passed, Waited, asked, TellsClient, TellsLink, IsUnsent}
 use Rattle.relay_proxy.specs.Endings.{IsAccepted, IsAnswered, IsSentWhole, refusal, IsInOrder, EndsUnlinked, EndsLinked, EndsWith, IsEnded, IsAskedPeer, AttemptsUnlinked}
+use Rattle.relay_proxy.specs.declared.outcome.Outcome.TheVariants.{TurnLimit}
 use Rattle.relay_proxy.specs.declared.machine.Phase.{Phase}
 use Rattle.relay_proxy.specs.declared.machine.Phase.TheVariants.{ReadHead, Refuse, Connect, SendHead, ReadResponse, WriteHead, RelayBody, Close, Ended}
 use Rattle.relay_proxy.specs.declared.machine.Attempt.{Attempt}
@@ -136,26 +137,25 @@ module _ {L C : Type 0} (state : L → LinkState) (start_at : L → LinkStart) w
   PhaseHolds s p v w (r ∷ own) (Ended outcome attempts) =
       EndsWith state start_at s p v w (r ∷ own) attempts outcome
 
-  -- a request without a link has waited for none
-  abbrev pub IsIdle : Waited → Phase L C → Type 0
-  IsIdle v ReadHead = v.link ≡ 0
-  IsIdle v (Refuse answer e) = v.link ≡ 0
-  IsIdle v (Connect context text) = v.link ≡ 0
-  IsIdle v (SendHead a text) = Unit {0}
-  IsIdle v (ReadResponse a) = Unit {0}
-  IsIdle v (WriteHead a text left) = Unit {0}
-  IsIdle v (RelayBody a left) = Unit {0}
-  IsIdle v (Close a keep outcome) = Unit {0}
-  IsIdle v (Ended outcome attempts) = Unit {0}
+  -- a request without a link has waited for none, and one that ended did not end by its turns
+  abbrev pub IsGoing : Waited → Phase L C → Type 0
+  IsGoing v ReadHead = v.link ≡ 0
+  IsGoing v (Refuse answer e) = v.link ≡ 0
+  IsGoing v (Connect context text) = v.link ≡ 0
+  IsGoing v (SendHead a text) = Unit {0}
+  IsGoing v (ReadResponse a) = Unit {0}
+  IsGoing v (WriteHead a text left) = Unit {0}
+  IsGoing v (RelayBody a left) = Unit {0}
+  IsGoing v (Close a keep outcome) = outcome ≢ TurnLimit
+  IsGoing v (Ended outcome attempts) = outcome ≢ TurnLimit
 
   -- the run so far: what passed is told by the links, in order, and the phase says what is left
   pub record RunSoFar
       (s : Start) (p : Passed) (v : Waited) (w : World) (own : List (Returned L)) (phase : Phase L C)
       : Type 0 where
     pub tells : TellsClient s p v w
-    pub sound : IsSound w.client
     pub order : IsInOrder s p
-    pub idle : IsIdle v phase
+    pub going : IsGoing v phase
     pub holds : PhaseHolds s p v w own phase
 
   -- the turns beside one for each byte and wait that a request has taken when it comes to a phase

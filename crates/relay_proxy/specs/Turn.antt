@@ -12,7 +12,8 @@ use Rattle.relay_proxy.specs.declared.machine.Attempt.{Attempt}
 use Rattle.relay_proxy.specs.declared.machine.BodyLeft.{BodyLeft}
 use Rattle.relay_proxy.specs.declared.outcome.Outcome.TheVariants.{Served}
 use Rattle.relay_tasks.specs.declared.Error.{Error}
-use Rattle.relay_proxy.specs.declared.machine.Work.{Work}
+use Rattle.relay_proxy.specs.Work.{total_work}
+use Rattle.relay_proxy.specs.declared.work.Work.{Work}
 use Rattle.relay_proxy.specs.declared.machine.RunStep.{RunStep}
 use Rattle.relay_proxy.specs.declared.machine.RunStep.TheVariants as step
 
@@ -24,10 +25,6 @@ world_with client ahead faults = record { client = client; ahead = ahead; connec
 abbrev pub world_of : {D U : Type 0} → (D → LinkState) → Connection D U → ℕ → World
 world_of state client faults =
     world_with (state client.link) client.ahead faults
-
--- all the work of a turn
-abbrev pub total_work : Work → ℕ
-total_work work = work.used + work.moved + work.ended
 
 -- a turn that moved or ended did some work, one that waited used a link, and one that met silence did none
 abbrev pub DoesWork : RunStep → Work → Type 0
@@ -98,3 +95,15 @@ IsRest ahead a left next =
     × (next.phase ≡ Close a keep (Served None reuse)))
     × (next.step ≡ step.Ended))
     × (0 < total_work next.work)
+
+-- a turn did its work; a request that has ended does none
+abbrev pub WorksIn : {L C : Type 0} → Phase L C → RunStep → Work → Type 0
+WorksIn ReadHead did work = DoesWork did work
+WorksIn (Refuse answer e) did work = DoesWork did work
+WorksIn (Connect context text) did work = DoesWork did work
+WorksIn (SendHead a text) did work = DoesWork did work
+WorksIn (ReadResponse a) did work = DoesWork did work
+WorksIn (WriteHead a text left) did work = DoesWork did work
+WorksIn (RelayBody a left) did work = DoesWork did work
+WorksIn (Close a keep outcome) did work = (total_work work ≡ 0) × (did ≡ step.Ended)
+WorksIn (Ended outcome attempts) did work = (total_work work ≡ 0) × (did ≡ step.Ended)

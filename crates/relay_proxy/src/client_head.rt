@@ -8,10 +8,11 @@ ghost use Rattle.relay_proxy.specs.Turn.{world_of, DoesWork, links_held, Advance
 
 use crate::built::is_built_request;
 use crate::hooks::ProxyHttp;
-use crate::machine::{Next, Phase, RunStep, Work};
+use crate::machine::{Next, Phase, RunStep};
 use crate::outcome::Outcome;
 use crate::pending::{Offered, Pending};
 use crate::record::AttemptList;
+use crate::work::Work;
 use relay_h1::{Connection, Output, RequestRead, write_generated, write_request_head};
 use relay_links::{ByteLink, Got, Pause};
 use relay_tasks::{Error, ErrorType, Fail};

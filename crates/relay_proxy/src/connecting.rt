@@ -6,10 +6,11 @@ ghost use Rattle.relay_proxy.specs.Phases.{RunSoFar};
 ghost use Rattle.relay_proxy.specs.Turn.{world_with, DoesWork, links_held, Advances};
 ghost use Rattle.relay_links.specs.Link.{LinkState};
 
-use crate::machine::{Attempt, Next, Phase, RunStep, Work};
+use crate::machine::{Attempt, Next, Phase, RunStep};
 use crate::outcome::Outcome;
 use crate::pending::Pending;
 use crate::record::{AttemptList, AttemptRecord, AttemptRoom};
+use crate::work::Work;
 use bytes::Bytes;
 use relay_h1::Connection;
 use relay_links::Connector;

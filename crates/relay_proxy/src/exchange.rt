@@ -8,9 +8,10 @@ ghost use Rattle.relay_proxy.specs.Phases.{RunSoFar};
 ghost use Rattle.relay_proxy.specs.Turn.{failed, IsRest, world_of, DoesWork, links_held, Advances};
 
 use crate::built::built_length;
-use crate::machine::{Attempt, BodyLeft, Next, Phase, RunStep, Work};
+use crate::machine::{Attempt, BodyLeft, Next, Phase, RunStep};
 use crate::outcome::Outcome;
 use crate::pending::{Offered, Pending};
+use crate::work::Work;
 use http::Method;
 use relay_h1::{Connection, Output, ResponseRead, write_response_head};
 use relay_links::{ByteLink, Got, Pause, Put};

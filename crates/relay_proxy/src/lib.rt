@@ -5,11 +5,14 @@ mod built;
 mod client_head;
 mod connecting;
 mod exchange;
+mod finish;
 mod hooks;
 mod machine;
 mod outcome;
 mod pending;
 mod record;
+mod turn;
+mod work;
 
 pub use hooks::ProxyHttp;
 pub use machine::RunStep;

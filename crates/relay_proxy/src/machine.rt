@@ -7,11 +7,12 @@
 //!    +-> Ended (nothing asked, nothing relayed)
 //! ```
 
-ghost use Rattle.std.specs.Prelude.{◌<◌};
+ghost use Rattle.std.specs.Prelude.{◌<◌, ◌≡◌};
 
 use crate::outcome::Outcome;
 use crate::pending::Pending;
 use crate::record::{AttemptList, AttemptRoom};
+use crate::work::Work;
 use relay_h1::Connection;
 use relay_links::Pause;
 use relay_tasks::{Error, Peer};
@@ -65,47 +66,25 @@ pub(crate) enum Phase<L, C> {
     Ended(Outcome, AttemptList),
 }
 
-/// How much work a turn was.
-#[derive(Clone, Copy)]
-pub(crate) struct Work {
-    /// Answers of links, `Silent` aside.
-    pub(crate) used: u64,
-    /// Heads and pieces that were put.
-    pub(crate) moved: u64,
-    /// Sides that ended, and refusals.
-    pub(crate) ended: u64,
+/// One request under way: its phase, and what it took so far.
+pub(crate) struct Machine<L, C> {
+    pub(crate) phase: Phase<L, C>,
+    /// The turns that were counted: those that used a link or did other work.
+    pub(crate) turns: u64,
+    pub(crate) work: Work,
 }
 
-impl Work {
-    pub(crate) const NONE: Work = Work {
-        used: 0,
-        moved: 0,
-        ended: 0,
-    };
-
-    pub(crate) const USED: Work = Work {
-        used: 1,
-        moved: 0,
-        ended: 0,
-    };
-
-    pub(crate) const MOVED: Work = Work {
-        used: 0,
-        moved: 1,
-        ended: 0,
-    };
-
-    pub(crate) const ENDED: Work = Work {
-        used: 0,
-        moved: 0,
-        ended: 1,
-    };
-
-    pub(crate) const USED_AND_ENDED: Work = Work {
-        used: 1,
-        moved: 0,
-        ended: 1,
-    };
+impl<L, C> Machine<L, C> {
+    /// A request of which nothing was read.
+    pub(crate) fn new() -> Machine<L, C>
+        ensures { result ≡ record { phase = Phase.ReadHead; turns = 0; work = Work.NONE } }
+    {
+        Machine {
+            phase: Phase::ReadHead,
+            turns: 0,
+            work: Work::NONE,
+        }
+    }
 }
 
 /// What a turn made of a phase.

@@ -1,5 +1,8 @@
 //! How a request ended.
 
+ghost use Rattle.std.specs.Prelude.{◌≡◌};
+ghost use Rattle.relay_proxy.specs.Endings.{error_of};
+
 use crate::record::RunRecord;
 use relay_tasks::Error;
 
@@ -19,6 +22,19 @@ pub enum Outcome {
     Served { error: Option<Error>, reuse: bool },
     TurnLimit,
     OutOfMemory,
+}
+
+impl Outcome {
+    /// The error that the outcome gives, if it gives one.
+    pub fn error(&self) -> Option<Error>
+        ensures { result ≡ error_of self.now }
+    {
+        match self {
+            Outcome::NoRequest | Outcome::TurnLimit | Outcome::OutOfMemory => None,
+            Outcome::Refused { error } => *error,
+            Outcome::Served { error, reuse: _ } => *error,
+        }
+    }
 }
 
 /// An ended request: its outcome, and what was done for it.

@@ -10,7 +10,7 @@ returns-clause-run g c = λ s p v w run has.
     c.args.read.len _ _ (ap (λ k. k.link) c.consume.ensures) refl refl (ap (λ k. k.ahead) c.consume.ensures)
     has c.in-Some.ensures.built
     (c.in-Some-new.ensures ∙ c.new.ensures ∙ c.in-Ok.ensures.ok
-      ∙ ap (λ (xs : List ℕ). xs ++ response_text c.args.read.head) c.new-text.ensures.items)
+    ∙ ap (λ (xs : List ℕ). xs ++ response_text c.args.read.head) c.new-text.ensures.items)
     run
 
 pub returns-in_default-clause-run : goal.returns-in_default-clause-run

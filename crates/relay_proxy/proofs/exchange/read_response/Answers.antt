@@ -29,5 +29,5 @@ returns-in-Err-Error-clause-run g c = λ s p v w run.
     let verdict = rw c.in-Err-Error.field-0-is at c.in-Err-Error.ensures.verdict in
     response_broken g.L.ByteLink.state g.L.ByteLink.start s p v w _ verdict.0 _ verdict.2
     (c.response_unfit.ensures
-      ∙ ap (λ k. failed (record c.args.attempt { connection = k }) (unrelayed Upstream)) c.judge_response.ensures.same)
+    ∙ ap (λ k. failed (record c.args.attempt { connection = k }) (unrelayed Upstream)) c.judge_response.ensures.same)
     run

@@ -1,0 +1,145 @@
+-- How a request gives its link back, and what it leaves.
+use Rattle.std.specs.Prelude.{◌≡◌, ◌≢◌, ℕ, ◌⊎◌, Bool, true, false, List, [], ◌∷◌, ◌++◌, Option}
+use Rattle.relay_links.specs.Link.{LinkState, LinkStart}
+use Rattle.relay_links.specs.Told.{more}
+use Rattle.relay_links.specs.declared.Returned.{Returned}
+use Rattle.relay_proxy.specs.Passed.{World, Start, Passed, Waited, amount}
+use Rattle.relay_proxy.specs.Endings.{error_of, IsAskedPeer, IsEnded}
+use Rattle.relay_proxy.specs.Phases.{RunSoFar, allowance}
+use Rattle.relay_proxy.specs.Turn.{Spends, IsStalled, Advances}
+use Rattle.relay_proxy.specs.declared.finish.Ending.{Ending}
+use Rattle.relay_proxy.specs.declared.machine.Attempt.{Attempt}
+use Rattle.relay_proxy.specs.declared.machine.Next.{Next}
+use Rattle.relay_proxy.specs.declared.machine.Phase.{Phase}
+use Rattle.relay_proxy.specs.declared.machine.Phase.TheVariants.{ReadHead, Refuse, Connect, SendHead, ReadResponse, WriteHead, RelayBody, Close, Ended}
+use Rattle.relay_proxy.specs.declared.machine.RunStep.{RunStep}
+use Rattle.relay_proxy.specs.declared.machine.RunStep.TheVariants as step
+use Rattle.relay_proxy.specs.declared.outcome.Outcome.{Outcome}
+use Rattle.relay_proxy.specs.declared.outcome.Outcome.TheVariants.{TurnLimit}
+use Rattle.relay_proxy.specs.declared.record.AttemptRecord.{AttemptRecord}
+
+-- the attempt's link as it was handed back, and the attempt's record
+pub record Hands {L C : Type 0}
+    (a : Attempt L C) (keep : Bool) (outcome : Outcome) (r : Returned L) (attempts : List AttemptRecord)
+    : Type 0 where
+  pub link : r.link ≡ a.connection.link
+  pub peer : r.peer ≡ a.peer
+  pub kept : r.keep ≡ keep
+  pub attempt : AttemptRecord
+  pub attempts_are : attempts ≡ attempt ∷ []
+  pub asked : IsAskedPeer attempt.peer
+  pub reused : attempt.reused ≡ a.reused
+  pub record_kept : attempt.kept ≡ keep
+  pub error : attempt.error ≡ error_of outcome
+
+-- the attempt's link went back to the connector, whose list gained it
+pub record HandsBack {L C : Type 0}
+    (a : Attempt L C) (keep : Bool) (outcome : Outcome) (before after : Option (List (Returned L)))
+    (attempts : List AttemptRecord) : Type 0 where
+  pub entry : Returned L
+  pub hands : Hands a keep outcome entry attempts
+  pub gained : after ≡ more before (entry ∷ [])
+
+-- a phase that is to be closed is ended, and its link goes back; any other stays
+abbrev pub Settles :
+    {L C : Type 0} → Phase L C → Option (List (Returned L)) → Option (List (Returned L)) → Phase L C → Type 0
+Settles ReadHead before after next = (next ≡ ReadHead) × (after ≡ before)
+Settles (Refuse answer e) before after next = (next ≡ Refuse answer e) × (after ≡ before)
+Settles (Connect context text) before after next = (next ≡ Connect context text) × (after ≡ before)
+Settles (SendHead a text) before after next = (next ≡ SendHead a text) × (after ≡ before)
+Settles (ReadResponse a) before after next = (next ≡ ReadResponse a) × (after ≡ before)
+Settles (WriteHead a text left) before after next = (next ≡ WriteHead a text left) × (after ≡ before)
+Settles (RelayBody a left) before after next = (next ≡ RelayBody a left) × (after ≡ before)
+Settles {L} (Close a keep outcome) before after next =
+    (attempts : List AttemptRecord) × (next ≡ Ended outcome attempts)
+    × HandsBack a keep outcome before after attempts
+Settles (Ended outcome attempts) before after next = (next ≡ Ended outcome attempts) × (after ≡ before)
+
+-- a request that has no link gives up
+pub record GivesUp {L : Type 0} (before after : Option (List (Returned L))) (ending : Ending) : Type 0 where
+  pub limit : ending.outcome ≡ TurnLimit
+  pub none : ending.attempts ≡ []
+  pub same : after ≡ before
+
+-- a request that has a link gives up, and the link is not kept
+pub record GivesLinkUp {L C : Type 0}
+    (a : Attempt L C) (before after : Option (List (Returned L))) (ending : Ending) : Type 0 where
+  pub limit : ending.outcome ≡ TurnLimit
+  pub back : HandsBack a false TurnLimit before after ending.attempts
+
+-- how a request is brought to its end, wherever it stands
+abbrev pub Finishes :
+    {L C : Type 0} → Phase L C → Option (List (Returned L)) → Option (List (Returned L)) → Ending → Type 0
+Finishes ReadHead before after ending = GivesUp before after ending
+Finishes (Refuse answer e) before after ending = GivesUp before after ending
+Finishes (Connect context text) before after ending = GivesUp before after ending
+Finishes (SendHead a text) before after ending = GivesLinkUp a before after ending
+Finishes (ReadResponse a) before after ending = GivesLinkUp a before after ending
+Finishes (WriteHead a text left) before after ending = GivesLinkUp a before after ending
+Finishes (RelayBody a left) before after ending = GivesLinkUp a before after ending
+Finishes (Close a keep outcome) before after ending =
+    (ending.outcome ≡ outcome) × HandsBack a keep outcome before after ending.attempts
+Finishes (Ended outcome attempts) before after ending =
+    (ending.outcome ≡ outcome) × (ending.attempts ≡ attempts) × (after ≡ before)
+
+-- the link that was asked last is silent
+abbrev pub IsQuiet : {L : Type 0} → (L → LinkState) → World → List (Returned L) → Type 0
+IsQuiet state w [] = (w.client.silent_on_read ≡ true) ⊎ (w.client.silent_on_write ≡ true)
+IsQuiet state w (r ∷ own) =
+    ((state r.link).silent_on_read ≡ true)
+    ⊎ (((state r.link).silent_on_write ≡ true) ⊎ (w.client.silent_on_write ≡ true))
+
+module _ {L C : Type 0} (state : L → LinkState) (start_at : L → LinkStart) where
+  -- a turn of a request; one that has ended stays as it is, in the same world
+  abbrev pub TurnOf : Start → Passed → Waited → World → World → Phase L C → Phase L C → RunStep → Type 0
+  TurnOf s p v w x ReadHead next did = Advances state start_at s p v x ReadHead next did
+  TurnOf s p v w x (Refuse answer e) next did = Advances state start_at s p v x (Refuse answer e) next did
+  TurnOf s p v w x (Connect context text) next did =
+      Advances state start_at s p v x (Connect context text) next did
+  TurnOf s p v w x (SendHead a text) next did = Advances state start_at s p v x (SendHead a text) next did
+  TurnOf s p v w x (ReadResponse a) next did = Advances state start_at s p v x (ReadResponse a) next did
+  TurnOf s p v w x (WriteHead a text left) next did =
+      Advances state start_at s p v x (WriteHead a text left) next did
+  TurnOf s p v w x (RelayBody a left) next did =
+      Advances state start_at s p v x (RelayBody a left) next did
+  TurnOf s p v w x (Close a keep outcome) next did =
+      (next ≡ Close a keep outcome) × (did ≡ step.Ended) × (x ≡ w)
+  TurnOf s p v w x (Ended outcome attempts) next did =
+      (next ≡ Ended outcome attempts) × (did ≡ step.Ended) × (x ≡ w)
+
+  -- what passed in a step, by its answer; a request that has ended passes nothing more
+  abbrev pub StepSpends :
+      Passed → Waited → Passed → Waited → World → Phase L C → Phase L C → RunStep → Type 0
+  StepSpends p v q u w (Close a keep outcome) next did = (q ≡ p) × (u ≡ v)
+  StepSpends p v q u w (Ended outcome attempts) next did = (q ≡ p) × (u ≡ v)
+  StepSpends p v q u w ReadHead next did = Spends state start_at p v q u w ReadHead next did
+  StepSpends p v q u w (Refuse answer e) next did = Spends state start_at p v q u w (Refuse answer e) next did
+  StepSpends p v q u w (Connect context text) next did =
+      Spends state start_at p v q u w (Connect context text) next did
+  StepSpends p v q u w (SendHead a text) next did = Spends state start_at p v q u w (SendHead a text) next did
+  StepSpends p v q u w (ReadResponse a) next did = Spends state start_at p v q u w (ReadResponse a) next did
+  StepSpends p v q u w (WriteHead a text left) next did =
+      Spends state start_at p v q u w (WriteHead a text left) next did
+  StepSpends p v q u w (RelayBody a left) next did =
+      Spends state start_at p v q u w (RelayBody a left) next did
+
+  -- a step took the run so far on, and handed these links back
+  pub record Steps
+      (s : Start) (p : Passed) (v : Waited) (w : World) (own : List (Returned L))
+      (before after : Option (List (Returned L))) (phase next : Phase L C) (did : RunStep)
+      : Type 0 where
+    pub passed : Passed
+    pub waited : Waited
+    pub handed : List (Returned L)
+    pub gained : after ≡ more before handed
+    pub run : RunSoFar state start_at s passed waited w (own ++ handed) next
+    pub spends : StepSpends p v passed waited w phase next did
+
+  -- the end of a request: what passed is told, and the outcome has its cause
+  pub record Ends
+      (s : Start) (p : Passed) (v : Waited) (w : World) (own : List (Returned L))
+      (before after : Option (List (Returned L))) (phase : Phase L C) (ending : Ending) : Type 0 where
+    pub handed : List (Returned L)
+    pub gained : after ≡ more before handed
+    pub ended : IsEnded state start_at s p v w (own ++ handed) ending.attempts ending.outcome
+    pub quiet : ending.outcome ≡ TurnLimit → IsStalled state start_at w phase → IsQuiet state w (own ++ handed)

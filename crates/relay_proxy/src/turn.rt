@@ -1,0 +1,59 @@
+//! One turn of a request, by the phase in which it stands.
+ghost use Rattle.std.specs.Prelude.{◌≡◌, ◌+◌, ◌≤◌, ℕ, []};
+ghost use Rattle.relay_proxy.specs.Closing.{TurnOf};
+ghost use Rattle.relay_proxy.specs.Passed.{Start, Passed, Waited};
+ghost use Rattle.relay_proxy.specs.Phases.{RunSoFar};
+ghost use Rattle.relay_proxy.specs.Turn.{world_of, links_held, WorksIn};
+
+use crate::client_head::{read_head, write_refusal};
+use crate::connecting::connect;
+use crate::exchange::{read_response, relay_body, send_head, write_head};
+use crate::hooks::ProxyHttp;
+use crate::machine::{Next, Phase, RunStep};
+use crate::work::Work;
+use relay_h1::Connection;
+use relay_links::{ByteLink, Connector};
+use std::alloc::Global;
+
+/// One turn: one call of one link or of the connector, or one verdict on a head.
+pub(crate) fn take_turn<SV: ProxyHttp, K: Connector, D: ByteLink, U>(
+    alloc: Global,
+    hooks: &SV,
+    connector: &mut K,
+    client: &mut Connection<D, U>,
+    phase: Phase<K::Byte, SV::CTX>,
+) -> Next<K::Byte, SV::CTX>
+    ensures turn { (s : Start) (p : Passed) (v : Waited)
+        → RunSoFar {C = SV.CTX} K.Byte.state K.Byte.start s p v
+        (world_of D.state client.old (K.fault_count connector.old)) [] phase
+        → TurnOf K.Byte.state K.Byte.start s p v
+        (world_of D.state client.old (K.fault_count connector.old))
+        (world_of D.state client.new (K.fault_count connector.new))
+        phase result.phase result.step }
+    ensures work { WorksIn phase result.step result.work }
+    ensures out { K.out connector.new + links_held K.Byte.state K.Byte.start phase
+        ≡ K.out connector.old + links_held K.Byte.state K.Byte.start result.phase }
+    ensures returned { K.returned connector.new ≡ K.returned connector.old }
+    ensures faults { K.fault_count connector.old ≤ K.fault_count connector.new }
+    ensures kept { client.new.kept ≡ client.old.kept }
+{
+    match phase {
+        Phase::ReadHead => read_head(alloc, hooks, client),
+        Phase::Refuse(answer, error) => write_refusal(alloc, client, answer, error),
+        Phase::Connect(context, text) => connect(alloc, connector, context, text),
+        Phase::SendHead(attempt, text) => send_head(attempt, text),
+        Phase::ReadResponse(attempt) => read_response(alloc, attempt),
+        Phase::WriteHead(attempt, text, left) => write_head(client, attempt, text, left),
+        Phase::RelayBody(attempt, left) => relay_body(client, attempt, left),
+        Phase::Close(attempt, keep, outcome) => Next {
+            phase: Phase::Close(attempt, keep, outcome),
+            step: RunStep::Ended,
+            work: Work::NONE,
+        },
+        Phase::Ended(outcome, attempts) => Next {
+            phase: Phase::Ended(outcome, attempts),
+            step: RunStep::Ended,
+            work: Work::NONE,
+        },
+    }
+}

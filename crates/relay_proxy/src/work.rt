@@ -1,0 +1,80 @@
+//! How much work a turn was, and a request so far.
+ghost use Rattle.std.specs.Prelude.{◌<◌, ◌≡◌, ◌↔◌, IsTrue};
+ghost use Rattle.relay_proxy.specs.Work.{turns_after};
+
+/// How much work a turn was.
+#[derive(Clone, Copy)]
+pub(crate) struct Work {
+    /// Answers of links, `Silent` aside.
+    pub(crate) used: u64,
+    /// Heads and pieces that were put.
+    pub(crate) moved: u64,
+    /// Sides that ended, and refusals.
+    pub(crate) ended: u64,
+}
+
+impl Work {
+    pub(crate) const NONE: Work = Work {
+        used: 0,
+        moved: 0,
+        ended: 0,
+    };
+
+    pub(crate) const USED: Work = Work {
+        used: 1,
+        moved: 0,
+        ended: 0,
+    };
+
+    pub(crate) const MOVED: Work = Work {
+        used: 0,
+        moved: 1,
+        ended: 0,
+    };
+
+    pub(crate) const ENDED: Work = Work {
+        used: 0,
+        moved: 0,
+        ended: 1,
+    };
+
+    pub(crate) const USED_AND_ENDED: Work = Work {
+        used: 1,
+        moved: 0,
+        ended: 1,
+    };
+}
+
+impl Work {
+    ghost use Rattle.relay_proxy.specs.Work.{total_work, added_work};
+
+    /// Whether a turn did any work.
+    fn is_some(&self) -> bool
+        ensures { IsTrue result ↔ (0 < total_work self.now) }
+    {
+        self.used > 0 || self.moved > 0 || self.ended > 0
+    }
+
+    /// The work so far and that of one more turn. Each number stands still at its last value.
+    pub(crate) fn plus(self, turn: Work) -> Work
+        ensures { result ≡ added_work self turn }
+    {
+        Work {
+            used: self.used.saturating_add(turn.used),
+            moved: self.moved.saturating_add(turn.moved),
+            ended: self.ended.saturating_add(turn.ended),
+        }
+    }
+}
+
+/// The turns so far and one more, where that did some work. The number stands still at its last
+/// value.
+pub(crate) fn count_turn(turns: u64, work: Work) -> u64
+    ensures { result ≡ turns_after turns work }
+{
+    if work.is_some() {
+        turns.saturating_add(1)
+    } else {
+        turns
+    }
+}
