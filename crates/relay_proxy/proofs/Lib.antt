@@ -2,3 +2,4 @@ pub mod Tells
 pub mod HeadSteps
 pub mod ExchangeSteps
 pub mod BodySteps
+pub mod StepLemmas

@@ -89,8 +89,22 @@ IsQuiet state w (r ∷ own) =
     ((state r.link).silent_on_read ≡ true)
     ⊎ (((state r.link).silent_on_write ≡ true) ⊎ (w.client.silent_on_write ≡ true))
 
+-- a request that has ended stays as it is, in the same world
+abbrev pub Rests : {L C : Type 0} → World → World → Phase L C → Phase L C → RunStep → Type 0
+Rests w x ReadHead next did = Unit {0}
+Rests w x (Refuse answer e) next did = Unit {0}
+Rests w x (Connect context text) next did = Unit {0}
+Rests w x (SendHead a text) next did = Unit {0}
+Rests w x (ReadResponse a) next did = Unit {0}
+Rests w x (WriteHead a text left) next did = Unit {0}
+Rests w x (RelayBody a left) next did = Unit {0}
+Rests w x (Close a keep outcome) next did =
+    (next ≡ Close a keep outcome) × (did ≡ step.Ended) × (x ≡ w)
+Rests w x (Ended outcome attempts) next did =
+    (next ≡ Ended outcome attempts) × (did ≡ step.Ended) × (x ≡ w)
+
 module _ {L C : Type 0} (state : L → LinkState) (start_at : L → LinkStart) where
-  -- a turn of a request; one that has ended stays as it is, in the same world
+  -- a turn of a request that has not ended
   abbrev pub TurnOf : Start → Passed → Waited → World → World → Phase L C → Phase L C → RunStep → Type 0
   TurnOf s p v w x ReadHead next did = Advances state start_at s p v x ReadHead next did
   TurnOf s p v w x (Refuse answer e) next did = Advances state start_at s p v x (Refuse answer e) next did
@@ -102,10 +116,8 @@ module _ {L C : Type 0} (state : L → LinkState) (start_at : L → LinkStart) w
       Advances state start_at s p v x (WriteHead a text left) next did
   TurnOf s p v w x (RelayBody a left) next did =
       Advances state start_at s p v x (RelayBody a left) next did
-  TurnOf s p v w x (Close a keep outcome) next did =
-      (next ≡ Close a keep outcome) × (did ≡ step.Ended) × (x ≡ w)
-  TurnOf s p v w x (Ended outcome attempts) next did =
-      (next ≡ Ended outcome attempts) × (did ≡ step.Ended) × (x ≡ w)
+  TurnOf s p v w x (Close a keep outcome) next did = Unit {0}
+  TurnOf s p v w x (Ended outcome attempts) next did = Unit {0}
 
   -- what passed in a step, by its answer; a request that has ended passes nothing more
   abbrev pub StepSpends :

@@ -6,3 +6,4 @@ pub mod Phases
 pub mod Turn
 pub mod Work
 pub mod Closing
+pub mod Request

@@ -16,6 +16,7 @@ use crate::work::Work;
 use relay_h1::Connection;
 use relay_links::Pause;
 use relay_tasks::{Error, Peer};
+use std::mem;
 
 /// What one turn of a request did.
 #[derive(Clone, Copy, Debug, PartialEq, Eq)]
@@ -83,6 +84,26 @@ impl<L, C> Machine<L, C> {
             phase: Phase::ReadHead,
             turns: 0,
             work: Work::NONE,
+        }
+    }
+}
+
+impl<L, C> Phase<L, C> {
+    /// Puts a phase in the place of one in which nothing is held.
+    pub(crate) fn put(&mut self, phase: Phase<L, C>)
+        requires { self.old ≡ Phase.ReadHead }
+        ensures { self.new ≡ phase }
+    {
+        match mem::replace(self, phase) {
+            Phase::ReadHead => {}
+            Phase::Refuse(_answer, _error) => unreachable!(),
+            Phase::Connect(_context, _text) => unreachable!(),
+            Phase::SendHead(_attempt, _text) => unreachable!(),
+            Phase::ReadResponse(_attempt) => unreachable!(),
+            Phase::WriteHead(_attempt, _text, _left) => unreachable!(),
+            Phase::RelayBody(_attempt, _left) => unreachable!(),
+            Phase::Close(_attempt, _keep, _outcome) => unreachable!(),
+            Phase::Ended(_outcome, _attempts) => unreachable!(),
         }
     }
 }

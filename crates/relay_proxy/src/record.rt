@@ -1,7 +1,7 @@
 //! What was done for a request: its attempts, and how much work they took.
 ghost use Rattle.std.specs.Prelude.{◌≡◌, [], ◌∷◌, ◌++◌, length, slice_get, vec_len, vec_capacity, IsTrue, OnErr, OnOk, IfSome, IsSome, ◌↔◌, ◌<◌};
 
-use relay_tasks::{Error, Peer};
+use relay_tasks::{Error, Peer, PhaseLog};
 use std::alloc::{AllocError, Global};
 use std::marker::Model;
 
@@ -101,6 +101,8 @@ impl AttemptRoom {
 /// What was done for a request. Numbers stand still at their type's last value.
 #[derive(Drop)]
 pub struct RunRecord {
+    /// The hooks that were called. None are yet.
+    pub log: PhaseLog,
     pub attempts: AttemptList,
     /// The turns that were counted.
     pub turns_taken: u64,

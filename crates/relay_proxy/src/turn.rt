@@ -1,6 +1,6 @@
 //! One turn of a request, by the phase in which it stands.
 ghost use Rattle.std.specs.Prelude.{◌≡◌, ◌+◌, ◌≤◌, ℕ, []};
-ghost use Rattle.relay_proxy.specs.Closing.{TurnOf};
+ghost use Rattle.relay_proxy.specs.Closing.{Rests, TurnOf};
 ghost use Rattle.relay_proxy.specs.Passed.{Start, Passed, Waited};
 ghost use Rattle.relay_proxy.specs.Phases.{RunSoFar};
 ghost use Rattle.relay_proxy.specs.Turn.{world_of, links_held, WorksIn};
@@ -30,6 +30,8 @@ pub(crate) fn take_turn<SV: ProxyHttp, K: Connector, D: ByteLink, U>(
         (world_of D.state client.old (K.fault_count connector.old))
         (world_of D.state client.new (K.fault_count connector.new))
         phase result.phase result.step }
+    ensures rests { Rests (world_of D.state client.old (K.fault_count connector.old))
+        (world_of D.state client.new (K.fault_count connector.new)) phase result.phase result.step }
     ensures work { WorksIn phase result.step result.work }
     ensures out { K.out connector.new + links_held K.Byte.state K.Byte.start phase
         ≡ K.out connector.old + links_held K.Byte.state K.Byte.start result.phase }

@@ -1,0 +1,191 @@
+//! The proxy: requests are begun, stepped and ended, or processed in one call.
+ghost use Rattle.std.specs.Prelude.{◌≡◌, ◌+◌, ◌≤◌, ℕ, [], ◌∷◌, List, None, if◌then◌else◌, nat_lt, OnSome};
+ghost use Rattle.relay_links.specs.Count.{Rose, up};
+ghost use Rattle.relay_proxy.specs.Passed.{Start, Passed, Waited, start_of, nothing, unwaited};
+ghost use Rattle.relay_proxy.specs.Request.{Counts, IsRunning, StepsOn, ComesToEnd, Processes};
+ghost use Rattle.relay_proxy.specs.Turn.{world_of, links_held};
+ghost use Rattle.relay_proxy.specs.Work.{total_work};
+
+use crate::finish::{finish, settle};
+use crate::hooks::ProxyHttp;
+use crate::machine::{Machine, Next, Phase, RunStep};
+use crate::outcome::{Outcome, Processed};
+use crate::record::RunRecord;
+use crate::turn::take_turn;
+use crate::work::{Work, count_turn};
+use relay_h1::Connection;
+use relay_links::{ByteLink, Connector, Delay, Pause, Purger, Schedule, ShutdownWatch};
+use relay_tasks::PhaseLog;
+use std::alloc::Global;
+use std::mem;
+
+/// How a proxy is set up.
+#[derive(Clone, Copy, Debug, PartialEq, Eq)]
+pub struct ServerConf {
+    /// How many attempts a request has at most: 1 or more.
+    pub max_retries: usize,
+}
+
+/// What a proxy asks beside its links: which branch is next, whether it shuts down, and to wait.
+#[derive(Drop)]
+pub struct Outside<H, W, Y> {
+    pub schedule: H,
+    pub shutdown: W,
+    pub delay: Y,
+}
+
+/// An application over a connector and a purger.
+pub struct HttpProxy<SV, K, P> {
+    alloc: Global,
+    inner: SV,
+    conf: ServerConf,
+    connector: K,
+    purger: P,
+}
+
+/// A request under way. It holds the link of its attempt, so it is given to `end`.
+pub struct RequestMachine<SV: ProxyHttp, K: Connector> {
+    machine: Machine<K::Byte, SV::CTX>,
+    kept: Option<SV::Kept>,
+}
+
+impl<SV: ProxyHttp, K: Connector, P: Purger> HttpProxy<SV, K, P> {
+    /// A proxy. `max_retries` is at least 1.
+    pub fn new(alloc: Global, inner: SV, conf: ServerConf, connector: K, purger: P) -> Self
+        requires { 1 ≤ conf.max_retries }
+        ensures connector { result.connector ≡ connector }
+        ensures inner { result.inner ≡ inner }
+        ensures conf { result.conf ≡ conf }
+        ensures purger { result.purger ≡ purger }
+    {
+        HttpProxy {
+            alloc,
+            inner,
+            conf,
+            connector,
+            purger,
+        }
+    }
+
+    /// The connector.
+    pub fn connector(&self) -> &K
+        ensures { result.now ≡ self.now.connector }
+    {
+        &self.connector
+    }
+
+    /// The purger.
+    pub fn purger(&self) -> &P
+        ensures { result.now ≡ self.now.purger }
+    {
+        &self.purger
+    }
+
+    /// Begins a request on a client's connection, with the value that was kept from the request
+    /// before. It takes no memory and calls nothing.
+    pub fn begin<D: ByteLink>(
+        &self,
+        client: &mut Connection<D, SV::Kept>,
+        kept: Option<SV::Kept>,
+    ) -> RequestMachine<SV, K>
+        ensures running { IsRunning K.Byte.state K.Byte.start
+            (start_of (world_of D.state client.old (K.fault_count self.now.connector)))
+            nothing unwaited (world_of D.state client.new (K.fault_count self.now.connector)) []
+            result.machine }
+        ensures no_turns { result.machine.turns ≡ 0 }
+        ensures no_link { links_held K.Byte.state K.Byte.start result.machine.phase ≡ 0 }
+        ensures client { client.new ≡ client.old }
+    {
+        RequestMachine {
+            machine: Machine::new(),
+            kept,
+        }
+    }
+
+    /// Takes one turn of a request.
+    ///
+    /// Where the machine holds a link, the connector's number of links that are out is not 0, and
+    /// the client is as the machine's last call left it.
+    pub fn step<D: ByteLink, H: Schedule, W: ShutdownWatch, Y: Delay>(
+        &mut self,
+        machine: &mut RequestMachine<SV, K>,
+        client: &mut Connection<D, SV::Kept>,
+        _outside: &mut Outside<H, W, Y>,
+    ) -> RunStep
+        requires { links_held K.Byte.state K.Byte.start machine.old.machine.phase
+            ≤ K.out self.old.connector }
+        // The run so far goes on, and these links were handed back.
+        ensures steps { (s : Start) (p : Passed) (v : Waited) (own : List _)
+            → IsRunning K.Byte.state K.Byte.start s p v
+            (world_of D.state client.old (K.fault_count self.old.connector)) own
+            machine.old.machine
+            → StepsOn K.Byte.state K.Byte.start s p v
+            (world_of D.state client.new (K.fault_count self.new.connector)) own
+            (K.returned self.old.connector) (K.returned self.new.connector)
+            machine.old.machine machine.new.machine result }
+        // A step that moved did some work.
+        ensures progress { result ≡ RunStep.Moved
+            → Rose (total_work machine.old.machine.work) (total_work machine.new.machine.work) }
+        ensures counted { Counts machine.old.machine.turns machine.new.machine.turns result }
+        ensures out { K.out self.new.connector
+            + links_held K.Byte.state K.Byte.start machine.old.machine.phase
+            ≡ K.out self.old.connector
+            + links_held K.Byte.state K.Byte.start machine.new.machine.phase }
+        ensures faults { K.fault_count self.old.connector ≤ K.fault_count self.new.connector }
+        ensures kept { client.new.kept ≡ client.old.kept }
+    {
+        let phase = mem::replace(&mut machine.machine.phase, Phase::ReadHead);
+        let next = take_turn(self.alloc, &self.inner, &mut self.connector, client, phase);
+        let Next { phase, step, work } = next;
+        machine.machine.turns = count_turn(machine.machine.turns, work);
+        machine.machine.work = machine.machine.work.plus(work);
+        let settled = settle(&mut self.connector, phase);
+        machine.machine.phase.put(settled);
+        step
+    }
+
+    /// Ends a request: a link that is still held goes back and is not kept. One that has not ended
+    /// gives `TurnLimit`. The value is what was kept for the next request of the connection; no hook
+    /// keeps one yet.
+    ///
+    /// Where the machine holds a link, the connector's number of links that are out is not 0, and
+    /// the client is as the machine's last call left it.
+    pub fn end<D: ByteLink>(
+        &mut self,
+        machine: RequestMachine<SV, K>,
+        client: &mut Connection<D, SV::Kept>,
+    ) -> (Processed, Option<SV::Kept>)
+        requires { links_held K.Byte.state K.Byte.start machine.machine.phase
+            ≤ K.out self.old.connector }
+        ensures ends { (s : Start) (p : Passed) (v : Waited) (own : List _)
+            → IsRunning K.Byte.state K.Byte.start s p v
+            (world_of D.state client.old (K.fault_count self.old.connector)) own machine.machine
+            → ComesToEnd K.Byte.state K.Byte.start s p v
+            (world_of D.state client.new (K.fault_count self.new.connector)) own
+            (K.returned self.old.connector) (K.returned self.new.connector)
+            machine.machine result.0 }
+        ensures turns { result.0.history.turns_taken ≡ machine.machine.turns }
+        ensures out { K.out self.new.connector
+            + links_held K.Byte.state K.Byte.start machine.machine.phase
+            ≡ K.out self.old.connector }
+        ensures kept { result.1 ≡ None }
+        ensures client { client.new ≡ client.old }
+    {
+        let RequestMachine {
+            machine,
+            kept: _kept,
+        } = machine;
+        let Machine { phase, turns, work } = machine;
+        let ending = finish(self.alloc, &mut self.connector, phase);
+        let history = RunRecord {
+            log: PhaseLog::new(self.alloc),
+            attempts: ending.attempts,
+            turns_taken: turns,
+            tasks_moved: work.moved,
+            items_used: work.used,
+            sides_ended: work.ended,
+        };
+        let outcome = ending.outcome;
+        (Processed { outcome, history }, None)
+    }
+}
