@@ -3,6 +3,7 @@ use Rattle.std.specs.Prelude.{◌≡◌, ℕ, ◌<◌, true, List, [], ◌∷◌
 use Rattle.relay_links.specs.Count.{Rose}
 use Rattle.relay_links.specs.Sink.{SinkState}
 use Rattle.relay_links.specs.Source.{SourceState}
+use Rattle.relay_cli.specs.Exchange.{IsRun}
 use Rattle.relay_cli.specs.Report.{RequestSpec, report_of}
 use Rattle.relay_cli.specs.Script.{ScriptSpec, reads_script}
 use Rattle.relay_cli.specs.Transfer.{GivesAll, GivesTooMany, FailsToGive, Takes, input_limit}
@@ -22,10 +23,6 @@ status_code status.SourceFailed = 3
 status_code status.SinkFailed = 4
 status_code status.OutOfMemory = 5
 status_code status.WordsRefused = 6
-
--- the request is a run of the script
-abbrev pub IsRun : ScriptSpec → RequestSpec → Type 0
-IsRun script request = Unit {0}
 
 -- the text is the report of a run of the script that the bytes spell
 pub record IsReportOf (bytes text : List ℕ) : Type 0 where

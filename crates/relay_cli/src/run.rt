@@ -1,20 +1,19 @@
 //! A run of the program: a script is read from a source, run, and reported to a sink.
 ghost use Rattle.std.specs.Prelude.{◌≡◌, ◌⊎◌, map, IfOk, None, Some};
 ghost use Rattle.relay_links.specs.Count.{Rose};
-ghost use Rattle.relay_cli.specs.Report.{request_spec};
-ghost use Rattle.relay_cli.specs.Script.{script_spec};
 ghost use Rattle.relay_cli.specs.Transfer.{WritesOut};
 ghost use Rattle.relay_cli.specs.Words.{command_of};
-ghost use Rattle.relay_cli.specs.Run.{status_code, status_after, IsRun, Answers, EndsBytes, EndsScript, EndsCommand, TellsNoScript, TellsTooMany};
+ghost use Rattle.relay_cli.specs.Run.{status_code, status_after, Answers, EndsBytes, EndsScript, EndsCommand, TellsNoScript, TellsTooMany};
 ghost use Rattle.relay_cli.specs.declared.run.Status.{Status};
 ghost use Rattle.relay_cli.specs.declared.transfer.Output.{Output};
 
-use crate::report::{RequestReport, report};
-use crate::script::{Script, ScriptError, read_script};
+use crate::exchange::run_exchange;
+use crate::report::report;
+use crate::script::{ScriptError, read_script};
 use crate::transfer::{Input, Output, read_all, write_all};
 use crate::words::{Command, parse_words};
 use relay_links::{Sink, Source};
-use std::alloc::{AllocError, Global};
+use std::alloc::Global;
 
 /// What is written where the words are refused.
 const USAGE: &[u8] = b"usage: relay run | relay gen N | relay pair | relay serve PORT PEER\n";
@@ -124,16 +123,9 @@ fn report_bytes(alloc: Global, bytes: &[u8]) -> Result<Vec<u8>, ScriptError>
     ensures { Answers (λ text. text.items) bytes.now result }
 {
     let script = read_script(alloc, bytes)?;
-    let request = run(alloc, script)?;
+    let request = run_exchange(alloc, script)?;
     let text = report(alloc, &request)?;
     Ok(text)
-}
-
-/// Runs a script.
-fn run(alloc: Global, script: Script) -> Result<RequestReport, AllocError>
-    ensures { IfOk result (λ request. IsRun (script_spec script) (request_spec request)) }
-{
-    Err(AllocError)
 }
 
 /// Writes a text, and answers `done` where the sink took all of it.

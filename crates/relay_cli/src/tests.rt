@@ -30,6 +30,66 @@ fn runs_nothing_but_its_words(rt: HostRuntime) -> Result<(), AllocError> {
     Ok(())
 }
 
+/// The bytes of a script with these items of the client and of the peer.
+fn script(rt: &HostRuntime, client: &str, peer: &str) -> Result<String, AllocError> {
+    format!(in rt.alloc();
+        "{{\"client\":[{client}],\"peers\":[{{\"name\":\"a\",\"read\":[{peer}]}}]}}"
+    )
+}
+
+const GET: &str = "{\"text\":\"GET /a HTTP/1.1\\r\\nHost: h.example\\r\\n\\r\\n\"}";
+
+const ANSWER: &str = "{\"text\":\"HTTP/1.1 200 OK\\r\\nContent-Length: 2\\r\\n\\r\\nhi\"}";
+
+const REPORT: &str = "0 request 1\noutcome Served\nerror -\nreuse yes\n\
+    written HTTP/1.1 200 OK\\r\\ncontent-length: 2\\r\\n\\r\\nhi\n\
+    attempt 1 a reused no kept yes error -\n\
+    sent GET /a HTTP/1.1\\r\\nhost: h.example\\r\\n\\r\\n\n";
+
+const REFUSED: &str = "0 request 1\noutcome Refused\nerror InvalidHTTPHeader Downstream false\n\
+    reuse no\nwritten HTTP/1.1 400 Bad Request\\r\\nserver: Pingora\\r\\ncontent-length: 0\\r\\n\
+    cache-control: private, no-store\\r\\n\\r\\n\n";
+
+const FAILED: &str = "0 request 1\noutcome Served\nerror ReadError Upstream false\nreuse no\n\
+    written \nattempt 1 a reused no kept no error ReadError Upstream false\n\
+    sent GET /a HTTP/1.1\\r\\nhost: h.example\\r\\n\\r\\n\n";
+
+#[test]
+fn reports_one_get_through_one_peer(rt: HostRuntime) -> Result<(), AllocError> {
+    let slow = format!(in rt.alloc(); "{{\"wait\":3}},{ANSWER},{{\"end\":true}}")?;
+    for (client, peer, report) in [
+        (GET, ANSWER, REPORT),
+        (GET, slow.as_str(), REPORT),
+        (
+            "{\"end\":true}",
+            ANSWER,
+            "0 request 1\noutcome NoRequest\nerror -\nreuse no\nwritten \n",
+        ),
+        ("{\"text\":\"GET / HTTP/1.1\\r\\n\\r\\n\"}", ANSWER, REFUSED),
+        (
+            "{\"text\":\"POST /a HTTP/1.1\\r\\nHost: h.example\\r\\n\\r\\n\"}",
+            ANSWER,
+            "0 request 1\noutcome Refused\nerror Custom(1) Downstream false\nreuse no\nwritten \n",
+        ),
+        (
+            "{\"fault\":\"Read\"}",
+            ANSWER,
+            "0 request 1\noutcome Refused\nerror ReadError Downstream false\nreuse no\nwritten \n",
+        ),
+        (
+            "",
+            ANSWER,
+            "0 request 1\noutcome TurnLimit\nerror -\nreuse no\nwritten \n",
+        ),
+        (GET, "{\"fault\":\"Read\"}", FAILED),
+    ] {
+        let input = script(&rt, client, peer)?;
+        let found = answer(&rt, &["run"], input.as_bytes())?;
+        assert_eq!(rt; found.as_str(), report, "at {client} and {peer}");
+    }
+    Ok(())
+}
+
 #[test]
 fn refuses_what_is_no_script(rt: HostRuntime) -> Result<(), AllocError> {
     let refused = [
