@@ -12,15 +12,18 @@ use Rattle.relay_links.specs.ReadScript.{is_passed, rest_of, left_items, is_sile
 use Rattle.relay_links.proofs.ReadScriptLemmas.{given_of-more, given_of-passed, faults_before-suc, left_items-here, left_items-past}
 
 -- the item at the place of a settled script: it is the one that answers
-pub record Front (before settled : ReadScript) (taken : ℕ) (x : ReadItem) (behind : List ReadItem) : Type 0 where
+pub record Front (before settled : ReadScript) (taken : ℕ) (x : ReadItem)
+    (behind : List ReadItem) : Type 0 where
   pub found : slice_get settled.items.items settled.at ≡ Some x
   pub stays : is_passed x settled.done taken ≡ false
   pub front : script_front before taken ≡ rest_of x settled.done ∷ behind
   pub left : script_left settled ≡ rest_of x settled.done ∷ behind
   pub silent : script_silent before taken ≡ is_silent (rest_of x settled.done ∷ behind)
   pub silent_here : script_silent settled taken ≡ is_silent (rest_of x settled.done ∷ behind)
-  pub answer : (room : ℕ) → script_answer before taken room ≡ answer_of (rest_of x settled.done ∷ behind) room
-  pub after : (room : ℕ) → script_after before taken room ≡ after_answer (rest_of x settled.done ∷ behind) room
+  pub answer : (room : ℕ)
+      → script_answer before taken room ≡ answer_of (rest_of x settled.done ∷ behind) room
+  pub after : (room : ℕ)
+      → script_after before taken room ≡ after_answer (rest_of x settled.done ∷ behind) room
   pub items : settled.items ≡ before.items
   pub given : script_given settled ≡ script_given before
   pub faults : script_faults settled ≡ script_faults before
@@ -33,12 +36,16 @@ behind script = left_items script.items.items (suc script.at) 0
 
 -- the item that the code read, once the script has settled
 pub front : (before settled : ReadScript) (taken n : ℕ) (read x : ReadItem) → before.ended ≡ false
-    → Passes before settled taken → IsSettled settled taken → n ≡ vec_len settled.items → settled.at < n
-    → read ≡ get_or settled.items.items settled.at read → read ≡ x → Front before settled taken x (behind settled)
+    → Passes before settled taken → IsSettled settled taken → n ≡ vec_len settled.items
+    → settled.at < n
+    → read ≡ get_or settled.items.items settled.at read → read ≡ x
+    → Front before settled taken x (behind settled)
 front before settled taken n read x was_open passes settles size within is_read is =
     let read_here : slice_get settled.items.items settled.at ≡ Some read =
-    slice_get_read settled.items.items n settled.at read (size ∙ settled.items.ok.0) within is_read in
-    let found : slice_get settled.items.items settled.at ≡ Some x = read_here ∙ ap (λ (y : ReadItem). Some y) is in
+    slice_get_read settled.items.items n settled.at read (size
+    ∙ settled.items.ok.0) within is_read in
+    let found : slice_get settled.items.items settled.at ≡ Some x = read_here
+    ∙ ap (λ (y : ReadItem). Some y) is in
     let left : script_left settled ≡ rest_of x settled.done ∷ behind settled =
     left_items-here settled.items.items settled.at settled.done x found in
     let before_front : script_front before taken ≡ rest_of x settled.done ∷ behind settled =
@@ -63,24 +70,37 @@ front before settled taken n read x was_open passes settles size within is_read 
 
 -- the item's bytes were given
 pub gives : (before settled : ReadScript) (taken n : ℕ) (bytes room_before room : List ℕ)
-    → Front before settled taken (item.Bytes bytes) (behind settled) → 0 < length room_before → length room ≡ length room_before
-    → n ≡ min (length bytes - settled.done) (length room_before) → take n room ≡ take n (drop settled.done bytes)
-    → ScriptGives before taken room n (record { items = settled.items; at = settled.at; done = settled.done + n; ended = settled.ended })
+    → Front before settled taken (item.Bytes bytes) (behind settled) → 0 < length room_before
+    → length room ≡ length room_before
+    → n ≡ min (length bytes - settled.done) (length room_before)
+    → take n room ≡ take n (drop settled.done bytes)
+    → ScriptGives before taken room n
+    (record {
+      items = settled.items;
+      at = settled.at;
+      done = settled.done + n;
+      ended =
+          settled.ended;
+    })
 gives before settled taken n bytes room_before room here roomy kept count copied =
     let more : settled.done < length bytes = leb-false (length bytes) settled.done here.stays in
-    let is : n ≡ min (length (drop settled.done bytes)) (length room) = rw (length-drop settled.done bytes, kept) count in
+    let is : n ≡ min (length (drop settled.done bytes)) (length room) =
+    rw (length-drop settled.done bytes, kept) count in
     record {
       some = omega arith;
       fits = omega arith;
       was_open = here.was_open;
       spoke = here.silent;
-      given = given_of-more settled.items.items settled.at settled.done n (item.Bytes bytes) here.found
+      given =
+          given_of-more settled.items.items settled.at settled.done n (item.Bytes bytes) here.found
           ∙ rw (here.given, copied) refl;
       faults = here.faults;
       ended = here.ended;
       step = record {
         exact = sym (here.answer (length room) ∙ ap (λ (k : ℕ). got.Bytes k) (sym is));
-        left = left_items-here settled.items.items settled.at (settled.done + n) (item.Bytes bytes) here.found
+        left =
+            left_items-here settled.items.items settled.at (settled.done + n)
+            (item.Bytes bytes) here.found
             ∙ sym (here.after (length room) ∙ rw (← is, drop-drop) refl);
         items = here.items;
       };
@@ -92,13 +112,22 @@ none_more zero given = append-nil given
 none_more (suc done) given = append-nil given
 
 -- a wait that is not over
-pub wait_is_short : (before settled : ReadScript) (taken n : ℕ) → Front before settled taken (item.Wait n) (behind settled)
+pub wait_is_short : (before settled : ReadScript) (taken n : ℕ)
+    → Front before settled taken (item.Wait n) (behind settled)
     → settled.done < n
 wait_is_short before settled taken n here = leb-false n settled.done here.stays
 
 -- a wait goes on
-pub waits : (before settled : ReadScript) (taken room n : ℕ) → Front before settled taken (item.Wait n) (behind settled)
-    → ScriptWaits before taken room (record { items = settled.items; at = settled.at; done = settled.done + 1; ended = settled.ended })
+pub waits : (before settled : ReadScript) (taken room n : ℕ)
+    → Front before settled taken (item.Wait n) (behind settled)
+    → ScriptWaits before taken room
+    (record {
+      items = settled.items;
+      at = settled.at;
+      done = settled.done + 1;
+      ended =
+          settled.ended;
+    })
 waits before settled taken room n here =
     record {
       was_open = here.was_open;
@@ -109,14 +138,17 @@ waits before settled taken room n here =
       ended = here.ended;
       step = record {
         exact = sym (here.answer room);
-        left = left_items-here settled.items.items settled.at (settled.done + 1) (item.Wait n) here.found
+        left =
+            left_items-here settled.items.items settled.at (settled.done + 1)
+            (item.Wait n) here.found
             ∙ sym (here.after room ∙ ap (λ (k : ℕ). item.Wait k ∷ behind settled) (omega arith));
         items = here.items;
       };
     }
 
 -- the script stays silent before an item that is silent
-pub is_silent_after : (before settled : ReadScript) (taken room n : ℕ) → Front before settled taken (item.After n) (behind settled)
+pub is_silent_after : (before settled : ReadScript) (taken room n : ℕ)
+    → Front before settled taken (item.After n) (behind settled)
     → ScriptIsSilent before taken room settled
 is_silent_after before settled taken room n here =
     record {
@@ -126,15 +158,24 @@ is_silent_after before settled taken room n here =
       given = here.given;
       faults = here.faults;
       ended = here.ended;
-      step = record { exact = sym (here.answer room); left = here.left ∙ sym (here.after room); items = here.items };
+      step =
+          record {
+            exact = sym (here.answer room);
+            left = here.left ∙ sym (here.after room);
+            items =
+                here.items;
+          };
     }
 
 -- the script is silent past its last item
-pub is_silent_past : (before settled : ReadScript) (taken n room : ℕ) → before.ended ≡ false → Passes before settled taken
-    → IsSettled settled taken → n ≡ vec_len settled.items → n ≤ settled.at → ScriptIsSilent before taken room settled
+pub is_silent_past : (before settled : ReadScript) (taken n room : ℕ) → before.ended ≡ false
+    → Passes before settled taken
+    → IsSettled settled taken → n ≡ vec_len settled.items → n ≤ settled.at
+    → ScriptIsSilent before taken room settled
 is_silent_past before settled taken n room was_open passes settles size past =
     let none : script_left settled ≡ [] =
-    left_items-past settled.items.items settled.at settled.done (omega (arith, settled.items.ok.0)) in
+    left_items-past settled.items.items settled.at settled.done
+    (omega (arith, settled.items.ok.0)) in
     let before_front : script_front before taken ≡ [] = sym passes.front ∙ settles.front ∙ none in
     let ended : settled.ended ≡ false = passes.ended ∙ was_open in
     record {
@@ -153,17 +194,21 @@ is_silent_past before settled taken n room was_open passes settles size past =
 
 -- a fault is answered once
 pub fails : (before settled : ReadScript) (taken room : ℕ) (fault answered : Fault)
-    → Front before settled taken (item.Fault fault) (behind settled) → answered ≡ as_read_fault fault → IsReadFault answered
-    → ScriptFails before taken room answered (record { items = settled.items; at = settled.at + 1; done = 0; ended = settled.ended })
+    → Front before settled taken (item.Fault fault) (behind settled)
+    → answered ≡ as_read_fault fault → IsReadFault answered
+    → ScriptFails before taken room answered
+    (record { items = settled.items; at = settled.at + 1; done = 0; ended = settled.ended })
 fails before settled taken room fault answered here is kind =
     record {
       kind = kind;
       was_open = here.was_open;
       spoke = here.silent;
       given = rw add-one
-          (given_of-passed settled.items.items settled.at settled.done (item.Fault fault) here.found (omega arith) ∙ here.given);
+          (given_of-passed settled.items.items settled.at settled.done (item.Fault fault) here.found
+          (omega arith) ∙ here.given);
       faults = rw add-one
-          (faults_before-suc settled.items.items settled.at (item.Fault fault) here.found ∙ rw (here.faults, is) refl);
+          (faults_before-suc settled.items.items settled.at (item.Fault fault) here.found
+          ∙ rw (here.faults, is) refl);
       ended = here.ended;
       step = record {
         exact = rw is (sym (here.answer room));
@@ -173,19 +218,28 @@ fails before settled taken room fault answered here is kind =
     }
 
 -- the end is answered
-pub ends : (before settled : ReadScript) (taken room : ℕ) → Front before settled taken item.End (behind settled)
-    → ScriptEnds before taken room (record { items = settled.items; at = settled.at; done = settled.done; ended = true })
+pub ends : (before settled : ReadScript) (taken room : ℕ)
+    → Front before settled taken item.End (behind settled)
+    → ScriptEnds before taken room
+    (record { items = settled.items; at = settled.at; done = settled.done; ended = true })
 ends before settled taken room here =
     record {
       spoke = here.silent;
       given = here.given;
       faults = here.faults;
       ended = refl;
-      step = record { exact = sym (here.answer room); left = here.left ∙ sym (here.after room); items = here.items };
+      step =
+          record {
+            exact = sym (here.answer room);
+            left = here.left ∙ sym (here.after room);
+            items =
+                here.items;
+          };
     }
 
 -- an ended script answers its end
-pub ends_again : (script : ReadScript) (taken room : ℕ) → script.ended ≡ true → ScriptEnds script taken room script
+pub ends_again : (script : ReadScript) (taken room : ℕ) → script.ended ≡ true
+    → ScriptEnds script taken room script
 ends_again script taken room ended =
     record {
       spoke = rw ended refl;

@@ -26,8 +26,10 @@ no_fault (item.Fault fault) done taken passed = cc
 no_fault item.End done taken passed = refl
 
 -- what is left of an item is passed exactly where the item is
-is_passed-rest_of : (x : ReadItem) (done taken : ℕ) → is_passed (rest_of x done) 0 taken ≡ is_passed x done taken
-is_passed-rest_of (item.Bytes bytes) done taken = rw (length-drop done bytes) (leb-sub (length bytes) done)
+is_passed-rest_of : (x : ReadItem) (done taken : ℕ)
+    → is_passed (rest_of x done) 0 taken ≡ is_passed x done taken
+is_passed-rest_of (item.Bytes bytes) done taken =
+    rw (length-drop done bytes) (leb-sub (length bytes) done)
 is_passed-rest_of (item.Wait n) done taken = leb-sub n done
 is_passed-rest_of (item.After n) done taken = refl
 is_passed-rest_of (item.Fault fault) done taken = refl
@@ -87,13 +89,15 @@ left_items-here (y ∷ ys) zero done x found =
 left_items-here (y ∷ ys) (suc at) done x found = left_items-here ys at done x found
 
 -- nothing is left past the last item
-pub left_items-past : (xs : List ReadItem) (at done : ℕ) → length xs ≤ at → left_items xs at done ≡ []
+pub left_items-past : (xs : List ReadItem) (at done : ℕ) → length xs ≤ at
+    → left_items xs at done ≡ []
 left_items-past [] at done past = refl
 left_items-past (y ∷ ys) zero done past = absurd (omega arith)
 left_items-past (y ∷ ys) (suc at) done past = left_items-past ys at done (omega arith)
 
 -- what was given, after more bytes of the item at the place
-pub given_of-more : (xs : List ReadItem) (at done count : ℕ) (x : ReadItem) → slice_get xs at ≡ Some x
+pub given_of-more : (xs : List ReadItem) (at done count : ℕ) (x : ReadItem)
+    → slice_get xs at ≡ Some x
     → given_of xs at (done + count) ≡ given_of xs at done ++ take count (drop done (bytes_of x))
 given_of-more [] at done count x found = cc
 given_of-more (y ∷ ys) zero done count x found =
@@ -123,23 +127,29 @@ given_of-left_items (x ∷ xs) (suc at) done =
     ∙ ap (λ (t : List ℕ). bytes_of x ++ t) (given_of-left_items xs at done)
 
 -- a script that passes the item at its place
-pub passes_one : (start script : ReadScript) (taken n : ℕ) (x : ReadItem) → Passes start script taken
+pub passes_one : (start script : ReadScript) (taken n : ℕ) (x : ReadItem)
+    → Passes start script taken
     → n ≡ vec_len script.items → script.at < n → x ≡ get_or script.items.items script.at x
     → is_passed x script.done taken ≡ true
-    → Passes start (record { items = script.items; at = script.at + 1; done = 0; ended = script.ended }) taken
+    → Passes start
+    (record { items = script.items; at = script.at + 1; done = 0; ended = script.ended }) taken
 passes_one start script taken n x so_far size within read passed =
     let found : slice_get script.items.items script.at ≡ Some x =
     slice_get_read script.items.items n script.at x (size ∙ script.items.ok.0) within read in
-    let gone : is_passed (rest_of x script.done) 0 taken ≡ true = is_passed-rest_of x script.done taken ∙ passed in
+    let gone : is_passed (rest_of x script.done) 0 taken ≡ true =
+    is_passed-rest_of x script.done taken ∙ passed in
     record {
       items = so_far.items;
       ended = so_far.ended;
       given = rw add-one
-          (given_of-passed script.items.items script.at script.done x found (short x script.done taken passed) ∙ so_far.given);
+          (given_of-passed script.items.items script.at script.done x found
+          (short x script.done taken passed) ∙ so_far.given);
       faults = rw add-one
-          (faults_before-suc script.items.items script.at x found ∙ rw (no_fault x script.done taken passed, append-nil) so_far.faults);
+          (faults_before-suc script.items.items script.at x found
+          ∙ rw (no_fault x script.done taken passed, append-nil) so_far.faults);
       front = rw add-one
-          (sym (rw (left_items-here script.items.items script.at script.done x found, gone) refl) ∙ so_far.front);
+          (sym (rw (left_items-here script.items.items script.at script.done x found, gone) refl)
+          ∙ so_far.front);
     }
 
 -- a script that does not pass the item at its place
@@ -149,14 +159,16 @@ pub settled_here : (script : ReadScript) (taken n : ℕ) (x : ReadItem)
 settled_here script taken n x size within read stays =
     let found : slice_get script.items.items script.at ≡ Some x =
     slice_get_read script.items.items n script.at x (size ∙ script.items.ok.0) within read in
-    let here : is_passed (rest_of x script.done) 0 taken ≡ false = is_passed-rest_of x script.done taken ∙ stays in
+    let here : is_passed (rest_of x script.done) 0 taken ≡ false =
+    is_passed-rest_of x script.done taken ∙ stays in
     record {
       front = rw (left_items-here script.items.items script.at script.done x found, here) refl;
       stays = rw found stays;
     }
 
 -- a script past its last item
-pub settled_past : (script : ReadScript) (taken n : ℕ) → n ≡ vec_len script.items → n ≤ script.at → IsSettled script taken
+pub settled_past : (script : ReadScript) (taken n : ℕ) → n ≡ vec_len script.items → n ≤ script.at
+    → IsSettled script taken
 settled_past script taken n size past =
     let beyond : length script.items.items ≤ script.at = omega (arith, script.items.ok.0) in
     record {

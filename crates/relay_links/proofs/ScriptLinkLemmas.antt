@@ -34,7 +34,18 @@ pub fresh : (read : Vec ReadItem Global) (write : Vec WriteItem Global) (taken :
       waits = 0;
       used = 0;
       faults = 0;
-      start = record { read_at = 0; read_done = 0; write_at = 0; taken = 0; waits = 0; used = 0; faults = 0; reused = false };
+      start =
+          record {
+            read_at = 0;
+            read_done = 0;
+            write_at = 0;
+            taken = 0;
+            waits = 0;
+            used =
+                0;
+            faults = 0;
+            reused = false;
+          };
     }) read.items write.items
 fresh read write taken empty size =
     record {
@@ -67,9 +78,11 @@ fresh read write taken empty size =
     }
 
 -- the link that the code makes
-pub fresh_link : (reads : ReadScript) (writes : WriteScript) (read : Vec ReadItem Global) (write : Vec WriteItem Global)
+pub fresh_link : (reads : ReadScript) (writes : WriteScript) (read : Vec ReadItem Global)
+    (write : Vec WriteItem Global)
     (taken : Vec ℕ Global)
-    → reads ≡ record { items = read; at = 0; done = 0; ended = false } → writes ≡ record { items = write; at = 0; done = 0 }
+    → reads ≡ record { items = read; at = 0; done = 0; ended = false }
+    → writes ≡ record { items = write; at = 0; done = 0 }
     → taken.items ≡ [] → vec_len taken ≡ 0
     → IsFresh (record {
       reads = reads;
@@ -78,7 +91,18 @@ pub fresh_link : (reads : ReadScript) (writes : WriteScript) (read : Vec ReadIte
       waits = 0;
       used = 0;
       faults = 0;
-      start = record { read_at = 0; read_done = 0; write_at = 0; taken = 0; waits = 0; used = 0; faults = 0; reused = false };
+      start =
+          record {
+            read_at = 0;
+            read_done = 0;
+            write_at = 0;
+            taken = 0;
+            waits = 0;
+            used =
+                0;
+            faults = 0;
+            reused = false;
+          };
     }) read.items write.items
 fresh_link reads writes read write taken reads_is writes_is empty size =
     rw (reads_is, writes_is) (fresh read write taken empty size)

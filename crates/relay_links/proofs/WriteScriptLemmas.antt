@@ -72,13 +72,16 @@ pub passes_one : (start script : WriteScript) (n : ℕ) (x : WriteItem) → Pass
 passes_one start script n x so_far size within read passed =
     let found : slice_get script.items.items script.at ≡ Some x =
     slice_get_read script.items.items n script.at x (size ∙ script.items.ok.0) within read in
-    let gone : is_passed (rest_of x script.done) 0 ≡ true = is_passed-rest_of x script.done ∙ passed in
+    let gone : is_passed (rest_of x script.done) 0 ≡ true = is_passed-rest_of x script.done
+    ∙ passed in
     record {
       items = so_far.items;
       faults = rw add-one
-          (faults_before-suc script.items.items script.at x found ∙ rw (no_fault x script.done passed, append-nil) so_far.faults);
+          (faults_before-suc script.items.items script.at x found
+          ∙ rw (no_fault x script.done passed, append-nil) so_far.faults);
       front = rw add-one
-          (sym (rw (left_items-here script.items.items script.at script.done x found, gone) refl) ∙ so_far.front);
+          (sym (rw (left_items-here script.items.items script.at script.done x found, gone) refl)
+          ∙ so_far.front);
     }
 
 -- a script that does not pass the item at its place
@@ -88,14 +91,16 @@ pub settled_here : (script : WriteScript) (n : ℕ) (x : WriteItem)
 settled_here script n x size within read stays =
     let found : slice_get script.items.items script.at ≡ Some x =
     slice_get_read script.items.items n script.at x (size ∙ script.items.ok.0) within read in
-    let here : is_passed (rest_of x script.done) 0 ≡ false = is_passed-rest_of x script.done ∙ stays in
+    let here : is_passed (rest_of x script.done) 0 ≡ false = is_passed-rest_of x script.done
+    ∙ stays in
     record {
       front = rw (left_items-here script.items.items script.at script.done x found, here) refl;
       stays = rw found stays;
     }
 
 -- a script past its last item
-pub settled_past : (script : WriteScript) (n : ℕ) → n ≡ vec_len script.items → n ≤ script.at → IsSettled script
+pub settled_past : (script : WriteScript) (n : ℕ) → n ≡ vec_len script.items → n ≤ script.at
+    → IsSettled script
 settled_past script n size past =
     let beyond : length script.items.items ≤ script.at = omega (arith, script.items.ok.0) in
     record {
@@ -119,20 +124,26 @@ pub record Front (before settled : WriteScript) (x : WriteItem) : Type 0 where
 faults-next : (before settled : WriteScript) (x : WriteItem) → Front before settled x
     → faults_before settled.items.items (settled.at + 1) ≡ script_faults before ++ fault_of x
 faults-next before settled x here =
-    rw add-one (faults_before-suc settled.items.items settled.at x here.found ∙ ap (λ (t : List Fault). t ++ fault_of x) here.faults)
+    rw add-one (faults_before-suc settled.items.items settled.at x here.found
+    ∙ ap (λ (t : List Fault). t ++ fault_of x) here.faults)
 
 -- the item that the code read, once the script has settled
-pub front : (before settled : WriteScript) (n : ℕ) (read x : WriteItem) → Passes before settled → IsSettled settled
-    → n ≡ vec_len settled.items → settled.at < n → read ≡ get_or settled.items.items settled.at read → read ≡ x
+pub front : (before settled : WriteScript) (n : ℕ) (read x : WriteItem) → Passes before settled
+    → IsSettled settled
+    → n ≡ vec_len settled.items → settled.at < n → read ≡ get_or settled.items.items settled.at read
+    → read ≡ x
     → Front before settled x
 front before settled n read x passes settles size within is_read is =
     let read_here : slice_get settled.items.items settled.at ≡ Some read =
-    slice_get_read settled.items.items n settled.at read (size ∙ settled.items.ok.0) within is_read in
-    let found : slice_get settled.items.items settled.at ≡ Some x = read_here ∙ ap (λ (y : WriteItem). Some y) is in
+    slice_get_read settled.items.items n settled.at read (size
+    ∙ settled.items.ok.0) within is_read in
+    let found : slice_get settled.items.items settled.at ≡ Some x = read_here
+    ∙ ap (λ (y : WriteItem). Some y) is in
     record {
       found = found;
       stays = rw found at settles.stays;
-      front = sym passes.front ∙ settles.front ∙ left_items-here settled.items.items settled.at settled.done x found;
+      front = sym passes.front ∙ settles.front
+          ∙ left_items-here settled.items.items settled.at settled.done x found;
       faults = passes.faults;
       items = passes.items;
     }
@@ -142,7 +153,8 @@ pub takes_all : (before settled : WriteScript) (n : ℕ) → Passes before settl
     → n ≡ vec_len settled.items → n ≤ settled.at → TakesTurn before settled TakesAll
 takes_all before settled n passes settles size past =
     let none : script_left settled ≡ [] =
-    left_items-past settled.items.items settled.at settled.done (omega (arith, settled.items.ok.0)) in
+    left_items-past settled.items.items settled.at settled.done
+    (omega (arith, settled.items.ok.0)) in
     let before_front : script_front before ≡ [] = sym passes.front ∙ settles.front ∙ none in
     record {
       exact = rw before_front refl;
@@ -165,16 +177,19 @@ takes before settled n here =
     }
 
 -- a wait that is not over
-pub wait_is_short : (before settled : WriteScript) (n : ℕ) → Front before settled (item.Wait n) → settled.done < n
+pub wait_is_short : (before settled : WriteScript) (n : ℕ) → Front before settled (item.Wait n)
+    → settled.done < n
 wait_is_short before settled n here = leb-false n settled.done here.stays
 
 -- a wait goes on
 pub waits : (before settled : WriteScript) (n : ℕ) → Front before settled (item.Wait n)
-    → TakesTurn before (record { items = settled.items; at = settled.at; done = settled.done + 1 }) Waits
+    → TakesTurn before
+    (record { items = settled.items; at = settled.at; done = settled.done + 1 }) Waits
 waits before settled n here =
     record {
       exact = rw here.front refl;
-      left = left_items-here settled.items.items settled.at (settled.done + 1) (item.Wait n) here.found
+      left =
+          left_items-here settled.items.items settled.at (settled.done + 1) (item.Wait n) here.found
           ∙ sym (rw here.front (ap (λ (k : ℕ). item.Wait k ∷ behind settled) (omega arith)));
       faults = rw append-nil here.faults;
       kind = tt;
@@ -182,9 +197,11 @@ waits before settled n here =
     }
 
 -- a fault is answered once
-pub fails : (before settled : WriteScript) (fault answered : Fault) → Front before settled (item.Fault fault)
+pub fails : (before settled : WriteScript) (fault answered : Fault)
+    → Front before settled (item.Fault fault)
     → answered ≡ as_write_fault fault → IsWriteFault answered
-    → TakesTurn before (record { items = settled.items; at = settled.at + 1; done = 0 }) (Fails answered)
+    → TakesTurn before (record { items = settled.items; at = settled.at + 1; done = 0 })
+    (Fails answered)
 fails before settled fault answered here is kind =
     record {
       exact = rw (here.front, is) refl;

@@ -18,6 +18,8 @@ pub mod ShutdownAt
 pub mod Sink
 pub mod SliceSource
 pub mod Source
+pub mod StdSink
+pub mod StdSource
 pub mod Told
 pub mod VecSink
 pub mod WriteScript

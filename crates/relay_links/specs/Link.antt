@@ -65,7 +65,8 @@ abbrev pub IsWriteFault : Fault → Type 0
 IsWriteFault fault = (fault.kind ≡ kind.Write) ⊎ (fault.kind ≡ kind.WriteTimedout)
 
 -- a read gave the first n bytes of the room; from then on each silence is as the link chooses
-pub record GivesBytes (before : LinkState) (room : List ℕ) (n : ℕ) (after : LinkState) : Type 0 where
+pub record GivesBytes (before : LinkState) (room : List ℕ) (n : ℕ)
+    (after : LinkState) : Type 0 where
   pub some : 1 ≤ n
   pub fits : n ≤ length room
   pub was_open : before.ended ≡ false
@@ -146,7 +147,8 @@ Reads before room after got.End = EndsRead before after
 Reads before room after (got.Failed fault) = FailsRead before fault after
 
 -- a write took the first n bytes of the part; from then on each silence is as the link chooses
-pub record TakesBytes (before : LinkState) (part : List ℕ) (n : ℕ) (after : LinkState) : Type 0 where
+pub record TakesBytes (before : LinkState) (part : List ℕ) (n : ℕ)
+    (after : LinkState) : Type 0 where
   pub some : 1 ≤ n
   pub fits : n ≤ length part
   pub spoke : before.silent_on_write ≡ false

@@ -28,11 +28,14 @@ pub record FailsPurge (before : PurgerState) (call : PurgeCall) (after : PurgerS
 -- what a call does, by its answer; for want of memory nothing changed
 abbrev pub Purges : PurgerState → PurgeAction → List ℕ → List ℕ → PurgerState → Purged → Type 0
 Purges before action host target after NoCache =
-    Answers before (record { action = action; host = host; target = target; answer = NoCache }) after
+    Answers before
+    (record { action = action; host = host; target = target; answer = NoCache }) after
 Purges before action host target after Found =
     Answers before (record { action = action; host = host; target = target; answer = Found }) after
 Purges before action host target after NotFound =
-    Answers before (record { action = action; host = host; target = target; answer = NotFound }) after
+    Answers before
+    (record { action = action; host = host; target = target; answer = NotFound }) after
 Purges before action host target after (Failed fault) =
-    FailsPurge before (record { action = action; host = host; target = target; answer = Failed fault }) after
+    FailsPurge before
+    (record { action = action; host = host; target = target; answer = Failed fault }) after
 Purges before action host target after OutOfMemory = after ≡ before

@@ -91,7 +91,8 @@ answer_of (item.End ∷ items) room = got.End
 -- the items that are left after that answer
 abbrev pub after_answer : List ReadItem → ℕ → List ReadItem
 after_answer [] room = []
-after_answer (item.Bytes bytes ∷ items) room = item.Bytes (drop (min (length bytes) room) bytes) ∷ items
+after_answer (item.Bytes bytes ∷ items) room =
+    item.Bytes (drop (min (length bytes) room) bytes) ∷ items
 after_answer (item.Wait n ∷ items) room = item.Wait (n - 1) ∷ items
 after_answer (item.After n ∷ items) room = item.After n ∷ items
 after_answer (item.Fault fault ∷ items) room = items
@@ -119,7 +120,8 @@ script_silent script taken = not script.ended && is_silent (script_front script 
 
 -- its answer to a room of that length
 abbrev pub script_answer : ReadScript → ℕ → ℕ → Got
-script_answer script taken room = cond script.ended got.End (answer_of (script_front script taken) room)
+script_answer script taken room =
+    cond script.ended got.End (answer_of (script_front script taken) room)
 
 -- the items that it has left after that answer
 abbrev pub script_after : ReadScript → ℕ → ℕ → List ReadItem
@@ -142,13 +144,15 @@ pub record Passes (before after : ReadScript) (taken : ℕ) : Type 0 where
 
 -- the item in front answers a room of that length, and the items that are left are as it leaves
 -- them; the script's items stay
-pub record ReadStep (before : ReadScript) (taken room : ℕ) (answer : Got) (after : ReadScript) : Type 0 where
+pub record ReadStep (before : ReadScript) (taken room : ℕ) (answer : Got)
+    (after : ReadScript) : Type 0 where
   pub exact : answer ≡ script_answer before taken room
   pub left : script_left after ≡ script_after before taken room
   pub items : after.items ≡ before.items
 
 -- a read gave the first n bytes of the room
-pub record ScriptGives (before : ReadScript) (taken : ℕ) (room : List ℕ) (n : ℕ) (after : ReadScript) : Type 0 where
+pub record ScriptGives (before : ReadScript) (taken : ℕ) (room : List ℕ) (n : ℕ)
+    (after : ReadScript) : Type 0 where
   pub some : 1 ≤ n
   pub fits : n ≤ length room
   pub was_open : before.ended ≡ false
@@ -186,7 +190,8 @@ pub record ScriptEnds (before : ReadScript) (taken room : ℕ) (after : ReadScri
   pub step : ReadStep before taken room got.End after
 
 -- a read failed
-pub record ScriptFails (before : ReadScript) (taken room : ℕ) (fault : Fault) (after : ReadScript) : Type 0 where
+pub record ScriptFails (before : ReadScript) (taken room : ℕ) (fault : Fault)
+    (after : ReadScript) : Type 0 where
   pub kind : IsReadFault fault
   pub was_open : before.ended ≡ false
   pub spoke : script_silent before taken ≡ false
@@ -201,4 +206,5 @@ ReadsScript before taken room after (got.Bytes n) = ScriptGives before taken roo
 ReadsScript before taken room after got.NotReady = ScriptWaits before taken (length room) after
 ReadsScript before taken room after got.Silent = ScriptIsSilent before taken (length room) after
 ReadsScript before taken room after got.End = ScriptEnds before taken (length room) after
-ReadsScript before taken room after (got.Failed fault) = ScriptFails before taken (length room) fault after
+ReadsScript before taken room after (got.Failed fault) =
+    ScriptFails before taken (length room) fault after

@@ -46,7 +46,8 @@ pub record KeepsScripts (before after : ScriptLink) : Type 0 where
   pub writes : after.writes ≡ before.writes
 
 -- the link has answered nothing: its items are left, and it stands as it is handed out first
-pub record IsFresh (link : ScriptLink) (read : List ReadItem) (write : List WriteItem) : Type 0 where
+pub record IsFresh (link : ScriptLink) (read : List ReadItem)
+    (write : List WriteItem) : Type 0 where
   pub state : script_state link ≡ record {
     given = Some [];
     taken = Some [];
@@ -65,7 +66,8 @@ pub record IsFresh (link : ScriptLink) (read : List ReadItem) (write : List Writ
 
 -- a read follows the script of reads: the item in front answered, and what was given, followed by
 -- the bytes of the items that are left, are the bytes of all items, in order
-pub record FollowsReads (before : ScriptLink) (room : ℕ) (after : ScriptLink) (answer : Got) : Type 0 where
+pub record FollowsReads (before : ScriptLink) (room : ℕ) (after : ScriptLink)
+    (answer : Got) : Type 0 where
   pub step : reads.ReadStep before.reads (vec_len before.taken) room answer after.reads
   pub in_order : reads.script_given after.reads ++ reads.all_bytes (reads.script_left after.reads)
       ≡ reads.all_bytes before.reads.items.items
@@ -79,7 +81,8 @@ put_of turn.Waits part = put.NotReady
 put_of (turn.Fails fault) part = put.Failed fault
 
 -- the item in front of the script of writes answered
-pub record AnswersWrite (before : ScriptLink) (part : ℕ) (after : ScriptLink) (answer : Put) : Type 0 where
+pub record AnswersWrite (before : ScriptLink) (part : ℕ) (after : ScriptLink)
+    (answer : Put) : Type 0 where
   pub exact : answer ≡ put_of (writes.turn_of (writes.script_front before.writes)) part
   pub left : writes.script_left after.writes ≡ writes.after_turn (writes.script_front before.writes)
   pub reads : after.reads ≡ before.reads
@@ -89,5 +92,7 @@ abbrev pub FollowsWrites : ScriptLink → ℕ → ScriptLink → Put → Type 0
 FollowsWrites before part after (put.Took n) = AnswersWrite before part after (put.Took n)
 FollowsWrites before part after put.NotReady = AnswersWrite before part after put.NotReady
 FollowsWrites before part after put.Silent = AnswersWrite before part after put.Silent
-FollowsWrites before part after (put.Failed fault) = AnswersWrite before part after (put.Failed fault)
-FollowsWrites before part after put.OutOfMemory = (after.reads ≡ before.reads) × (after.writes ≡ before.writes)
+FollowsWrites before part after (put.Failed fault) =
+    AnswersWrite before part after (put.Failed fault)
+FollowsWrites before part after put.OutOfMemory =
+    (after.reads ≡ before.reads) × (after.writes ≡ before.writes)

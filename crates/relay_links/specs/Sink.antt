@@ -11,7 +11,8 @@ pub record SinkState : Type 0 where
   pub faults : ℕ
 
 -- a write took the first n bytes of the part
-pub record TakesFirst (before : SinkState) (part : List ℕ) (n : ℕ) (after : SinkState) : Type 0 where
+pub record TakesFirst (before : SinkState) (part : List ℕ) (n : ℕ)
+    (after : SinkState) : Type 0 where
   pub some : 1 ≤ n
   pub fits : n ≤ length part
   pub taken : after.taken ≡ more before.taken (take n part)

@@ -14,7 +14,8 @@ pub record SourceState : Type 0 where
   pub faults : ℕ
 
 -- a read gave the first n bytes of the room, which are the first that were left
-pub record GivesFirst (before : SourceState) (room : List ℕ) (n : ℕ) (after : SourceState) : Type 0 where
+pub record GivesFirst (before : SourceState) (room : List ℕ) (n : ℕ)
+    (after : SourceState) : Type 0 where
   pub some : 1 ≤ n
   pub fits : n ≤ length room
   pub was_open : before.ended ≡ false

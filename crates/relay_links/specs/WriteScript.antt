@@ -73,7 +73,8 @@ script_front script = unpassed (script_left script)
 -- the item at the script's place answers next: it has not answered all
 pub record IsSettled (script : WriteScript) : Type 0 where
   pub front : script_front script ≡ script_left script
-  pub stays : IfSome (slice_get script.items.items script.at) (λ item. is_passed item script.done ≡ false)
+  pub stays : IfSome (slice_get script.items.items script.at)
+      (λ item. is_passed item script.done ≡ false)
 
 -- the script has passed items that have answered all, and nothing else changed
 pub record Passes (before after : WriteScript) : Type 0 where
@@ -95,7 +96,8 @@ IsWriteTurn TakesAll = Unit {0}
 IsWriteTurn Waits = Unit {0}
 IsWriteTurn (Fails fault) = IsWriteFault fault
 
--- the item in front takes its turn with a write: what becomes of the write, the items that are left,
+-- the item in front takes its turn with a write: what becomes of the write, the items that are
+-- left,
 -- and the faults; the script's items stay
 pub record TakesTurn (before : WriteScript) (after : WriteScript) (turn : WriteTurn) : Type 0 where
   pub exact : turn ≡ turn_of (script_front before)

@@ -33,7 +33,8 @@ pub trait Connector {
     /// A link to the peer, and whether it had been used before. A fault is of the kind `Connect`,
     /// and the count of faults rose then.
     fn get(&mut self, peer: &Peer) -> Result<(Self::Byte, bool), Fault>
-        ensures handed { IfOk result (λ got. IsHandedOut (Self.Byte.state got.0) (Self.Byte.start got.0) got.1) }
+        ensures handed { IfOk result (λ got.
+            IsHandedOut (Self.Byte.state got.0) (Self.Byte.start got.0) got.1) }
         ensures out { out self.new ≡ (if is_ok result then out self.old + 1 else out self.old) }
         ensures returned { returned self.new ≡ returned self.old }
         ensures no_fault { OnOk result (fault_count self.new ≡ fault_count self.old) }

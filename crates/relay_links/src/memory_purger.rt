@@ -41,7 +41,12 @@ impl MemoryPurger {
     /// Keeps the call.
     fn keep(&mut self, action: PurgeAction, host: &[u8], target: &[u8]) -> Result<(), AllocError>
         ensures ok { OnOk result (self.new.calls.items ≡ self.old.calls.items
-            ++ record { action = action; host = host.now; target = target.now; answer = self.old.answer } ∷ []) }
+            ++ record {
+              action = action;
+              host = host.now;
+              target = target.now;
+              answer = self.old.answer;
+            } ∷ []) }
         ensures err { OnErr result (self.new.calls.items ≡ self.old.calls.items) }
         ensures answer { self.new.answer ≡ self.old.answer }
         ensures faults { self.new.faults ≡ self.old.faults }
@@ -61,7 +66,8 @@ impl Purger for MemoryPurger {
     ghost state = { purger_state };
 
     fn purge(&mut self, action: PurgeAction, host: &[u8], target: &[u8]) -> Purged
-        ensures state { Purges (purger_state self.old) action host.now target.now (purger_state self.new) result }
+        ensures state { Purges (purger_state self.old) action host.now target.now
+            (purger_state self.new) result }
         ensures exact { AnswersAs (one_answer self.old) result }
         ensures answer { one_answer self.new ≡ one_answer self.old }
     {

@@ -74,8 +74,10 @@ impl Connector for ScriptConnector {
     ghost fault_count = { gets_failed };
 
     fn get(&mut self, _peer: &Peer) -> Result<(ScriptLink, bool), Fault>
-        ensures handed { IfOk result (λ got. IsHandedOut (script_state got.0) (script_start got.0) got.1) }
-        ensures out { links_out self.new ≡ (if is_ok result then links_out self.old + 1 else links_out self.old) }
+        ensures handed { IfOk result (λ got.
+            IsHandedOut (script_state got.0) (script_start got.0) got.1) }
+        ensures out { links_out self.new
+            ≡ (if is_ok result then links_out self.old + 1 else links_out self.old) }
         ensures returned { links_returned self.new ≡ links_returned self.old }
         ensures no_fault { OnOk result (gets_failed self.new ≡ gets_failed self.old) }
         ensures fault { IfErr result IsConnectFault }

@@ -1,5 +1,6 @@
 //! A sink into a writer, as standard output. It tells no content.
-ghost use Rattle.std.specs.Prelude.{◌≡◌, ◌<◌, length, None};
+ghost use Rattle.std.specs.Prelude.{◌≡◌, None};
+ghost use Rattle.relay_links.specs.StdSink.{writer_state};
 
 use crate::sink::{Sink, Wrote};
 use std::io;
@@ -14,13 +15,15 @@ pub struct StdSink<W> {
 
 impl<W: io::Write + Drop> StdSink<W> {
     /// A sink into that writer, as `io::writer(&rt)`.
-    pub fn new(writer: W) -> StdSink<W> {
+    pub fn new(writer: W) -> StdSink<W>
+        ensures { writer_state result ≡ record { taken = None; faults = 0 } }
+    {
         StdSink { writer, faults: 0 }
     }
 }
 
 impl<W: io::Write + Drop> Sink for StdSink<W> {
-    ghost state = { λ sink. record { taken = None; faults = sink.faults } };
+    ghost state = { writer_state };
 
     fn write(&mut self, part: &[u8]) -> Wrote {
         let faults = self.faults;

@@ -1,5 +1,6 @@
 //! A source over a reader, as standard input. It tells no content.
-ghost use Rattle.std.specs.Prelude.{◌≡◌, ◌<◌, length, None};
+ghost use Rattle.std.specs.Prelude.{◌≡◌, None, false};
+ghost use Rattle.relay_links.specs.StdSource.{reader_state};
 
 use crate::source::{Read, Source};
 use std::io;
@@ -14,7 +15,10 @@ pub struct StdSource<R> {
 
 impl<R: io::Read + Drop> StdSource<R> {
     /// A source over that reader, as `rt.reader()`.
-    pub fn new(reader: R) -> StdSource<R> {
+    pub fn new(reader: R) -> StdSource<R>
+        ensures { reader_state result
+            ≡ record { given = None; left = None; ended = false; faults = 0 } }
+    {
         StdSource {
             reader,
             ended: false,
@@ -24,7 +28,7 @@ impl<R: io::Read + Drop> StdSource<R> {
 }
 
 impl<R: io::Read + Drop> Source for StdSource<R> {
-    ghost state = { λ source. record { given = None; left = None; ended = source.ended; faults = source.faults } };
+    ghost state = { reader_state };
 
     fn read(&mut self, room: &mut [u8]) -> Read {
         let faults = self.faults;

@@ -9,9 +9,11 @@ returns-clause-state c =
       fits = omega (arith, c.give-count.auto.room);
       was_open = c.if-self.false;
       given = ap (λ (t : List ℕ). Some t)
-          (given-more c.args.self.now.bytes.now c.give-count.new.room c.args.self.now.at c.give-count.result c.give-count.ensures.bytes);
+          (given-more c.args.self.now.bytes.now c.give-count.new.room c.args.self.now.at
+          c.give-count.result c.give-count.ensures.bytes);
       left = ap (λ (t : List ℕ). Some t)
-          (left-more c.args.self.now.bytes.now c.give-count.new.room c.args.self.now.at c.give-count.result c.give-count.ensures.bytes);
+          (left-more c.args.self.now.bytes.now c.give-count.new.room c.args.self.now.at
+          c.give-count.result c.give-count.ensures.bytes);
       ended = c.if-self.false;
       faults = refl;
       faults_fit = omega arith;
