@@ -111,7 +111,7 @@ impl Ahead {
     fn move_to_front(&mut self)
         ensures { self.new ≡ self.old }
     {
-        if self.buffer.len() - self.end >= READ_SIZE {
+        if self.start == 0 || self.buffer.len() - self.end >= READ_SIZE {
             return;
         }
         self.buffer
