@@ -13,7 +13,8 @@ use Rattle.relay_h1.specs.Move.{ReadsMore, given}
 use Rattle.relay_h1.proofs.HeadEndLemmas.{NoMarkBefore-drop, NoMarkBefore-append, no_mark_without_end}
 
 -- the front is consumed
-pub IsAhead-consume : (buffer : List ℕ) (start end searched n : ℕ) → IsAhead buffer start end searched
+pub IsAhead-consume : (buffer : List ℕ) (start end searched n : ℕ)
+    → IsAhead buffer start end searched
     → n ≤ length (slice_range buffer start end) → IsAhead buffer (start + n) end (searched - n)
 IsAhead-consume buffer start end searched n ahead some =
     let size = length-between buffer start end ahead.within in
@@ -22,11 +23,14 @@ IsAhead-consume buffer start end searched n ahead some =
       ordered = omega arith;
       within = ahead.within;
       margin = omega (arith, ahead.margin);
-      known = λ k less. rw (← rest) (NoMarkBefore-drop n searched (slice_range buffer start end) ahead.known k less);
+      known =
+          λ k less. rw (← rest)
+          (NoMarkBefore-drop n searched (slice_range buffer start end) ahead.known k less);
     }
 
 -- all was searched in vain
-pub IsAhead-searched : (buffer : List ℕ) (start end searched : ℕ) → IsAhead buffer start end searched
+pub IsAhead-searched : (buffer : List ℕ) (start end searched : ℕ)
+    → IsAhead buffer start end searched
     → head_end (slice_range buffer start end) ≡ None → IsAhead buffer start end (end - start - 3)
 IsAhead-searched buffer start end searched ahead none =
     record {
@@ -54,10 +58,14 @@ ReadsMore-room before after old room new end (got.Bytes n) reads behind =
       gives = reads;
       grown = behind n reads.fits;
     }
-ReadsMore-room before after old room new end got.NotReady reads behind = (reads, behind 0 (omega arith) ∙ append-nil old)
-ReadsMore-room before after old room new end got.Silent reads behind = (reads, behind 0 (omega arith) ∙ append-nil old)
-ReadsMore-room before after old room new end got.End reads behind = (reads, behind 0 (omega arith) ∙ append-nil old)
-ReadsMore-room before after old room new end (got.Failed fault) reads behind = (reads, behind 0 (omega arith) ∙ append-nil old)
+ReadsMore-room before after old room new end got.NotReady reads behind =
+    (reads, behind 0 (omega arith) ∙ append-nil old)
+ReadsMore-room before after old room new end got.Silent reads behind =
+    (reads, behind 0 (omega arith) ∙ append-nil old)
+ReadsMore-room before after old room new end got.End reads behind =
+    (reads, behind 0 (omega arith) ∙ append-nil old)
+ReadsMore-room before after old room new end (got.Failed fault) reads behind =
+    (reads, behind 0 (omega arith) ∙ append-nil old)
 
 -- the same behind what was consumed
 pub ReadsMore-drop : (before after : LinkState) (old new : List ℕ) (start : ℕ) (answer : Got)
@@ -69,30 +77,39 @@ ReadsMore-drop before after old new start (got.Bytes n) inside more =
       gives = more.gives;
       grown = ap (drop start) more.grown ∙ drop-append-le start old (take n more.room) inside;
     }
-ReadsMore-drop before after old new start got.NotReady inside more = (more.0, ap (drop start) more.1)
+ReadsMore-drop before after old new start got.NotReady inside more =
+    (more.0, ap (drop start) more.1)
 ReadsMore-drop before after old new start got.Silent inside more = (more.0, ap (drop start) more.1)
 ReadsMore-drop before after old new start got.End inside more = (more.0, ap (drop start) more.1)
-ReadsMore-drop before after old new start (got.Failed fault) inside more = (more.0, ap (drop start) more.1)
+ReadsMore-drop before after old new start (got.Failed fault) inside more =
+    (more.0, ap (drop start) more.1)
 
 -- and what a read brings completes no mark that begins so far before the end
 pub NoMarkBefore-more : (before after : LinkState) (old new : List ℕ) (place : ℕ) (answer : Got)
     → place ≤ length old - 3 → NoMarkBefore place old → ReadsMore before after old new answer
     → NoMarkBefore place new
 NoMarkBefore-more before after old new place (got.Bytes n) margin none_before more = λ k less.
-    rw more.grown (NoMarkBefore-append place old (take n more.room) (omega arith) none_before k less)
-NoMarkBefore-more before after old new place got.NotReady margin none_before more = rw more.1 none_before
-NoMarkBefore-more before after old new place got.Silent margin none_before more = rw more.1 none_before
+    rw more.grown
+    (NoMarkBefore-append place old (take n more.room) (omega arith) none_before k less)
+NoMarkBefore-more before after old new place got.NotReady margin none_before more =
+    rw more.1 none_before
+NoMarkBefore-more before after old new place got.Silent margin none_before more =
+    rw more.1 none_before
 NoMarkBefore-more before after old new place got.End margin none_before more = rw more.1 none_before
-NoMarkBefore-more before after old new place (got.Failed fault) margin none_before more = rw more.1 none_before
+NoMarkBefore-more before after old new place (got.Failed fault) margin none_before more =
+    rw more.1 none_before
 
 -- the bytes ahead are the buffer up to their end, without what was consumed
-pub ReadsMore-ahead : (before after : LinkState) (buffer grown bytes : List ℕ) (start end : ℕ) (answer : Got)
+pub ReadsMore-ahead : (before after : LinkState) (buffer grown bytes : List ℕ) (start end : ℕ)
+    (answer : Got)
     → start ≤ end → end ≤ length buffer → slice_range buffer start end ≡ bytes
     → ReadsMore before after (take end buffer) (take (end + given answer) grown) answer
     → ReadsMore before after bytes (slice_range grown start (end + given answer)) answer
 ReadsMore-ahead before after buffer grown bytes start end answer ordered within are more =
     let size = length-take-le end buffer within in
-    let cut = ReadsMore-drop before after (take end buffer) (take (end + given answer) grown) start answer (omega arith) more in
+    let cut =
+    ReadsMore-drop before after (take end buffer) (take (end + given answer) grown) start
+    answer (omega arith) more in
     rw (between_is grown start (end + given answer), ← are, between_is buffer start end) cut
 
 -- a buffer that was lengthened has the same bytes up to the old end
@@ -101,9 +118,11 @@ pub take_lengthened : (old new : List ℕ) (end len : ℕ) → end ≤ len → t
 take_lengthened old new end len within front = rw (← front) (sym (take-take end len new within))
 
 -- more bytes came behind those ahead
-pub IsAhead-grow : (before after : LinkState) (buffer grown : List ℕ) (start end searched : ℕ) (answer : Got)
+pub IsAhead-grow : (before after : LinkState) (buffer grown : List ℕ) (start end searched : ℕ)
+    (answer : Got)
     → IsAhead buffer start end searched → end + given answer ≤ length grown
-    → ReadsMore before after (slice_range buffer start end) (slice_range grown start (end + given answer)) answer
+    → ReadsMore before after (slice_range buffer start end)
+    (slice_range grown start (end + given answer)) answer
     → IsAhead grown start (end + given answer) searched
 IsAhead-grow before after buffer grown start end searched answer ahead within more =
     let size = length-between buffer start end ahead.within in
@@ -111,5 +130,7 @@ IsAhead-grow before after buffer grown start end searched answer ahead within mo
       ordered = omega (arith, ahead.ordered);
       within = within;
       margin = omega (arith, ahead.margin);
-      known = NoMarkBefore-more before after (slice_range buffer start end) _ searched answer (omega (arith, ahead.margin)) ahead.known more;
+      known =
+          NoMarkBefore-more before after (slice_range buffer start end) _ searched answer
+          (omega (arith, ahead.margin)) ahead.known more;
     }

@@ -25,11 +25,13 @@ pub head_end-cons : (b : ℕ) (bytes : List ℕ) → begins_with_mark (b ∷ byt
 head_end-cons b bytes none_here = rw none_here (shifted-one (head_end bytes))
 
 -- where no mark stands, the search goes on behind the byte
-pub head_end-skip : (bytes : List ℕ) (at : ℕ) → at < length bytes → begins_with_mark (drop at bytes) ≡ false
+pub head_end-skip : (bytes : List ℕ) (at : ℕ) → at < length bytes
+    → begins_with_mark (drop at bytes) ≡ false
     → head_end (drop at bytes) ≡ shifted 1 (head_end (drop (at + 1) bytes))
 head_end-skip bytes at within none_here =
     let here = drop-cons bytes at 0 within in
-    rw (here, add-one) (head_end-cons (get_or bytes at 0) (drop (suc at) bytes) (rw here at none_here))
+    rw (here, add-one)
+    (head_end-cons (get_or bytes at 0) (drop (suc at) bytes) (rw here at none_here))
 
 -- a mark at the front ends the head behind it
 pub head_end-here : (bytes : List ℕ) → begins_with_mark bytes ≡ true → head_end bytes ≡ Some 4
@@ -56,7 +58,8 @@ head_end-from zero bytes within none_before = shifted-zero (head_end bytes)
 head_end-from (suc n) bytes within none_before =
     let so_far = head_end-from n bytes (omega arith) (λ k less. none_before k (omega arith)) in
     let here = head_end-skip bytes n (omega arith) (none_before n (omega arith)) in
-    rw (← add-one) (so_far ∙ ap (shifted n) here ∙ sym (shifted-suc n (head_end (drop (n + 1) bytes))))
+    rw (← add-one)
+    (so_far ∙ ap (shifted n) here ∙ sym (shifted-suc n (head_end (drop (n + 1) bytes))))
 
 -- what is shifted to nothing was nothing
 pub shifted-none : (n : ℕ) (place : Option ℕ) → shifted n place ≡ None → place ≡ None
@@ -69,28 +72,37 @@ no_end_here : (b : ℕ) (bytes : List ℕ) → head_end (b ∷ bytes) ≡ None
 no_end_here b bytes none =
     elim (cases_Bool (begins_with_mark (b ∷ bytes))) [
       | inl here ↦ let ends = head_end-here (b ∷ bytes) here in cc
-      | inr none_here ↦ (none_here, shifted-none 1 (head_end bytes) (sym (head_end-cons b bytes none_here) ∙ none))
+      | inr none_here ↦ (
+        none_here,
+        shifted-none 1 (head_end bytes) (sym (head_end-cons b bytes none_here)
+            ∙ none),
+      )
     ]
 
 -- where no head ends, no mark begins at all
-pub no_mark_without_end : (bytes : List ℕ) → head_end bytes ≡ None → (k : ℕ) → begins_with_mark (drop k bytes) ≡ false
+pub no_mark_without_end : (bytes : List ℕ) → head_end bytes ≡ None → (k : ℕ)
+    → begins_with_mark (drop k bytes) ≡ false
 no_mark_without_end [] none zero = refl
 no_mark_without_end [] none (suc k) = refl
 no_mark_without_end (b ∷ bytes) none zero = (no_end_here b bytes none).0
-no_mark_without_end (b ∷ bytes) none (suc k) = no_mark_without_end bytes (no_end_here b bytes none).1 k
+no_mark_without_end (b ∷ bytes) none (suc k) =
+    no_mark_without_end bytes (no_end_here b bytes none).1 k
 
 -- what is dropped begins no mark
 pub NoMarkBefore-drop : (n place : ℕ) (bytes : List ℕ) → NoMarkBefore place bytes
     → NoMarkBefore (place - n) (drop n bytes)
-NoMarkBefore-drop n place bytes none_before = λ k less. rw drop-drop (none_before (n + k) (omega arith))
+NoMarkBefore-drop n place bytes none_before =
+    λ k less. rw drop-drop (none_before (n + k) (omega arith))
 
 -- what follows the last three bytes begins no mark before them
-pub NoMarkBefore-append : (place : ℕ) (bytes more : List ℕ) → place + 3 ≤ length bytes → NoMarkBefore place bytes
+pub NoMarkBefore-append : (place : ℕ) (bytes more : List ℕ) → place + 3 ≤ length bytes
+    → NoMarkBefore place bytes
     → NoMarkBefore place (bytes ++ more)
 NoMarkBefore-append place bytes more margin none_before = λ k less.
     let inside : k ≤ length bytes = omega arith in
     let room : 4 ≤ length (drop k bytes) = omega (arith, length-drop k bytes) in
-    rw (drop-append-le k bytes more inside, take-append-le 4 (drop k bytes) more room) (none_before k less)
+    rw (drop-append-le k bytes more inside, take-append-le 4 (drop k bytes) more room)
+    (none_before k less)
 
 -- a place that was shifted comes from a place
 shifted-some : (n len : ℕ) (place : Option ℕ) → shifted n place ≡ Some len
@@ -109,31 +121,37 @@ ends_at_four bytes len ends four =
     ]
 
 -- a head has four bytes at least, and ends in the bytes
-pub head_end-within : (bytes : List ℕ) (len : ℕ) → head_end bytes ≡ Some len → (4 ≤ len) × (len ≤ length bytes)
+pub head_end-within : (bytes : List ℕ) (len : ℕ) → head_end bytes ≡ Some len
+    → (4 ≤ len) × (len ≤ length bytes)
 head_end-within [] len ends = cc
 head_end-within (b ∷ bytes) len ends =
     elim (cases_Bool (begins_with_mark (b ∷ bytes))) [
       | inl here ↦ ends_at_four (b ∷ bytes) len ends (head_end-here (b ∷ bytes) here)
       | inr none_here ↦
-          let behind = shifted-some 1 len (head_end bytes) (sym (head_end-cons b bytes none_here) ∙ ends) in
+          let behind =
+          shifted-some 1 len (head_end bytes) (sym (head_end-cons b bytes none_here) ∙ ends) in
           let within = head_end-within bytes behind.0 behind.1 in
           (omega (arith, within.0, behind.2), omega (arith, within.1, behind.2))
     ]
 
 -- what follows four bytes does not change whether they are a mark
-mark-append : (bytes more : List ℕ) → 4 ≤ length bytes → begins_with_mark (bytes ++ more) ≡ begins_with_mark bytes
+mark-append : (bytes more : List ℕ) → 4 ≤ length bytes
+    → begins_with_mark (bytes ++ more) ≡ begins_with_mark bytes
 mark-append bytes more enough = ap (λ x. bytes_eq x end_mark) (take-append-le 4 bytes more enough)
 
 -- the bytes that follow do not move an end
-pub head_end-append : (bytes more : List ℕ) (len : ℕ) → head_end bytes ≡ Some len → head_end (bytes ++ more) ≡ Some len
+pub head_end-append : (bytes more : List ℕ) (len : ℕ) → head_end bytes ≡ Some len
+    → head_end (bytes ++ more) ≡ Some len
 head_end-append [] more len ends = cc
 head_end-append (b ∷ bytes) more len ends =
     let within = head_end-within (b ∷ bytes) len ends in
     let same = mark-append (b ∷ bytes) more (omega (arith, within.0, within.1)) in
     elim (cases_Bool (begins_with_mark (b ∷ bytes))) [
-      | inl here ↦ head_end-here (b ∷ (bytes ++ more)) (same ∙ here) ∙ sym (head_end-here (b ∷ bytes) here) ∙ ends
+      | inl here ↦ head_end-here (b ∷ (bytes ++ more)) (same ∙ here)
+          ∙ sym (head_end-here (b ∷ bytes) here) ∙ ends
       | inr none_here ↦
-          let behind = shifted-some 1 len (head_end bytes) (sym (head_end-cons b bytes none_here) ∙ ends) in
+          let behind =
+          shifted-some 1 len (head_end bytes) (sym (head_end-cons b bytes none_here) ∙ ends) in
           head_end-cons b (bytes ++ more) (same ∙ none_here)
           ∙ ap (shifted 1) (head_end-append bytes more behind.0 behind.1 ∙ sym behind.1)
           ∙ sym (head_end-cons b bytes none_here) ∙ ends
@@ -147,13 +165,15 @@ mark_at_end (b ∷ bytes) len ends =
     elim (cases_Bool (begins_with_mark (b ∷ bytes))) [
       | inl here ↦ let four = head_end-here (b ∷ bytes) here in (0, cc, here)
       | inr none_here ↦
-          let behind = shifted-some 1 len (head_end bytes) (sym (head_end-cons b bytes none_here) ∙ ends) in
+          let behind =
+          shifted-some 1 len (head_end bytes) (sym (head_end-cons b bytes none_here) ∙ ends) in
           let mark = mark_at_end bytes behind.0 behind.1 in
           (suc mark.0, omega (arith, behind.2, mark.1), mark.2)
     ]
 
 -- where no head ends yet, one that ends later ends behind these bytes
-pub head_end-later : (bytes more : List ℕ) (len : ℕ) → head_end bytes ≡ None → head_end (bytes ++ more) ≡ Some len
+pub head_end-later : (bytes more : List ℕ) (len : ℕ) → head_end bytes ≡ None
+    → head_end (bytes ++ more) ≡ Some len
     → length bytes < len
 head_end-later bytes more len none ends =
     let mark = mark_at_end (bytes ++ more) len ends in
@@ -163,7 +183,8 @@ head_end-later bytes more len none ends =
           let k = mark.0 in
           let inside : k ≤ length bytes = omega (arith, mark.1) in
           let room : 4 ≤ length (drop k bytes) = omega (arith, mark.1, length-drop k bytes) in
-          let seen : begins_with_mark (drop k bytes ++ more) ≡ true = rw (drop-append-le k bytes more inside) at mark.2 in
+          let seen : begins_with_mark (drop k bytes ++ more) ≡ true =
+          rw (drop-append-le k bytes more inside) at mark.2 in
           let none_here = no_mark_without_end bytes none k in
           let same = mark-append (drop k bytes) more room in
           cc

@@ -29,7 +29,11 @@ use Rattle.relay_h1.specs.HeadSpans.{kept_at, kept_fields_at, IsFieldAt, IsReque
 
 -- above a blank is from the first visible byte on
 above_blank : (b : ℕ) → ltb 32 b ≡ leb 33 b
-above_blank b = elim (cases_lt 32 b) [ inl above ↦ lt-ltb 32 b above ∙ sym (le-leb 33 b (omega arith)) | inr not_above ↦ le-ltb 32 b not_above ∙ sym (lt-leb 33 b (omega arith)) ]
+above_blank b =
+    elim (cases_lt 32 b) [
+      | inl above ↦ lt-ltb 32 b above ∙ sym (le-leb 33 b (omega arith))
+      | inr not_above ↦ le-ltb 32 b not_above ∙ sym (lt-leb 33 b (omega arith))
+    ]
 
 -- a request head is longer than its target, by two bytes at least
 longer_than_target : (h : grammar.RequestHead) → grammar.IsRequestHead h
@@ -45,25 +49,32 @@ raw_target text form reads short =
     record {
       filled = reads.0.target.0;
       fits = omega (arith, longer_than_target form reads.0, ap length reads.1);
-      visible = λ k d inside. rw (← above_blank (get_or form.target k d)) (reads.0.target.1 k d inside);
+      visible =
+          λ k d inside. rw (← above_blank (get_or form.target k d)) (reads.0.target.1 k d inside);
     }
 
 -- as many fields as spans that cover them
-count_of_fields : (text : List ℕ) (spans : List HeaderSpan) (count : ℕ) (fields : List grammar.Field)
+count_of_fields : (text : List ℕ) (spans : List HeaderSpan) (count : ℕ)
+    (fields : List grammar.Field)
     → AreFieldsAt text spans count fields → count ≤ length spans → length fields ≡ count
 count_of_fields text spans count fields are fits =
-    sym (length-map fields name_and_value) ∙ sym (ap length are) ∙ length-map (take count spans) (header_bytes text)
+    sym (length-map fields name_and_value) ∙ sym (ap length are)
+    ∙ length-map (take count spans) (header_bytes text)
     ∙ length-take-le count spans fits
 
 -- a head that the parser found, and that fills the text
-pub request_found : (text : List ℕ) (spans : List HeaderSpan) (found : RequestSpans) (form : grammar.RequestHead)
+pub request_found : (text : List ℕ) (spans : List HeaderSpan) (found : RequestSpans)
+    (form : grammar.RequestHead)
     → IsRequestWithin text spans found → IsRequestAt text spans found form → found.len ≡ length text
     → length text ≤ most_bytes → length spans ≤ most_fields → IsRequestFound text spans found
 request_found text spans found form within at whole short few =
     let fits = within.section.count_fits in
     let count = count_of_fields text spans found.headers form.fields at.fields fits in
-    let reads : grammar.ReadsRequest text form [] =
-    (at.reads.0, at.reads.1 ∙ ap (λ rest. grammar.print_request form ++ rest) (drop_all found.len text (omega arith)))
+    let reads : grammar.ReadsRequest text form [] = (
+      at.reads.0,
+      at.reads.1 ∙ ap (λ rest. grammar.print_request form ++ rest)
+          (drop_all found.len text (omega arith)),
+    )
     in
     record {
       form = form;
@@ -107,7 +118,13 @@ fields_at text spans count fields are fits valid within short = λ k d inside.
     let span = get_or (take count spans) k d in
     let field = get_or fields k no_field in
     let here : k < length fields =
-    omega (arith, inside, length-take-le count spans fits, count_of_fields text spans count fields are fits)
+    omega (
+      arith,
+      inside,
+      length-take-le count spans fits,
+      count_of_fields text spans count fields
+          are fits,
+    )
     in
     let same : header_bytes text span ≡ name_and_value field =
     sym (get_or-map (header_bytes text) (take count spans) k d ([], []) inside)
@@ -117,12 +134,17 @@ fields_at text spans count fields are fits valid within short = λ k d inside.
     let is = valid k no_field here in
     record {
       within = within k d inside;
-      name = subst IsFieldName (sym (ap (λ p. p.0) same)) (token_is_kept field.name is.name, short k here);
-      value = subst IsFieldValue (sym (ap (λ p. p.1) same)) (AllPass-trim_ows grammar.is_value_byte field.raw is.raw);
+      name =
+          subst IsFieldName (sym (ap (λ p. p.0) same))
+          (token_is_kept field.name is.name, short k here);
+      value =
+          subst IsFieldValue (sym (ap (λ p. p.1) same))
+          (AllPass-trim_ows grammar.is_value_byte field.raw is.raw);
     }
 
 -- what lies in the head lies in the text
-IsHeaderWithin-more : (span : HeaderSpan) (n m : ℕ) → n ≤ m → IsHeaderWithin n span → IsHeaderWithin m span
+IsHeaderWithin-more : (span : HeaderSpan) (n m : ℕ) → n ≤ m → IsHeaderWithin n span
+    → IsHeaderWithin m span
 IsHeaderWithin-more span n m more within = ((within.0.0, omega arith), (within.1.0, omega arith))
 
 -- the section of a request head is no longer than the head
@@ -130,14 +152,26 @@ section_in_request : (h : grammar.RequestHead)
     → length (grammar.print_section h.fields h.last) ≤ length (grammar.print_request h ++ [])
 section_in_request h =
     let size = simp length-append at (ap length (print_request-append h [])) in
-    omega (arith, size, length-append (flat_map grammar.print_field h.fields) (grammar.print_end h.last), length-append (grammar.print_request h) [])
+    omega (
+      arith,
+      size,
+      length-append (flat_map grammar.print_field h.fields)
+          (grammar.print_end h.last),
+      length-append (grammar.print_request h) [],
+    )
 
 -- the section of a response head is no longer than the head
 section_in_response : (h : grammar.ResponseHead)
     → length (grammar.print_section h.fields h.last) ≤ length (grammar.print_response h ++ [])
 section_in_response h =
     let size = simp length-append at (ap length (print_response-append h [])) in
-    omega (arith, size, length-append (flat_map grammar.print_field h.fields) (grammar.print_end h.last), length-append (grammar.print_response h) [])
+    omega (
+      arith,
+      size,
+      length-append (flat_map grammar.print_field h.fields)
+          (grammar.print_end h.last),
+      length-append (grammar.print_response h) [],
+    )
 
 -- the fields of a request that was found can be kept
 pub request_fields_at : (text : List ℕ) (spans : List HeaderSpan) (found : RequestSpans)
@@ -145,8 +179,10 @@ pub request_fields_at : (text : List ℕ) (spans : List HeaderSpan) (found : Req
 request_fields_at text spans found is =
     let section = is.within.section in
     let whole = ap length is.at.reads.1 in
-    fields_at text spans found.headers is.form.fields is.at.fields section.count_fits is.is_text.reads.0.fields
-    (λ k d inside. IsHeaderWithin-more (get_or (take found.headers spans) k d) found.len (length text) section.len_fits (section.headers_fit k d inside))
+    fields_at text spans found.headers is.form.fields is.at.fields section.count_fits
+    is.is_text.reads.0.fields
+    (λ k d inside. IsHeaderWithin-more (get_or (take found.headers spans) k d) found.len
+    (length text) section.len_fits (section.headers_fit k d inside))
     (λ k inside.
     omega (
       arith,
@@ -161,8 +197,10 @@ pub response_fields_at : (text : List ℕ) (spans : List HeaderSpan) (found : Re
     → IsResponseFound text spans found → All (IsFieldAt text) (take found.headers spans)
 response_fields_at text spans found is =
     let section = is.within.section in
-    fields_at text spans found.headers is.form.fields is.at.fields section.count_fits is.is_text.reads.0.fields
-    (λ k d inside. IsHeaderWithin-more (get_or (take found.headers spans) k d) found.len (length text) section.len_fits (section.headers_fit k d inside))
+    fields_at text spans found.headers is.form.fields is.at.fields section.count_fits
+    is.is_text.reads.0.fields
+    (λ k d inside. IsHeaderWithin-more (get_or (take found.headers spans) k d) found.len
+    (length text) section.len_fits (section.headers_fit k d inside))
     (λ k inside.
     omega (
       arith,
@@ -178,9 +216,11 @@ kept_pair p = (lowercase p.0, plain_value p.1)
 
 -- what the spans cover is what the grammar says
 pub kept_same : (text : List ℕ) (spans : List HeaderSpan) (count : ℕ) (fields : List grammar.Field)
-    → AreFieldsAt text spans count fields → kept_fields_at text (take count spans) ≡ kept_fields fields
+    → AreFieldsAt text spans count fields → kept_fields_at text (take count spans) ≡ kept_fields
+    fields
 kept_same text spans count fields are =
-    ap (append_all []) (sym (map-map kept_pair (header_bytes text) (take count spans)) ∙ ap (map kept_pair) are
+    ap (append_all []) (sym (map-map kept_pair (header_bytes text) (take count spans))
+    ∙ ap (map kept_pair) are
     ∙ map-map kept_pair name_and_value fields)
 
 -- one field more
@@ -189,24 +229,28 @@ pub append_all-push : (items : List (List ℕ × FieldValue)) (item : List ℕ �
 append_all-push items item = fold_push (λ n i. append n i.0 i.1) [] items item
 
 -- the values of the first name, and of the others
-count_cons : (e : List ℕ × List FieldValue) (m : Entries FieldValue) → value_count (e ∷ m) ≡ length e.1 + value_count m
+count_cons : (e : List ℕ × List FieldValue) (m : Entries FieldValue)
+    → value_count (e ∷ m) ≡ length e.1 + value_count m
 count_cons e m = sum_by-cons (λ e. length e.1) e m
 
 -- one value more, and one name more at most
 append_grows : (m : Entries FieldValue) (name : List ℕ) (value : FieldValue)
-    → (length (append m name value) ≤ length m + 1) × (value_count (append m name value) ≡ value_count m + 1)
+    → (length (append m name value) ≤ length m + 1) ×
+    (value_count (append m name value) ≡ value_count m + 1)
 append_grows [] name value = (lit≤ tt, refl)
 append_grows (e ∷ m) name value =
     let more = append_grows m name value in
     let old = count_cons e m in
     elim (bytes_eq e.0 name) as (λ t.
     (length (cond t ((e.0, e.1 ++ value ∷ []) ∷ m) (e ∷ append m name value)) ≤ length (e ∷ m) + 1)
-    × (value_count (cond t ((e.0, e.1 ++ value ∷ []) ∷ m) (e ∷ append m name value)) ≡ value_count (e ∷ m) + 1)) [
+    × (value_count (cond t ((e.0, e.1 ++ value ∷ []) ∷ m) (e ∷ append m name value)) ≡ value_count
+    (e ∷ m) + 1)) [
       | true ↦ (
         omega arith,
         omega (arith, count_cons (e.0, e.1 ++ value ∷ []) m, old, length-append e.1 (value ∷ [])),
       )
-      | false ↦ (omega (arith, more.0), omega (arith, count_cons e (append m name value), old, more.1))
+      | false ↦
+          (omega (arith, more.0), omega (arith, count_cons e (append m name value), old, more.1))
     ]
 
 -- a list holds no more than was put into it
@@ -220,18 +264,22 @@ append_all_grows (item ∷ items) m =
     (omega (arith, one.0, others.0), omega (arith, one.1, others.1))
 
 -- a list of few fields takes one more
-pub takes_one_more : (items : List (List ℕ × FieldValue)) (name : List ℕ) → length items ≤ most_fields
+pub takes_one_more : (items : List (List ℕ × FieldValue)) (name : List ℕ)
+    → length items ≤ most_fields
     → ¬ (RefusesAppend (append_all [] items) name)
 takes_one_more items name few refuses =
     let sizes = append_all_grows items [] in
     elim refuses [
       | inl full ↦ omega (arith, sizes.1, full)
-      | inr no_room ↦ elim (no_room.1) [ inl names ↦ omega (arith, sizes.0, names) | inr full ↦ omega (arith, sizes.1, full) ]
+      | inr no_room ↦ elim (no_room.1)
+          [ inl names ↦ omega (arith, sizes.0, names) | inr full ↦ omega (arith, sizes.1, full) ]
     ]
 
 -- a list of few kept fields takes one more
-pub takes_one_more_kept : (text : List ℕ) (spans : List HeaderSpan) (fields : Entries FieldValue) (count : ℕ) (name : List ℕ)
-    → length spans ≤ most_fields → count ≤ length spans → fields ≡ kept_fields_at text (take count spans)
+pub takes_one_more_kept : (text : List ℕ) (spans : List HeaderSpan) (fields : Entries FieldValue)
+    (count : ℕ) (name : List ℕ)
+    → length spans ≤ most_fields → count ≤ length spans
+    → fields ≡ kept_fields_at text (take count spans)
     → ¬ (RefusesAppend fields name)
 takes_one_more_kept text spans fields count name few inside are refuses =
     let items = map (kept_at text) (take count spans) in
@@ -241,18 +289,21 @@ takes_one_more_kept text spans fields count name few inside are refuses =
     takes_one_more items name size (rw are at refuses)
 
 -- what is not that error is want of memory
-pub memory_alone : (error : Error) (failure : Fail) → IsMemoryOr error failure → ¬ (failure ≡ fail.Error error)
+pub memory_alone : (error : Error) (failure : Fail) → IsMemoryOr error failure
+    → ¬ (failure ≡ fail.Error error)
     → failure ≡ fail.OutOfMemory
 memory_alone error fail.OutOfMemory either other = refl
 memory_alone error (fail.Error given) either other = absurd (other (ap fail.Error either))
 
 -- the head that was made says what the form says
-pub made_request : (form : grammar.RequestHead) (method target : List ℕ) (minor : ℕ) (fields : Fields)
+pub made_request : (form : grammar.RequestHead) (method target : List ℕ) (minor : ℕ)
+    (fields : Fields)
     (built versioned made : RequestHead)
     → built ≡ new_request method target → versioned ≡ record built { version = version_of minor }
     → made ≡ record versioned { fields = fields } → method ≡ form.method → target ≡ form.target
     → minor ≡ form.minor → fields ≡ kept_fields form.fields → made ≡ request_of form
-made_request form method target minor fields built versioned made b v m method_is target_is minor_is fields_are =
+made_request form method target minor fields built versioned made b v m method_is target_is
+    minor_is fields_are =
     rw (m, v, b, method_is, target_is, minor_is, fields_are) refl
 
 -- the same for a response
@@ -265,27 +316,36 @@ made_response form status minor fields built versioned made b v m status_is mino
     rw (m, v, b, status_is, minor_is, fields_are) refl
 
 -- where only memory is wanted, nothing is refused
-pub never_refused : {T : Type 0} (result : Result T Fail) (error : Error) → IsOkUnless result fail.OutOfMemory
+pub never_refused : {T : Type 0} (result : Result T Fail) (error : Error)
+    → IsOkUnless result fail.OutOfMemory
     → ¬ (IsErrOf result (fail.Error error))
 never_refused (Ok x) error memory is = cc
 never_refused (Err failure) error memory is = cc
 
 -- a request that was found is not refused
-pub found_is_read : (text : List ℕ) (spans : List HeaderSpan) (found : RequestSpans) → IsRequestFound text spans found
+pub found_is_read : (text : List ℕ) (spans : List HeaderSpan) (found : RequestSpans)
+    → IsRequestFound text spans found
     → (head : RequestHead) × ReadsRequest text head
-found_is_read text spans found is = (request_of is.form, record { form = is.form; is_text = is.is_text; is = refl })
+found_is_read text spans found is =
+    (request_of is.form, record { form = is.form; is_text = is.is_text; is = refl })
 
 -- a response that was found is not refused
-pub found_is_answer : (text : List ℕ) (spans : List HeaderSpan) (found : ResponseSpans) → IsResponseFound text spans found
+pub found_is_answer : (text : List ℕ) (spans : List HeaderSpan) (found : ResponseSpans)
+    → IsResponseFound text spans found
     → (head : ResponseHead) × ReadsResponse text head
-found_is_answer text spans found is = (response_of is.form, record { form = is.form; is_text = is.is_text; is = refl })
+found_is_answer text spans found is =
+    (response_of is.form, record { form = is.form; is_text = is.is_text; is = refl })
 
 -- a text says one head at most
-pub request_head_unique : (text : List ℕ) (a b : RequestHead) → ReadsRequest text a → ReadsRequest text b → a ≡ b
+pub request_head_unique : (text : List ℕ) (a b : RequestHead) → ReadsRequest text a
+    → ReadsRequest text b → a ≡ b
 request_head_unique text a b x y =
-    x.is ∙ ap request_of (request_unique text x.form y.form [] [] x.is_text.reads y.is_text.reads).0 ∙ sym y.is
+    x.is ∙ ap request_of
+    (request_unique text x.form y.form [] [] x.is_text.reads y.is_text.reads).0 ∙ sym y.is
 
 -- a text says one response head at most
-pub response_head_unique : (text : List ℕ) (a b : ResponseHead) → ReadsResponse text a → ReadsResponse text b → a ≡ b
+pub response_head_unique : (text : List ℕ) (a b : ResponseHead) → ReadsResponse text a
+    → ReadsResponse text b → a ≡ b
 response_head_unique text a b x y =
-    x.is ∙ ap response_of (response_unique text x.form y.form [] [] x.is_text.reads y.is_text.reads).0 ∙ sym y.is
+    x.is ∙ ap response_of
+    (response_unique text x.form y.form [] [] x.is_text.reads y.is_text.reads).0 ∙ sym y.is

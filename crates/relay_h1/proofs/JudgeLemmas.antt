@@ -21,7 +21,8 @@ use Rattle.relay_h1.specs.declared.framing.Framing.{Framing}
 use Rattle.relay_h1.proofs.HeadEndLemmas.{head_end-within}
 
 -- an error that stands is all there is
-pub err_is : {T : Type 0} (result : Result T Fail) (failure : Fail) → IsErrAnd result (λ e. e ≡ failure)
+pub err_is : {T : Type 0} (result : Result T Fail) (failure : Fail)
+    → IsErrAnd result (λ e. e ≡ failure)
     → result ≡ Err failure
 err_is (Ok x) failure is = absurd is
 err_is (Err e) failure is = ap Err is
@@ -33,15 +34,22 @@ short_refusal text short = cond-false _ _ _ (le-ltb most_bytes (length text) sho
 -- what reading a request refuses
 pub admits_refusal : (text : List ℕ) (failure : Fail) → length text ≤ most_bytes
     → IsMemoryOr (head_refusal text) failure
-    → (IsErrOf {T = RequestHead} (Err failure) (fail.Error (head_refusal text)) → RefusesRequest text)
-    → (IsErrOf {T = RequestHead} (Err failure) fail.OutOfMemory → (head : RequestHead) × ReadsRequest text head)
+    → (IsErrOf {T = RequestHead} (Err failure) (fail.Error (head_refusal text))
+    → RefusesRequest text)
+    → (IsErrOf {T = RequestHead} (Err failure) fail.OutOfMemory
+    → (head : RequestHead) × ReadsRequest text head)
     → AdmitsRequest text (Err failure)
 admits_refusal text fail.OutOfMemory short causes refuses memory = memory refl
-admits_refusal text (fail.Error error) short causes refuses memory =
-    (HeadGrammar, causes ∙ short_refusal text short, verdict.IsRefusedText.is_no_head (refuses (ap (λ e. Err (fail.Error e)) causes)) refl)
+admits_refusal text (fail.Error error) short causes refuses memory = (
+  HeadGrammar,
+  causes ∙ short_refusal text short,
+  verdict.IsRefusedText.is_no_head
+      (refuses (ap (λ e. Err (fail.Error e)) causes)) refl,
+)
 
 -- a head that was framed has that framing
-pub framed_is : (framing : Framing) (table : Option Framing) → IsFramedBy (Ok framing) table → table ≡ Some framing
+pub framed_is : (framing : Framing) (table : Option Framing) → IsFramedBy (Ok framing) table
+    → table ≡ Some framing
 framed_is framing (Some given) is = cc
 framed_is framing None is = cc
 
@@ -52,14 +60,21 @@ not_framed error (Some given) is = cc
 not_framed error None is = (refl, cc)
 
 -- what reading a response refuses
-pub admits_no_answer : (method : List ℕ) (asked : Bool) (text : List ℕ) (failure : Fail) → length text ≤ most_bytes
+pub admits_no_answer : (method : List ℕ) (asked : Bool) (text : List ℕ) (failure : Fail)
+    → length text ≤ most_bytes
     → IsMemoryOr (head_refusal text) failure
-    → (IsErrOf {T = ResponseHead} (Err failure) (fail.Error (head_refusal text)) → RefusesResponse text)
-    → (IsErrOf {T = ResponseHead} (Err failure) fail.OutOfMemory → (head : ResponseHead) × ReadsResponse text head)
+    → (IsErrOf {T = ResponseHead} (Err failure) (fail.Error (head_refusal text))
+    → RefusesResponse text)
+    → (IsErrOf {T = ResponseHead} (Err failure) fail.OutOfMemory
+    → (head : ResponseHead) × ReadsResponse text head)
     → AdmitsResponse method asked text (Err failure)
 admits_no_answer method asked text fail.OutOfMemory short causes refuses memory = memory refl
-admits_no_answer method asked text (fail.Error error) short causes refuses memory =
-    (HeadGrammar, causes ∙ short_refusal text short, verdict.IsRefusedAnswer.is_no_head (refuses (ap (λ e. Err (fail.Error e)) causes)) refl)
+admits_no_answer method asked text (fail.Error error) short causes refuses memory = (
+  HeadGrammar,
+  causes ∙ short_refusal text short,
+  verdict.IsRefusedAnswer.is_no_head
+      (refuses (ap (λ e. Err (fail.Error e)) causes)) refl,
+)
 
 -- a request that was admitted stands at the front
 pub judges_request : (bytes : List ℕ) (len : ℕ) (read : RequestRead) → head_end bytes ≡ Some len
@@ -76,15 +91,21 @@ judges_request bytes len read ends admits =
     }
 
 -- a failure on the text is one on the bytes
-pub judges_no_request : (bytes : List ℕ) (len : ℕ) (failure : Fail) → head_end bytes ≡ Some len → len ≤ most_bytes
-    → AdmitsRequest (take len bytes) (Err failure) → JudgesRequest bytes (Err (fail_from failure Downstream))
+pub judges_no_request : (bytes : List ℕ) (len : ℕ) (failure : Fail) → head_end bytes ≡ Some len
+    → len ≤ most_bytes
+    → AdmitsRequest (take len bytes) (Err failure) → JudgesRequest bytes
+    (Err (fail_from failure Downstream))
 judges_no_request bytes len fail.OutOfMemory ends short admits =
     (admits.0, len, record { ends = ends; reads = admits.1 })
-judges_no_request bytes len (fail.Error error) ends short admits =
-    (admits.0, ap {A = Error} (λ e. record e { esource = Downstream }) admits.1, verdict.IsRefusedRequest.has_bad_text len ends short admits.2)
+judges_no_request bytes len (fail.Error error) ends short admits = (
+  admits.0,
+  ap {A = Error} (λ e. record e { esource = Downstream }) admits.1,
+  verdict.IsRefusedRequest.has_bad_text len ends short admits.2,
+)
 
 -- a response that was admitted stands at the front
-pub judges_response : (method : List ℕ) (asked : Bool) (bytes : List ℕ) (len : ℕ) (read : ResponseRead)
+pub judges_response : (method : List ℕ) (asked : Bool) (bytes : List ℕ) (len : ℕ)
+    (read : ResponseRead)
     → head_end bytes ≡ Some len → AdmitsResponse method asked (take len bytes) (Ok read)
     → HasResponse method asked bytes read.head read.framing read.len
 judges_response method asked bytes len read ends admits =
@@ -101,10 +122,15 @@ judges_response method asked bytes len read ends admits =
     }
 
 -- a failure on the text is one on the bytes
-pub judges_no_response : (method : List ℕ) (asked : Bool) (bytes : List ℕ) (len : ℕ) (failure : Fail)
-    → head_end bytes ≡ Some len → len ≤ most_bytes → AdmitsResponse method asked (take len bytes) (Err failure)
+pub judges_no_response : (method : List ℕ) (asked : Bool) (bytes : List ℕ) (len : ℕ)
+    (failure : Fail)
+    → head_end bytes ≡ Some len → len ≤ most_bytes → AdmitsResponse method asked (take len bytes)
+    (Err failure)
     → JudgesResponse method asked bytes (Err (fail_from failure Upstream))
 judges_no_response method asked bytes len fail.OutOfMemory ends short admits =
     (admits.0, len, record { ends = ends; reads = admits.1 })
-judges_no_response method asked bytes len (fail.Error error) ends short admits =
-    (admits.0, ap {A = Error} (λ e. record e { esource = Upstream }) admits.1, verdict.IsRefusedResponse.has_bad_text len ends short admits.2)
+judges_no_response method asked bytes len (fail.Error error) ends short admits = (
+  admits.0,
+  ap {A = Error} (λ e. record e { esource = Upstream }) admits.1,
+  verdict.IsRefusedResponse.has_bad_text len ends short admits.2,
+)

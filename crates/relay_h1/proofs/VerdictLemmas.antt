@@ -27,7 +27,8 @@ some_end None = inl refl
 some_end (Some len) = inr (len, refl)
 
 -- the bytes that follow leave the head's text as it is
-text-append : (bytes more : List ℕ) (len : ℕ) → head_end bytes ≡ Some len → take len (bytes ++ more) ≡ take len bytes
+text-append : (bytes more : List ℕ) (len : ℕ) → head_end bytes ≡ Some len
+    → take len (bytes ++ more) ≡ take len bytes
 text-append bytes more len ends = take-append-le len bytes more (head_end-within bytes len ends).1
 
 -- ---- requests
@@ -41,44 +42,65 @@ HasRequest-IsOpen bytes head framing len has open_still =
     cc
 
 -- bytes that are refused are not open
-pub IsRefusedRequest-IsOpen : (bytes : List ℕ) (why : Context) → IsRefusedRequest bytes why → ¬ (IsOpen bytes)
-IsRefusedRequest-IsOpen bytes why (verdict.IsRefusedRequest.is_too_long (verdict.IsTooLong.never_ends none long) is) open_still =
+pub IsRefusedRequest-IsOpen : (bytes : List ℕ) (why : Context) → IsRefusedRequest bytes why
+    → ¬ (IsOpen bytes)
+IsRefusedRequest-IsOpen bytes why
+    (verdict.IsRefusedRequest.is_too_long (verdict.IsTooLong.never_ends none long) is) open_still =
     omega (arith, long, open_still.may_end)
-IsRefusedRequest-IsOpen bytes why (verdict.IsRefusedRequest.is_too_long (verdict.IsTooLong.ends_late len ends late) is) open_still =
+IsRefusedRequest-IsOpen bytes why
+    (verdict.IsRefusedRequest.is_too_long (verdict.IsTooLong.ends_late len ends late) is)
+    open_still =
     let none = open_still.no_end in cc
-IsRefusedRequest-IsOpen bytes why (verdict.IsRefusedRequest.has_bad_text len ends short text) open_still =
+IsRefusedRequest-IsOpen bytes why (verdict.IsRefusedRequest.has_bad_text len ends short text)
+    open_still =
     let none = open_still.no_end in cc
 
 -- a head that is let in is not turned away
-let_in_or_away : (head : RequestHead) (framing : Framing) (why : Context) → IsLetIn head framing → ¬ (IsTurnedAway head why)
-let_in_or_away head framing why let_in (verdict.IsTurnedAway.has_no_framing none is) = let framed = let_in.framed in cc
-let_in_or_away head framing why let_in (verdict.IsTurnedAway.has_no_host other framed away is) = let hosted = let_in.hosted in cc
+let_in_or_away : (head : RequestHead) (framing : Framing) (why : Context) → IsLetIn head framing
+    → ¬ (IsTurnedAway head why)
+let_in_or_away head framing why let_in (verdict.IsTurnedAway.has_no_framing none is) =
+    let framed = let_in.framed in cc
+let_in_or_away head framing why let_in (verdict.IsTurnedAway.has_no_host other framed away is) =
+    let hosted = let_in.hosted in cc
 
 -- a text that is let in is not refused
 admitted_or_refused : (text : List ℕ) (head : RequestHead) (framing : Framing) (why : Context)
     → ReadsRequest text head → IsLetIn head framing → ¬ (IsRefusedText text why)
-admitted_or_refused text head framing why reads let_in (verdict.IsRefusedText.is_no_head none is) = none head reads
-admitted_or_refused text head framing why reads let_in (verdict.IsRefusedText.is_turned_away other other_reads away) =
+admitted_or_refused text head framing why reads let_in (verdict.IsRefusedText.is_no_head none is) =
+    none head reads
+admitted_or_refused text head framing why reads let_in
+    (verdict.IsRefusedText.is_turned_away other other_reads away) =
     let same = request_head_unique text other head other_reads reads in
     let_in_or_away head framing why let_in (subst (λ h. IsTurnedAway h why) same away)
 
 -- a head that stands at the front keeps the limit
-pub StartsWithRequest-short : (bytes : List ℕ) (head : RequestHead) (len : ℕ) → StartsWithRequest bytes head len
+pub StartsWithRequest-short : (bytes : List ℕ) (head : RequestHead) (len : ℕ)
+    → StartsWithRequest bytes head len
     → len ≤ most_bytes
 StartsWithRequest-short bytes head len starts =
-    omega (arith, starts.reads.is_text.short, length-take-le len bytes (head_end-within bytes len starts.ends).1)
+    omega (
+      arith,
+      starts.reads.is_text.short,
+      length-take-le len bytes
+          (head_end-within bytes len starts.ends).1,
+    )
 
 -- bytes that hold a head are not refused
-pub HasRequest-IsRefusedRequest : (bytes : List ℕ) (head : RequestHead) (framing : Framing) (len : ℕ) (why : Context)
+pub HasRequest-IsRefusedRequest : (bytes : List ℕ) (head : RequestHead) (framing : Framing)
+    (len : ℕ) (why : Context)
     → HasRequest bytes head framing len → ¬ (IsRefusedRequest bytes why)
-HasRequest-IsRefusedRequest bytes head framing len why has (verdict.IsRefusedRequest.is_too_long (verdict.IsTooLong.never_ends none long) is) =
+HasRequest-IsRefusedRequest bytes head framing len why has
+    (verdict.IsRefusedRequest.is_too_long (verdict.IsTooLong.never_ends none long) is) =
     let ends = has.starts.ends in cc
-HasRequest-IsRefusedRequest bytes head framing len why has (verdict.IsRefusedRequest.is_too_long (verdict.IsTooLong.ends_late other ends late) is) =
+HasRequest-IsRefusedRequest bytes head framing len why has
+    (verdict.IsRefusedRequest.is_too_long (verdict.IsTooLong.ends_late other ends late) is) =
     let same = one_end bytes other len ends has.starts.ends in
     omega (arith, same, late, StartsWithRequest-short bytes head len has.starts)
-HasRequest-IsRefusedRequest bytes head framing len why has (verdict.IsRefusedRequest.has_bad_text other ends short text) =
+HasRequest-IsRefusedRequest bytes head framing len why has
+    (verdict.IsRefusedRequest.has_bad_text other ends short text) =
     let same = one_end bytes other len ends has.starts.ends in
-    admitted_or_refused (take len bytes) head framing why has.starts.reads has.let_in (subst (λ n. IsRefusedText (take n bytes) why) same text)
+    admitted_or_refused (take len bytes) head framing why has.starts.reads has.let_in
+    (subst (λ n. IsRefusedText (take n bytes) why) same text)
 
 -- bytes hold one head at most
 pub HasRequest-unique : (bytes : List ℕ) (a b : RequestHead) (f g : Framing) (n m : ℕ)
@@ -113,9 +135,11 @@ HasRequest-append bytes more head framing len has =
 pub IsTooLong-append : (bytes more : List ℕ) → IsTooLong bytes → IsTooLong (bytes ++ more)
 IsTooLong-append bytes more (verdict.IsTooLong.never_ends none long) =
     elim (some_end (head_end (bytes ++ more))) [
-      | inl still_none ↦ verdict.IsTooLong.never_ends still_none (omega (arith, long, length-append bytes more))
+      | inl still_none ↦ verdict.IsTooLong.never_ends still_none
+          (omega (arith, long, length-append bytes more))
       | inr end ↦
-          verdict.IsTooLong.ends_late end.0 end.1 (omega (arith, long, head_end-later bytes more end.0 none end.1))
+          verdict.IsTooLong.ends_late end.0 end.1
+          (omega (arith, long, head_end-later bytes more end.0 none end.1))
     ]
 IsTooLong-append bytes more (verdict.IsTooLong.ends_late len ends late) =
     verdict.IsTooLong.ends_late len (head_end-append bytes more len ends) late
@@ -147,7 +171,8 @@ IsOpen-front bytes more open_still =
 -- ---- responses
 
 -- bytes that hold a response are not open
-pub HasResponse-IsOpen : (method : List ℕ) (asked : Bool) (bytes : List ℕ) (head : ResponseHead) (framing : Framing) (len : ℕ)
+pub HasResponse-IsOpen : (method : List ℕ) (asked : Bool) (bytes : List ℕ) (head : ResponseHead)
+    (framing : Framing) (len : ℕ)
     → HasResponse method asked bytes head framing len → ¬ (IsOpen bytes)
 HasResponse-IsOpen method asked bytes head framing len has open_still =
     let ends = has.starts.ends in
@@ -157,51 +182,73 @@ HasResponse-IsOpen method asked bytes head framing len has open_still =
 -- bytes that are refused are not open
 pub IsRefusedResponse-IsOpen : (method : List ℕ) (asked : Bool) (bytes : List ℕ) (why : Context)
     → IsRefusedResponse method asked bytes why → ¬ (IsOpen bytes)
-IsRefusedResponse-IsOpen method asked bytes why (verdict.IsRefusedResponse.is_too_long (verdict.IsTooLong.never_ends none long) is) open_still =
+IsRefusedResponse-IsOpen method asked bytes why
+    (verdict.IsRefusedResponse.is_too_long (verdict.IsTooLong.never_ends none long) is) open_still =
     omega (arith, long, open_still.may_end)
-IsRefusedResponse-IsOpen method asked bytes why (verdict.IsRefusedResponse.is_too_long (verdict.IsTooLong.ends_late len ends late) is) open_still =
+IsRefusedResponse-IsOpen method asked bytes why
+    (verdict.IsRefusedResponse.is_too_long (verdict.IsTooLong.ends_late len ends late) is)
+    open_still =
     let none = open_still.no_end in cc
-IsRefusedResponse-IsOpen method asked bytes why (verdict.IsRefusedResponse.has_bad_text len ends short text) open_still =
+IsRefusedResponse-IsOpen method asked bytes why
+    (verdict.IsRefusedResponse.has_bad_text len ends short text) open_still =
     let none = open_still.no_end in cc
 
 -- a response that stands at the front keeps the limit
-pub StartsWithResponse-short : (bytes : List ℕ) (head : ResponseHead) (len : ℕ) → StartsWithResponse bytes head len
+pub StartsWithResponse-short : (bytes : List ℕ) (head : ResponseHead) (len : ℕ)
+    → StartsWithResponse bytes head len
     → len ≤ most_bytes
 StartsWithResponse-short bytes head len starts =
-    omega (arith, starts.reads.is_text.short, length-take-le len bytes (head_end-within bytes len starts.ends).1)
+    omega (
+      arith,
+      starts.reads.is_text.short,
+      length-take-le len bytes
+          (head_end-within bytes len starts.ends).1,
+    )
 
 -- a text that is framed is not refused
-framed_or_refused : (method : List ℕ) (asked : Bool) (text : List ℕ) (head : ResponseHead) (framing : Framing) (why : Context)
+framed_or_refused : (method : List ℕ) (asked : Bool) (text : List ℕ) (head : ResponseHead)
+    (framing : Framing) (why : Context)
     → ReadsResponse text head → response_framing method asked head ≡ Some framing
     → ¬ (IsRefusedAnswer method asked text why)
-framed_or_refused method asked text head framing why reads framed (verdict.IsRefusedAnswer.is_no_head none is) = none head reads
-framed_or_refused method asked text head framing why reads framed (verdict.IsRefusedAnswer.has_no_framing other other_reads none is) =
-    let same = ap (response_framing method asked) (response_head_unique text other head other_reads reads) in
+framed_or_refused method asked text head framing why reads framed
+    (verdict.IsRefusedAnswer.is_no_head none is) = none head reads
+framed_or_refused method asked text head framing why reads framed
+    (verdict.IsRefusedAnswer.has_no_framing other other_reads none is) =
+    let same =
+    ap (response_framing method asked) (response_head_unique text other head other_reads reads)
+    in
     cc
 
 -- bytes that hold a response are not refused
-pub HasResponse-IsRefusedResponse : (method : List ℕ) (asked : Bool) (bytes : List ℕ) (head : ResponseHead) (framing : Framing)
+pub HasResponse-IsRefusedResponse : (method : List ℕ) (asked : Bool) (bytes : List ℕ)
+    (head : ResponseHead) (framing : Framing)
     (len : ℕ) (why : Context) → HasResponse method asked bytes head framing len
     → ¬ (IsRefusedResponse method asked bytes why)
-HasResponse-IsRefusedResponse method asked bytes head framing len why has (verdict.IsRefusedResponse.is_too_long (verdict.IsTooLong.never_ends none long) is) =
+HasResponse-IsRefusedResponse method asked bytes head framing len why has
+    (verdict.IsRefusedResponse.is_too_long (verdict.IsTooLong.never_ends none long) is) =
     let ends = has.starts.ends in cc
-HasResponse-IsRefusedResponse method asked bytes head framing len why has (verdict.IsRefusedResponse.is_too_long (verdict.IsTooLong.ends_late other ends late) is) =
+HasResponse-IsRefusedResponse method asked bytes head framing len why has
+    (verdict.IsRefusedResponse.is_too_long (verdict.IsTooLong.ends_late other ends late) is) =
     let same = one_end bytes other len ends has.starts.ends in
     omega (arith, same, late, StartsWithResponse-short bytes has.given len has.starts)
-HasResponse-IsRefusedResponse method asked bytes head framing len why has (verdict.IsRefusedResponse.has_bad_text other ends short text) =
+HasResponse-IsRefusedResponse method asked bytes head framing len why has
+    (verdict.IsRefusedResponse.has_bad_text other ends short text) =
     let same = one_end bytes other len ends has.starts.ends in
-    framed_or_refused method asked (take len bytes) has.given framing why has.starts.reads has.framed
+    framed_or_refused method asked (take len bytes) has.given framing why has.starts.reads
+    has.framed
     (subst (λ n. IsRefusedAnswer method asked (take n bytes) why) same text)
 
 -- bytes hold one response at most
-pub HasResponse-unique : (method : List ℕ) (asked : Bool) (bytes : List ℕ) (a b : ResponseHead) (f g : Framing) (n m : ℕ)
+pub HasResponse-unique : (method : List ℕ) (asked : Bool) (bytes : List ℕ) (a b : ResponseHead)
+    (f g : Framing) (n m : ℕ)
     → HasResponse method asked bytes a f n → HasResponse method asked bytes b g m
     → (a ≡ b) × (f ≡ g) × (n ≡ m)
 HasResponse-unique method asked bytes a b f g n m x y =
     let same = one_end bytes n m x.starts.ends y.starts.ends in
     let there = subst (λ k. ReadsResponse (take k bytes) x.given) same x.starts.reads in
     let heads = response_head_unique (take m bytes) x.given y.given there y.starts.reads in
-    let framings = same_framing (sym x.framed ∙ ap (response_framing method asked) heads ∙ y.framed) in
+    let framings =
+    same_framing (sym x.framed ∙ ap (response_framing method asked) heads ∙ y.framed) in
     (x.is ∙ (λ i. settled (framings i) (heads i)) ∙ sym y.is, framings, same)
 
 -- a response that stands at the front still does once more has come
@@ -214,8 +261,10 @@ StartsWithResponse-append bytes more head len starts =
     }
 
 -- a response that was read still is once more has come
-pub HasResponse-append : (method : List ℕ) (asked : Bool) (bytes more : List ℕ) (head : ResponseHead) (framing : Framing) (len : ℕ)
-    → HasResponse method asked bytes head framing len → HasResponse method asked (bytes ++ more) head framing len
+pub HasResponse-append : (method : List ℕ) (asked : Bool) (bytes more : List ℕ)
+    (head : ResponseHead) (framing : Framing) (len : ℕ)
+    → HasResponse method asked bytes head framing len
+    → HasResponse method asked (bytes ++ more) head framing len
 HasResponse-append method asked bytes more head framing len has =
     record {
       given = has.given;
@@ -225,10 +274,13 @@ HasResponse-append method asked bytes more head framing len has =
     }
 
 -- what was refused still is once more has come, for the same reason
-pub IsRefusedResponse-append : (method : List ℕ) (asked : Bool) (bytes more : List ℕ) (why : Context)
+pub IsRefusedResponse-append : (method : List ℕ) (asked : Bool) (bytes more : List ℕ)
+    (why : Context)
     → IsRefusedResponse method asked bytes why → IsRefusedResponse method asked (bytes ++ more) why
-IsRefusedResponse-append method asked bytes more why (verdict.IsRefusedResponse.is_too_long long is) =
+IsRefusedResponse-append method asked bytes more why
+    (verdict.IsRefusedResponse.is_too_long long is) =
     verdict.IsRefusedResponse.is_too_long (IsTooLong-append bytes more long) is
-IsRefusedResponse-append method asked bytes more why (verdict.IsRefusedResponse.has_bad_text len ends short text) =
+IsRefusedResponse-append method asked bytes more why
+    (verdict.IsRefusedResponse.has_bad_text len ends short text) =
     verdict.IsRefusedResponse.has_bad_text len (head_end-append bytes more len ends) short
     (rw (text-append bytes more len ends) text)

@@ -23,7 +23,8 @@ use Rattle.relay_h1.specs.declared.framing.CodingField.TheVariants as coding_fie
 -- one or more digits that write a number below 2^64
 abbrev pub is_length : List ℕ → Bool
 is_length digits =
-    nat_lt 0 (length digits) && (list_all is_ascii_digit digits && nat_lt (digits_value 10 digits) (2 ^ 64))
+    nat_lt 0 (length digits)
+    && (list_all is_ascii_digit digits && nat_lt (digits_value 10 digits) (2 ^ 64))
 
 -- the one coding that is known, in any case
 abbrev pub is_chunked : List ℕ → Bool
@@ -33,13 +34,15 @@ is_chunked value = bytes_eq (lowercase value) (codes "chunked")
 abbrev pub length_said : List FieldValue → LengthField
 length_said [] = length_field.Absent
 length_said (value ∷ []) =
-    if is_length value.bytes then length_field.Value (digits_value 10 value.bytes) else length_field.Malformed
+    if is_length value.bytes then length_field.Value (digits_value 10 value.bytes)
+    else length_field.Malformed
 length_said (value ∷ other ∷ others) = length_field.Malformed
 
 -- what the Transfer-Encoding fields say
 abbrev pub coding_said : List FieldValue → CodingField
 coding_said [] = coding_field.Absent
-coding_said (value ∷ []) = if is_chunked value.bytes then coding_field.Chunked else coding_field.Other
+coding_said (value ∷ []) =
+    if is_chunked value.bytes then coding_field.Chunked else coding_field.Other
 coding_said (value ∷ other ∷ others) = coding_field.Other
 
 -- HTTP/1.0
@@ -56,7 +59,8 @@ is_http_10 version = is_version_10 version.0
 -- a request's table: at most one of the two fields, and in HTTP/1.0 no Transfer-Encoding
 abbrev pub request_table : Bool → LengthField → CodingField → Option Framing
 request_table old length_field.Absent coding_field.Absent = Some framing.Empty
-request_table old length_field.Absent coding_field.Chunked = if old then None else Some framing.Chunked
+request_table old length_field.Absent coding_field.Chunked =
+    if old then None else Some framing.Chunked
 request_table old length_field.Absent coding_field.Other = None
 request_table old (length_field.Value n) coding_field.Absent = Some (framing.Length n)
 request_table old (length_field.Value n) coding_field.Chunked = None
@@ -80,7 +84,8 @@ response_table length_field.Malformed coding_field.Other = None
 -- the framing of a request, or none where it is refused
 unfoldable pub request_framing : RequestHead → Option Framing
 request_framing head =
-    request_table (is_http_10 head.version) (length_said (get_all head.fields (codes "content-length")))
+    request_table (is_http_10 head.version)
+    (length_said (get_all head.fields (codes "content-length")))
     (coding_said (get_all head.fields (codes "transfer-encoding")))
 
 -- 1xx, 204 and 304 end with their head

@@ -88,4 +88,5 @@ RefusesResponse text = (head : ResponseHead) → ¬ (ReadsResponse text head)
 
 -- why a text is no head: it is too long, or the grammar does not read it
 abbrev pub head_refusal : List ℕ → Error
-head_refusal text = if nat_lt most_bytes (length text) then refused HeadTooLong else refused HeadGrammar
+head_refusal text =
+    if nat_lt most_bytes (length text) then refused HeadTooLong else refused HeadGrammar

@@ -12,7 +12,8 @@ begins_with_mark bytes = bytes_eq (take 4 bytes) end_mark
 -- the place after the first CR LF CR LF
 abbrev pub head_end : List ℕ → Option ℕ
 head_end [] = None
-head_end (b ∷ bytes) = if begins_with_mark (b ∷ bytes) then Some 4 else option_map suc (head_end bytes)
+head_end (b ∷ bytes) =
+    if begins_with_mark (b ∷ bytes) then Some 4 else option_map suc (head_end bytes)
 
 -- a place in the rest of a list, counted from the list's start
 abbrev pub shifted : ℕ → Option ℕ → Option ℕ

@@ -14,7 +14,8 @@ use Rattle.relay_h1.specs.Head.{IsRequestText, IsResponseText}
 
 -- the field under the spans, as it is kept
 abbrev pub kept_at : List ℕ → HeaderSpan → List ℕ × FieldValue
-kept_at text span = (lowercase (span_bytes text span.name), plain_value (span_bytes text span.value))
+kept_at text span =
+    (lowercase (span_bytes text span.name), plain_value (span_bytes text span.value))
 
 -- the fields under the spans, in their order, those of one name together
 abbrev pub kept_fields_at : List ℕ → List HeaderSpan → Fields
@@ -27,14 +28,16 @@ pub record IsFieldAt (text : List ℕ) (span : HeaderSpan) : Type 0 where
   pub value : IsFieldValue (span_bytes text span.value)
 
 -- the text, whole, is a request head, and the spans cover its parts
-pub record IsRequestFound (text : List ℕ) (spans : List HeaderSpan) (found : RequestSpans) : Type 0 where
+pub record IsRequestFound
+    (text : List ℕ) (spans : List HeaderSpan) (found : RequestSpans) : Type 0 where
   pub form : grammar.RequestHead
   pub within : IsRequestWithin text spans found
   pub at : IsRequestAt text spans found form
   pub is_text : IsRequestText text form
 
 -- the same for a response
-pub record IsResponseFound (text : List ℕ) (spans : List HeaderSpan) (found : ResponseSpans) : Type 0 where
+pub record IsResponseFound
+    (text : List ℕ) (spans : List HeaderSpan) (found : ResponseSpans) : Type 0 where
   pub form : grammar.ResponseHead
   pub within : IsResponseWithin text spans found
   pub at : IsResponseAt text spans found form

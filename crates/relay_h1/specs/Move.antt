@@ -37,7 +37,8 @@ taken (put.Failed fault) = 0
 taken put.OutOfMemory = 0
 
 -- one write of the part to a link: what it took leaves the front of the bytes
-pub record WritesPart (before after : LinkState) (part old new : List ℕ) (answer : Put) : Type 0 where
+pub record WritesPart
+    (before after : LinkState) (part old new : List ℕ) (answer : Put) : Type 0 where
   pub writes : Writes before part after answer
   pub left : new ≡ drop (taken answer) old
 

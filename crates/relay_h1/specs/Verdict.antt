@@ -61,7 +61,8 @@ pub data IsTurnedAway (head : RequestHead) (why : Context) : Type 0 where
       → why ≡ HostCount → IsTurnedAway head why
 
 -- the first `len` bytes are a request head that is let in, with its framing
-pub record HasRequest (bytes : List ℕ) (head : RequestHead) (framing : Framing) (len : ℕ) : Type 0 where
+pub record HasRequest
+    (bytes : List ℕ) (head : RequestHead) (framing : Framing) (len : ℕ) : Type 0 where
   pub starts : StartsWithRequest bytes head len
   pub let_in : IsLetIn head framing
 
@@ -126,14 +127,16 @@ pub record HasResponse
   pub is : head ≡ settled framing given
 
 -- the text is no response head to that method that can be framed
-pub data IsRefusedAnswer (method : List ℕ) (asked : Bool) (text : List ℕ) (why : Context) : Type 0 where
+pub data IsRefusedAnswer
+    (method : List ℕ) (asked : Bool) (text : List ℕ) (why : Context) : Type 0 where
   is_no_head : RefusesResponse text → why ≡ HeadGrammar → IsRefusedAnswer method asked text why
   has_no_framing : (head : ResponseHead) → ReadsResponse text head
       → response_framing method asked head ≡ None → why ≡ BadFraming
       → IsRefusedAnswer method asked text why
 
 -- the bytes begin with no response head, whatever follows them
-pub data IsRefusedResponse (method : List ℕ) (asked : Bool) (bytes : List ℕ) (why : Context) : Type 0 where
+pub data IsRefusedResponse
+    (method : List ℕ) (asked : Bool) (bytes : List ℕ) (why : Context) : Type 0 where
   is_too_long : IsTooLong bytes → why ≡ HeadTooLong → IsRefusedResponse method asked bytes why
   has_bad_text : (len : ℕ) → head_end bytes ≡ Some len → len ≤ most_bytes
       → IsRefusedAnswer method asked (take len bytes) why → IsRefusedResponse method asked bytes why
@@ -144,7 +147,8 @@ AdmitsResponse method asked text (Ok read) =
     (given : ResponseHead) × ReadsResponse text given
     × (response_framing method asked given ≡ Some read.framing)
     × (read.head ≡ settled read.framing given) × (read.len ≡ length text)
-AdmitsResponse method asked text (Err fail.OutOfMemory) = (head : ResponseHead) × ReadsResponse text head
+AdmitsResponse method asked text (Err fail.OutOfMemory) =
+    (head : ResponseHead) × ReadsResponse text head
 AdmitsResponse method asked text (Err (fail.Error error)) =
     (why : Context) × (error ≡ refused why) × IsRefusedAnswer method asked text why
 

@@ -27,7 +27,8 @@ reason status = unwrap_or (reason_phrase status) []
 
 -- the status line; its second space stands also where no phrase follows
 abbrev pub status_line : ℕ → List ℕ
-status_line status = codes "HTTP/1.1 " ++ code_digits status ++ codes " " ++ reason status ++ line_end
+status_line status =
+    codes "HTTP/1.1 " ++ code_digits status ++ codes " " ++ reason status ++ line_end
 
 -- a request's head on the wire
 abbrev pub request_text : RequestHead → List ℕ

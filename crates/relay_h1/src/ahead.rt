@@ -94,7 +94,8 @@ impl Ahead {
     /// One read of the link, for up to 16,384 bytes. Their memory is taken first: where it is
     /// wanted, nothing changes and the link is not called.
     pub fn read_from<L: ByteLink>(&mut self, link: &mut L) -> Result<Got, AllocError>
-        ensures ok { IfOk result (ReadsMore (L.state link.old) (L.state link.new) self.old self.new) }
+        ensures ok { IfOk result
+            (ReadsMore (L.state link.old) (L.state link.new) self.old self.new) }
         ensures start { L.start link.new ≡ L.start link.old }
         ensures err { OnErr result ((self.new ≡ self.old) × (link.new ≡ link.old)) }
     {
@@ -110,7 +111,7 @@ impl Ahead {
     fn move_to_front(&mut self)
         ensures { self.new ≡ self.old }
     {
-        if self.buffer.len() - self.end >= READ_SIZE {
+        if self.start == 0 || self.buffer.len() - self.end >= READ_SIZE {
             return;
         }
         self.buffer

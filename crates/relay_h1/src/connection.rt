@@ -128,7 +128,8 @@ impl<D: ByteLink, U> Connection<D, U> {
     /// nothing changes and the link is not called.
     pub fn read_more(&mut self) -> std::result::Result<Got, AllocError>
         ensures ok { IfOk result
-            (ReadsMore (D.state self.old.link) (D.state self.new.link) self.old.ahead self.new.ahead) }
+            (ReadsMore (D.state self.old.link) (D.state self.new.link) self.old.ahead
+            self.new.ahead) }
         ensures start { D.start self.new.link ≡ D.start self.old.link }
         ensures kept { self.new.kept ≡ self.old.kept }
         ensures err { OnErr result (self.new ≡ self.old) }

@@ -1,30 +1,27 @@
 -- Turns of an attempt whose response was accepted: its head is written, and its body is relayed.
-use Rattle.std.proofs.Common.{◌≡◌, ◌≢◌, ℕ, zero, suc, ◌+◌, ◌-◌, ◌<◌, ◌≤◌, ◌⊎◌, ◌↔◌, Bool, true, false, List, [], ◌∷◌, ◌++◌, length, take, drop, None, Some, IsTrue, refl, sym, ap, subst, ◌∙◌, inl, inr, arith, length-append, append_assoc, append-nil, take-append-drop, length-take, length-drop}
+use Rattle.std.proofs.Common.{◌≡◌, ℕ, zero, suc, ◌+◌, ◌-◌, ◌<◌, ◌≤◌, ◌⊎◌, List, [], ◌++◌, length, take, drop, refl, sym, ap, subst, ◌∙◌, inl, inr, arith, length-append, append_assoc, append-nil, take-append-drop, length-take, length-drop}
 use Rattle.std.proofs.lemmas.List.{drop-append-le, take-append-le, drop-drop, take-take}
 use Rattle.std.proofs.Math.Seq.{take-add, drop-length}
-use Rattle.relay_tasks.specs.declared.Error.{Error}
 use Rattle.relay_tasks.specs.declared.ErrorSource.TheVariants.{Upstream, Downstream}
 use Rattle.relay_tasks.specs.declared.Fault.{Fault}
-use Rattle.relay_tasks.specs.Head.{RequestHead, ResponseHead}
-use Rattle.relay_links.specs.Link.{LinkState, LinkStart, IsSound, GivesBytes, WaitsOnRead, EndsRead, FailsRead, TakesBytes, WaitsOnWrite, FailsWrite}
-use Rattle.relay_links.specs.declared.Pause.TheVariants.{NotReady, Silent}
-use Rattle.relay_h1.specs.Wire.{request_text, response_text}
-use Rattle.relay_proxy.specs.Passed.{World, Start, Passed, Waited, amount, asked, TellsClient, TellsLink}
-use Rattle.relay_proxy.specs.Endings.{IsPrefixOf, IsInOrder, IsAnswered, response_so_far, IsInBody, EndsLinked, fault_error, unrelayed}
-use Rattle.relay_proxy.specs.Phases.{IsAsking, IsAnswering, IsWritingHead, IsRelayingBody, IsAttempt, RunSoFar, allowance}
+use Rattle.relay_links.specs.Link.{LinkState, LinkStart, GivesBytes, WaitsOnRead, EndsRead, FailsRead, TakesBytes, WaitsOnWrite, FailsWrite}
+use Rattle.relay_links.specs.declared.Pause.TheVariants.{NotReady}
+use Rattle.relay_h1.specs.Wire.{response_text}
+use Rattle.relay_proxy.specs.Passed.{World, Start, Passed, Waited, amount, TellsClient}
+use Rattle.relay_proxy.specs.Endings.{IsPrefixOf, IsInOrder, response_so_far, IsInBody, fault_error, unrelayed}
+use Rattle.relay_proxy.specs.Phases.{IsAnswering, IsWritingHead, IsRelayingBody, IsAttempt, RunSoFar, allowance}
 use Rattle.relay_proxy.specs.Turn.{Advances, failed, IsRest}
 use Rattle.relay_proxy.specs.Offer.{TakesFront}
 use Rattle.relay_proxy.specs.declared.machine.Attempt.{Attempt}
 use Rattle.relay_proxy.specs.declared.machine.BodyLeft.{BodyLeft}
 use Rattle.relay_proxy.specs.declared.machine.Next.{Next}
 use Rattle.relay_proxy.specs.declared.machine.Phase.{Phase}
-use Rattle.relay_proxy.specs.declared.machine.Phase.TheVariants.{WriteHead, RelayBody, Close}
+use Rattle.relay_proxy.specs.declared.machine.Phase.TheVariants.{WriteHead, RelayBody}
 use Rattle.relay_proxy.specs.declared.machine.RunStep.{RunStep}
 use Rattle.relay_proxy.specs.declared.machine.RunStep.TheVariants as step
-use Rattle.relay_proxy.specs.declared.outcome.Outcome.TheVariants as outcome
 use Rattle.relay_proxy.specs.declared.pending.Pending.{Pending}
 use Rattle.relay_proxy.proofs.Tells.{Rose-le, written_more, got_more, client_waited, link_waited, client_took, client_still, client_waits, client_same, link_gave, link_waits, link_same, take_some, take_whole, take_rest}
-use Rattle.relay_proxy.proofs.ExchangeSteps.{asking_as, sent_whole_by, order_of_answering, answering_wrote, answering_got, answering_as, head_then_body, attempt_as, fails_with, attempt_ended, attempt_read_failed}
+use Rattle.relay_proxy.proofs.ExchangeSteps.{sent_whole_by, order_of_answering, answering_wrote, answering_got, answering_as, head_then_body, attempt_as, fails_with, attempt_ended, attempt_read_failed}
 
 -- the part of a body that was written, and the rest of it
 body_rest : (body : List ℕ) (done n : ℕ) → done ≤ n → take done body ++ drop done (take n body) ≡ take n body

@@ -1,16 +1,16 @@
 -- Turns of an attempt: the head is sent, the response's head comes and is written, the body is relayed.
-use Rattle.std.proofs.Common.{◌≡◌, ◌≢◌, ℕ, ◌+◌, ◌-◌, ◌<◌, ◌≤◌, ◌⊎◌, Bool, true, false, List, [], ◌∷◌, ◌++◌, length, take, drop, None, Some, IsTrue, refl, sym, ap, subst, ◌∙◌, inl, inr, arith, length-append, append_assoc, append-nil}
+use Rattle.std.proofs.Common.{◌≡◌, ℕ, ◌<◌, ◌≤◌, false, List, [], ◌∷◌, ◌++◌, length, take, drop, Some, refl, sym, ap, subst, ◌∙◌, inl, inr, arith, length-append, append_assoc, append-nil}
 use Rattle.relay_tasks.specs.declared.Context.{Context}
 use Rattle.relay_tasks.specs.declared.Error.{Error}
-use Rattle.relay_tasks.specs.declared.ErrorSource.TheVariants.{Upstream, Downstream}
+use Rattle.relay_tasks.specs.declared.ErrorSource.TheVariants.{Upstream}
 use Rattle.relay_tasks.specs.declared.Fault.{Fault}
 use Rattle.relay_tasks.specs.Head.{RequestHead, ResponseHead}
-use Rattle.relay_links.specs.Count.{last_count, Rose}
+use Rattle.relay_links.specs.Count.{Rose}
 use Rattle.relay_links.specs.Connector.{IsConnectFault}
-use Rattle.relay_links.specs.Link.{LinkState, LinkStart, IsSound, IsHandedOut, GivesBytes, WaitsOnRead, EndsRead, FailsRead, TakesBytes, WaitsOnWrite, FailsWrite, WantsMemory}
+use Rattle.relay_links.specs.Link.{LinkState, LinkStart, IsSound, IsHandedOut, GivesBytes, WaitsOnRead, EndsRead, FailsRead, WaitsOnWrite, FailsWrite}
 use Rattle.relay_links.specs.Told.{Since, told_length}
-use Rattle.relay_links.specs.declared.Pause.TheVariants.{NotReady, Silent}
-use Rattle.relay_links.proofs.SinceLemmas.{Since-start, Counted-start}
+use Rattle.relay_links.specs.declared.Pause.TheVariants.{NotReady}
+use Rattle.relay_links.proofs.SinceLemmas.{Since-start}
 use Rattle.relay_h1.specs.Verdict.{IsOpen, HasResponse, IsRefusedResponse}
 use Rattle.relay_h1.specs.Wire.{request_text, response_text}
 use Rattle.relay_h1.specs.declared.Connection.{Connection}
@@ -19,23 +19,20 @@ use Rattle.relay_h1.specs.declared.Framing.TheVariants.{Length}
 use Rattle.relay_h1.proofs.HeadEndLemmas.{head_end-within}
 use Rattle.relay_h1.proofs.VerdictLemmas.{HasResponse-append}
 use Rattle.relay_proxy.specs.Built.{get_method, IsBuiltResponse}
-use Rattle.relay_proxy.specs.Passed.{World, Start, Passed, Waited, amount, asked, TellsClient, TellsLink}
-use Rattle.relay_proxy.specs.Endings.{IsPrefixOf, IsInOrder, IsAccepted, IsAnswered, response_so_far, IsSentWhole, IsInBody, EndsUnlinked, EndsLinked, AttemptsUnlinked, IsAskedPeer, fault_error, unrelayed}
-use Rattle.relay_proxy.specs.Phases.{IsAsking, IsConnecting, IsSending, IsAwaiting, IsAnswering, IsWritingHead, IsRelayingBody, IsAttempt, RunSoFar, allowance}
-use Rattle.relay_proxy.specs.Turn.{Advances, failed, IsRest}
+use Rattle.relay_proxy.specs.Passed.{World, Start, Passed, Waited, TellsClient, TellsLink}
+use Rattle.relay_proxy.specs.Endings.{IsPrefixOf, IsInOrder, response_so_far, IsSentWhole, EndsLinked, IsAskedPeer, fault_error, unrelayed}
+use Rattle.relay_proxy.specs.Phases.{IsAsking, IsAnswering, IsAttempt, RunSoFar, allowance}
+use Rattle.relay_proxy.specs.Turn.{Advances, failed}
 use Rattle.relay_proxy.specs.Offer.{TakesFront}
 use Rattle.relay_proxy.specs.declared.machine.Attempt.{Attempt}
-use Rattle.relay_proxy.specs.declared.machine.BodyLeft.{BodyLeft}
-use Rattle.relay_proxy.specs.declared.machine.Next.{Next}
 use Rattle.relay_proxy.specs.declared.machine.Phase.{Phase}
-use Rattle.relay_proxy.specs.declared.machine.Phase.TheVariants.{Connect, SendHead, ReadResponse, WriteHead, RelayBody, Close, Ended}
+use Rattle.relay_proxy.specs.declared.machine.Phase.TheVariants.{Connect, SendHead, ReadResponse, WriteHead, Ended}
 use Rattle.relay_proxy.specs.declared.machine.RunStep.{RunStep}
 use Rattle.relay_proxy.specs.declared.machine.RunStep.TheVariants as step
-use Rattle.relay_proxy.specs.declared.outcome.Outcome.{Outcome}
 use Rattle.relay_proxy.specs.declared.outcome.Outcome.TheVariants as outcome
 use Rattle.relay_proxy.specs.declared.pending.Pending.{Pending}
 use Rattle.relay_proxy.specs.declared.record.AttemptRecord.{AttemptRecord}
-use Rattle.relay_proxy.proofs.Tells.{Rose-le, written_more, got_more, sent_more, client_waited, link_waited, client_took, client_still, client_waits, client_same, link_gave, link_took, link_still, link_waits, link_same, take_some, take_whole, take_rest}
+use Rattle.relay_proxy.proofs.Tells.{Rose-le, written_more, got_more, sent_more, link_waited, client_still, client_same, link_gave, link_took, link_still, link_waits, take_some, take_whole, take_rest}
 
 -- what was accepted stays accepted while the client gives nothing
 abbrev pub asking_as : (s : Start) (p q : Passed) (ahead : List ℕ) (head : RequestHead) → q.came ≡ p.came

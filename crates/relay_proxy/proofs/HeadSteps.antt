@@ -1,20 +1,19 @@
 -- Turns before a link is asked for: the client's head comes, ends the request, or is refused.
-use Rattle.std.proofs.Common.{◌≡◌, ◌≢◌, ℕ, ◌+◌, ◌<◌, ◌≤◌, ◌⊎◌, Bool, true, false, List, [], ◌∷◌, ◌++◌, length, take, drop, Some, refl, sym, ap, subst, ◌∙◌, inl, inr, arith, length-append, append_assoc, append-nil}
+use Rattle.std.proofs.Common.{◌≡◌, ◌≢◌, ℕ, true, List, [], ◌∷◌, ◌++◌, length, take, drop, Some, refl, sym, ap, subst, ◌∙◌, inl, inr, arith, length-append, append_assoc, append-nil}
 use Rattle.relay_tasks.specs.declared.Context.{Context}
 use Rattle.relay_tasks.specs.declared.Error.{Error}
 use Rattle.relay_tasks.specs.declared.ErrorSource.TheVariants.{Downstream}
 use Rattle.relay_tasks.specs.declared.Fault.{Fault}
 use Rattle.relay_tasks.specs.Head.{RequestHead}
-use Rattle.relay_links.specs.Link.{LinkState, LinkStart, IsSound, GivesBytes, WaitsOnRead, EndsRead, FailsRead, TakesBytes, WaitsOnWrite, FailsWrite, WantsMemory}
-use Rattle.relay_links.specs.declared.Pause.TheVariants.{NotReady, Silent}
+use Rattle.relay_links.specs.Link.{LinkState, LinkStart, GivesBytes, WaitsOnRead, EndsRead, FailsRead, WaitsOnWrite, FailsWrite, WantsMemory}
+use Rattle.relay_links.specs.declared.Pause.TheVariants.{NotReady}
 use Rattle.relay_h1.specs.Verdict.{IsOpen, HasRequest, IsRefusedRequest, refused_from}
 use Rattle.relay_h1.specs.Wire.{request_text}
 use Rattle.relay_h1.specs.declared.Framing.{Framing}
-use Rattle.relay_h1.specs.declared.Framing.TheVariants.{Empty}
 use Rattle.relay_proxy.specs.Built.{IsBuiltRequest}
-use Rattle.relay_proxy.specs.Passed.{World, Start, Passed, Waited, amount, asked, TellsClient, IsUnsent}
-use Rattle.relay_proxy.specs.Endings.{IsPrefixOf, IsInOrder, IsAccepted, WritesRefusal, refusal, IsUnbuiltRequest, EndsUnlinked, AttemptsUnlinked, fault_error, unrelayed, ended_outcome}
-use Rattle.relay_proxy.specs.Phases.{IsReadingHead, IsRefusing, IsConnecting, RunSoFar, allowance}
+use Rattle.relay_proxy.specs.Passed.{World, Start, Passed, Waited, asked, TellsClient, IsUnsent}
+use Rattle.relay_proxy.specs.Endings.{IsInOrder, refusal, EndsUnlinked, AttemptsUnlinked, fault_error, unrelayed, ended_outcome}
+use Rattle.relay_proxy.specs.Phases.{IsRefusing, RunSoFar}
 use Rattle.relay_proxy.specs.Turn.{Advances}
 use Rattle.relay_proxy.specs.Offer.{TakesFront}
 use Rattle.relay_proxy.specs.declared.machine.Phase.TheVariants.{ReadHead, Refuse, Connect, Ended}

@@ -3,3 +3,4 @@ pub mod HeadSteps
 pub mod ExchangeSteps
 pub mod BodySteps
 pub mod StepLemmas
+pub mod UnderWay

@@ -1,18 +1,18 @@
 -- A step takes the run so far on, and the end adds up what it says.
-use Rattle.std.proofs.Common.{◌≡◌, ◌≢◌, ℕ, ◌+◌, ◌<◌, ◌≤◌, ◌⊎◌, Bool, true, false, List, [], ◌∷◌, ◌++◌, length, Option, None, Some, min, nat_lt, cond, lt-ltb, refl, sym, ap, subst, ◌∙◌, inl, inr, arith, append_assoc, append-nil}
-use Rattle.relay_links.specs.Count.{last_count, up}
+use Rattle.std.proofs.Common.{◌≡◌, ◌≢◌, ℕ, ◌+◌, ◌<◌, ◌≤◌, ◌⊎◌, Bool, true, false, List, [], ◌∷◌, ◌++◌, length, Option, None, Some, nat_lt, cond, lt-ltb, refl, sym, ap, subst, ◌∙◌, inl, inr, arith, append_assoc, append-nil}
+use Rattle.relay_links.specs.Count.{up}
 use Rattle.relay_links.specs.Link.{LinkState, LinkStart}
 use Rattle.relay_links.specs.Told.{more}
 use Rattle.relay_links.specs.declared.Pause.TheVariants.{NotReady, Silent}
 use Rattle.relay_links.specs.declared.Returned.{Returned}
 use Rattle.relay_proxy.specs.Passed.{World, Start, Passed, Waited, amount, IsUnsent}
-use Rattle.relay_proxy.specs.Endings.{EndsLinked, EndsUnlinked, AttemptsUnlinked, EndsReturned, EndsWith, IsEnded}
-use Rattle.relay_proxy.specs.Phases.{IsAttempt, RunSoFar, allowance}
+use Rattle.relay_proxy.specs.Endings.{EndsLinked, EndsUnlinked, AttemptsUnlinked, EndsReturned, EndsWith}
+use Rattle.relay_proxy.specs.Phases.{IsAttempt, IsGoing, RunSoFar, allowance}
 use Rattle.relay_proxy.specs.Request.{Counts, IsRunning, StepsOn}
-use Rattle.relay_proxy.specs.Turn.{Advances, Spends, IsStalled, DoesWork, WorksIn}
+use Rattle.relay_proxy.specs.Turn.{Advances, Spends, IsStalled, DoesWork, WorksIn, is_over}
 use Rattle.relay_proxy.specs.declared.machine.Machine.{Machine}
 use Rattle.relay_proxy.specs.Work.{total_work, turns_after}
-use Rattle.relay_proxy.specs.Closing.{Hands, HandsBack, Settles, GivesUp, GivesLinkUp, Finishes, Rests, TurnOf, StepSpends, Steps, IsQuiet, Ends}
+use Rattle.relay_proxy.specs.Closing.{Hands, HandsBack, Settles, GivesUp, Finishes, Rests, TurnOf, StepSpends, Ends}
 use Rattle.relay_proxy.specs.declared.finish.Ending.{Ending}
 use Rattle.relay_proxy.specs.declared.machine.Attempt.{Attempt}
 use Rattle.relay_proxy.specs.declared.machine.Phase.{Phase}
@@ -58,6 +58,10 @@ counts_rest : (before after : ℕ) (did : RunStep) (work : Work) → total_work 
     → after ≡ turns_after before work → Counts before after did
 counts_rest before after did work none ended is =
     subst (λ (d : RunStep). Counts before after d) (sym ended) (inr (no_turn before work after none is))
+
+-- true is not false
+pub not_true : true ≡ false → ⊥
+not_true h = cc
 
 module _ {L C : Type 0} (state : L → LinkState) (start_at : L → LinkStart) where
   -- an attempt whose link went back ends as it did while the link was held
@@ -399,3 +403,55 @@ module _ {L C : Type 0} (state : L → LinkState) (start_at : L → LinkStart) w
   end_of s p v (r ∷ own) w (Close a keep outcome) before after ending does run = absurd run.holds
   end_of s p v (r ∷ own) w (Ended outcome attempts) before after ending does run =
       ended_end s p v w (r ∷ own) outcome attempts before after ending run.holds does.0 does.1 does.2 run
+
+  -- few phases have many turns
+  pub allowance-le : (phase : Phase L C) → allowance state start_at phase ≤ 4
+  allowance-le ReadHead = omega arith
+  allowance-le (Refuse answer e) = omega arith
+  allowance-le (Connect context text) = omega arith
+  allowance-le (SendHead a text) = omega arith
+  allowance-le (ReadResponse a) = omega arith
+  allowance-le (WriteHead a text left) = omega arith
+  allowance-le (RelayBody a left) = omega arith
+  allowance-le (Close a keep outcome) = omega arith
+  allowance-le (Ended outcome attempts) = omega arith
+
+  -- a request that has ended gives its own outcome
+  pub over_end : (v : Waited) (phase : Phase L C) (before after : Option (List (Returned L))) (ending : Ending)
+      → IsGoing state start_at v phase → Finishes phase before after ending → is_over phase ≡ true
+      → ending.outcome ≢ TurnLimit
+  over_end v ReadHead before after ending going does over = absurd (not_true (sym over))
+  over_end v (Refuse answer e) before after ending going does over = absurd (not_true (sym over))
+  over_end v (Connect context text) before after ending going does over = absurd (not_true (sym over))
+  over_end v (SendHead a text) before after ending going does over = absurd (not_true (sym over))
+  over_end v (ReadResponse a) before after ending going does over = absurd (not_true (sym over))
+  over_end v (WriteHead a text left) before after ending going does over = absurd (not_true (sym over))
+  over_end v (RelayBody a left) before after ending going does over = absurd (not_true (sym over))
+  over_end v (Close a keep outcome) before after ending going does over = λ limit. going (sym does.0 ∙ limit)
+  over_end v (Ended outcome attempts) before after ending going does over = λ limit. going (sym does.0 ∙ limit)
+
+  -- a request that has not ended gives up
+  pub going_end : (phase : Phase L C) (before after : Option (List (Returned L))) (ending : Ending)
+      → Finishes phase before after ending → is_over phase ≡ false → ending.outcome ≡ TurnLimit
+  going_end ReadHead before after ending does live = does.limit
+  going_end (Refuse answer e) before after ending does live = does.limit
+  going_end (Connect context text) before after ending does live = does.limit
+  going_end (SendHead a text) before after ending does live = does.limit
+  going_end (ReadResponse a) before after ending does live = does.limit
+  going_end (WriteHead a text left) before after ending does live = does.limit
+  going_end (RelayBody a left) before after ending does live = does.limit
+  going_end (Close a keep outcome) before after ending does live = absurd (not_true live)
+  going_end (Ended outcome attempts) before after ending does live = absurd (not_true live)
+
+-- a request that has ended answers so
+pub rests_end : {L C : Type 0} (w x : World) (phase next : Phase L C) (did : RunStep)
+    → Rests w x phase next did → is_over phase ≡ true → did ≡ step.Ended
+rests_end w x ReadHead next did rests over = absurd (not_true (sym over))
+rests_end w x (Refuse answer e) next did rests over = absurd (not_true (sym over))
+rests_end w x (Connect context text) next did rests over = absurd (not_true (sym over))
+rests_end w x (SendHead a text) next did rests over = absurd (not_true (sym over))
+rests_end w x (ReadResponse a) next did rests over = absurd (not_true (sym over))
+rests_end w x (WriteHead a text left) next did rests over = absurd (not_true (sym over))
+rests_end w x (RelayBody a left) next did rests over = absurd (not_true (sym over))
+rests_end w x (Close a keep outcome) next did rests over = rests.1
+rests_end w x (Ended outcome attempts) next did rests over = rests.1

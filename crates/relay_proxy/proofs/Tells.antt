@@ -1,8 +1,7 @@
 -- What the two links tell of what passed, carried over one answer of a link.
-use Rattle.std.proofs.Common.{◌≡◌, ◌==◌, Bool, IsTrue, true, false, ℕ, ◌+◌, ◌<◌, ◌≤◌, List, [], ◌∷◌, ◌++◌, length, take, drop, eqb-true, refl, sym, ap, subst, ◌∙◌, arith, length-append, append_assoc, append-nil, take-append-drop, length-take}
+use Rattle.std.proofs.Common.{◌≡◌, ◌==◌, Bool, IsTrue, true, false, ℕ, ◌+◌, ◌≤◌, List, [], ◌∷◌, ◌++◌, length, take, drop, eqb-true, refl, sym, ap, ◌∙◌, arith, append_assoc, append-nil, take-append-drop, length-take}
 use Rattle.relay_links.specs.Count.{last_count, up, Rose}
-use Rattle.relay_links.specs.Told.{more}
-use Rattle.relay_links.specs.Link.{LinkState, LinkStart, IsSound, GivesBytes, TakesBytes}
+use Rattle.relay_links.specs.Link.{LinkState, LinkStart, GivesBytes, TakesBytes}
 use Rattle.relay_links.proofs.SinceLemmas.{Since-kept, Since-grows, Counted-kept, Counted-up}
 use Rattle.relay_tasks.specs.Error.{error_of_fault}
 use Rattle.relay_tasks.specs.declared.Error.{Error}

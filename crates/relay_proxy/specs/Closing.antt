@@ -1,15 +1,14 @@
 -- How a request gives its link back, and what it leaves.
-use Rattle.std.specs.Prelude.{◌≡◌, ◌≢◌, ℕ, ◌⊎◌, Bool, true, false, List, [], ◌∷◌, ◌++◌, Option}
+use Rattle.std.specs.Prelude.{◌≡◌, ◌⊎◌, Bool, true, false, List, [], ◌∷◌, ◌++◌, Option}
 use Rattle.relay_links.specs.Link.{LinkState, LinkStart}
 use Rattle.relay_links.specs.Told.{more}
 use Rattle.relay_links.specs.declared.Returned.{Returned}
-use Rattle.relay_proxy.specs.Passed.{World, Start, Passed, Waited, amount}
+use Rattle.relay_proxy.specs.Passed.{World, Start, Passed, Waited}
 use Rattle.relay_proxy.specs.Endings.{error_of, IsAskedPeer, IsEnded}
-use Rattle.relay_proxy.specs.Phases.{RunSoFar, allowance}
+use Rattle.relay_proxy.specs.Phases.{RunSoFar}
 use Rattle.relay_proxy.specs.Turn.{Spends, IsStalled, Advances}
 use Rattle.relay_proxy.specs.declared.finish.Ending.{Ending}
 use Rattle.relay_proxy.specs.declared.machine.Attempt.{Attempt}
-use Rattle.relay_proxy.specs.declared.machine.Next.{Next}
 use Rattle.relay_proxy.specs.declared.machine.Phase.{Phase}
 use Rattle.relay_proxy.specs.declared.machine.Phase.TheVariants.{ReadHead, Refuse, Connect, SendHead, ReadResponse, WriteHead, RelayBody, Close, Ended}
 use Rattle.relay_proxy.specs.declared.machine.RunStep.{RunStep}

@@ -1,5 +1,5 @@
 -- One offer of waiting bytes to a link.
-use Rattle.std.specs.Prelude.{◌≡◌, ℕ, List, [], length, drop, Option, None, Some}
+use Rattle.std.specs.Prelude.{◌≡◌, ℕ, List, [], drop, Option, None, Some}
 use Rattle.relay_links.specs.Link.{LinkState, TakesBytes, WaitsOnWrite, IsSilentOnWrite, FailsWrite, WantsMemory}
 use Rattle.relay_proxy.specs.declared.pending.Pending.{Pending}
 use Rattle.relay_proxy.specs.declared.pending.Offered.{Offered}

@@ -1,7 +1,7 @@
 -- What passed between the outside and one request since it began.
 use Rattle.std.specs.Prelude.{◌≡◌, ℕ, ◌+◌, ◌≤◌, List, [], ◌++◌, length}
 use Rattle.relay_links.specs.Count.{Counted}
-use Rattle.relay_links.specs.Link.{LinkState, LinkStart, IsSound}
+use Rattle.relay_links.specs.Link.{LinkState, LinkStart}
 use Rattle.relay_links.specs.Told.{Since, told_length}
 
 -- the outside as one request sees it: the client's link, the bytes that were read ahead from it,

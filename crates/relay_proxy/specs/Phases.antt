@@ -1,5 +1,5 @@
 -- The phases of a request: what has passed when it stands in each of them, and what is left to do.
-use Rattle.std.specs.Prelude.{◌≡◌, ◌≢◌, ℕ, ◌+◌, ◌<◌, ◌≤◌, Bool, false, List, [], ◌∷◌, ◌++◌, length, take, drop}
+use Rattle.std.specs.Prelude.{◌≡◌, ◌≢◌, ℕ, ◌+◌, ◌<◌, ◌≤◌, false, List, [], ◌∷◌, ◌++◌, length, take, drop}
 use Rattle.relay_tasks.specs.Head.{RequestHead, ResponseHead}
 use Rattle.relay_tasks.specs.declared.Context.{Context}
 use Rattle.relay_tasks.specs.declared.Error.{Error}
@@ -9,7 +9,7 @@ use Rattle.relay_links.specs.declared.Returned.{Returned}
 use Rattle.relay_h1.specs.Verdict.{IsRefusedRequest, refused_from}
 use Rattle.relay_h1.specs.Wire.{request_text, response_text}
 use Rattle.relay_proxy.specs.Passed.{World, Start, Passed, Waited, asked, TellsClient, TellsLink, IsUnsent}
-use Rattle.relay_proxy.specs.Endings.{IsAccepted, IsAnswered, IsSentWhole, refusal, IsInOrder, EndsUnlinked, EndsLinked, EndsWith, IsEnded, IsAskedPeer, AttemptsUnlinked}
+use Rattle.relay_proxy.specs.Endings.{IsAccepted, IsAnswered, refusal, IsInOrder, EndsUnlinked, EndsLinked, EndsWith, IsAskedPeer, AttemptsUnlinked}
 use Rattle.relay_proxy.specs.declared.outcome.Outcome.TheVariants.{TurnLimit}
 use Rattle.relay_proxy.specs.declared.machine.Phase.{Phase}
 use Rattle.relay_proxy.specs.declared.machine.Phase.TheVariants.{ReadHead, Refuse, Connect, SendHead, ReadResponse, WriteHead, RelayBody, Close, Ended}

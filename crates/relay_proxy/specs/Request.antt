@@ -1,6 +1,6 @@
 -- One request over one proxy: its run so far, what a step and the end make of it, and what the
 -- whole call promises.
-use Rattle.std.specs.Prelude.{◌≡◌, ℕ, ◌+◌, ◌≤◌, ◌⊎◌, List, [], ◌∷◌, ◌++◌, Option, None, Some}
+use Rattle.std.specs.Prelude.{◌≡◌, ◌≢◌, ℕ, ◌+◌, ◌≤◌, ◌⊎◌, Bool, true, false, List, ◌++◌, Option}
 use Rattle.relay_links.specs.Count.{up}
 use Rattle.relay_links.specs.Link.{LinkState, LinkStart}
 use Rattle.relay_links.specs.Told.{more}
@@ -8,16 +8,14 @@ use Rattle.relay_links.specs.declared.Returned.{Returned}
 use Rattle.relay_proxy.specs.Passed.{World, Start, Passed, Waited, amount}
 use Rattle.relay_proxy.specs.Endings.{IsEnded}
 use Rattle.relay_proxy.specs.Phases.{RunSoFar, allowance}
-use Rattle.relay_proxy.specs.Turn.{IsStalled}
+use Rattle.relay_proxy.specs.Turn.{IsStalled, is_over}
 use Rattle.relay_proxy.specs.Closing.{StepSpends, IsQuiet}
 use Rattle.relay_proxy.specs.declared.machine.Machine.{Machine}
-use Rattle.relay_proxy.specs.declared.machine.Phase.{Phase}
 use Rattle.relay_proxy.specs.declared.machine.RunStep.{RunStep}
 use Rattle.relay_proxy.specs.declared.machine.RunStep.TheVariants as did
 use Rattle.relay_links.specs.declared.Pause.TheVariants.{NotReady, Silent}
 use Rattle.relay_proxy.specs.declared.outcome.Outcome.TheVariants.{TurnLimit}
 use Rattle.relay_proxy.specs.declared.outcome.Processed.{Processed}
-use Rattle.relay_proxy.specs.declared.record.RunRecord.{RunRecord}
 
 -- a step that moved or met a link that is not ready counts as a turn; one that met silence does not
 abbrev pub Counts : ℕ → ℕ → RunStep → Type 0
@@ -25,6 +23,13 @@ Counts before after did.Moved = after ≡ up before
 Counts before after (did.Waited NotReady) = after ≡ up before
 Counts before after (did.Waited Silent) = after ≡ before
 Counts before after did.Ended = (after ≡ up before) ⊎ (after ≡ before)
+
+-- after this answer the call takes no more steps
+abbrev pub is_stop : RunStep → Bool
+is_stop did.Moved = false
+is_stop (did.Waited NotReady) = false
+is_stop (did.Waited Silent) = true
+is_stop did.Ended = true
 
 module _ {L C : Type 0} (state : L → LinkState) (start_at : L → LinkStart) where
   -- the run so far of a machine: each turn was a byte or a wait, but for the few of its phases
@@ -53,6 +58,8 @@ module _ {L C : Type 0} (state : L → LinkState) (start_at : L → LinkStart) w
     pub gained : after ≡ more before handed
     pub ended : IsEnded state start_at s p v w (own ++ handed) processed.history.attempts processed.outcome
     pub turns : processed.history.turns_taken ≤ 4 + amount p v
+    -- a request that has ended gives no `TurnLimit`
+    pub over : is_over m.phase ≡ true → processed.outcome ≢ TurnLimit
     pub quiet : processed.outcome ≡ TurnLimit → IsStalled state start_at w m.phase → IsQuiet state w (own ++ handed)
 
 -- a whole request: what passed is told by the links, in order; the connector's list gained the

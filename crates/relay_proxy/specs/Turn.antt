@@ -1,5 +1,5 @@
 -- What one turn makes of a phase.
-use Rattle.std.specs.Prelude.{◌≡◌, ℕ, ◌+◌, ◌<◌, ◌⊎◌, ◌↔◌, IsTrue, Bool, true, false, List, [], Option, None, Some}
+use Rattle.std.specs.Prelude.{◌≡◌, ℕ, ◌+◌, ◌<◌, ◌⊎◌, ◌↔◌, IsTrue, Bool, true, false, List, [], None, Some}
 use Rattle.relay_links.specs.Link.{LinkState, LinkStart}
 use Rattle.relay_links.specs.declared.Pause.TheVariants.{NotReady, Silent}
 use Rattle.relay_h1.specs.declared.Connection.{Connection}
@@ -107,3 +107,21 @@ WorksIn (WriteHead a text left) did work = DoesWork did work
 WorksIn (RelayBody a left) did work = DoesWork did work
 WorksIn (Close a keep outcome) did work = (total_work work ≡ 0) × (did ≡ step.Ended)
 WorksIn (Ended outcome attempts) did work = (total_work work ≡ 0) × (did ≡ step.Ended)
+
+-- the request has ended, but for its link
+abbrev pub is_over : {L C : Type 0} → Phase L C → Bool
+is_over ReadHead = false
+is_over (Refuse answer e) = false
+is_over (Connect context text) = false
+is_over (SendHead a text) = false
+is_over (ReadResponse a) = false
+is_over (WriteHead a text left) = false
+is_over (RelayBody a left) = false
+is_over (Close a keep outcome) = true
+is_over (Ended outcome attempts) = true
+
+-- the answer says that the request has ended
+abbrev pub is_end : RunStep → Bool
+is_end step.Moved = false
+is_end (step.Waited pause) = false
+is_end step.Ended = true

@@ -4,7 +4,7 @@ ghost use Rattle.relay_h1.specs.Verdict.{IsOpen, HasRequest, JudgesRequest};
 ghost use Rattle.relay_proxy.specs.Endings.{ended_outcome};
 ghost use Rattle.relay_proxy.specs.Passed.{World, Start, Passed, Waited, asked};
 ghost use Rattle.relay_proxy.specs.Phases.{RunSoFar};
-ghost use Rattle.relay_proxy.specs.Turn.{world_of, DoesWork, links_held, Advances};
+ghost use Rattle.relay_proxy.specs.Turn.{world_of, DoesWork, is_over, is_end, links_held, Advances};
 
 use crate::built::is_built_request;
 use crate::hooks::ProxyHttp;
@@ -29,6 +29,7 @@ pub(crate) fn read_head<SV: ProxyHttp, D: ByteLink, U, L: ByteLink>(
         → Advances L.state L.start s p v (world_of D.state client.new faults) (Phase.ReadHead)
         result.phase result.step }
     ensures work { DoesWork result.step result.work }
+    ensures over { is_over result.phase ≡ is_end result.step }
     ensures unlinked { links_held L.state L.start result.phase ≡ 0 }
     ensures kept { client.new.kept ≡ client.old.kept }
 {
@@ -55,6 +56,7 @@ fn await_head<D: ByteLink, U, L: ByteLink, C>(
         → Advances L.state L.start s p v (world_of D.state client.new faults) (Phase.ReadHead)
         result.phase result.step }
     ensures work { DoesWork result.step result.work }
+    ensures over { is_over result.phase ≡ is_end result.step }
     ensures unlinked { links_held L.state L.start result.phase ≡ 0 }
     ensures kept { client.new.kept ≡ client.old.kept }
 {
@@ -125,6 +127,7 @@ fn accept_head<SV: ProxyHttp, D: ByteLink, U, L: ByteLink>(
         → Advances L.state L.start s p v (world_of D.state client.new faults) (Phase.ReadHead)
         result.phase result.step }
     ensures work { DoesWork result.step result.work }
+    ensures over { is_over result.phase ≡ is_end result.step }
     ensures unlinked { links_held L.state L.start result.phase ≡ 0 }
     ensures kept { client.new.kept ≡ client.old.kept }
 {
@@ -166,6 +169,7 @@ fn refuse_head<L: ByteLink, C>(alloc: Global, error: Error) -> Next<L, C>
         → Advances L.state L.start s p v w (Phase.ReadHead)
         result.phase result.step }
     ensures work { DoesWork result.step result.work }
+    ensures over { is_over result.phase ≡ is_end result.step }
     ensures unlinked { links_held L.state L.start result.phase ≡ 0 }
 {
     let mut text = Vec::new(alloc);
@@ -198,6 +202,7 @@ pub(crate) fn write_refusal<D: ByteLink, U, L: ByteLink, C>(
         → Advances L.state L.start s p v (world_of D.state client.new faults) (Phase.Refuse answer error)
         result.phase result.step }
     ensures work { DoesWork result.step result.work }
+    ensures over { is_over result.phase ≡ is_end result.step }
     ensures unlinked { links_held L.state L.start result.phase ≡ 0 }
     ensures kept { client.new.kept ≡ client.old.kept }
 {

@@ -3,7 +3,7 @@ ghost use Rattle.std.specs.Prelude.{◌≡◌, ◌+◌, ◌≤◌, [], ℕ, List
 ghost use Rattle.relay_proxy.specs.Endings.{IsAskedPeer};
 ghost use Rattle.relay_proxy.specs.Passed.{Start, Passed, Waited};
 ghost use Rattle.relay_proxy.specs.Phases.{RunSoFar};
-ghost use Rattle.relay_proxy.specs.Turn.{world_with, DoesWork, links_held, Advances};
+ghost use Rattle.relay_proxy.specs.Turn.{world_with, DoesWork, is_over, is_end, links_held, Advances};
 ghost use Rattle.relay_links.specs.Link.{LinkState};
 
 use crate::machine::{Attempt, Next, Phase, RunStep};
@@ -42,6 +42,7 @@ pub(crate) fn connect<K: Connector, C: Drop>(
         (world_with client ahead (K.fault_count connector.new)) (Phase.Connect context text)
         result.phase result.step }
     ensures work { DoesWork result.step result.work }
+    ensures over { is_over result.phase ≡ is_end result.step }
     ensures out { K.out connector.new
         ≡ K.out connector.old + links_held K.Byte.state K.Byte.start result.phase }
     ensures returned { K.returned connector.new ≡ K.returned connector.old }

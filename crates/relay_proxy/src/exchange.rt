@@ -5,7 +5,7 @@ ghost use Rattle.relay_proxy.specs.Built.{get_method};
 ghost use Rattle.relay_proxy.specs.Endings.{fault_error, unrelayed};
 ghost use Rattle.relay_proxy.specs.Passed.{World, Start, Passed, Waited, asked};
 ghost use Rattle.relay_proxy.specs.Phases.{RunSoFar};
-ghost use Rattle.relay_proxy.specs.Turn.{failed, IsRest, world_of, DoesWork, links_held, Advances};
+ghost use Rattle.relay_proxy.specs.Turn.{failed, IsRest, world_of, DoesWork, is_over, is_end, links_held, Advances};
 
 use crate::built::built_length;
 use crate::machine::{Attempt, BodyLeft, Next, Phase, RunStep};
@@ -28,6 +28,7 @@ pub(crate) fn send_head<L: ByteLink, C: Drop>(
         → Advances L.state L.start s p v w (Phase.SendHead attempt text)
         result.phase result.step }
     ensures work { DoesWork result.step result.work }
+    ensures over { is_over result.phase ≡ is_end result.step }
     ensures linked { links_held L.state L.start result.phase ≡ 1 }
 {
     match text.write_to(&mut attempt.connection) {
@@ -119,6 +120,7 @@ pub(crate) fn read_response<L: ByteLink, C: Drop>(
         → Advances L.state L.start s p v w (Phase.ReadResponse attempt)
         result.phase result.step }
     ensures work { DoesWork result.step result.work }
+    ensures over { is_over result.phase ≡ is_end result.step }
     ensures linked { links_held L.state L.start result.phase ≡ 1 }
 {
     match attempt
@@ -148,6 +150,7 @@ fn await_response<L: ByteLink, C: Drop>(mut attempt: Attempt<L, C>) -> Next<L, C
         → Advances L.state L.start s p v w (Phase.ReadResponse attempt)
         result.phase result.step }
     ensures work { DoesWork result.step result.work }
+    ensures over { is_over result.phase ≡ is_end result.step }
     ensures linked { links_held L.state L.start result.phase ≡ 1 }
 {
     match attempt.connection.read_more() {
@@ -197,6 +200,7 @@ fn accept_response<L: ByteLink, C: Drop>(
         → Advances L.state L.start s p v w (Phase.ReadResponse attempt)
         result.phase result.step }
     ensures work { DoesWork result.step result.work }
+    ensures over { is_over result.phase ≡ is_end result.step }
     ensures linked { links_held L.state L.start result.phase ≡ 1 }
 {
     let Some(left) = built_length(&read.head, read.framing) else {
@@ -237,6 +241,7 @@ pub(crate) fn write_head<D: ByteLink, U, L: ByteLink, C: Drop>(
         → Advances L.state L.start s p v (world_of D.state client.new faults) (Phase.WriteHead attempt text left)
         result.phase result.step }
     ensures work { DoesWork result.step result.work }
+    ensures over { is_over result.phase ≡ is_end result.step }
     ensures linked { links_held L.state L.start result.phase ≡ 1 }
     ensures kept { client.new.kept ≡ client.old.kept }
 {
@@ -276,7 +281,8 @@ fn relay_rest<D, U, L, C>(
     attempt: Attempt<L, C>,
     left: u64,
 ) -> Next<L, C>
-    ensures { IsRest client.now.ahead attempt left result }
+    ensures rest { IsRest client.now.ahead attempt left result }
+    ensures over { is_over result.phase ≡ is_end result.step }
 {
     if left > 0 {
         return Next {
@@ -305,6 +311,7 @@ pub(crate) fn relay_body<D: ByteLink, U, L: ByteLink, C: Drop>(
         → Advances L.state L.start s p v (world_of D.state client.new faults) (Phase.RelayBody attempt left)
         result.phase result.step }
     ensures work { DoesWork result.step result.work }
+    ensures over { is_over result.phase ≡ is_end result.step }
     ensures linked { links_held L.state L.start result.phase ≡ 1 }
     ensures kept { client.new.kept ≡ client.old.kept }
 {
@@ -323,6 +330,7 @@ fn read_body<L: ByteLink, C: Drop>(mut attempt: Attempt<L, C>, left: BodyLeft) -
         → Advances L.state L.start s p v w (Phase.RelayBody attempt left)
         result.phase result.step }
     ensures work { DoesWork result.step result.work }
+    ensures over { is_over result.phase ≡ is_end result.step }
     ensures linked { links_held L.state L.start result.phase ≡ 1 }
 {
     match attempt.connection.read_more() {
@@ -371,6 +379,7 @@ fn write_body<D: ByteLink, U, L: ByteLink, C: Drop>(
         → Advances L.state L.start s p v (world_of D.state client.new faults) (Phase.RelayBody attempt left)
         result.phase result.step }
     ensures work { DoesWork result.step result.work }
+    ensures over { is_over result.phase ≡ is_end result.step }
     ensures linked { links_held L.state L.start result.phase ≡ 1 }
     ensures kept { client.new.kept ≡ client.old.kept }
 {

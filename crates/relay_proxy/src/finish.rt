@@ -1,7 +1,7 @@
 //! The end of a request: its link goes back to the connector, and its attempt is recorded.
 ghost use Rattle.std.specs.Prelude.{◌≡◌, ◌+◌, ◌<◌, ◌≤◌, []};
 ghost use Rattle.relay_proxy.specs.Closing.{HandsBack, Settles, GivesLinkUp, Finishes};
-ghost use Rattle.relay_proxy.specs.Turn.{links_held};
+ghost use Rattle.relay_proxy.specs.Turn.{links_held, is_over};
 
 use crate::connecting::asked_peer;
 use crate::machine::{Attempt, Phase};
@@ -53,6 +53,7 @@ pub(crate) fn settle<K: Connector, C: Drop>(
 ) -> Phase<K::Byte, C>
     requires { links_held K.Byte.state K.Byte.start phase ≤ K.out connector.old }
     ensures settles { Settles phase (K.returned connector.old) (K.returned connector.new) result }
+    ensures over { is_over result ≡ is_over phase }
     ensures out { K.out connector.new + links_held K.Byte.state K.Byte.start phase
         ≡ K.out connector.old + links_held K.Byte.state K.Byte.start result }
     ensures faults { K.fault_count connector.new ≡ K.fault_count connector.old }

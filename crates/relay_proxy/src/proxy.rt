@@ -1,9 +1,9 @@
 //! The proxy: requests are begun, stepped and ended, or processed in one call.
-ghost use Rattle.std.specs.Prelude.{◌≡◌, ◌+◌, ◌≤◌, ℕ, [], ◌∷◌, List, None, if◌then◌else◌, nat_lt, OnSome};
+ghost use Rattle.std.specs.Prelude.{◌≡◌, ◌+◌, ◌≤◌, ℕ, [], List, None, true, false};
 ghost use Rattle.relay_links.specs.Count.{Rose, up};
 ghost use Rattle.relay_proxy.specs.Passed.{Start, Passed, Waited, start_of, nothing, unwaited};
-ghost use Rattle.relay_proxy.specs.Request.{Counts, IsRunning, StepsOn, ComesToEnd, Processes};
-ghost use Rattle.relay_proxy.specs.Turn.{world_of, links_held};
+ghost use Rattle.relay_proxy.specs.Request.{is_stop, Counts, IsRunning, StepsOn, ComesToEnd, Processes};
+ghost use Rattle.relay_proxy.specs.Turn.{world_of, links_held, is_over, is_end};
 ghost use Rattle.relay_proxy.specs.Work.{total_work};
 
 use crate::finish::{finish, settle};
@@ -93,6 +93,7 @@ impl<SV: ProxyHttp, K: Connector, P: Purger> HttpProxy<SV, K, P> {
             nothing unwaited (world_of D.state client.new (K.fault_count self.now.connector)) []
             result.machine }
         ensures no_turns { result.machine.turns ≡ 0 }
+        ensures going { is_over result.machine.phase ≡ false }
         ensures no_link { links_held K.Byte.state K.Byte.start result.machine.phase ≡ 0 }
         ensures client { client.new ≡ client.old }
     {
@@ -126,6 +127,10 @@ impl<SV: ProxyHttp, K: Connector, P: Purger> HttpProxy<SV, K, P> {
         // A step that moved did some work.
         ensures progress { result ≡ RunStep.Moved
             → Rose (total_work machine.old.machine.work) (total_work machine.new.machine.work) }
+        // The answer says whether the request has ended.
+        ensures ended { is_over machine.new.machine.phase ≡ is_end result }
+        // A request that has ended stays so.
+        ensures rests { is_over machine.old.machine.phase ≡ true → result ≡ RunStep.Ended }
         ensures counted { Counts machine.old.machine.turns machine.new.machine.turns result }
         ensures out { K.out self.new.connector
             + links_held K.Byte.state K.Byte.start machine.old.machine.phase
@@ -164,7 +169,10 @@ impl<SV: ProxyHttp, K: Connector, P: Purger> HttpProxy<SV, K, P> {
             (world_of D.state client.new (K.fault_count self.new.connector)) own
             (K.returned self.old.connector) (K.returned self.new.connector)
             machine.machine result.0 }
+        // It has not ended exactly where it gives `TurnLimit`.
+        ensures limit { is_over machine.machine.phase ≡ false → result.0.outcome ≡ Outcome.TurnLimit }
         ensures turns { result.0.history.turns_taken ≡ machine.machine.turns }
+        ensures faults { K.fault_count self.new.connector ≡ K.fault_count self.old.connector }
         ensures out { K.out self.new.connector
             + links_held K.Byte.state K.Byte.start machine.machine.phase
             ≡ K.out self.old.connector }
@@ -187,5 +195,74 @@ impl<SV: ProxyHttp, K: Connector, P: Purger> HttpProxy<SV, K, P> {
         };
         let outcome = ending.outcome;
         (Processed { outcome, history }, None)
+    }
+
+    /// Processes one request of a client: it is begun, stepped until it has ended, until `turns`
+    /// turns were taken or until a link that it waits for is silent, and then ended.
+    ///
+    /// The outcome is `NoRequest`, `Refused`, `Served` or `TurnLimit`, each with its cause in terms
+    /// of what the links gave and took, or `OutOfMemory`.
+    pub fn process_new_http<D: ByteLink, H: Schedule, W: ShutdownWatch, Y: Delay>(
+        &mut self,
+        client: &mut Connection<D, SV::Kept>,
+        outside: &mut Outside<H, W, Y>,
+        turns: u64,
+    ) -> Processed
+        ensures processes { Processes K.Byte.state K.Byte.start
+            (start_of (world_of D.state client.old (K.fault_count self.old.connector)))
+            (world_of D.state client.new (K.fault_count self.new.connector))
+            (K.returned self.old.connector) (K.returned self.new.connector) turns result }
+        ensures out { K.out self.new.connector ≡ K.out self.old.connector }
+        ensures kept { client.new.kept ≡ None }
+    {
+        let kept = client.take_kept();
+        let mut machine = self.begin(client, kept);
+        for _turn in 0..turns {
+            let step = self.step(&mut machine, client, outside);
+            if is_stop(step) {
+                return self.close(machine, client);
+            }
+        }
+        self.close(machine, client)
+    }
+
+    /// Ends a request, and keeps its value in the connection.
+    fn close<D: ByteLink>(
+        &mut self,
+        machine: RequestMachine<SV, K>,
+        client: &mut Connection<D, SV::Kept>,
+    ) -> Processed
+        requires { links_held K.Byte.state K.Byte.start machine.machine.phase
+            ≤ K.out self.old.connector }
+        ensures ends { (s : Start) (p : Passed) (v : Waited) (own : List _)
+            → IsRunning K.Byte.state K.Byte.start s p v
+            (world_of D.state client.old (K.fault_count self.old.connector)) own machine.machine
+            → ComesToEnd K.Byte.state K.Byte.start s p v
+            (world_of D.state client.new (K.fault_count self.new.connector)) own
+            (K.returned self.old.connector) (K.returned self.new.connector)
+            machine.machine result }
+        ensures turns { result.history.turns_taken ≡ machine.machine.turns }
+        ensures faults { K.fault_count self.new.connector ≡ K.fault_count self.old.connector }
+        ensures out { K.out self.new.connector
+            + links_held K.Byte.state K.Byte.start machine.machine.phase
+            ≡ K.out self.old.connector }
+        ensures client { client.new ≡ client.old }
+    {
+        let (processed, kept) = self.end(machine, client);
+        if let Some(value) = kept {
+            client.set_kept(value);
+        }
+        processed
+    }
+}
+
+/// Whether a call takes no more steps after this answer: the request has ended, or waits for a link
+/// that is silent.
+fn is_stop(step: RunStep) -> bool
+    ensures { result ≡ is_stop step }
+{
+    match step {
+        RunStep::Moved | RunStep::Waited(Pause::NotReady) => false,
+        RunStep::Waited(Pause::Silent) | RunStep::Ended => true,
     }
 }

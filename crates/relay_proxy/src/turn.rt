@@ -3,7 +3,7 @@ ghost use Rattle.std.specs.Prelude.{◌≡◌, ◌+◌, ◌≤◌, ℕ, []};
 ghost use Rattle.relay_proxy.specs.Closing.{Rests, TurnOf};
 ghost use Rattle.relay_proxy.specs.Passed.{Start, Passed, Waited};
 ghost use Rattle.relay_proxy.specs.Phases.{RunSoFar};
-ghost use Rattle.relay_proxy.specs.Turn.{world_of, links_held, WorksIn};
+ghost use Rattle.relay_proxy.specs.Turn.{world_of, links_held, is_over, is_end, WorksIn};
 
 use crate::client_head::{read_head, write_refusal};
 use crate::connecting::connect;
@@ -33,6 +33,7 @@ pub(crate) fn take_turn<SV: ProxyHttp, K: Connector, D: ByteLink, U>(
     ensures rests { Rests (world_of D.state client.old (K.fault_count connector.old))
         (world_of D.state client.new (K.fault_count connector.new)) phase result.phase result.step }
     ensures work { WorksIn phase result.step result.work }
+    ensures over { is_over result.phase ≡ is_end result.step }
     ensures out { K.out connector.new + links_held K.Byte.state K.Byte.start phase
         ≡ K.out connector.old + links_held K.Byte.state K.Byte.start result.phase }
     ensures returned { K.returned connector.new ≡ K.returned connector.old }

@@ -38,11 +38,12 @@ fn writes_responses(rt: HostRuntime) -> Checked {
 fn writes_its_own_answers(rt: HostRuntime) -> Checked {
     let mut out = Vec::new(rt.alloc());
     write_generated(&mut out, 405)?;
+    let text = str::from_utf8(out.as_slice()).ok().ok_or("no text")?;
+    let (line, fields) = text.split_once("\r\n").ok_or("no line")?;
+    assert_eq!(rt; line, "HTTP/1.1 405 Method Not Allowed");
     assert_eq!(rt;
-        str::from_utf8(out.as_slice()),
-        Ok(
-            "HTTP/1.1 405 Method Not Allowed\r\nserver: Pingora\r\ncontent-length: 0\r\ncache-control: private, no-store\r\n\r\n"
-        )
+        fields,
+        "server: Pingora\r\ncontent-length: 0\r\ncache-control: private, no-store\r\n\r\n"
     );
     Ok(())
 }

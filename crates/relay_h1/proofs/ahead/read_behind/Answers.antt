@@ -12,10 +12,12 @@ returns-clause-answer g c =
     let after = put_mid end (end + 16384 - end) all room in
     let buffer = c.args.buffer.now in
     let front : length (take end all) ≡ end = length-take-le end all (search (rules, places)) in
-    let behind : (n : ℕ) → n ≤ length room → take (end + n) after ≡ take end buffer.items ++ take n room =
+    let behind : (n : ℕ) → n ≤ length room → take (end + n) after ≡ take end buffer.items ++ take n
+    room =
     λ n fits.
     take-behind (take end all) room (post_of end (end + 16384 - end) all) end n front fits
     ∙ ap (λ x. take end x ++ take n room) c.as_mut_slice.ensures.value
     in
     rw (with_items_is buffer after (search (rules, places)))
-    (ReadsMore-room _ _ (take end buffer.items) room after end c.read.result c.read.ensures.answer behind)
+    (ReadsMore-room _ _ (take end buffer.items) room after end c.read.result c.read.ensures.answer
+    behind)

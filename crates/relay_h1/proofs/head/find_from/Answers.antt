@@ -13,13 +13,18 @@ loop-at-preserved c = record {
 pub returns-then-has_mark_at : goal.returns-then-has_mark_at
 returns-then-has_mark_at c =
     let at = c.loop-at.at in
-    let from = head_end-from at c.args.bytes.now c.loop-at.invariant.within c.loop-at.invariant.none_before in
+    let from =
+    head_end-from at c.args.bytes.now c.loop-at.invariant.within
+    c.loop-at.invariant.none_before in
     let here = head_end-here (drop at c.args.bytes.now) (sym c.if-has_mark_at.ensures) in
     ap Some (omega arith) ∙ sym (from ∙ ap (shifted at) here)
 
 pub returns : goal.returns
 returns c =
     let at = c.loop-at.at in
-    let from = head_end-from at c.args.bytes.now c.loop-at.invariant.within c.loop-at.invariant.none_before in
-    let few : length (drop at c.args.bytes.now) < 4 = omega (arith, length-drop at c.args.bytes.now) in
+    let from =
+    head_end-from at c.args.bytes.now c.loop-at.invariant.within
+    c.loop-at.invariant.none_before in
+    let few : length (drop at c.args.bytes.now) < 4 =
+    omega (arith, length-drop at c.args.bytes.now) in
     sym (from ∙ ap (shifted at) (head_end-short (drop at c.args.bytes.now) few))

@@ -14,8 +14,10 @@ returns-clause-ok c =
       is_text = is.is_text;
       is =
           made_response is.form _ _ _ _ _ _ c.in_ok-head.ensures.ok
-          (c.set_version.ensures ∙ ap (λ v. record c.in_ok-head.head { version = v }) c.version_of.ensures)
+          (c.set_version.ensures ∙ ap (λ v. record c.in_ok-head.head { version = v })
+          c.version_of.ensures)
           c.in_ok-push_response_fields.ensures.ok
           is.at.code is.at.version
-          (kept_same c.args.bytes.now c.args.spans.now c.args.found.now.headers is.form.fields is.at.fields);
+          (kept_same c.args.bytes.now c.args.spans.now c.args.found.now.headers is.form.fields
+          is.at.fields);
     }

@@ -7,7 +7,8 @@ use Rattle.relay_h1.proofs.head.push_request_fields.Goals as goal
 pub returns-in_err-append_header-clause-memory : goal.returns-in_err-append_header-clause-memory
 returns-in_err-append_header-clause-memory c =
     let room =
-    takes_one_more_kept c.args.bytes.now c.args.spans.now c.loop-span.head.fields c.loop-span.span-index
+    takes_one_more_kept c.args.bytes.now c.args.spans.now c.loop-span.head.fields
+    c.loop-span.span-index
     c.in_ok-name.name c.requires.few (omega arith) (ap (λ h. h.fields) c.loop-span.invariant)
     in
     let memory : c.in_err-append_header.field-0.0 ≡ OutOfMemory =

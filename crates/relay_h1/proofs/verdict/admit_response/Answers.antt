@@ -10,12 +10,17 @@ returns-in_err-head c =
     let failure = c.in_err-head.field-0.0 in
     let is = err_is c.from_residual.result failure c.from_residual.ensures.1 in
     let answer =
-    admits_no_answer c.args.method.now c.args.asked c.args.text.now failure c.requires c.in_err-head.ensures.causes
+    admits_no_answer c.args.method.now c.args.asked c.args.text.now failure c.requires
+    c.in_err-head.ensures.causes
     c.in_err-head.ensures.refused.0 c.in_err-head.ensures.memory
     in
     subst (AdmitsResponse c.args.method.now c.args.asked c.args.text.now) (sym is) answer
 
 pub returns-in-Err : goal.returns-in-Err
 returns-in-Err c =
-    let none = not_framed c.in-Err.error _ c.in-Err.ensures in
-    (BadFraming, none.1, verdict.IsRefusedAnswer.has_no_framing c.in_ok-head.head c.in_ok-head.ensures.ok none.0 refl)
+    let none = not_framed c.in-Err.error _ c.in-Err.ensures in (
+      BadFraming,
+      none.1,
+      verdict.IsRefusedAnswer.has_no_framing c.in_ok-head.head
+          c.in_ok-head.ensures.ok none.0 refl,
+    )

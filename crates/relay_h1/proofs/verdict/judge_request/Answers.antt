@@ -19,16 +19,21 @@ slice_bounds-admit_request-end c =
 pub returns-in-Ok-clause-verdict : goal.returns-in-Ok-clause-verdict
 returns-in-Ok-clause-verdict c =
     let place = rw c.in-Ok-Some.field-0-is at c.in-Ok-Some.ensures.place in
-    let same : c.bytes.result.now ≡ c.args.ahead.now = c.bytes.ensures ∙ c.locate_head.ensures.same in
-    judges_request c.args.ahead.now c.in-Ok-Some.len c.in-Ok.read place.0 (rw same at c.in-Ok.ensures)
+    let same : c.bytes.result.now ≡ c.args.ahead.now =
+    c.bytes.ensures ∙ c.locate_head.ensures.same in
+    judges_request c.args.ahead.now c.in-Ok-Some.len c.in-Ok.read place.0
+    (rw same at c.in-Ok.ensures)
 
 pub returns-in-Err-admit_request-clause-verdict : goal.returns-in-Err-admit_request-clause-verdict
 returns-in-Err-admit_request-clause-verdict c =
     let place = rw c.in-Ok-Some.field-0-is at c.in-Ok-Some.ensures.place in
-    let same : c.bytes.result.now ≡ c.args.ahead.now = c.bytes.ensures ∙ c.locate_head.ensures.same in
+    let same : c.bytes.result.now ≡ c.args.ahead.now =
+    c.bytes.ensures ∙ c.locate_head.ensures.same in
     rw c.fail_from.ensures
     (judges_no_request c.args.ahead.now c.in-Ok-Some.len c.in-Err-admit_request.fail place.0 place.1
-    (subst (λ (b : List ℕ). verdict.AdmitsRequest (take c.in-Ok-Some.len b) (Err c.in-Err-admit_request.fail)) same
+    (subst
+    (λ (b : List ℕ). verdict.AdmitsRequest (take c.in-Ok-Some.len b)
+    (Err c.in-Err-admit_request.fail)) same
     c.in-Err-admit_request.ensures))
 
 pub returns-in-Err-clause-verdict : goal.returns-in-Err-clause-verdict

@@ -5,6 +5,7 @@ use Rattle.relay_h1.proofs.wire.push_fields.Given as goal
 
 abbrev pub invariant-loop-name : goal.invariant-loop-name
 invariant-loop-name l = record {
-  joined : l.out.items ++ field_lines l.name-iterator ≡ l.initial.out.items ++ field_lines (pairs l.fields);
+  joined : l.out.items ++ field_lines l.name-iterator ≡ l.initial.out.items ++ field_lines
+      (pairs l.fields);
   front : KeepsFront l.initial.out.items l.out.items;
 }

@@ -1,5 +1,5 @@
 -- Each answer of the one read is a turn of the head.
-use Rattle.std.proofs.Common.{refl, sym}
+use Rattle.std.proofs.Common.{refl}
 use Rattle.relay_proxy.proofs.HeadSteps.{head_came, head_waits, head_ends, head_fails}
 use Rattle.relay_proxy.proofs.Tells.{sided}
 use Rattle.relay_proxy.proofs.client_head.await_head.Goals as goal

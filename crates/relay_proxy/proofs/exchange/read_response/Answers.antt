@@ -1,5 +1,5 @@
 -- The verdict is on the link's bytes as they stood.
-use Rattle.std.proofs.Common.{◌≡◌, ◌∙◌, ap, subst}
+use Rattle.std.proofs.Common.{◌∙◌, ap}
 use Rattle.relay_tasks.specs.declared.ErrorSource.TheVariants.{Upstream}
 use Rattle.relay_h1.proofs.HeadEndLemmas.{head_end-within}
 use Rattle.relay_proxy.specs.Endings.{unrelayed}

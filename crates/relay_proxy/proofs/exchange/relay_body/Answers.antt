@@ -1,5 +1,4 @@
 -- Nothing is held, so the link is read.
-use Rattle.std.proofs.Common.{rules}
 use Rattle.relay_proxy.proofs.Tells.{is_nil}
 use Rattle.relay_proxy.proofs.exchange.relay_body.Goals as goal
 

@@ -2,5 +2,5 @@
 use Rattle.std.proofs.Common.{refl, arith, lit<}
 use Rattle.relay_proxy.proofs.exchange.relay_rest.Goals as goal
 
-pub returns-then-left-gt0 : goal.returns-then-left-gt0
-returns-then-left-gt0 g c = (λ more. ((_, refl, refl), refl), λ none. absurd (omega (arith, c.if-left-gt0.true)), lit< tt)
+pub returns-then-left-gt0-clause-rest : goal.returns-then-left-gt0-clause-rest
+returns-then-left-gt0-clause-rest g c = (λ more. ((_, refl, refl), refl), λ none. absurd (omega (arith, c.if-left-gt0.true)), lit< tt)

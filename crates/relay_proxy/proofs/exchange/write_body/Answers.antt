@@ -7,7 +7,7 @@ pub returns-in-Took-clause-run : goal.returns-in-Took-clause-run
 returns-in-Took-clause-run g c = λ s p v faults run.
     let said = c.in-Took.ensures in
     body_wrote g.L.ByteLink.state g.L.ByteLink.start s p v _ _ _ _ _ _ _ said.same_there.0 refl
-    said.answer.writes said.same.0 refl refl said.answer.left c.relay_rest.ensures run
+    said.answer.writes said.same.0 refl refl said.answer.left c.relay_rest.ensures.rest run
 
 pub returns-in-NotReady-clause-run : goal.returns-in-NotReady-clause-run
 returns-in-NotReady-clause-run g c = λ s p v faults run.

@@ -6,7 +6,7 @@ use Rattle.relay_proxy.proofs.exchange.write_head.Goals as goal
 pub returns-in-Whole-clause-run : goal.returns-in-Whole-clause-run
 returns-in-Whole-clause-run g c = λ s p v faults run.
     head_wrote_all g.L.ByteLink.state g.L.ByteLink.start s p v _ _ _ _ _ _ c.in-Whole.ensures.ahead refl
-    c.in-Whole.ensures.offers c.relay_rest.ensures run
+    c.in-Whole.ensures.offers c.relay_rest.ensures.rest run
 
 pub returns-in-Left-clause-run : goal.returns-in-Left-clause-run
 returns-in-Left-clause-run g c = λ s p v faults run.

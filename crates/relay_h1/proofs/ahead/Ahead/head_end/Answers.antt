@@ -8,4 +8,5 @@ invariant_of-self c =
     let a = c.self.inside in
     let none : head_end (slice_range a.buffer.items a.start a.end) ≡ None =
     ap head_end (c.self.view_is ∙ sym c.bytes.ensures) ∙ sym c.in-None.ensures in
-    rw c.saturating_sub-self-inside.ensures (IsAhead-searched a.buffer.items a.start a.end a.searched c.self.invariant none)
+    rw c.saturating_sub-self-inside.ensures
+    (IsAhead-searched a.buffer.items a.start a.end a.searched c.self.invariant none)

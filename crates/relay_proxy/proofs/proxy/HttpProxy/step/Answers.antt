@@ -1,6 +1,5 @@
 -- The turn and its settling are a step.
-use Rattle.std.proofs.Common.{refl}
-use Rattle.relay_proxy.proofs.StepLemmas.{step_on, counts_turn}
+use Rattle.relay_proxy.proofs.StepLemmas.{step_on, counts_turn, rests_end}
 use Rattle.relay_proxy.proofs.proxy.HttpProxy.step.Goals as goal
 
 pub returns-clause-steps : goal.returns-clause-steps
@@ -20,3 +19,8 @@ pub returns-clause-counted : goal.returns-clause-counted
 returns-clause-counted g c =
     counts_turn g.K.Byte.ByteLink.state g.K.Byte.ByteLink.start _ _ _ _ _ c.take_turn-next.ensures.work
     c.count_turn-machine.ensures
+
+pub returns-clause-rests : goal.returns-clause-rests
+returns-clause-rests g c = λ over.
+    rests_end _ _ c.args.machine.now.machine.phase c.take_turn-next.result.phase _
+    (rw c.replace-phase.ensures.value at c.take_turn-next.ensures.rests) over

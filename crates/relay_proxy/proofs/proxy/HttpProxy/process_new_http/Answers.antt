@@ -1,0 +1,61 @@
+-- The steps add up to the whole request.
+use Rattle.std.proofs.Common.{◌≡◌, ◌∙◌, ◌+◌, ◌≤◌, arith, refl, ap, sym}
+use Rattle.relay_links.specs.Count.{last_count}
+use Rattle.relay_proxy.specs.Passed.{start_of}
+use Rattle.relay_proxy.specs.Turn.{world_of}
+use Rattle.relay_proxy.proofs.UnderWay.{begun, goes_on, all_taken, stopped, one_more, no_end, stops_at}
+use Rattle.relay_proxy.proofs.proxy.HttpProxy.process_new_http.Goals as goal
+
+pub loop-turn-init : goal.loop-turn-init
+loop-turn-init g c =
+    let faults = g.K.Connector.fault_count c.args.self.now.connector in (
+      begun g.K.Byte.ByteLink.state g.K.Byte.ByteLink.start (world_of g.D.ByteLink.state c.args.client.now faults)
+          (world_of g.D.ByteLink.state c.begin-machine.new.client faults) _ _ c.begin-machine.result.machine refl
+          (rw c.take_kept-kept.ensures.after at c.begin-machine.ensures.running) c.begin-machine.ensures.no_turns,
+      omega (arith, c.begin-machine.ensures.no_link),
+      ap (λ k. k.kept) (c.begin-machine.ensures.client ∙ c.take_kept-kept.ensures.after),
+      c.begin-machine.ensures.going,
+    )
+
+pub returns-then-is_stop-clause-processes : goal.returns-then-is_stop-clause-processes
+returns-then-is_stop-clause-processes g c =
+    let state = g.K.Byte.ByteLink.state in
+    let start = g.K.Byte.ByteLink.start in
+    let under = c.loop-turn.invariant.0 in
+    let s = start_of (world_of g.D.ByteLink.state c.args.client.now (g.K.Connector.fault_count c.args.self.now.connector)) in
+    let steps = c.step-step.ensures.steps s under.passed under.waited under.own under.running in
+    let ends = c.close.ensures.ends s steps.passed steps.waited _ steps.running in
+    stopped state start s _ _ _ _ _ _ _ c.loop-turn.machine.machine c.step-step.new.machine.machine _ _ c.step-step.result
+    c.close.result under steps ends
+    (stops_at state start under.passed steps.passed under.waited steps.waited
+    (world_of g.D.ByteLink.state c.step-step.new.client (g.K.Connector.fault_count c.step-step.new.self.connector))
+    (world_of g.D.ByteLink.state c.close.new.client (g.K.Connector.fault_count c.close.new.self.connector))
+    _ _ c.step-step.result c.close.result
+    (sym c.is_stop.ensures ∙ c.if-is_stop.true) steps.spends c.step-step.ensures.ended
+    (rw (c.close.ensures.client, c.close.ensures.faults) refl) ends.over c.loop-turn.invariant.3)
+
+pub loop-turn-preserved : goal.loop-turn-preserved
+loop-turn-preserved g c =
+    let state = g.K.Byte.ByteLink.state in
+    let start = g.K.Byte.ByteLink.start in
+    let under = c.loop-turn.invariant.0 in
+    let s = start_of (world_of g.D.ByteLink.state c.args.client.now (g.K.Connector.fault_count c.args.self.now.connector)) in
+    let steps = c.step-step.ensures.steps s under.passed under.waited under.own under.running in
+    let goes = sym c.is_stop.ensures ∙ c.if-is_stop.false in
+    let few : c.loop-turn._turn + 1 ≤ last_count = omega (arith, c.loop-turn-test.true, c.ranges.turns.fits) in (
+      goes_on state start s _ _ _ _ _ c.loop-turn.machine.machine c.step-step.new.machine.machine _ c.step-step.result under steps
+          (one_more _ _ c.step-step.result c.step-step.ensures.counted goes) few,
+      omega (arith, c.step-step.ensures.out, c.loop-turn.invariant.1),
+      c.step-step.ensures.kept ∙ c.loop-turn.invariant.2,
+      c.step-step.ensures.ended ∙ no_end c.step-step.result goes,
+    )
+
+pub returns-clause-processes : goal.returns-clause-processes
+returns-clause-processes g c =
+    let state = g.K.Byte.ByteLink.state in
+    let start = g.K.Byte.ByteLink.start in
+    let under = c.loop-turn.invariant.0 in
+    let s = start_of (world_of g.D.ByteLink.state c.args.client.now (g.K.Connector.fault_count c.args.self.now.connector)) in
+    let ends = c.close-2.ensures.ends s under.passed under.waited under.own under.running in
+    let all : c.args.turns ≡ c.loop-turn._turn = omega (arith, c.loop-turn-test.false, c.loop-turn.auto._turn-end) in
+    all_taken state start s _ _ _ _ _ c.loop-turn.machine.machine _ _ c.close-2.result under all ends c.close-2.ensures.turns
