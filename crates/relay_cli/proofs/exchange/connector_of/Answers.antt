@@ -1,7 +1,6 @@
 -- The connector has the one entry that was pushed.
-use Rattle.std.proofs.Common.{◌≡◌, ◌∷◌, ◌++◌, [], ◌∙◌, ap, refl, None}
+use Rattle.std.proofs.Common.{◌∷◌, ◌++◌, [], ◌∙◌, ap, refl, None}
 use Rattle.relay_links.specs.declared.script_connector.PeerScript.{PeerScript}
-use Rattle.relay_cli.specs.Exchange.{IsConnectorOf}
 use Rattle.relay_cli.proofs.exchange.connector_of.Goals as goal
 
 pub returns-in-Ok : goal.returns-in-Ok

@@ -1,9 +1,7 @@
 -- What is reported is the run that the proxy made over the links of the script.
-use Rattle.std.proofs.Common.{◌≡◌, ◌≢◌, ◌∙◌, ap, sym, subst, [], true≢false}
+use Rattle.std.proofs.Common.{◌≡◌, ◌≢◌, ◌∙◌, ap, sym, subst, true≢false}
 use Rattle.std.proofs.lemmas.Result.{IfOk-weaker}
 use Rattle.relay_links.specs.ScriptEntries.{links_returned, gets_failed}
-use Rattle.relay_links.specs.declared.connector.Returned.{Returned}
-use Rattle.relay_links.specs.declared.script_link.ScriptLink.{ScriptLink}
 use Rattle.relay_proxy.specs.declared.outcome.Outcome.TheVariants.{OutOfMemory}
 use Rattle.relay_cli.specs.Exchange.{IsRun, reported}
 use Rattle.relay_cli.specs.Report.{RequestSpec, request_spec}
