@@ -35,6 +35,7 @@ pub struct Outside<H, W, Y> {
 }
 
 /// An application over a connector and a purger.
+#[derive(Drop)]
 pub struct HttpProxy<SV, K, P> {
     alloc: Global,
     inner: SV,
