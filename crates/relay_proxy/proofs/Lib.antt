@@ -4,3 +4,4 @@ pub mod ExchangeSteps
 pub mod BodySteps
 pub mod StepLemmas
 pub mod UnderWay
+pub mod ExactLemmas

@@ -17,6 +17,7 @@ use Rattle.relay_proxy.specs.declared.machine.RunStep.TheVariants as step
 use Rattle.relay_proxy.specs.declared.outcome.Outcome.TheVariants.{TurnLimit}
 use Rattle.relay_proxy.specs.declared.outcome.Processed.{Processed}
 use Rattle.relay_proxy.proofs.StepLemmas.{more-nil, more-more, not_true}
+use Rattle.relay_proxy.proofs.ExactLemmas.{exact_of}
 
 -- a step after which the call goes on is counted
 pub one_more : (before after : ℕ) (did : RunStep) → Counts before after did → is_stop did ≡ false → after ≡ up before
@@ -85,6 +86,8 @@ module _ {L C : Type 0} (state : L → LinkState) (start_at : L → LinkStart) w
     gained = ends.gained ∙ ap (λ (t : Option (List (Returned L))). more t ends.handed) under.gained
         ∙ more-more before under.own ends.handed;
     ended = ends.ended;
+    exact = exact_of state start_at s under.passed under.waited x (under.own ++ ends.handed)
+        processed.history.attempts processed.outcome ends.ended;
     few_turns = ends.turns;
     limit = λ is. inl (taken ∙ under.counted ∙ sym all);
   }
@@ -106,6 +109,8 @@ module _ {L C : Type 0} (state : L → LinkState) (start_at : L → LinkStart) w
         ∙ more-more before under.own steps.handed)
         ∙ more-more before (under.own ++ steps.handed) ends.handed;
     ended = ends.ended;
+    exact = exact_of state start_at s steps.passed steps.waited y ((under.own ++ steps.handed) ++ ends.handed)
+        processed.history.attempts processed.outcome ends.ended;
     few_turns = ends.turns;
     limit = λ is. inr (ends.quiet is (stalled is));
   }

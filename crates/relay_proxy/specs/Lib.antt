@@ -7,3 +7,4 @@ pub mod Turn
 pub mod Work
 pub mod Closing
 pub mod Request
+pub mod Exact

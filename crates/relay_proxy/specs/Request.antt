@@ -7,6 +7,7 @@ use Rattle.relay_links.specs.Told.{more}
 use Rattle.relay_links.specs.declared.Returned.{Returned}
 use Rattle.relay_proxy.specs.Passed.{World, Start, Passed, Waited, amount}
 use Rattle.relay_proxy.specs.Endings.{IsEnded}
+use Rattle.relay_proxy.specs.Exact.{IsExact}
 use Rattle.relay_proxy.specs.Phases.{RunSoFar, allowance}
 use Rattle.relay_proxy.specs.Turn.{IsStalled, is_over}
 use Rattle.relay_proxy.specs.Closing.{StepSpends, IsQuiet}
@@ -72,6 +73,8 @@ pub record Processes {L : Type 0} (state : L → LinkState) (start_at : L → Li
   pub own : List (Returned L)
   pub gained : after ≡ more before own
   pub ended : IsEnded state start_at s passed waited w own processed.history.attempts processed.outcome
+  -- the other way round: where a cause stands, the outcome is its own
+  pub exact : IsExact state start_at s passed w own processed.outcome
   pub few_turns : processed.history.turns_taken ≤ 4 + amount passed waited
   -- a request that has not ended took all its turns, or met a link that is silent
   pub limit : processed.outcome ≡ TurnLimit
