@@ -1,0 +1,124 @@
+-- Attempts reported one after another.
+use Rattle.std.proofs.Common.{◌≡◌, ◌≢◌, inl, inr, None, subst, ℕ, suc, ◌+◌, List, [], ◌∷◌, ◌++◌, map, drop, Some, refl, sym, ap, ◌∙◌, add-one, append_assoc, drop-cons}
+use Rattle.std.specs.List.{slice_get}
+use Rattle.std.proofs.lemmas.Option.{slice_get_within, get_or_from_slice_get, same_Some}
+use Rattle.relay_links.specs.Link.{LinkState}
+use Rattle.relay_links.specs.ScriptLink.{script_state, script_start, IsFresh}
+use Rattle.relay_links.specs.ScriptEntries.{links_returned, gets_failed}
+use Rattle.relay_links.specs.Told.{Since, told_length, more}
+use Rattle.relay_links.specs.declared.connector.Returned.{Returned}
+use Rattle.relay_links.specs.declared.read_script.ReadItem.{ReadItem}
+use Rattle.relay_links.specs.declared.script_connector.ScriptConnector.{ScriptConnector}
+use Rattle.relay_links.specs.declared.script_link.ScriptLink.{ScriptLink}
+use Rattle.relay_proxy.specs.Endings.{EndsUnlinked, EndsWith}
+use Rattle.relay_proxy.specs.Passed.{Passed, Waited, World, Start, start_of}
+use Rattle.relay_proxy.specs.Request.{Processes}
+use Rattle.relay_proxy.specs.Turn.{world_with}
+use Rattle.relay_proxy.specs.declared.outcome.Outcome.{Outcome}
+use Rattle.relay_proxy.specs.declared.outcome.Outcome.TheVariants as ended
+use Rattle.relay_proxy.specs.declared.outcome.Processed.{Processed}
+use Rattle.relay_proxy.specs.declared.record.AttemptRecord.{AttemptRecord}
+use Rattle.relay_cli.specs.Exchange.{attempt_report, taken_of, sent_of, FirstStartsWithin, first_world, turn_limit, IsConnectorOf, IsRun, reported}
+use Rattle.relay_cli.specs.Script.{PeerSpec, ScriptSpec}
+
+-- the list from a place on begins with the item there
+drop_at : {A : Type 0} (xs : List A) (n : ℕ) (x : A) → slice_get xs n ≡ Some x → drop n xs ≡ x ∷ drop (n + 1) xs
+drop_at xs n x is =
+    rw add-one (drop-cons xs n x (slice_get_within xs n x is)
+    ∙ ap (λ y. y ∷ drop (suc n) xs) (get_or_from_slice_get xs n x x is))
+
+-- one more item is read at a place
+pub map_more : {A B : Type 0} (f : A → B) (front : List B) (xs : List A) (n : ℕ) (x : A) → slice_get xs n ≡ Some x
+    → (front ++ f x ∷ []) ++ map f (drop (n + 1) xs) ≡ front ++ map f (drop n xs)
+map_more f front xs n x is = append_assoc front (f x ∷ []) _ ∙ ap (λ rest. front ++ map f rest) (sym (drop_at xs n x is))
+
+-- a list that is told since its start is the list
+since_start : (place : ℕ) (told items : List ℕ) → place ≡ 0 → Since [] place (Some told) items → told ≡ items
+since_start place told items zero_is since =
+    let from : drop 0 told ≡ items = subst (λ (n : ℕ). drop n told ≡ items) zero_is since.1 in from
+
+-- what a fresh link took is nothing
+fresh_taken : (client : ScriptLink) (read : List ReadItem) → IsFresh client read [] → told_length (script_state client).taken ≡ 0
+fresh_taken client read fresh = ap (λ (s : LinkState). told_length s.taken) fresh.state
+
+-- a request that had no link sent nothing
+unlinked_sent : (s : Start) (p : Passed) (w : World) (outcome : Outcome) → EndsUnlinked s p w outcome → [] ≡ p.sent
+unlinked_sent s p w ended.NoRequest ends = sym ends.unsent.sent
+unlinked_sent s p w (ended.Refused None) ends = absurd ends
+unlinked_sent s p w (ended.Refused (Some e)) (inl refused) = sym refused.unsent.sent
+unlinked_sent s p w (ended.Refused (Some e)) (inr (inl unrelayed)) = sym unrelayed.unsent.sent
+unlinked_sent s p w (ended.Refused (Some e)) (inr (inr fault)) = sym fault.unsent.sent
+unlinked_sent s p w (ended.Served None reuse) ends = absurd ends
+unlinked_sent s p w (ended.Served (Some e) reuse) ends = sym ends.0.unsent.sent
+unlinked_sent s p w ended.TurnLimit ends = sym ends.sent
+unlinked_sent s p w ended.OutOfMemory ends = sym ends.sent
+
+-- the bytes that the links of a request took are those that were sent
+sent_is : (s : Start) (p : Passed) (v : Waited) (w : World) (own : List (Returned ScriptLink)) (records : List AttemptRecord) (outcome : Outcome)
+    → EndsWith script_state script_start s p v w own records outcome → sent_of own ≡ p.sent
+sent_is s p v w [] records outcome ends = unlinked_sent s p w outcome ends.0
+sent_is s p v w (r ∷ []) records outcome ends = ends.tells.sent.1
+sent_is s p v w (r ∷ q ∷ rest) records outcome ends = absurd ends
+
+-- the first link of a request starts within what it took
+pub starts_within : (s : Start) (p : Passed) (v : Waited) (w : World) (own : List (Returned ScriptLink)) (records : List AttemptRecord) (outcome : Outcome)
+    → EndsWith script_state script_start s p v w own records outcome → FirstStartsWithin own
+starts_within s p v w [] records outcome ends = tt
+starts_within s p v w (r ∷ []) records outcome ends = ends.tells.sent.0
+starts_within s p v w (r ∷ q ∷ rest) records outcome ends = absurd ends
+
+-- the links that an unused connector has at the end are those that came back
+own_is : (before after own : List (Returned ScriptLink)) → before ≡ [] → Some after ≡ more (Some before) own → after ≡ own
+own_is before after own none gained = same_Some after (before ++ own) gained ∙ ap (λ xs. xs ++ own) none
+
+-- a request over the links that a script makes, by the values that the code has
+pub runs_script : (made first last : ScriptLink) (connector old : ScriptConnector) (peer : PeerSpec)
+    (first_ahead ahead : List ℕ) (faults : ℕ) (after : List (Returned ScriptLink)) (processed : Processed)
+    → IsConnectorOf peer connector → first ≡ made → first_ahead ≡ [] → old ≡ connector
+    → Processes script_state script_start
+    (start_of (world_with (script_state first) first_ahead (gets_failed old))) (world_with (script_state last) ahead faults)
+    (Some (links_returned old)) (Some after) turn_limit processed
+    → Processes script_state script_start (start_of (first_world made connector)) (world_with (script_state last) ahead faults)
+    (Some []) (Some after) turn_limit processed
+runs_script made first last connector old peer first_ahead ahead faults after processed offered is none same run =
+    let world : world_with (script_state first) first_ahead (gets_failed old) ≡ first_world made connector =
+    rw (is, none, same) in
+    let unreturned : links_returned old ≡ [] = rw same offered.returned in
+    subst (λ (w : World). Processes script_state script_start (start_of w) (world_with (script_state last) ahead faults)
+    (Some []) (Some after) turn_limit processed) world
+    (subst (λ (rs : List (Returned ScriptLink)). Processes script_state script_start
+    (start_of (world_with (script_state first) first_ahead (gets_failed old))) (world_with (script_state last) ahead faults)
+    (Some rs) (Some after) turn_limit processed) unreturned run)
+
+-- what is reported of a request over the links of a script is a run of the script
+pub is_run : (script : ScriptSpec) (made last : ScriptLink) (connector : ScriptConnector) (ahead : List ℕ) (faults : ℕ)
+    (after : List (Returned ScriptLink)) (processed : Processed)
+    → IsFresh made script.client [] → IsConnectorOf script.peer connector
+    → Processes script_state script_start (start_of (first_world made connector)) (world_with (script_state last) ahead faults)
+    (Some []) (Some after) turn_limit processed
+    → processed.outcome ≢ ended.OutOfMemory
+    → IsRun script (reported script.peer.name processed last after)
+is_run script made last connector ahead faults after processed fresh offered run printable =
+    let own : after ≡ run.own = own_is [] after run.own refl run.gained in
+    record {
+      client = made;
+      fresh = fresh;
+      connector = connector;
+      offered = offered;
+      last_world = world_with (script_state last) ahead faults;
+      returned = after;
+      processed = processed;
+      run = run;
+      printable = printable;
+      outcome = refl;
+      written = since_start _ (taken_of last) run.passed.written (fresh_taken made script.client fresh) run.ended.tells.written;
+      attempts = ap (λ sent. map (attempt_report script.peer.name sent) processed.history.attempts)
+          (ap sent_of own ∙ sent_is _ run.passed run.waited _ run.own processed.history.attempts processed.outcome run.ended.ends);
+    }
+
+-- the first link that came back starts within what it took
+pub first_starts_within : (s : Start) (w : World) (before after : List (Returned ScriptLink)) (turns : ℕ) (processed : Processed)
+    → before ≡ [] → Processes script_state script_start s w (Some before) (Some after) turns processed → FirstStartsWithin after
+first_starts_within s w before after turns processed none run =
+    let own : after ≡ run.own = own_is before after run.own none run.gained in
+    subst FirstStartsWithin (sym own) (starts_within s run.passed run.waited w run.own processed.history.attempts processed.outcome run.ended.ends)

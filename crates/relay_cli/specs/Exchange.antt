@@ -1,0 +1,90 @@
+-- One exchange over scripted links, and what is reported of it.
+use Rattle.std.specs.Prelude.{◌≡◌, ◌≢◌, ℕ, ◌≤◌, List, [], ◌∷◌, length, drop, map, Some, None, unwrap_or}
+use Rattle.relay_links.specs.ScriptLink.{script_state, script_start, IsFresh}
+use Rattle.relay_links.specs.declared.connector.Returned.{Returned}
+use Rattle.relay_links.specs.ScriptEntries.{next_entries, links_returned, links_out, gets_failed}
+use Rattle.relay_links.specs.declared.script_connector.PeerScript.{PeerScript}
+use Rattle.relay_links.specs.declared.script_connector.ScriptConnector.{ScriptConnector}
+use Rattle.relay_links.specs.declared.script_link.ScriptLink.{ScriptLink}
+use Rattle.relay_proxy.specs.Passed.{World, start_of}
+use Rattle.relay_proxy.specs.Request.{Processes}
+use Rattle.relay_proxy.specs.declared.outcome.Processed.{Processed}
+use Rattle.relay_proxy.specs.declared.outcome.Outcome.TheVariants.{OutOfMemory}
+use Rattle.relay_proxy.specs.declared.record.AttemptRecord.{AttemptRecord}
+use Rattle.relay_cli.specs.Report.{RequestSpec}
+use Rattle.relay_cli.specs.Script.{PeerSpec, ScriptSpec}
+use Rattle.relay_cli.specs.declared.report.AttemptReport.{AttemptReport}
+
+-- how many turns the request of a script may take
+abbrev pub turn_limit : ℕ
+turn_limit = 1000000
+
+-- what is reported of an attempt at the peer of that name, whose link took those bytes
+abbrev pub attempt_report : List ℕ → List ℕ → AttemptRecord → AttemptReport
+attempt_report name sent a = record { name = name; reused = a.reused; kept = a.kept; error = a.error; sent = sent }
+
+-- all bytes that a link took
+abbrev pub taken_of : ScriptLink → List ℕ
+taken_of link = unwrap_or (script_state link).taken []
+
+-- the bytes that a link took since it was handed out
+abbrev pub taken_since : ScriptLink → List ℕ
+taken_since link = drop (script_start link).taken (taken_of link)
+
+-- the link had taken no more when it was handed out than it took in all
+abbrev pub StartsWithin : ScriptLink → Type 0
+StartsWithin link = (script_start link).taken ≤ length (taken_of link)
+
+-- the bytes that the first link of a list took since it was handed out; none where there is none
+abbrev pub sent_of : List (Returned ScriptLink) → List ℕ
+sent_of [] = []
+sent_of (r ∷ rest) = taken_since r.link
+
+abbrev pub FirstStartsWithin : List (Returned ScriptLink) → Type 0
+FirstStartsWithin [] = Unit {0}
+FirstStartsWithin (r ∷ rest) = StartsWithin r.link
+
+-- what is reported of a request at the peer of that name
+abbrev pub reported : List ℕ → Processed → ScriptLink → List (Returned ScriptLink) → RequestSpec
+reported name processed client returned = record {
+  outcome = processed.outcome;
+  written = taken_of client;
+  attempts = map (attempt_report name (sent_of returned)) processed.history.attempts;
+}
+
+-- the connector was not asked yet, and hands out one link: that of the peer, which gives its items
+-- and takes everything
+pub record IsConnectorOf (peer : PeerSpec) (connector : ScriptConnector) : Type 0 where
+  pub returned : links_returned connector ≡ []
+  pub out : links_out connector ≡ 0
+  pub faults : gets_failed connector ≡ 0
+  pub entry : PeerScript
+  pub entries : next_entries connector ≡ entry ∷ []
+  pub name : entry.name ≡ peer.name
+  pub link : IsFresh entry.link peer.read []
+  pub connects : entry.connect ≡ None
+
+-- the world at the begin of a script's request: its client's link, with nothing read ahead, and its
+-- connector
+abbrev pub first_world : ScriptLink → ScriptConnector → World
+first_world client connector = record { client = script_state client; ahead = []; connect_faults = gets_failed connector }
+
+-- a request that ran over the links of a script, and what is reported of it
+pub record IsRun (script : ScriptSpec) (request : RequestSpec) : Type 0 where
+  -- the client's link and the connector as the script makes them
+  pub client : ScriptLink
+  pub fresh : IsFresh client script.client []
+  pub connector : ScriptConnector
+  pub offered : IsConnectorOf script.peer connector
+  -- the request over them, from its begin to its end
+  pub last_world : World
+  pub returned : List (Returned ScriptLink)
+  pub processed : Processed
+  pub run : Processes script_state script_start (start_of (first_world client connector)) last_world
+      (Some []) (Some returned) turn_limit processed
+  -- what is reported is the outcome and what passed
+  pub printable : request.outcome ≢ OutOfMemory
+  pub outcome : request.outcome ≡ processed.outcome
+  pub written : request.written ≡ run.passed.written
+  pub attempts : request.attempts
+      ≡ map (attempt_report script.peer.name run.passed.sent) processed.history.attempts

@@ -1,0 +1,121 @@
+-- A run of the program: what it read, what it wrote, and the status that it ends with.
+use Rattle.std.specs.Prelude.{◌≡◌, ℕ, ◌<◌, true, List, [], ◌∷◌, ◌⊎◌, length, Some, None, MatchOption, codes, Result, Ok, Err}
+use Rattle.relay_links.specs.Count.{Rose}
+use Rattle.relay_links.specs.Sink.{SinkState}
+use Rattle.relay_links.specs.Source.{SourceState}
+use Rattle.relay_cli.specs.Exchange.{IsRun}
+use Rattle.relay_cli.specs.Report.{RequestSpec, report_of}
+use Rattle.relay_cli.specs.Script.{ScriptSpec, reads_script}
+use Rattle.relay_cli.specs.Transfer.{GivesAll, GivesTooMany, FailsToGive, Takes, input_limit}
+use Rattle.relay_cli.specs.Words.{command_of, usage_text}
+use Rattle.relay_cli.specs.declared.run.Status.{Status}
+use Rattle.relay_cli.specs.declared.run.Status.TheVariants as status
+use Rattle.relay_cli.specs.declared.script.ScriptError.{ScriptError}
+use Rattle.relay_cli.specs.declared.script.ScriptError.TheVariants as error
+use Rattle.relay_cli.specs.declared.transfer.Output.{Output}
+use Rattle.relay_cli.specs.declared.transfer.Output.TheVariants as output
+
+-- the number of a status
+abbrev pub status_code : Status → ℕ
+status_code status.Reported = 0
+status_code status.ScriptRefused = 2
+status_code status.SourceFailed = 3
+status_code status.SinkFailed = 4
+status_code status.OutOfMemory = 5
+status_code status.WordsRefused = 6
+
+-- the text is the report of a run of the script that the bytes spell
+pub record IsReportOf (bytes text : List ℕ) : Type 0 where
+  pub script : ScriptSpec
+  pub reads : reads_script bytes ≡ Some script
+  pub request : RequestSpec
+  pub runs : IsRun script request
+  pub printed : text ≡ report_of (request ∷ [])
+
+-- what the bytes of a source come to, unless memory ran out: a report, or they spell no script
+abbrev pub Answers : {X : Type 0} → (X → List ℕ) → List ℕ → Result X ScriptError → Type 0
+Answers view bytes (Ok text) = IsReportOf bytes (view text)
+Answers view bytes (Err error.Refused) = reads_script bytes ≡ None
+Answers view bytes (Err error.OutOfMemory) = Unit {0}
+
+-- the sink took the report of a run of the script that the bytes spell
+pub record TakesReport (bytes : List ℕ) (sink sink' : SinkState) : Type 0 where
+  pub text : List ℕ
+  pub report : IsReportOf bytes text
+  pub written : Takes sink sink' text
+
+-- the source has ended, and the sink took the report of a run of its bytes
+pub record Reports (source source' : SourceState) (sink sink' : SinkState) : Type 0 where
+  pub bytes : List ℕ
+  pub gives : GivesAll source source' bytes
+  pub report : TakesReport bytes sink sink'
+
+-- the source has ended, and its bytes spell no script
+pub record GivesNoScript (before after : SourceState) : Type 0 where
+  pub bytes : List ℕ
+  pub gives : GivesAll before after bytes
+  pub none : reads_script bytes ≡ None
+
+abbrev pub refused_text : List ℕ
+refused_text = codes "script refused\n"
+
+-- the source gives no script, and the sink took the line that says so
+pub record RefusesScript (source source' : SourceState) (sink sink' : SinkState) : Type 0 where
+  pub cause : GivesNoScript source source' ⊎ GivesTooMany source source'
+  pub written : Takes sink sink' refused_text
+
+-- the sink took the usage, and the source was left alone
+pub record RefusesWords (source source' : SourceState) (sink sink' : SinkState) : Type 0 where
+  pub source_same : source' ≡ source
+  pub written : Takes sink sink' usage_text
+
+-- the status behind a write, where `done` is that of a text that was taken whole
+abbrev pub status_after : Output → Status → Status
+status_after output.Done done = done
+status_after output.Failed done = status.SinkFailed
+status_after output.OutOfMemory done = status.OutOfMemory
+
+-- why the bytes of a source end with a status
+abbrev pub EndsBytes : List ℕ → SinkState → SinkState → Status → Type 0
+EndsBytes bytes sink sink' status.Reported = TakesReport bytes sink sink'
+EndsBytes bytes sink sink' status.ScriptRefused = (reads_script bytes ≡ None) × Takes sink sink' refused_text
+EndsBytes bytes sink sink' status.SourceFailed = ⊥
+EndsBytes bytes sink sink' status.SinkFailed = Rose sink.faults sink'.faults
+EndsBytes bytes sink sink' status.OutOfMemory = Unit {0}
+EndsBytes bytes sink sink' status.WordsRefused = ⊥
+
+-- why a run of a script ends with a status
+abbrev pub EndsScript : SourceState → SourceState → SinkState → SinkState → Status → Type 0
+EndsScript source source' sink sink' status.Reported = Reports source source' sink sink'
+EndsScript source source' sink sink' status.ScriptRefused = RefusesScript source source' sink sink'
+EndsScript source source' sink sink' status.SourceFailed = FailsToGive source source' × (sink' ≡ sink)
+EndsScript source source' sink sink' status.SinkFailed = Rose sink.faults sink'.faults
+EndsScript source source' sink sink' status.OutOfMemory = Unit {0}
+EndsScript source source' sink sink' status.WordsRefused = ⊥
+
+-- why refused words end with a status
+abbrev pub EndsUsage : SourceState → SourceState → SinkState → SinkState → Status → Type 0
+EndsUsage source source' sink sink' status.WordsRefused = RefusesWords source source' sink sink'
+EndsUsage source source' sink sink' status.SinkFailed = (source' ≡ source) × Rose sink.faults sink'.faults
+EndsUsage source source' sink sink' status.OutOfMemory = source' ≡ source
+EndsUsage source source' sink sink' status.Reported = ⊥
+EndsUsage source source' sink sink' status.ScriptRefused = ⊥
+EndsUsage source source' sink sink' status.SourceFailed = ⊥
+
+-- why the words end with a status
+abbrev pub EndsCommand : List (List ℕ) → SourceState → SourceState → SinkState → SinkState → Status → Type 0
+EndsCommand words source source' sink sink' status = MatchOption (command_of words) (EndsUsage source source' sink sink' status) (λ _. EndsScript source source' sink sink' status)
+
+-- a source that tells its bytes has ended, and they spell no script
+pub record TellsNoScript (before after : SourceState) : Type 0 where
+  pub bytes : List ℕ
+  pub told : before.left ≡ Some bytes
+  pub none : reads_script bytes ≡ None
+  pub ended : after.ended ≡ true
+
+-- a source that tells its bytes has more than are read, and no read failed
+pub record TellsTooMany (before after : SourceState) : Type 0 where
+  pub bytes : List ℕ
+  pub told : before.left ≡ Some bytes
+  pub long : input_limit < length bytes
+  pub no_fault : ¬ Rose before.faults after.faults

@@ -1,0 +1,139 @@
+-- Scripts: the JSON object that says what the client and the peer of a run give.
+use Rattle.std.specs.Prelude.{◌≡◌, ℕ, ◌+◌, ◌^◌, ◌==◌, nat_lt, List, [], ◌∷◌, true, false, if◌then◌else◌, Option, Some, None, option_map, is_some, unwrap_or, Result, Ok, Err, codes}
+use Rattle.std.specs.Str.{bytes_eq, is_utf8}
+use Rattle.serde_json.specs.Data.{Data, number, string, boolean, array, unsigned, Items, no_items, item}
+use Rattle.serde_json.specs.Events.{members_len}
+use Rattle.serde_json.specs.Find.{get, as_object}
+use Rattle.serde_json.specs.Read.{read as read_text}
+use Rattle.relay_tasks.specs.declared.error.RetryType.TheVariants.{Decided}
+use Rattle.relay_tasks.specs.declared.fault.FaultKind.TheVariants as kind
+use Rattle.relay_cli.specs.declared.script.PeerEntry.{PeerEntry}
+use Rattle.relay_links.specs.declared.read_script.ReadItem.{ReadItem}
+use Rattle.relay_links.specs.declared.read_script.ReadItem.TheVariants as give
+use Rattle.relay_cli.specs.declared.script.Script.{Script}
+use Rattle.relay_cli.specs.declared.script.ScriptError.{ScriptError}
+use Rattle.relay_cli.specs.declared.script.ScriptError.TheVariants as error
+
+-- a peer without where it lies in memory: its name, and what its link gives
+pub record PeerSpec : Type 0 where
+  pub name : List ℕ
+  pub read : List ReadItem
+
+-- a script without where it lies in memory: what the client's link gives, and the peer
+pub record ScriptSpec : Type 0 where
+  pub client : List ReadItem
+  pub peer : PeerSpec
+
+abbrev pub peer_spec : PeerEntry → PeerSpec
+peer_spec p = record { name = p.name; read = p.read.items }
+
+abbrev pub script_spec : Script → ScriptSpec
+script_spec s = record { client = s.client.items; peer = peer_spec s.peer }
+
+-- what is read, and then what is read of it
+infixl 10 ◌>>=◌
+abbrev pub ◌>>=◌ : {A B : Type 0} → Option A → (A → Option B) → Option B
+None >>= f = None
+(Some x) >>= f = f x
+
+-- how many keys an object has, each counted once
+abbrev pub key_count : Data → ℕ
+key_count value = unwrap_or (option_map members_len (as_object value)) 0
+
+-- 1 where the object has the key, and else 0
+abbrev pub has : List ℕ → Data → ℕ
+has key value = if is_some (get key value) then 1 else 0
+
+-- what is at a key decides, where there is such a key
+abbrev pub where_there : {X : Type 0} → Option Data → (Data → Option X) → Option X → Option X
+where_there None read other = other
+where_there (Some value) read other = read value
+
+-- `{"text": t}`: the bytes of a text that is not empty
+abbrev pub text_item : Data → Option ReadItem
+text_item (string []) = None
+text_item (string (b ∷ bs)) = Some (give.Bytes (b ∷ bs))
+text_item _ = None
+
+-- `{"wait": n}`: n answers that nothing came yet; n is whole and below 2^32
+abbrev pub wait_item : Data → Option ReadItem
+wait_item (number (unsigned n)) = if nat_lt n (2 ^ 32) then Some (give.Wait n) else None
+wait_item _ = None
+
+-- `{"end": true}`: the link has given all
+abbrev pub end_item : Data → Option ReadItem
+end_item (boolean true) = Some give.End
+end_item _ = None
+
+-- `{"fault": "Read"}`: the read fails, and is not to be retried
+abbrev pub fault_item : Data → Option ReadItem
+fault_item (string name) = if bytes_eq name (codes "Read") then Some (give.Fault (record { kind = kind.Read; retry = Decided false })) else None
+fault_item _ = None
+
+-- an item by its one key
+abbrev pub item_at_key : Data → Option ReadItem
+item_at_key value =
+    where_there (get (codes "text") value) text_item
+    (where_there (get (codes "wait") value) wait_item
+    (where_there (get (codes "end") value) end_item
+    (where_there (get (codes "fault") value) fault_item None)))
+
+-- a read item: an object of exactly one key
+abbrev pub item_of : Data → Option ReadItem
+item_of value = if key_count value == 1 then item_at_key value else None
+
+abbrev pub each_item : Items → Option (List ReadItem)
+each_item no_items = Some []
+each_item (item value values) = item_of value >>= (λ first. option_map (λ rest. first ∷ rest) (each_item values))
+
+-- a list of read items
+abbrev pub items_of : Data → Option (List ReadItem)
+items_of (array values) = each_item values
+items_of _ = None
+
+-- a name: any text
+abbrev pub name_of : Data → Option (List ℕ)
+name_of (string name) = Some name
+name_of _ = None
+
+-- a peer: an object with `name`, and `read` or none, which is the empty list
+abbrev pub peer_of : Data → Option PeerSpec
+peer_of value =
+    if key_count value == has (codes "name") value + has (codes "read") value
+    then where_there (get (codes "name") value) name_of None >>= (λ name.
+    option_map (λ items. record { name = name; read = items })
+    (where_there (get (codes "read") value) items_of (Some [])))
+    else None
+
+-- exactly one peer
+abbrev pub only_peer : Items → Option PeerSpec
+only_peer (item value no_items) = peer_of value
+only_peer _ = None
+
+-- a list of exactly one peer
+abbrev pub one_peer_of : Data → Option PeerSpec
+one_peer_of (array values) = only_peer values
+one_peer_of _ = None
+
+-- a script: an object with exactly `client` and `peers`
+abbrev pub script_of : Data → Option ScriptSpec
+script_of value =
+    if key_count value == has (codes "client") value + has (codes "peers") value
+    then where_there (get (codes "client") value) items_of None >>= (λ items.
+    option_map (λ peer. record { client = items; peer = peer })
+    (where_there (get (codes "peers") value) one_peer_of None))
+    else None
+
+-- the value that the bytes spell; bytes that are no UTF-8 or no JSON spell none
+abbrev pub reads_value : List ℕ → Option Data
+reads_value bytes = if is_utf8 bytes then read_text bytes else None
+
+-- the script that the bytes spell
+abbrev pub reads_script : List ℕ → Option ScriptSpec
+reads_script bytes = reads_value bytes >>= script_of
+
+-- what a reader returned, seen by a view, is what the grammar reads, unless memory ran out
+abbrev pub Reads : {X Y : Type 0} → (X → Y) → Result X ScriptError → Option Y → Type 0
+Reads view (Ok x) read = read ≡ Some (view x)
+Reads view (Err error.Refused) read = read ≡ None
+Reads view (Err error.OutOfMemory) read = Unit {0}

@@ -1,0 +1,38 @@
+//! `relay`: runs a scripted exchange through the proxy, and reports what came of it.
+#![tactic(auto)]
+
+mod exchange;
+mod report;
+mod run;
+mod script;
+#[cfg(test)]
+mod tests;
+mod transfer;
+mod words;
+
+use crate::run::{Status, run_command};
+use relay_links::{StdSink, StdSource};
+use std::process::ExitCode;
+use std::rt::Env;
+use std::{env, io};
+
+fn main(rt: HostRuntime) -> ExitCode {
+    let mut source = StdSource::new(rt.reader());
+    let mut sink = StdSink::new(io::writer(&rt));
+    let status = match arguments(&rt) {
+        Ok(words) => run_command(rt.alloc(), &words, &mut source, &mut sink),
+        Err(error) if error.kind() == io::ErrorKind::OutOfMemory => Status::OutOfMemory.code(),
+        // Words that are no text ask for nothing.
+        Err(_) => run_command(rt.alloc(), &[], &mut source, &mut sink),
+    };
+    ExitCode::from(status)
+}
+
+/// The words behind the program's name.
+fn arguments<R: Env + AllocGlobal>(rt: &R) -> io::Result<Vec<Vec<u8>>> {
+    let mut words = Vec::new(rt.alloc());
+    for word in env::args(rt)?.skip(1) {
+        words.push(Vec::from_slice(rt.alloc(), word.as_bytes())?)?;
+    }
+    Ok(words)
+}

@@ -1,0 +1,260 @@
+//! Scripts: what the client and the peer of a run give, read from JSON. A reader for each kind of
+//! thing; a script is read whole before anything runs.
+ghost use Rattle.std.specs.Prelude.{◌≡◌, is_some, codes, if◌then◌else◌, option_map, Some};
+ghost use Rattle.serde_json.specs.Find.{get};
+ghost use Rattle.serde_json.specs.View.{view, items_view};
+ghost use Rattle.relay_cli.specs.Script.{Reads, script_spec, reads_script, reads_value, script_of, one_peer_of, only_peer, peer_spec, peer_of, name_of, items_of, each_item, item_of, item_at_key, text_item, wait_item, end_item, fault_item, key_count, has};
+
+use bytes::Bytes;
+use relay_links::ReadItem;
+use relay_tasks::{Fault, FaultKind, RetryType};
+use serde_json::Value;
+use std::alloc::{AllocError, AllocFailed, Global};
+
+/// The peer of a script: its name, and what its link gives.
+#[derive(Drop)]
+pub struct PeerEntry {
+    pub name: Bytes,
+    pub read: Vec<ReadItem>,
+}
+
+/// A script: what the client's link gives, and the peer.
+#[derive(Drop)]
+pub struct Script {
+    pub client: Vec<ReadItem>,
+    pub peer: PeerEntry,
+}
+
+/// Why no script was read: the bytes spell none, or want of memory.
+#[derive(Clone, Copy, Debug, PartialEq, Eq)]
+pub enum ScriptError {
+    Refused,
+    OutOfMemory,
+}
+
+impl From<AllocError> for ScriptError {
+    ghost use Rattle.std.specs.Prelude.{◌≡◌};
+    ghost use Rattle.relay_cli.specs.declared.script.ScriptError.TheVariants.{OutOfMemory};
+
+    ghost from_gives = { λ _ e. e ≡ OutOfMemory };
+
+    fn from(_error: AllocError) -> ScriptError {
+        ScriptError::OutOfMemory
+    }
+}
+
+impl<T: Drop> From<AllocFailed<T>> for ScriptError {
+    ghost use Rattle.std.specs.Prelude.{◌≡◌};
+    ghost use Rattle.relay_cli.specs.declared.script.ScriptError.TheVariants.{OutOfMemory};
+
+    ghost from_gives = { λ _ e. e ≡ OutOfMemory };
+
+    fn from(_error: AllocFailed<T>) -> ScriptError {
+        ScriptError::OutOfMemory
+    }
+}
+
+/// Reads a script. `Refused` comes only where the bytes spell none.
+pub fn read_script(alloc: Global, bytes: &[u8]) -> Result<Script, ScriptError>
+    ensures { Reads script_spec result (reads_script bytes.now) }
+{
+    let value = parse(alloc, bytes)?;
+    script_in(alloc, &value)
+}
+
+/// The value that the bytes spell.
+fn parse(alloc: Global, bytes: &[u8]) -> Result<Value, ScriptError>
+    ensures { Reads view result (reads_value bytes.now) }
+{
+    match Value::from_slice(alloc, bytes) {
+        Ok(value) => Ok(value),
+        Err(error) => {
+            if error.is_memory() {
+                return Err(ScriptError::OutOfMemory);
+            }
+            Err(ScriptError::Refused)
+        }
+    }
+}
+
+/// The script that a value is.
+fn script_in(alloc: Global, value: &Value) -> Result<Script, ScriptError>
+    ensures { Reads script_spec result (script_of (view value.now)) }
+{
+    if key_count(value) != has(value, "client") + has(value, "peers") {
+        return Err(ScriptError::Refused);
+    }
+    let client = items(alloc, required(value, "client")?)?;
+    let peer = one_peer(alloc, required(value, "peers")?)?;
+    Ok(Script { client, peer })
+}
+
+/// The one peer of a list.
+fn one_peer(alloc: Global, value: &Value) -> Result<PeerEntry, ScriptError>
+    ensures { Reads peer_spec result (one_peer_of (view value.now)) }
+{
+    match value.as_array() {
+        Some(values) => only_peer(alloc, values),
+        None => Err(ScriptError::Refused),
+    }
+}
+
+/// The peer that the only value is.
+fn only_peer(alloc: Global, values: &[Value]) -> Result<PeerEntry, ScriptError>
+    ensures { Reads peer_spec result (only_peer (items_view values.now)) }
+{
+    if values.len() != 1 {
+        return Err(ScriptError::Refused);
+    }
+    peer(alloc, &values[0])
+}
+
+/// The peer that a value is.
+fn peer(alloc: Global, value: &Value) -> Result<PeerEntry, ScriptError>
+    ensures { Reads peer_spec result (peer_of (view value.now)) }
+{
+    if key_count(value) != has(value, "name") + has(value, "read") {
+        return Err(ScriptError::Refused);
+    }
+    let name = name(alloc, required(value, "name")?)?;
+    let read = match value.get("read") {
+        Some(list) => items(alloc, list)?,
+        None => Vec::new(alloc),
+    };
+    Ok(PeerEntry { name, read })
+}
+
+/// The name that a value is.
+fn name(alloc: Global, value: &Value) -> Result<Bytes, ScriptError>
+    ensures { Reads (λ name. name) result (name_of (view value.now)) }
+{
+    let Value::String(text) = value else {
+        return Err(ScriptError::Refused);
+    };
+    Ok(Bytes::copy_from_slice(alloc, text.as_bytes())?)
+}
+
+/// The read items of a list.
+fn items(alloc: Global, value: &Value) -> Result<Vec<ReadItem>, ScriptError>
+    ensures { Reads (λ items. items.items) result (items_of (view value.now)) }
+{
+    match value.as_array() {
+        Some(values) => each_item(alloc, values),
+        None => Err(ScriptError::Refused),
+    }
+}
+
+/// The read items that values are, in order.
+fn each_item(alloc: Global, values: &[Value]) -> Result<Vec<ReadItem>, ScriptError>
+    ensures { Reads (λ items. items.items) result (each_item (items_view values.now)) }
+{
+    let mut items = Vec::new(alloc);
+    for value in values {
+        let item = item(alloc, value)?;
+        items.push(item)?;
+    }
+    Ok(items)
+}
+
+/// The read item that a value is.
+fn item(alloc: Global, value: &Value) -> Result<ReadItem, ScriptError>
+    ensures { Reads (λ item. item) result (item_of (view value.now)) }
+{
+    if key_count(value) != 1 {
+        return Err(ScriptError::Refused);
+    }
+    item_by_key(alloc, value)
+}
+
+/// The read item, by its key.
+fn item_by_key(alloc: Global, value: &Value) -> Result<ReadItem, ScriptError>
+    ensures { Reads (λ item. item) result (item_at_key (view value.now)) }
+{
+    if let Some(text) = value.get("text") {
+        return given(alloc, text);
+    }
+    if let Some(count) = value.get("wait") {
+        return wait(count);
+    }
+    if let Some(ended) = value.get("end") {
+        return end(ended);
+    }
+    if let Some(kind) = value.get("fault") {
+        return fault(kind);
+    }
+    Err(ScriptError::Refused)
+}
+
+/// The bytes of a text that is not empty.
+fn given(alloc: Global, value: &Value) -> Result<ReadItem, ScriptError>
+    ensures { Reads (λ item. item) result (text_item (view value.now)) }
+{
+    let Value::String(text) = value else {
+        return Err(ScriptError::Refused);
+    };
+    if text.is_empty() {
+        return Err(ScriptError::Refused);
+    }
+    let bytes = Bytes::copy_from_slice(alloc, text.as_bytes())?;
+    Ok(ReadItem::Bytes(bytes))
+}
+
+/// So many answers that nothing came yet.
+fn wait(value: &Value) -> Result<ReadItem, ScriptError>
+    ensures { Reads (λ item. item) result (wait_item (view value.now)) }
+{
+    match value.as_u64() {
+        Some(count) if count <= u32::MAX as u64 => Ok(ReadItem::Wait(count as u32)),
+        Some(_) | None => Err(ScriptError::Refused),
+    }
+}
+
+/// The end.
+fn end(value: &Value) -> Result<ReadItem, ScriptError>
+    ensures { Reads (λ item. item) result (end_item (view value.now)) }
+{
+    match value.as_bool() {
+        Some(true) => Ok(ReadItem::End),
+        Some(false) | None => Err(ScriptError::Refused),
+    }
+}
+
+/// A read that fails, by the name of its kind.
+fn fault(value: &Value) -> Result<ReadItem, ScriptError>
+    ensures { Reads (λ item. item) result (fault_item (view value.now)) }
+{
+    match value.as_str() {
+        Some("Read") => Ok(ReadItem::Fault(Fault {
+            kind: FaultKind::Read,
+            retry: RetryType::Decided(false),
+        })),
+        Some(_) | None => Err(ScriptError::Refused),
+    }
+}
+
+/// How many keys an object has.
+fn key_count(value: &Value) -> usize
+    ensures { result ≡ key_count (view value.now) }
+{
+    match value.as_object() {
+        Some(members) => members.len(),
+        None => 0,
+    }
+}
+
+/// 1 where the object has the key, and else 0.
+fn has(value: &Value, key: &str) -> usize
+    ensures { result ≡ has key.now (view value.now) }
+{
+    if value.get(key).is_some() { 1 } else { 0 }
+}
+
+/// What is at a key that has to be there.
+fn required<'v>(value: &'v Value, key: &str) -> Result<&'v Value, ScriptError>
+    ensures { Reads (λ found. view found.now) result (get key.now (view value.now)) }
+{
+    match value.get(key) {
+        Some(found) => Ok(found),
+        None => Err(ScriptError::Refused),
+    }
+}
