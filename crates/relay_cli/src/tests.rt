@@ -3,6 +3,8 @@ use crate::run::{run_command, run_script};
 use relay_links::{SliceSource, VecSink};
 use std::alloc::AllocError;
 
+mod exchange;
+
 /// What a run of the words over an input wrote, behind the number of its status and a space.
 fn answer(rt: &HostRuntime, words: &[&str], input: &[u8]) -> Result<String, AllocError> {
     let alloc = rt.alloc();

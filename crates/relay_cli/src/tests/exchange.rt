@@ -1,0 +1,186 @@
+//! One GET over links that give and take it in any pieces, and that fail at any call.
+use bytes::Bytes;
+use relay_h1::Connection;
+use relay_links::{
+    CountDelay, ListSchedule, MemoryPurger, PeerScript, ReadItem, ScriptConnector, ScriptLink,
+    ShutdownAt, WriteItem,
+};
+use relay_proxy::{HttpProxy, Outcome, Outside, ProxyHttp, ServerConf};
+use relay_tasks::{ErrorSource, ErrorType, Fault, FaultKind, Purged, RetryType};
+use std::alloc::{AllocError, Global};
+use std::process::Abort;
+use std::test::Fail;
+
+const REQUEST: &[u8] = b"GET /a HTTP/1.1\r\nHost: h.example\r\n\r\n";
+
+const RESPONSE: &[u8] = b"HTTP/1.1 200 OK\r\nContent-Length: 2\r\n\r\nhi";
+
+const SENT: &[u8] = b"GET /a HTTP/1.1\r\nhost: h.example\r\n\r\n";
+
+const WRITTEN: &[u8] = b"HTTP/1.1 200 OK\r\ncontent-length: 2\r\n\r\nhi";
+
+#[derive(Drop)]
+struct NoHooks;
+
+impl ProxyHttp for NoHooks {
+    type CTX = ();
+
+    type Kept = ();
+
+    fn new_ctx(&self) {}
+}
+
+/// What an exchange came to.
+#[derive(Drop)]
+struct Exchanged {
+    outcome: Outcome,
+    written: Vec<u8>,
+    sent: Vec<u8>,
+}
+
+/// Runs one request between these links.
+fn exchange(alloc: Global, client: ScriptLink, peer: ScriptLink) -> Result<Exchanged, Fail> {
+    let mut entries = Vec::new(alloc);
+    entries.push(PeerScript {
+        name: Bytes::from_static(b"a"),
+        link: peer,
+        connect: None,
+    })?;
+    let connector = ScriptConnector::new(alloc, entries)
+        .ok()
+        .ok_or("no memory")?;
+    let purger = MemoryPurger::new(alloc, Purged::NotFound);
+    let conf = ServerConf { max_retries: 1 };
+    let mut proxy = HttpProxy::new(alloc, NoHooks, conf, connector, purger);
+    let mut outside = Outside {
+        schedule: ListSchedule::new(Vec::new(alloc)),
+        shutdown: ShutdownAt::new(None),
+        delay: CountDelay::new(),
+    };
+    let mut client = Connection::new(alloc, client);
+    let processed = proxy.process_new_http(&mut client, &mut outside, 1_000);
+    let sent = match proxy.connector().returned().first() {
+        Some(returned) => Vec::from_slice(alloc, returned.link.taken())?,
+        None => Vec::new(alloc),
+    };
+    Ok(Exchanged {
+        outcome: processed.outcome,
+        written: Vec::from_slice(alloc, client.link().taken())?,
+        sent,
+    })
+}
+
+/// Two items that give these bytes, cut at that place.
+fn cut_in_two(alloc: Global, bytes: &[u8], cut: usize) -> Result<Vec<ReadItem>, Fail> {
+    let mut items = Vec::new(alloc);
+    let mut front = Vec::new(alloc);
+    let mut back = Vec::new(alloc);
+    for (place, byte) in bytes.iter().enumerate() {
+        if place < cut {
+            front.push(*byte)?;
+        } else {
+            back.push(*byte)?;
+        }
+    }
+    items.push(ReadItem::Bytes(Bytes::copy_from_slice(alloc, &front)?))?;
+    items.push(ReadItem::Bytes(Bytes::copy_from_slice(alloc, &back)?))?;
+    Ok(items)
+}
+
+#[test]
+fn relays_the_same_whatever_the_cuts(rt: HostRuntime) -> Result<(), Fail> {
+    let alloc = rt.alloc();
+    for cut in 1..REQUEST.len() + RESPONSE.len() {
+        let client = cut_in_two(alloc, REQUEST, cut)?;
+        let peer = cut_in_two(alloc, RESPONSE, cut)?;
+        let ran = exchange(
+            alloc,
+            ScriptLink::new(alloc, client, Vec::new(alloc)),
+            ScriptLink::new(alloc, peer, Vec::new(alloc)),
+        )?;
+        let whole = Outcome::Served {
+            error: None,
+            reuse: true,
+        };
+        assert!(rt; ran.outcome == whole, "cut at {cut}");
+        assert!(rt; ran.written.as_slice() == WRITTEN, "cut at {cut}");
+        assert!(rt; ran.sent.as_slice() == SENT, "cut at {cut}");
+    }
+    Ok(())
+}
+
+/// The calls of a link that fail in a test: none, or the read or the write of that number.
+#[derive(Clone, Copy, PartialEq, Eq)]
+enum Failing {
+    No,
+    Read(usize),
+    Write(usize),
+}
+
+/// A link that gives these bytes one by one and takes them five by five, and fails as it is told.
+fn slow_link(alloc: Global, bytes: &[u8], failing: Failing) -> Result<ScriptLink, Fail> {
+    let mut read = Vec::new(alloc);
+    for (call, byte) in bytes.iter().enumerate() {
+        if failing == Failing::Read(call) {
+            read.push(ReadItem::Fault(fault(FaultKind::Read)))?;
+        }
+        let mut one = Vec::new(alloc);
+        one.push(*byte)?;
+        read.push(ReadItem::Bytes(Bytes::copy_from_slice(alloc, &one)?))?;
+    }
+    let mut write = Vec::new(alloc);
+    for call in 0..8usize {
+        if failing == Failing::Write(call) {
+            write.push(WriteItem::Fault(fault(FaultKind::Write)))?;
+        }
+        write.push(WriteItem::Take(5))?;
+    }
+    Ok(ScriptLink::new(alloc, read, write))
+}
+
+fn fault(kind: FaultKind) -> Fault {
+    Fault {
+        kind,
+        retry: RetryType::Decided(false),
+    }
+}
+
+/// Checks that an exchange failed by this type on this side, and passed no wrong byte.
+fn assert_failed(
+    rt: &impl Abort,
+    ran: &Exchanged,
+    kind: ErrorType,
+    side: ErrorSource,
+) -> Result<(), Fail> {
+    let error = ran.outcome.error().ok_or("no error")?;
+    assert!(rt; error.etype == kind);
+    assert!(rt; error.esource == side);
+    assert!(rt; WRITTEN.starts_with(&ran.written));
+    assert!(rt; SENT.starts_with(&ran.sent));
+    assert!(rt; ran.written.len() < WRITTEN.len());
+    Ok(())
+}
+
+#[test]
+fn fails_at_every_read_and_write(rt: HostRuntime) -> Result<(), Fail> {
+    let alloc = rt.alloc();
+    for call in 0..REQUEST.len() {
+        let client = slow_link(alloc, REQUEST, Failing::Read(call))?;
+        let ran = exchange(alloc, client, slow_link(alloc, RESPONSE, Failing::No)?)?;
+        assert_failed(&rt, &ran, ErrorType::ReadError, ErrorSource::Downstream)?;
+    }
+    for call in 0..RESPONSE.len() {
+        let peer = slow_link(alloc, RESPONSE, Failing::Read(call))?;
+        let ran = exchange(alloc, slow_link(alloc, REQUEST, Failing::No)?, peer)?;
+        assert_failed(&rt, &ran, ErrorType::ReadError, ErrorSource::Upstream)?;
+    }
+    for call in 0..8usize {
+        let client = slow_link(alloc, REQUEST, Failing::Write(call))?;
+        let ran = exchange(alloc, client, slow_link(alloc, RESPONSE, Failing::No)?)?;
+        assert_failed(&rt, &ran, ErrorType::WriteError, ErrorSource::Downstream)?;
+        let peer = slow_link(alloc, RESPONSE, Failing::Write(call))?;
+        let ran = exchange(alloc, slow_link(alloc, REQUEST, Failing::No)?, peer)?;
+        assert_failed(&rt, &ran, ErrorType::WriteError, ErrorSource::Upstream)?;
+    }
+    Ok(())
+}
