@@ -1,0 +1,5 @@
+pub mod AuthorityLemmas
+pub mod HostLemmas
+pub mod MovedTarget
+pub mod PathLemmas
+pub mod Settling

@@ -1,0 +1,21 @@
+//! Host, target, path and framing of requests: whom a request is for, and how the sent head says so.
+#![tactic(auto)]
+
+mod authority;
+mod edit;
+mod entry;
+mod framing;
+mod heads;
+mod http2;
+mod raw;
+mod reconcile;
+mod sent;
+mod target;
+
+pub use entry::{check_entry, validate_request_authority};
+pub use framing::{finalize_h1_upstream_request_framing, is_h1_upgrade_req};
+pub use http2::{h2_path_and_query, update_h2_scheme_authority};
+pub use raw::raw_target_authority;
+pub use reconcile::reconcile_upstream_authority;
+pub use sent::{set_h1_host_from_authority, set_h1_host_from_authority_if_absent};
+pub use target::{AuthorityPolicy, RawTargetAuthority};
