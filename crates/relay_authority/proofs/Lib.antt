@@ -1,5 +1,6 @@
 pub mod AuthorityLemmas
 pub mod HostLemmas
+pub mod Laws
 pub mod MovedTarget
 pub mod PathLemmas
 pub mod Settling

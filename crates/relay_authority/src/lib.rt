@@ -11,6 +11,8 @@ mod raw;
 mod reconcile;
 mod sent;
 mod target;
+#[cfg(test)]
+mod tests;
 
 pub use entry::{check_entry, validate_request_authority};
 pub use framing::{finalize_h1_upstream_request_framing, is_h1_upgrade_req};

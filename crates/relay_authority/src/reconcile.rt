@@ -1,10 +1,10 @@
 //! URI and target made to say what Host says (RFC 9112, section 3.2).
-ghost use Rattle.std.specs.Prelude.{◌≡◌, ◌↔◌, IsTrue, IsSome, Some, IfOk, IsOkUnless};
+ghost use Rattle.std.specs.Prelude.{◌≡◌, ◌↔◌, IsTrue, IsSome, Some, IfOk, IfSome, IsOkUnless, OnOk};
 ghost use Rattle.http_uri.specs.Grammar.{IsAuthority};
 ghost use Rattle.http_uri.specs.Uri.{HasParts, uri_authority, uri_data, uri_scheme};
 ghost use Rattle.relay_tasks.specs.Head.{IsSendable};
 ghost use Rattle.relay_authority.specs.Cut.{parts_of};
-ghost use Rattle.relay_authority.specs.Heads.{uri_authority_of};
+ghost use Rattle.relay_authority.specs.Heads.{first_host, head_authority, uri_authority_of};
 ghost use Rattle.relay_authority.specs.Sent.{FollowsHost, IsMoved, Reconciles, ReconcilesRaw, ReconcilesTarget, ReconcilesUri, ReconcilesWith, moved_target};
 ghost use Rattle.relay_authority.specs.Table.{Settles};
 ghost use Rattle.relay_authority.specs.Target.{absolute_parts};
@@ -26,6 +26,14 @@ use std::alloc::{AllocError, Global};
 /// (`HostInvalid`), and where the new target is longer than 65,534 bytes (`HeadGrammar`). After
 /// an error the head is as it was.
 pub fn reconcile_upstream_authority(alloc: Global, head: &mut RequestHeader) -> Result<()>
+    ensures table { Settles (Reconciles head.old) head.old head.new result }
+    ensures agrees { OnOk result (IfSome (first_host head.old) (λ host.
+        IfSome (head_authority head.old) (λ _. head_authority head.new ≡ Some host))) }
+{
+    reconcile(alloc, head)
+}
+
+fn reconcile(alloc: Global, head: &mut RequestHeader) -> Result<()>
     ensures { Settles (Reconciles head.old) head.old head.new result }
 {
     match owned(alloc, first_host(head))? {

@@ -1,7 +1,8 @@
 //! Which Host a head is sent with (RFC 9112, section 3.2; RFC 9110, section 7.2).
-ghost use Rattle.std.specs.Prelude.{◌≡◌, ◌↔◌, [], IfOk, IfErr, IsErrOf};
+ghost use Rattle.std.specs.Prelude.{◌≡◌, ◌↔◌, ◌∷◌, [], IfOk, IfErr, IfSome, IsErrOf, OnOk};
 ghost use Rattle.http_header.specs.FieldValue.{IsFieldValue, plain_value};
 ghost use Rattle.relay_tasks.specs.Error.{refused, IsMemoryOr};
+ghost use Rattle.relay_authority.specs.Heads.{head_authority, hosts};
 ghost use Rattle.relay_authority.specs.Sent.{AddsHost, AddsUriHost, AddsValue, KeepsHost, SetsHost, TakesHost};
 ghost use Rattle.relay_authority.specs.Table.{Settles};
 
@@ -18,6 +19,14 @@ use std::alloc::Global;
 /// put into a full field list (`HeadTooLong`). Without an authority a Host is left, and without
 /// one the empty Host is put. After an error the head is as it was.
 pub fn set_h1_host_from_authority(alloc: Global, head: &mut RequestHeader) -> Result<()>
+    ensures table { Settles (SetsHost head.old) head.old head.new result }
+    ensures one_host { OnOk result (IfSome (head_authority head.old) (λ authority.
+        hosts head.new.fields ≡ authority ∷ [])) }
+{
+    set_host(alloc, head)
+}
+
+fn set_host(alloc: Global, head: &mut RequestHeader) -> Result<()>
     ensures { Settles (SetsHost head.old) head.old head.new result }
 {
     match owned(alloc, head_authority(head))? {
