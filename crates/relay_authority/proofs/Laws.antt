@@ -10,18 +10,18 @@ use Rattle.std.proofs.lemmas.List.Sums.{prefix_len-le-length}
 use Rattle.std.proofs.Math.Seq.{take-append_seam, drop-append_seam}
 use Rattle.std.specs.Char.{is_ascii_alphabetic}
 use Rattle.std.specs.List.{list_any}
-use Rattle.std.specs.Prelude.{Bool, not, ◌&&◌, Option, Some, None, Result, Ok, Err, OnOk, IfSome, MatchOption, map, ◌==◌, slice_index, bytes_eq}
+use Rattle.std.specs.Prelude.{IsUtf8, slice_get, Bool, not, ◌&&◌, Option, Some, None, option_map, Result, Ok, Err, OnOk, IfSome, MatchOption, map, ◌==◌, slice_index, bytes_eq}
 use Rattle.http_header.specs.FieldValue.{FieldValue, plain_value}
 use Rattle.http_header.specs.HeaderMap.{insert}
 use Rattle.http_header.proofs.HeaderMapLemmas.{get_all-insert_same}
 use Rattle.http_uri.proofs.RunLemmas.{PassBelow, run_passes, run_stops, run_at_least, run-append}
 use Rattle.http_uri.specs.ByteClasses.{is_authority_byte}
 use Rattle.http_uri.specs.Grammar.{IsAuthority}
-use Rattle.relay_tasks.specs.Head.{RequestHead, target_of}
+use Rattle.relay_tasks.specs.Head.{Fields, RequestHead, target_of}
 use Rattle.relay_tasks.specs.declared.Context.{Context}
 use Rattle.relay_tasks.specs.declared.Fail.{Fail}
 use Rattle.relay_authority.specs.Heads.{host_name, hosts, first_host, head_authority, uri_authority_of}
-use Rattle.relay_authority.specs.Sent.{FollowsHost, KeepsHost, Reconciles, ReconcilesRaw, ReconcilesTarget, ReconcilesUri, SetsHost, TakesHost, moved_target}
+use Rattle.relay_authority.specs.Sent.{FollowsHost, KeepsHost, Reconciles, ReconcilesRaw, ReconcilesTarget, ReconcilesUri, ReconcilesWith, SetsHost, TakesHost, moved_target}
 use Rattle.relay_authority.specs.Table.{Outcome, Settles, Refuses, Leaves}
 use Rattle.relay_authority.specs.Target.{Parts, absolute_parts, authority_len, authority_of, behind_scheme, behind_slashes, ends_authority, has_scheme, has_slashes, is_absolute, is_plain, is_scheme_byte, rest_of, scheme_len, scheme_of}
 
@@ -264,3 +264,98 @@ agrees head new (Ok ended) table = by (first_host head) table
         → IfSome found (λ host. IfSome (head_authority head) (λ _. head_authority new ≡ Some host))
     by None t = tt
     by (Some host) t = followed head new host t
+
+-- what an edit that was done leaves, as its outcome
+abbrev Left : RequestHead → Outcome
+Left head = record { refusal = None; head = head }
+
+-- with the URI at Host, nothing is left to follow
+rests_by_uri : (head : RequestHead) (host : List ℕ) → uri_authority_of head ≡ Some host → IsUtf8 head.target
+    → ReconcilesWith head host (Left head)
+rests_by_uri head host some utf8 = rw some (inr ((λ no. no utf8), inl (refl, refl)))
+
+-- nor with the target at Host
+rests_by_target : (head : RequestHead) (host : List ℕ) → uri_authority_of head ≡ None
+    → ¬ (¬ (option_map (λ (parts : Parts). parts.authority) (absolute_parts head.target) ≡ Some host)) → ReconcilesWith head host (Left head)
+rests_by_target head host none named =
+    by (absolute_parts head.target) refl (stable (option_map (λ (parts : Parts). parts.authority) (absolute_parts head.target)) host named)
+  where
+    by : (parts : Option Parts) → absolute_parts head.target ≡ parts → option_map (λ (found : Parts). found.authority) parts ≡ Some host
+        → ReconcilesWith head host (Left head)
+    by None absent same = absurd (let clash : None ≡ Some host = same in cc)
+    by (Some parts) absolute same =
+        let named_host : host ≡ parts.authority = cc in
+        rw (none, absolute) (inl (named_host, refl))
+
+-- what followed Host rests
+record Rests (head new : RequestHead) (host : List ℕ) : Type 0 where
+  fields : new.fields ≡ head.fields
+  with_host : ReconcilesWith new host (Left new)
+
+-- a head that was left as it was rests
+same_rests : (head new : RequestHead) (host : List ℕ) → new ≡ head → ReconcilesWith head host (Left head) → Rests head new host
+same_rests head new host left rests = rw left record { fields = refl; with_host = rests }
+
+parts_rest : (head new : RequestHead) (host : List ℕ) (parts : Parts) → uri_authority_of head ≡ None
+    → absolute_parts head.target ≡ Some parts → ReconcilesTarget head parts host (Left new) → Rests head new host
+parts_rest head new host parts none absolute (inl same) =
+    same_rests head new host (ap (λ (o : Outcome). o.head) same.1) (rw (none, absolute) (inl (same.0, refl)))
+parts_rest head new host parts none absolute (inr (differ, inl bad)) = absurd (done head new _ bad.1)
+parts_rest head new host parts none absolute (inr (differ, inr (valid, inl bad))) = absurd (done head new _ bad.1)
+parts_rest head new host parts none absolute (inr (differ, inr (valid, inr (short, moved)))) =
+    let left : new ≡ record head { target = moved_target parts host; uri = None } = ap (λ (o : Outcome). o.head) moved in
+    rw left record {
+      fields = refl;
+      with_host =
+          rests_by_target (record head { target = moved_target parts host; uri = None }) host refl
+          (λ other. valid (λ authority.
+          other (ap (option_map (λ (found : Parts). found.authority)) (moved_reads head.target host parts absolute authority))));
+    }
+
+raw_rests : (head new : RequestHead) (host : List ℕ) → uri_authority_of head ≡ None → ReconcilesRaw head host (Left new) → Rests head new host
+raw_rests head new host none table = by (absolute_parts head.target) refl table
+  where
+    by : (parts : Option Parts) → absolute_parts head.target ≡ parts
+        → MatchOption parts (Leaves head (Left new)) (λ found. ReconcilesTarget head found host (Left new)) → Rests head new host
+    by None absent t = same_rests head new host (ap (λ (o : Outcome). o.head) t) (rw (none, absent) refl)
+    by (Some parts) absolute t = parts_rest head new host parts none absolute t
+
+uri_rests : (head new : RequestHead) (host : List ℕ) → IsUtf8 new.target → ReconcilesUri head host (Left new) → Rests head new host
+uri_rests head new host utf8 (inl bad) = absurd (done head new _ bad.1)
+uri_rests head new host utf8 (inr (was, inl same)) =
+    let left : new ≡ head = ap (λ (o : Outcome). o.head) same.1 in
+    let kept : IsUtf8 head.target = rw left at utf8 in
+    same_rests head new host left (rests_by_uri head host same.0 kept)
+uri_rests head new host utf8 (inr (was, inr (differ, inl bad))) = absurd (done head new _ bad.1)
+uri_rests head new host utf8 (inr (was, inr (differ, inr (valid, (moved, is_moved, set))))) =
+    let left : new ≡ record head { target = target_of moved; uri = Some moved } = ap (λ (o : Outcome). o.head) set in
+    let kept : IsUtf8 (target_of moved) = rw left at utf8 in
+    rw left record {
+      fields = refl;
+      with_host = rests_by_uri (record head { target = target_of moved; uri = Some moved }) host is_moved.2.1 kept;
+    }
+
+with_rests : (head new : RequestHead) (host : List ℕ) → IsUtf8 new.target → ReconcilesWith head host (Left new) → Rests head new host
+with_rests head new host utf8 table = by (uri_authority_of head) refl table
+  where
+    by : (authority : Option (List ℕ)) → uri_authority_of head ≡ authority
+        → MatchOption authority (ReconcilesRaw head host (Left new)) (λ _. ReconcilesUri head host (Left new)) → Rests head new host
+    by None none t = raw_rests head new host none t
+    by (Some authority) some t = uri_rests head new host utf8 t
+
+-- an accepted head stays as it is when it is reconciled once more
+pub rests : (head new : RequestHead) (result : Result (Unit {0}) Fail) → Settles (Reconciles head) head new result
+    → OnOk result (IsUtf8 new.target → Reconciles new (record { refusal = None; head = new }))
+rests head new (Err fail) table = tt
+rests head new (Ok ended) table = λ utf8. by utf8 (first_host head) refl table
+  where
+    by : IsUtf8 new.target → (found : Option (List ℕ)) → first_host head ≡ found
+        → MatchOption found (Leaves head (Left new)) (λ host. FollowsHost head host (Left new)) → Reconciles new (Left new)
+    by utf8 None absent t =
+        let left : new ≡ head = ap (λ (o : Outcome). o.head) t in
+        rw left (rw absent refl)
+    by utf8 (Some host) there (inl bad) = absurd (done head new _ bad.1)
+    by utf8 (Some host) there (inr (bare, t)) =
+        let again = with_rests head new host utf8 t in
+        let kept : first_host new ≡ Some host = ap (λ (fields : Fields). slice_get (hosts fields) 0) again.fields ∙ there in
+        rw kept (inr (bare, again.with_host))

@@ -1,5 +1,5 @@
 //! URI and target made to say what Host says (RFC 9112, section 3.2).
-ghost use Rattle.std.specs.Prelude.{◌≡◌, ◌↔◌, IsTrue, IsSome, Some, IfOk, IfSome, IsOkUnless, OnOk};
+ghost use Rattle.std.specs.Prelude.{◌≡◌, ◌↔◌, IsTrue, IsSome, Some, IfOk, IfSome, IsOkUnless, OnOk, IsUtf8, None};
 ghost use Rattle.http_uri.specs.Grammar.{IsAuthority};
 ghost use Rattle.http_uri.specs.Uri.{HasParts, uri_authority, uri_data, uri_scheme};
 ghost use Rattle.relay_tasks.specs.Head.{IsSendable};
@@ -29,6 +29,8 @@ pub fn reconcile_upstream_authority(alloc: Global, head: &mut RequestHeader) -> 
     ensures table { Settles (Reconciles head.old) head.old head.new result }
     ensures agrees { OnOk result (IfSome (first_host head.old) (λ host.
         IfSome (head_authority head.old) (λ _. head_authority head.new ≡ Some host))) }
+    ensures rests { OnOk result (IsUtf8 head.new.target
+        → Reconciles head.new (record { refusal = None; head = head.new })) }
 {
     reconcile(alloc, head)
 }
