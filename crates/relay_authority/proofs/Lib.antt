@@ -1,3 +1,4 @@
+pub mod AttemptLemmas
 pub mod AuthorityLemmas
 pub mod HostLemmas
 pub mod Laws

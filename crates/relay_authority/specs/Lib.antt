@@ -1,3 +1,4 @@
+pub mod Attempt
 pub mod Cut
 pub mod Entry
 pub mod Framing

@@ -1,7 +1,7 @@
 //! Vectors from outside: what each call makes of a head, with ample memory.
 
 use crate::*;
-use http::Method;
+use http::{Method, Version};
 use http_header::{HOST, HeaderValue, UPGRADE};
 use http_uri::{PathAndQuery, Uri};
 use relay_tasks::{Context, Error, ErrorType, Fail, RequestHeader, Result};
@@ -148,5 +148,32 @@ fn frames_a_body(rt: HostRuntime) -> Checked {
     assert!(rt; !is_h1_upgrade_req(&head));
     head.insert_header(UPGRADE, HeaderValue::from_static("websocket"))?;
     assert!(rt; is_h1_upgrade_req(&head));
+    Ok(())
+}
+
+#[test]
+fn readies_and_settles_for_http1(rt: HostRuntime) -> Checked {
+    let mut head = head_at(rt.alloc(), "https://client.example/path")?;
+    head.set_version(Version::HTTP_2);
+    let mut ready = ready_h1_head(rt.alloc(), head, true)?;
+    assert!(rt; host_is(&ready, "client.example"));
+    ready.insert_header(HOST, HeaderValue::from_static("origin.example"))?;
+    let sent = settle_h1_head(rt.alloc(), ready, true)?;
+    assert!(rt; host_is(&sent, "origin.example"));
+    Ok(())
+}
+
+#[test]
+fn readies_and_settles_for_http2(rt: HostRuntime) -> Checked {
+    let mut head = head_of(rt.alloc(), b"/path")?;
+    head.insert_header(UPGRADE, HeaderValue::from_static("h2c"))?;
+    match ready_h2_head(head, false) {
+        Ok(ready) => {
+            let sent = settle_h2_head(rt.alloc(), ready)?;
+            assert!(rt; sent.version() == Version::HTTP_2);
+            assert!(rt; !sent.headers().contains_key("upgrade"));
+        }
+        Err(_) => assert!(rt; false),
+    }
     Ok(())
 }
