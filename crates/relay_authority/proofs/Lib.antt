@@ -1,0 +1,7 @@
+pub mod AttemptLemmas
+pub mod AuthorityLemmas
+pub mod HostLemmas
+pub mod Laws
+pub mod MovedTarget
+pub mod PathLemmas
+pub mod Settling
