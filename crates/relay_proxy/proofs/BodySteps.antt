@@ -263,6 +263,7 @@ module _ {L C : Type 0} (state : L → LinkState) (start_at : L → LinkStart) w
           fault = fault;
           error = refl;
           rose = λ below. omega (arith, tells.faults, fails.faults below);
+          kind = fails.kind;
           whole = sent_whole_by s p w.ahead answering.head answering.asking answering.sent;
           head = answering.response;
           len = answering.len;
@@ -531,6 +532,7 @@ module _ {L C : Type 0} (state : L → LinkState) (start_at : L → LinkStart) w
           error = refl;
           rose = λ below. omega (arith, run.holds.0.tells.faults, fails.faults below, ap (λ (at : LinkStart). at.faults) same);
           place = inr (inr (record {
+            kind = fails.kind;
             whole = sent_whole_by s p w.ahead run.holds.1.answering.head run.holds.1.answering.asking run.holds.1.answering.sent;
             body = in_body s p w.ahead a.connection.ahead (state a.connection.link) left none run.holds.1;
             ended = fails.ended;

@@ -389,6 +389,7 @@ module _ {L C : Type 0} (state : L → LinkState) (start_at : L → LinkStart) w
           error = refl;
           rose = λ below. omega (arith, run.holds.0.tells.faults, fails.faults below, ap (λ (at : LinkStart). at.faults) same);
           place = inl (record {
+            kind = fails.kind;
             head = run.holds.1.head;
             len = run.holds.1.asking.len;
             accepted = run.holds.1.asking.accepted;
@@ -539,6 +540,7 @@ module _ {L C : Type 0} (state : L → LinkState) (start_at : L → LinkStart) w
           error = refl;
           rose = λ below. omega (arith, run.holds.0.tells.faults, fails.faults below, ap (λ (at : LinkStart). at.faults) same);
           place = inr (inl (record {
+            kind = fails.kind;
             whole = sent_whole_by s p w.ahead run.holds.1.head run.holds.1.asking run.holds.1.sent;
             open_head = subst (λ (xs : List ℕ). IsOpen xs) run.holds.1.all_held open_head;
             ended = fails.ended;

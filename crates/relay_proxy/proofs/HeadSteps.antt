@@ -140,6 +140,7 @@ module _ {L C : Type 0} (state : L → LinkState) (start_at : L → LinkStart) w
           error = is;
           rose = λ below. omega (arith, run.tells.faults, fails.faults below);
           place = inl (record {
+            kind = fails.kind;
             open_head = subst (λ (xs : List ℕ). IsOpen xs) run.holds.whole open_head;
             ended = fails.ended;
             written = run.holds.written;
@@ -354,6 +355,7 @@ module _ {L C : Type 0} (state : L → LinkState) (start_at : L → LinkStart) w
           error = is;
           rose = λ below. omega (arith, run.tells.faults, fails.faults below);
           place = inr (record {
+            kind = fails.kind;
             why = run.holds.why;
             refused = run.holds.refused;
             part = record { rest = answer.output; joined = run.holds.joined };

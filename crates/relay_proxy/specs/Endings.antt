@@ -11,7 +11,7 @@ use Rattle.relay_tasks.specs.declared.Fault.{Fault}
 use Rattle.relay_tasks.specs.declared.Peer.{Peer}
 use Rattle.relay_links.specs.Count.{Rose}
 use Rattle.relay_links.specs.Connector.{IsConnectFault}
-use Rattle.relay_links.specs.Link.{LinkState, LinkStart}
+use Rattle.relay_links.specs.Link.{LinkState, LinkStart, IsReadFault, IsWriteFault}
 use Rattle.relay_links.specs.declared.Returned.{Returned}
 use Rattle.relay_h1.specs.Verdict.{IsOpen, HasRequest, IsRefusedRequest, HasResponse, IsRefusedResponse, refused_from}
 use Rattle.relay_h1.specs.Wire.{request_text, response_text, generated}
@@ -121,13 +121,15 @@ pub record IsNotRelayed (s : Start) (p : Passed) (w : World) (e : Error) : Type 
   pub unsent : IsUnsent p
 
 -- a read of the client's head failed
-pub record FailsInHead (s : Start) (p : Passed) (w : World) : Type 0 where
+pub record FailsInHead (s : Start) (p : Passed) (w : World) (fault : Fault) : Type 0 where
+  pub kind : IsReadFault fault
   pub open_head : IsOpen (asked s p)
   pub ended : w.client.ended ≡ false
   pub written : p.written ≡ []
 
 -- a write of the generated answer failed
-pub record FailsInRefusal (s : Start) (p : Passed) : Type 0 where
+pub record FailsInRefusal (s : Start) (p : Passed) (fault : Fault) : Type 0 where
+  pub kind : IsWriteFault fault
   pub why : Context
   pub refused : IsRefusedRequest (asked s p) why
   pub part : IsPrefixOf p.written refusal
@@ -138,7 +140,7 @@ pub record IsClientFault (s : Start) (p : Passed) (w : World) (e : Error) : Type
   pub fault : Fault
   pub error : e ≡ fault_error Downstream fault
   pub rose : Rose s.faults w.client.faults
-  pub place : FailsInHead s p w ⊎ FailsInRefusal s p
+  pub place : FailsInHead s p w fault ⊎ FailsInRefusal s p fault
   pub unsent : IsUnsent p
 
 -- the connector gave no link
@@ -238,22 +240,25 @@ pub record IsUnfitResponse (s : Start) (p : Passed) (link : LinkState) (e : Erro
   pub whole : IsSentWhole s p
   pub why : IsUnfit p link
 
--- the head was not sent whole
-pub record IsInSending (s : Start) (p : Passed) : Type 0 where
+-- the head was not sent whole: a write failed
+pub record IsInSending (s : Start) (p : Passed) (fault : Fault) : Type 0 where
+  pub kind : IsWriteFault fault
   pub head : RequestHead
   pub len : ℕ
   pub accepted : IsAccepted s p head len
   pub left : p.sent ≢ request_text head
   pub got : p.got ≡ []
 
--- the response's head has not come whole, and the link did not end
-pub record IsInHead (s : Start) (p : Passed) (link : LinkState) : Type 0 where
+-- the response's head has not come whole, and the link did not end: a read failed
+pub record IsInHead (s : Start) (p : Passed) (link : LinkState) (fault : Fault) : Type 0 where
+  pub kind : IsReadFault fault
   pub whole : IsSentWhole s p
   pub open_head : IsOpen p.got
   pub ended : link.ended ≡ false
 
--- the response's body has not come whole, and the link did not end
-pub record IsInOpenBody (s : Start) (p : Passed) (link : LinkState) : Type 0 where
+-- the response's body has not come whole, and the link did not end: a read failed
+pub record IsInOpenBody (s : Start) (p : Passed) (link : LinkState) (fault : Fault) : Type 0 where
+  pub kind : IsReadFault fault
   pub whole : IsSentWhole s p
   pub body : IsInBody p
   pub ended : link.ended ≡ false
@@ -264,12 +269,13 @@ pub record IsLinkFault
   pub fault : Fault
   pub error : e ≡ fault_error Upstream fault
   pub rose : Rose start.faults link.faults
-  pub place : IsInSending s p ⊎ (IsInHead s p link ⊎ IsInOpenBody s p link)
+  pub place : IsInSending s p fault ⊎ (IsInHead s p link fault ⊎ IsInOpenBody s p link fault)
 
 -- the client's link failed while the response was written to it
 pub record IsLateClientFault
     (s : Start) (p : Passed) (w : World) (link : LinkState) (e : Error) : Type 0 where
   pub fault : Fault
+  pub kind : IsWriteFault fault
   pub error : e ≡ fault_error Downstream fault
   pub rose : Rose s.faults w.client.faults
   pub whole : IsSentWhole s p
