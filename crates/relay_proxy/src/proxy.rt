@@ -96,6 +96,7 @@ impl<SV: ProxyHttp, K: Connector, P: Purger> HttpProxy<SV, K, P> {
         ensures no_turns { result.machine.turns ≡ 0 }
         ensures going { is_over result.machine.phase ≡ false }
         ensures no_link { links_held K.Byte.state K.Byte.start result.machine.phase ≡ 0 }
+        ensures kept { result.kept ≡ kept }
         ensures client { client.new ≡ client.old }
     {
         RequestMachine {
@@ -139,6 +140,8 @@ impl<SV: ProxyHttp, K: Connector, P: Purger> HttpProxy<SV, K, P> {
             + links_held K.Byte.state K.Byte.start machine.new.machine.phase }
         ensures faults { K.fault_count self.old.connector ≤ K.fault_count self.new.connector }
         ensures kept { client.new.kept ≡ client.old.kept }
+        ensures keeps { machine.new.kept ≡ machine.old.kept }
+        ensures same { self.new ≡ record self.old { connector = self.new.connector } }
     {
         let phase = mem::replace(&mut machine.machine.phase, Phase::ReadHead);
         let next = take_turn(self.alloc, &self.inner, &mut self.connector, client, phase);
@@ -173,12 +176,18 @@ impl<SV: ProxyHttp, K: Connector, P: Purger> HttpProxy<SV, K, P> {
         // It has not ended exactly where it gives `TurnLimit`.
         ensures limit { is_over machine.machine.phase ≡ false → result.0.outcome ≡ Outcome.TurnLimit }
         ensures turns { result.0.history.turns_taken ≡ machine.machine.turns }
+        ensures moved { result.0.history.tasks_moved ≡ machine.machine.work.moved }
+        ensures used { result.0.history.items_used ≡ machine.machine.work.used }
+        ensures sides { result.0.history.sides_ended ≡ machine.machine.work.ended }
+        // No hook is called yet.
+        ensures log { result.0.history.log ≡ [] }
         ensures faults { K.fault_count self.new.connector ≡ K.fault_count self.old.connector }
         ensures out { K.out self.new.connector
             + links_held K.Byte.state K.Byte.start machine.machine.phase
             ≡ K.out self.old.connector }
         ensures kept { result.1 ≡ None }
         ensures client { client.new ≡ client.old }
+        ensures same { self.new ≡ record self.old { connector = self.new.connector } }
     {
         let RequestMachine {
             machine,
