@@ -224,6 +224,9 @@ impl<SV: ProxyHttp, K: Connector, P: Purger> HttpProxy<SV, K, P> {
             (K.returned self.old.connector) (K.returned self.new.connector) turns result }
         ensures out { K.out self.new.connector ≡ K.out self.old.connector }
         ensures kept { client.new.kept ≡ None }
+        // No hook is called yet.
+        ensures log { result.history.log ≡ [] }
+        ensures same { self.new ≡ record self.old { connector = self.new.connector } }
     {
         let kept = client.take_kept();
         let mut machine = self.begin(client, kept);
@@ -257,6 +260,9 @@ impl<SV: ProxyHttp, K: Connector, P: Purger> HttpProxy<SV, K, P> {
             + links_held K.Byte.state K.Byte.start machine.machine.phase
             ≡ K.out self.old.connector }
         ensures client { client.new ≡ client.old }
+        // No hook is called yet.
+        ensures log { result.history.log ≡ [] }
+        ensures same { self.new ≡ record self.old { connector = self.new.connector } }
     {
         let (processed, kept) = self.end(machine, client);
         if let Some(value) = kept {

@@ -3,6 +3,7 @@ use Rattle.std.proofs.Common.{◌≡◌, ◌∙◌, ◌+◌, ◌≤◌, arith, r
 use Rattle.relay_links.specs.Count.{last_count}
 use Rattle.relay_proxy.specs.Passed.{start_of}
 use Rattle.relay_proxy.specs.Turn.{world_of}
+use Rattle.relay_proxy.specs.declared.proxy.HttpProxy.{HttpProxy}
 use Rattle.relay_proxy.proofs.UnderWay.{begun, goes_on, all_taken, stopped, one_more, no_end, stops_at}
 use Rattle.relay_proxy.proofs.proxy.HttpProxy.process_new_http.Goals as goal
 
@@ -15,6 +16,7 @@ loop-turn-init g c =
       omega (arith, c.begin-machine.ensures.no_link),
       ap (λ k. k.kept) (c.begin-machine.ensures.client ∙ c.take_kept-kept.ensures.after),
       c.begin-machine.ensures.going,
+      refl,
     )
 
 pub returns-then-is_stop-clause-processes : goal.returns-then-is_stop-clause-processes
@@ -48,6 +50,8 @@ loop-turn-preserved g c =
       omega (arith, c.step-step.ensures.out, c.loop-turn.invariant.1),
       c.step-step.ensures.kept ∙ c.loop-turn.invariant.2,
       c.step-step.ensures.ended ∙ no_end c.step-step.result goes,
+      c.step-step.ensures.same
+          ∙ ap (λ (k : HttpProxy g.row.SV.Denot g.row.K.Denot g.row.P.Denot). record k { connector = c.step-step.new.self.connector }) c.loop-turn.invariant.4,
     )
 
 pub returns-clause-processes : goal.returns-clause-processes
@@ -59,3 +63,15 @@ returns-clause-processes g c =
     let ends = c.close-2.ensures.ends s under.passed under.waited under.own under.running in
     let all : c.args.turns ≡ c.loop-turn._turn = omega (arith, c.loop-turn-test.false, c.loop-turn.auto._turn-end) in
     all_taken state start s _ _ _ _ _ c.loop-turn.machine.machine _ _ c.close-2.result under all ends c.close-2.ensures.turns
+
+-- the proxy is as before, but for its connector
+pub returns-then-is_stop-clause-same : goal.returns-then-is_stop-clause-same
+returns-then-is_stop-clause-same g c =
+    c.close.ensures.same
+    ∙ ap (λ (k : HttpProxy g.row.SV.Denot g.row.K.Denot g.row.P.Denot). record k { connector = c.close.new.self.connector }) c.step-step.ensures.same
+    ∙ ap (λ (k : HttpProxy g.row.SV.Denot g.row.K.Denot g.row.P.Denot). record k { connector = c.close.new.self.connector }) c.loop-turn.invariant.4
+
+pub returns-clause-same : goal.returns-clause-same
+returns-clause-same g c =
+    c.close-2.ensures.same
+    ∙ ap (λ (k : HttpProxy g.row.SV.Denot g.row.K.Denot g.row.P.Denot). record k { connector = c.close-2.new.self.connector }) c.loop-turn.invariant.4

@@ -16,3 +16,4 @@ invariant-loop-turn g l =
     + links_held g.K.Byte.ByteLink.state g.K.Byte.ByteLink.start l.machine.machine.phase)
     × (l.client.kept ≡ None)
     × (is_over l.machine.machine.phase ≡ false)
+    × (l.self ≡ record l.fn.self { connector = l.self.connector })
