@@ -2,6 +2,7 @@ pub mod HeadEnd
 pub mod Head
 pub mod HeadSpans
 pub mod Framing
+pub mod Options
 pub mod Wire
 pub mod Ahead
 pub mod Move

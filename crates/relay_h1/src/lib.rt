@@ -5,6 +5,7 @@ mod ahead;
 mod connection;
 mod framing;
 mod head;
+mod options;
 mod output;
 #[cfg(test)]
 mod tests;
@@ -15,6 +16,7 @@ pub use ahead::{Ahead, READ_SIZE};
 pub use connection::Connection;
 pub use framing::{Framing, request_framing, response_framing};
 pub use head::{HeadReader, MAX_FIELDS, MAX_HEAD};
+pub use options::closes;
 pub use output::Output;
 pub use verdict::{RequestRead, ResponseRead, judge_request, judge_response};
 pub use wire::{write_generated, write_request_head, write_response_head};
