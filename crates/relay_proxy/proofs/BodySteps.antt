@@ -293,10 +293,10 @@ module _ {L C : Type 0} (state : L → LinkState) (start_at : L → LinkStart) w
       → x.connect_faults ≡ w.connect_faults → FailsWrite w.client fault x.client
       → b.connection.link ≡ a.connection.link → b.peer ≡ a.peer → b.reused ≡ a.reused
       → next ≡ failed b (fault_error Downstream fault)
-      → RunSoFar {C = C} state start_at s p v w [] (RelayBody a left)
-      → Advances {C = C} state start_at s p v x (RelayBody a left) next step.Ended
+      → RunSoFar {C = C} state start_at s p v w [] (RelayBody a reply left)
+      → Advances {C = C} state start_at s p v x (RelayBody a reply left) next step.Ended
   body_write_fails s p v w x a left fault b next same fails link peer reused is run =
-      client_write_fails s p v w x b (RelayBody a left) next fault
+      client_write_fails s p v w x b (RelayBody a reply left) next fault
       (answering_as s p w.ahead w.ahead (state a.connection.link) (state b.connection.link) refl
       (ap (λ (l : L). (state l).ended) link) run.holds.1.answering)
       same fails is run.tells run.order (attempt_moved p v a b link peer reused run.holds.0) (omega arith)
@@ -315,8 +315,8 @@ module _ {L C : Type 0} (state : L → LinkState) (start_at : L → LinkStart) w
       → x.ahead ≡ w.ahead → x.connect_faults ≡ w.connect_faults → WaitsOnWrite w.client x.client
       → b.connection.link ≡ a.connection.link → b.peer ≡ a.peer → b.reused ≡ a.reused
       → b.connection.ahead ≡ a.connection.ahead
-      → RunSoFar {C = C} state start_at s p v w [] (RelayBody a left)
-      → Advances {C = C} state start_at s p v x (RelayBody a left) (RelayBody b left) (step.Waited NotReady)
+      → RunSoFar {C = C} state start_at s p v w [] (RelayBody a reply left)
+      → Advances {C = C} state start_at s p v x (RelayBody a reply left) (RelayBody b left) (step.Waited NotReady)
   body_write_waits s p v w x a b left ahead same waits link peer reused held run = record {
     passed = p;
     waited = client_waited v;
@@ -354,10 +354,10 @@ module _ {L C : Type 0} (state : L → LinkState) (start_at : L → LinkStart) w
       → b.connection.link ≡ a.connection.link → b.peer ≡ a.peer → b.reused ≡ a.reused
       → b.connection.ahead ≡ drop k a.connection.ahead
       → IsRest x.ahead b (left.bytes - k) next
-      → RunSoFar {C = C} state start_at s p v w [] (RelayBody a left)
-      → Advances {C = C} state start_at s p v x (RelayBody a left) next.phase next.step
+      → RunSoFar {C = C} state start_at s p v w [] (RelayBody a reply left)
+      → Advances {C = C} state start_at s p v x (RelayBody a reply left) next.phase next.step
   body_wrote s p v w x a b left k next ahead same takes link peer reused held rest run =
-      rest_follows s p (written_more p (take k (take left.bytes a.connection.ahead))) v x (RelayBody a left) b
+      rest_follows s p (written_more p (take k (take left.bytes a.connection.ahead))) v x (RelayBody a reply left) b
       (answering_as s (written_more p (take k (take left.bytes a.connection.ahead))) w.ahead x.ahead
       (state a.connection.link) (state b.connection.link) ahead (ap (λ (l : L). (state l).ended) link)
       (answering_wrote s p w.ahead (take k (take left.bytes a.connection.ahead)) (state a.connection.link) run.holds.1.answering))
@@ -410,8 +410,8 @@ module _ {L C : Type 0} (state : L → LinkState) (start_at : L → LinkStart) w
       → start_at b.connection.link ≡ start_at a.connection.link → b.peer ≡ a.peer → b.reused ≡ a.reused
       → b.connection.ahead ≡ a.connection.ahead ++ take n room
       → GivesBytes (state a.connection.link) room n (state b.connection.link)
-      → RunSoFar {C = C} state start_at s p v w [] (RelayBody a left)
-      → Advances {C = C} state start_at s p v w (RelayBody a left) (RelayBody b left) step.Moved
+      → RunSoFar {C = C} state start_at s p v w [] (RelayBody a reply left)
+      → Advances {C = C} state start_at s p v w (RelayBody a reply left) (RelayBody b left) step.Moved
   body_came s p v w a b left room n same peer reused grown gives run = record {
     passed = got_more p (take n room);
     waited = v;
@@ -463,8 +463,8 @@ module _ {L C : Type 0} (state : L → LinkState) (start_at : L → LinkStart) w
       → start_at b.connection.link ≡ start_at a.connection.link → b.peer ≡ a.peer → b.reused ≡ a.reused
       → b.connection.ahead ≡ a.connection.ahead
       → WaitsOnRead (state a.connection.link) (state b.connection.link)
-      → RunSoFar {C = C} state start_at s p v w [] (RelayBody a left)
-      → Advances {C = C} state start_at s p v w (RelayBody a left) (RelayBody b left) (step.Waited NotReady)
+      → RunSoFar {C = C} state start_at s p v w [] (RelayBody a reply left)
+      → Advances {C = C} state start_at s p v w (RelayBody a reply left) (RelayBody b left) (step.Waited NotReady)
   body_waits s p v w a b left same peer reused held waits run = record {
     passed = p;
     waited = link_waited v;
@@ -496,10 +496,10 @@ module _ {L C : Type 0} (state : L → LinkState) (start_at : L → LinkStart) w
       → start_at b.connection.link ≡ start_at a.connection.link → b.peer ≡ a.peer → b.reused ≡ a.reused
       → EndsRead (state a.connection.link) (state b.connection.link) → a.connection.ahead ≡ []
       → next ≡ failed b (unrelayed Upstream)
-      → RunSoFar {C = C} state start_at s p v w [] (RelayBody a left)
-      → Advances {C = C} state start_at s p v w (RelayBody a left) next step.Ended
+      → RunSoFar {C = C} state start_at s p v w [] (RelayBody a reply left)
+      → Advances {C = C} state start_at s p v w (RelayBody a reply left) next step.Ended
   body_cut s p v w a b left next same peer reused ends none is run =
-      fails_with state start_at s p v w (RelayBody a left) next b (unrelayed Upstream) is run.tells run.order
+      fails_with state start_at s p v w (RelayBody a reply left) next b (unrelayed Upstream) is run.tells run.order
       (attempt_ended state start_at p v a b same peer reused ends run.holds.0)
       (record {
         why = inl (record {
@@ -521,10 +521,10 @@ module _ {L C : Type 0} (state : L → LinkState) (start_at : L → LinkStart) w
       → start_at b.connection.link ≡ start_at a.connection.link → b.peer ≡ a.peer → b.reused ≡ a.reused
       → FailsRead (state a.connection.link) fault (state b.connection.link) → a.connection.ahead ≡ []
       → next ≡ failed b (fault_error Upstream fault)
-      → RunSoFar {C = C} state start_at s p v w [] (RelayBody a left)
-      → Advances {C = C} state start_at s p v w (RelayBody a left) next step.Ended
+      → RunSoFar {C = C} state start_at s p v w [] (RelayBody a reply left)
+      → Advances {C = C} state start_at s p v w (RelayBody a reply left) next step.Ended
   body_read_fails s p v w a b left fault next same peer reused fails none is run =
-      fails_with state start_at s p v w (RelayBody a left) next b (fault_error Upstream fault) is run.tells run.order
+      fails_with state start_at s p v w (RelayBody a reply left) next b (fault_error Upstream fault) is run.tells run.order
       (attempt_read_failed state start_at p v a b fault same peer reused fails run.holds.0)
       (record {
         why = inr (inl (record {

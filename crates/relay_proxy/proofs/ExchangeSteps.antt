@@ -156,8 +156,8 @@ module _ {L C : Type 0} (state : L → LinkState) (start_at : L → LinkStart) w
       → x.client ≡ w.client → x.ahead ≡ w.ahead → w.connect_faults ≤ x.connect_faults
       → IsHandedOut (state a.connection.link) (start_at a.connection.link) a.reused
       → a.connection.ahead ≡ [] → IsAskedPeer a.peer
-      → RunSoFar {C = C} state start_at s p v w [] (Connect context text)
-      → Advances {C = C} state start_at s p v x (Connect context text) (SendHead a text) step.Moved
+      → RunSoFar {C = C} state start_at s p v w [] (Connect context request text)
+      → Advances {C = C} state start_at s p v x (Connect context request text) (SendHead a text) step.Moved
   link_given s p v w x context text a client ahead faults handed none peer run = record {
     passed = p;
     waited = v;
@@ -202,8 +202,8 @@ module _ {L C : Type 0} (state : L → LinkState) (start_at : L → LinkStart) w
       → IsConnectFault fault → Rose w.connect_faults x.connect_faults → e ≡ fault_error Upstream fault
       → attempts ≡ attempt ∷ [] → IsAskedPeer attempt.peer
       → attempt.reused ≡ false → attempt.kept ≡ false → attempt.error ≡ Some e
-      → RunSoFar {C = C} state start_at s p v w [] (Connect context text)
-      → Advances {C = C} state start_at s p v x (Connect context text) (Ended (outcome.Served (Some e) false) attempts) step.Ended
+      → RunSoFar {C = C} state start_at s p v w [] (Connect context request text)
+      → Advances {C = C} state start_at s p v x (Connect context request text) (Ended (outcome.Served (Some e) false) attempts) step.Ended
   link_denied s p v w x context text fault e attempt attempts client ahead faults kind rose is one peer reused kept error run = record {
     passed = p;
     waited = v;

@@ -1,18 +1,18 @@
 -- Turns before a link is asked for: the client's head comes, ends the request, or is refused.
-use Rattle.std.proofs.Common.{◌≡◌, ◌≢◌, ℕ, true, List, [], ◌∷◌, ◌++◌, length, take, drop, Some, refl, sym, ap, subst, ◌∙◌, inl, inr, arith, length-append, append_assoc, append-nil}
-use Rattle.relay_tasks.specs.declared.Context.{Context}
+use Rattle.std.proofs.Common.{◌≡◌, ◌≢◌, ℕ, true, List, [], ◌∷◌, ◌++◌, length, take, drop, Option, Some, refl, sym, ap, subst, ◌∙◌, inl, inr, arith, length-append, append_assoc, append-nil}
 use Rattle.relay_tasks.specs.declared.Error.{Error}
 use Rattle.relay_tasks.specs.declared.ErrorSource.TheVariants.{Downstream}
 use Rattle.relay_tasks.specs.declared.Fault.{Fault}
 use Rattle.relay_tasks.specs.Head.{RequestHead}
 use Rattle.relay_links.specs.Link.{LinkState, LinkStart, GivesBytes, WaitsOnRead, EndsRead, FailsRead, WaitsOnWrite, FailsWrite, WantsMemory}
 use Rattle.relay_links.specs.declared.Pause.TheVariants.{NotReady}
-use Rattle.relay_h1.specs.Verdict.{IsOpen, HasRequest, IsRefusedRequest, refused_from}
+use Rattle.relay_h1.specs.Verdict.{IsOpen, HasRequest}
 use Rattle.relay_h1.specs.Wire.{request_text}
 use Rattle.relay_h1.specs.declared.Framing.{Framing}
-use Rattle.relay_proxy.specs.Built.{IsBuiltRequest}
+use Rattle.relay_proxy.specs.Built.{IsConnect, IsBuiltRequest}
 use Rattle.relay_proxy.specs.Passed.{World, Start, Passed, Waited, asked, TellsClient, IsUnsent}
-use Rattle.relay_proxy.specs.Endings.{IsInOrder, refusal, EndsUnlinked, AttemptsUnlinked, fault_error, unrelayed, ended_outcome}
+use Rattle.relay_proxy.specs.Endings as endings
+use Rattle.relay_proxy.specs.Endings.{IsInOrder, IsTurnedDown, EndsUnlinked, AttemptsUnlinked, fault_error, unrelayed, left_early, ended_outcome}
 use Rattle.relay_proxy.specs.Phases.{IsRefusing, RunSoFar}
 use Rattle.relay_proxy.specs.Turn.{Advances}
 use Rattle.relay_proxy.specs.Offer.{TakesFront}
@@ -35,12 +35,13 @@ end_of_head s p w [] is open_head ended written unsent =
     record { no_byte = sym is; ended = ended; written = written; unsent = unsent }
 end_of_head s p w (b ∷ bytes) is open_head ended written unsent =
     inr (inl (record {
-      error = refl;
-      why = inl (record {
+      e = left_early;
+      is = refl;
+      why = endings.IsLeftAlone.ends_in_head (record {
         begun = λ none. cc;
         open_head = subst (λ (xs : List ℕ). IsOpen xs) is open_head;
         ended = ended;
-      });
+      }) refl;
       written = written;
       unsent = unsent;
     }))
@@ -137,7 +138,7 @@ module _ {L C : Type 0} (state : L → LinkState) (start_at : L → LinkStart) w
       holds = (
         inr (inr (record {
           fault = fault;
-          error = is;
+          is = ap (λ (x : Error). Some x) is;
           rose = λ below. omega (arith, run.tells.faults, fails.faults below);
           place = inl (record {
             kind = fails.kind;
@@ -159,7 +160,7 @@ module _ {L C : Type 0} (state : L → LinkState) (start_at : L → LinkStart) w
       → x ≡ record w { ahead = drop len w.ahead } → HasRequest w.ahead head framing len
       → IsBuiltRequest head framing → text.output ≡ request_text head
       → RunSoFar {C = C} state start_at s p v w [] ReadHead
-      → Advances {C = C} state start_at s p v x ReadHead (Connect context text) step.Moved
+      → Advances {C = C} state start_at s p v x ReadHead (Connect context head text) step.Moved
   head_accepted s p v w x head framing len context text is has built whole run = record {
     passed = p;
     waited = v;
@@ -169,7 +170,6 @@ module _ {L C : Type 0} (state : L → LinkState) (start_at : L → LinkStart) w
       order = run.order;
       going = run.going;
       holds = record {
-        head = head;
         asking = record {
           len = len;
           accepted = record {
@@ -187,14 +187,14 @@ module _ {L C : Type 0} (state : L → LinkState) (start_at : L → LinkStart) w
     spends = omega arith;
   }
 
-  -- the head is valid, and not of a form that is relayed
+  -- the head is valid, and not of a form that is relayed or answered
   pub head_unbuilt : (s : Start) (p : Passed) (v : Waited) (w : World) (head : RequestHead) (framing : Framing)
       (len : ℕ) (e : Error) (attempts : List AttemptRecord)
-      → HasRequest w.ahead head framing len → ¬ (IsBuiltRequest head framing)
+      → HasRequest w.ahead head framing len → ¬ (IsConnect head) → ¬ (IsBuiltRequest head framing)
       → e ≡ unrelayed Downstream → attempts ≡ []
       → RunSoFar {C = C} state start_at s p v w [] ReadHead
       → Advances {C = C} state start_at s p v w ReadHead (Ended (outcome.Refused (Some e)) attempts) step.Ended
-  head_unbuilt s p v w head framing len e attempts has unbuilt is none run = record {
+  head_unbuilt s p v w head framing len e attempts has no_connect unbuilt is none run = record {
     passed = p;
     waited = v;
     run = record {
@@ -203,14 +203,16 @@ module _ {L C : Type 0} (state : L → LinkState) (start_at : L → LinkStart) w
       going = λ limit. cc;
       holds = (
         inr (inl (record {
-          error = is;
-          why = inr (record {
+          e = e;
+          is = refl;
+          why = endings.IsLeftAlone.is_unbuilt (record {
             head = head;
             framing = framing;
             len = len;
             has = subst (λ (xs : List ℕ). HasRequest xs head framing len) run.holds.whole has;
+            no_connect = no_connect;
             unbuilt = unbuilt;
-          });
+          }) is;
           written = run.holds.written;
           unsent = run.holds.unsent;
         })),
@@ -220,12 +222,13 @@ module _ {L C : Type 0} (state : L → LinkState) (start_at : L → LinkStart) w
     spends = omega arith;
   }
 
-  -- the head is refused
-  pub head_refused : (s : Start) (p : Passed) (v : Waited) (w : World) (why : Context) (e : Error) (answer : Pending)
-      → IsRefusedRequest w.ahead why → e ≡ refused_from Downstream why → answer.output ≡ refusal
+  -- the client is to be given a generated answer
+  pub turned_down : (s : Start) (p : Passed) (v : Waited) (w : World) (text : List ℕ) (e : Option Error)
+      (answer : Pending)
+      → IsTurnedDown w.ahead text e → answer.output ≡ text
       → RunSoFar {C = C} state start_at s p v w [] ReadHead
       → Advances {C = C} state start_at s p v w ReadHead (Refuse answer e) step.Moved
-  head_refused s p v w why e answer refused is whole run = record {
+  turned_down s p v w text e answer why whole run = record {
     passed = p;
     waited = v;
     run = record {
@@ -233,9 +236,8 @@ module _ {L C : Type 0} (state : L → LinkState) (start_at : L → LinkStart) w
       order = run.order;
       going = run.going;
       holds = record {
-        why = why;
-        refused = subst (λ (xs : List ℕ). IsRefusedRequest xs why) run.holds.whole refused;
-        error = is;
+        answer = text;
+        turned_down = subst (λ (xs : List ℕ). IsTurnedDown xs text e) run.holds.whole why;
         joined = rw run.holds.written whole;
         unsent = run.holds.unsent;
       };
@@ -244,11 +246,11 @@ module _ {L C : Type 0} (state : L → LinkState) (start_at : L → LinkStart) w
   }
 
   -- the generated answer was taken whole
-  pub refusal_whole : (s : Start) (p : Passed) (v : Waited) (w x : World) (answer : Pending) (e : Error)
+  pub refusal_whole : (s : Start) (p : Passed) (v : Waited) (w x : World) (answer : Pending) (e : Option Error)
       (attempts : List AttemptRecord)
       → x.connect_faults ≡ w.connect_faults → TakesFront w.client x.client answer.output [] → attempts ≡ []
       → RunSoFar {C = C} state start_at s p v w [] (Refuse answer e)
-      → Advances {C = C} state start_at s p v x (Refuse answer e) (Ended (outcome.Refused (Some e)) attempts) step.Ended
+      → Advances {C = C} state start_at s p v x (Refuse answer e) (Ended (outcome.Refused e) attempts) step.Ended
   refusal_whole s p v w x answer e attempts same takes none run = record {
     passed = written_more p (take takes.n answer.output);
     waited = v;
@@ -257,17 +259,17 @@ module _ {L C : Type 0} (state : L → LinkState) (start_at : L → LinkStart) w
       order = record {
         sent = inl run.holds.unsent.sent;
         written = inr (inl (record {
-          why = run.holds.why;
-          refused = run.holds.refused;
+          answer = run.holds.answer;
+          error = e;
+          turned_down = run.holds.turned_down;
           part = record { rest = []; joined = append-nil _ ∙ all };
         }));
       };
       going = λ limit. cc;
       holds = (
         inl (record {
-          why = run.holds.why;
-          refused = run.holds.refused;
-          error = run.holds.error;
+          answer = run.holds.answer;
+          turned_down = run.holds.turned_down;
           whole = all;
           unsent = record { got = run.holds.unsent.got; sent = run.holds.unsent.sent };
         }),
@@ -277,11 +279,11 @@ module _ {L C : Type 0} (state : L → LinkState) (start_at : L → LinkStart) w
     spends = omega (arith, length-append p.written (take takes.n answer.output));
   }
     where
-      all : p.written ++ take takes.n answer.output ≡ refusal
+      all : p.written ++ take takes.n answer.output ≡ run.holds.answer
       all = ap (λ (xs : List ℕ). p.written ++ xs) (take_whole answer.output takes.n takes.left) ∙ run.holds.joined
 
   -- some of the generated answer was taken
-  pub refusal_part : (s : Start) (p : Passed) (v : Waited) (w x : World) (answer left : Pending) (e : Error)
+  pub refusal_part : (s : Start) (p : Passed) (v : Waited) (w x : World) (answer left : Pending) (e : Option Error)
       → x.connect_faults ≡ w.connect_faults → TakesFront w.client x.client answer.output left.output
       → RunSoFar {C = C} state start_at s p v w [] (Refuse answer e)
       → Advances {C = C} state start_at s p v x (Refuse answer e) (Refuse left e) step.Moved
@@ -293,16 +295,16 @@ module _ {L C : Type 0} (state : L → LinkState) (start_at : L → LinkStart) w
       order = record {
         sent = inl run.holds.unsent.sent;
         written = inr (inl (record {
-          why = run.holds.why;
-          refused = run.holds.refused;
+          answer = run.holds.answer;
+          error = e;
+          turned_down = run.holds.turned_down;
           part = record { rest = left.output; joined = all };
         }));
       };
       going = run.going;
       holds = record {
-        why = run.holds.why;
-        refused = run.holds.refused;
-        error = run.holds.error;
+        answer = run.holds.answer;
+        turned_down = run.holds.turned_down;
         joined = all;
         unsent = record { got = run.holds.unsent.got; sent = run.holds.unsent.sent };
       };
@@ -314,11 +316,11 @@ module _ {L C : Type 0} (state : L → LinkState) (start_at : L → LinkStart) w
     );
   }
     where
-      all : (p.written ++ take takes.n answer.output) ++ left.output ≡ refusal
+      all : (p.written ++ take takes.n answer.output) ++ left.output ≡ run.holds.answer
       all = take_rest p.written answer.output left.output takes.n takes.left ∙ run.holds.joined
 
   -- the client is not ready for the generated answer
-  pub refusal_waits : (s : Start) (p : Passed) (v : Waited) (w x : World) (answer left : Pending) (e : Error)
+  pub refusal_waits : (s : Start) (p : Passed) (v : Waited) (w x : World) (answer left : Pending) (e : Option Error)
       → x.connect_faults ≡ w.connect_faults → WaitsOnWrite w.client x.client → left.output ≡ answer.output
       → RunSoFar {C = C} state start_at s p v w [] (Refuse answer e)
       → Advances {C = C} state start_at s p v x (Refuse answer e) (Refuse left e) (step.Waited NotReady)
@@ -335,7 +337,7 @@ module _ {L C : Type 0} (state : L → LinkState) (start_at : L → LinkStart) w
   }
 
   -- a write of the generated answer failed
-  pub refusal_fails : (s : Start) (p : Passed) (v : Waited) (w x : World) (answer : Pending) (e : Error)
+  pub refusal_fails : (s : Start) (p : Passed) (v : Waited) (w x : World) (answer : Pending) (e : Option Error)
       (fault : Fault) (f : Error) (attempts : List AttemptRecord)
       → x.connect_faults ≡ w.connect_faults → FailsWrite w.client fault x.client
       → f ≡ fault_error Downstream fault → attempts ≡ []
@@ -352,12 +354,13 @@ module _ {L C : Type 0} (state : L → LinkState) (start_at : L → LinkStart) w
       holds = (
         inr (inr (record {
           fault = fault;
-          error = is;
+          is = ap (λ (x : Error). Some x) is;
           rose = λ below. omega (arith, run.tells.faults, fails.faults below);
           place = inr (record {
             kind = fails.kind;
-            why = run.holds.why;
-            refused = run.holds.refused;
+            answer = run.holds.answer;
+            error = e;
+            turned_down = run.holds.turned_down;
             part = record { rest = answer.output; joined = run.holds.joined };
             left = λ whole. absurd (omega (
               arith,
@@ -376,7 +379,7 @@ module _ {L C : Type 0} (state : L → LinkState) (start_at : L → LinkStart) w
   }
 
   -- the client's link found no memory
-  pub refusal_memory : (s : Start) (p : Passed) (v : Waited) (w x : World) (answer : Pending) (e : Error)
+  pub refusal_memory : (s : Start) (p : Passed) (v : Waited) (w x : World) (answer : Pending) (e : Option Error)
       (attempts : List AttemptRecord)
       → x.connect_faults ≡ w.connect_faults → WantsMemory w.client x.client → attempts ≡ []
       → RunSoFar {C = C} state start_at s p v w [] (Refuse answer e)

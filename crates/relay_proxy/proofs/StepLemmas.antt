@@ -112,16 +112,16 @@ module _ {L C : Type 0} (state : L → LinkState) (start_at : L → LinkStart) w
   settle_run s p v w ReadHead settled before after does run = stays s p v w ReadHead settled before after does.0 does.1 run
   settle_run s p v w (Refuse answer e) settled before after does run =
       stays s p v w (Refuse answer e) settled before after does.0 does.1 run
-  settle_run s p v w (Connect context text) settled before after does run =
-      stays s p v w (Connect context text) settled before after does.0 does.1 run
+  settle_run s p v w (Connect context request text) settled before after does run =
+      stays s p v w (Connect context request text) settled before after does.0 does.1 run
   settle_run s p v w (SendHead a text) settled before after does run =
       stays s p v w (SendHead a text) settled before after does.0 does.1 run
   settle_run s p v w (ReadResponse a) settled before after does run =
       stays s p v w (ReadResponse a) settled before after does.0 does.1 run
-  settle_run s p v w (WriteHead a text left) settled before after does run =
-      stays s p v w (WriteHead a text left) settled before after does.0 does.1 run
-  settle_run s p v w (RelayBody a left) settled before after does run =
-      stays s p v w (RelayBody a left) settled before after does.0 does.1 run
+  settle_run s p v w (WriteHead a reply text left) settled before after does run =
+      stays s p v w (WriteHead a reply text left) settled before after does.0 does.1 run
+  settle_run s p v w (RelayBody a reply left) settled before after does run =
+      stays s p v w (RelayBody a reply left) settled before after does.0 does.1 run
   settle_run s p v w (Close a keep outcome) settled before after does run = record {
     handed = does.2.entry ∷ [];
     gained = does.2.gained;
@@ -154,11 +154,11 @@ module _ {L C : Type 0} (state : L → LinkState) (start_at : L → LinkStart) w
       → after ≡ turns_after before work → Counts before after did
   counts_turn ReadHead before after did work works is = counts_work before after did work works is
   counts_turn (Refuse answer e) before after did work works is = counts_work before after did work works is
-  counts_turn (Connect context text) before after did work works is = counts_work before after did work works is
+  counts_turn (Connect context request text) before after did work works is = counts_work before after did work works is
   counts_turn (SendHead a text) before after did work works is = counts_work before after did work works is
   counts_turn (ReadResponse a) before after did work works is = counts_work before after did work works is
-  counts_turn (WriteHead a text left) before after did work works is = counts_work before after did work works is
-  counts_turn (RelayBody a left) before after did work works is = counts_work before after did work works is
+  counts_turn (WriteHead a reply text left) before after did work works is = counts_work before after did work works is
+  counts_turn (RelayBody a reply left) before after did work works is = counts_work before after did work works is
   counts_turn (Close a keep outcome) before after did work works is = counts_rest before after did work works.0 works.1 is
   counts_turn (Ended outcome attempts) before after did work works is = counts_rest before after did work works.0 works.1 is
 
@@ -268,8 +268,8 @@ module _ {L C : Type 0} (state : L → LinkState) (start_at : L → LinkStart) w
   step_on s p v [] w x (Refuse answer e) turns work spent n next did before mid after turn rests kept does works is running =
       live_on s p v x (record { phase = Refuse answer e; turns = turns; work = work }) n next did before mid after (λ q u h. h)
       (turn running.run) kept does (counts_work turns n.turns did spent works is) running.turns
-  step_on s p v [] w x (Connect context text) turns work spent n next did before mid after turn rests kept does works is running =
-      live_on s p v x (record { phase = Connect context text; turns = turns; work = work }) n next did before mid after (λ q u h. h)
+  step_on s p v [] w x (Connect context request text) turns work spent n next did before mid after turn rests kept does works is running =
+      live_on s p v x (record { phase = Connect context request text; turns = turns; work = work }) n next did before mid after (λ q u h. h)
       (turn running.run) kept does (counts_work turns n.turns did spent works is) running.turns
   step_on s p v [] w x (SendHead a text) turns work spent n next did before mid after turn rests kept does works is running =
       live_on s p v x (record { phase = SendHead a text; turns = turns; work = work }) n next did before mid after (λ q u h. h)
@@ -277,11 +277,11 @@ module _ {L C : Type 0} (state : L → LinkState) (start_at : L → LinkStart) w
   step_on s p v [] w x (ReadResponse a) turns work spent n next did before mid after turn rests kept does works is running =
       live_on s p v x (record { phase = ReadResponse a; turns = turns; work = work }) n next did before mid after (λ q u h. h)
       (turn running.run) kept does (counts_work turns n.turns did spent works is) running.turns
-  step_on s p v [] w x (WriteHead a text left) turns work spent n next did before mid after turn rests kept does works is running =
-      live_on s p v x (record { phase = WriteHead a text left; turns = turns; work = work }) n next did before mid after (λ q u h. h)
+  step_on s p v [] w x (WriteHead a reply text left) turns work spent n next did before mid after turn rests kept does works is running =
+      live_on s p v x (record { phase = WriteHead a reply text left; turns = turns; work = work }) n next did before mid after (λ q u h. h)
       (turn running.run) kept does (counts_work turns n.turns did spent works is) running.turns
-  step_on s p v [] w x (RelayBody a left) turns work spent n next did before mid after turn rests kept does works is running =
-      live_on s p v x (record { phase = RelayBody a left; turns = turns; work = work }) n next did before mid after (λ q u h. h)
+  step_on s p v [] w x (RelayBody a reply left) turns work spent n next did before mid after turn rests kept does works is running =
+      live_on s p v x (record { phase = RelayBody a reply left; turns = turns; work = work }) n next did before mid after (λ q u h. h)
       (turn running.run) kept does (counts_work turns n.turns did spent works is) running.turns
   step_on s p v [] w x (Close a keep outcome) turns work spent n next did before mid after turn rests kept does works is running =
       closed_on s p v w x a keep outcome turns work spent n next did before mid after rests kept does works.0 is running
@@ -291,15 +291,15 @@ module _ {L C : Type 0} (state : L → LinkState) (start_at : L → LinkStart) w
       absurd running.run.holds
   step_on s p v (r ∷ own) w x (Refuse answer e) turns work spent n next did before mid after turn rests kept does works is running =
       absurd running.run.holds
-  step_on s p v (r ∷ own) w x (Connect context text) turns work spent n next did before mid after turn rests kept does works is running =
+  step_on s p v (r ∷ own) w x (Connect context request text) turns work spent n next did before mid after turn rests kept does works is running =
       absurd running.run.holds
   step_on s p v (r ∷ own) w x (SendHead a text) turns work spent n next did before mid after turn rests kept does works is running =
       absurd running.run.holds
   step_on s p v (r ∷ own) w x (ReadResponse a) turns work spent n next did before mid after turn rests kept does works is running =
       absurd running.run.holds
-  step_on s p v (r ∷ own) w x (WriteHead a text left) turns work spent n next did before mid after turn rests kept does works is running =
+  step_on s p v (r ∷ own) w x (WriteHead a reply text left) turns work spent n next did before mid after turn rests kept does works is running =
       absurd running.run.holds
-  step_on s p v (r ∷ own) w x (RelayBody a left) turns work spent n next did before mid after turn rests kept does works is running =
+  step_on s p v (r ∷ own) w x (RelayBody a reply left) turns work spent n next did before mid after turn rests kept does works is running =
       absurd running.run.holds
   step_on s p v (r ∷ own) w x (Close a keep outcome) turns work spent n next did before mid after turn rests kept does works is running =
       absurd running.run.holds
@@ -374,19 +374,19 @@ module _ {L C : Type 0} (state : L → LinkState) (start_at : L → LinkStart) w
       unlinked_end s p v w ReadHead before after ending does run run.holds.unsent (λ h. inl h)
   end_of s p v [] w (Refuse answer e) before after ending does run =
       unlinked_end s p v w (Refuse answer e) before after ending does run run.holds.unsent (λ h. inr h)
-  end_of s p v [] w (Connect context text) before after ending does run =
-      unlinked_end s p v w (Connect context text) before after ending does run run.holds.unsent (λ h. absurd h)
+  end_of s p v [] w (Connect context request text) before after ending does run =
+      unlinked_end s p v w (Connect context request text) before after ending does run run.holds.unsent (λ h. absurd h)
   end_of s p v [] w (SendHead a text) before after ending does run =
       linked_end s p v w (SendHead a text) a false before after ending TurnLimit does.limit does.back run run.holds.0 refl
       (λ l same h. inr (inl (rw same h)))
   end_of s p v [] w (ReadResponse a) before after ending does run =
       linked_end s p v w (ReadResponse a) a false before after ending TurnLimit does.limit does.back run run.holds.0 refl
       (λ l same h. inl (rw same h))
-  end_of s p v [] w (WriteHead a text left) before after ending does run =
-      linked_end s p v w (WriteHead a text left) a false before after ending TurnLimit does.limit does.back run run.holds.0 refl
+  end_of s p v [] w (WriteHead a reply text left) before after ending does run =
+      linked_end s p v w (WriteHead a reply text left) a false before after ending TurnLimit does.limit does.back run run.holds.0 refl
       (λ l same h. inr (inr h))
-  end_of s p v [] w (RelayBody a left) before after ending does run =
-      linked_end s p v w (RelayBody a left) a false before after ending TurnLimit does.limit does.back run run.holds.0 refl
+  end_of s p v [] w (RelayBody a reply left) before after ending does run =
+      linked_end s p v w (RelayBody a reply left) a false before after ending TurnLimit does.limit does.back run run.holds.0 refl
       (λ l same h. elim h [ inl r ↦ inl (rw same r) | inr k ↦ inr (inr k) ])
   end_of s p v [] w (Close a keep outcome) before after ending does run =
       linked_end s p v w (Close a keep outcome) a keep before after ending outcome does.0 does.1 run run.holds.0 run.holds.1
@@ -395,11 +395,11 @@ module _ {L C : Type 0} (state : L → LinkState) (start_at : L → LinkStart) w
       ended_end s p v w [] outcome attempts before after ending run.holds does.0 does.1 does.2 run
   end_of s p v (r ∷ own) w ReadHead before after ending does run = absurd run.holds
   end_of s p v (r ∷ own) w (Refuse answer e) before after ending does run = absurd run.holds
-  end_of s p v (r ∷ own) w (Connect context text) before after ending does run = absurd run.holds
+  end_of s p v (r ∷ own) w (Connect context request text) before after ending does run = absurd run.holds
   end_of s p v (r ∷ own) w (SendHead a text) before after ending does run = absurd run.holds
   end_of s p v (r ∷ own) w (ReadResponse a) before after ending does run = absurd run.holds
-  end_of s p v (r ∷ own) w (WriteHead a text left) before after ending does run = absurd run.holds
-  end_of s p v (r ∷ own) w (RelayBody a left) before after ending does run = absurd run.holds
+  end_of s p v (r ∷ own) w (WriteHead a reply text left) before after ending does run = absurd run.holds
+  end_of s p v (r ∷ own) w (RelayBody a reply left) before after ending does run = absurd run.holds
   end_of s p v (r ∷ own) w (Close a keep outcome) before after ending does run = absurd run.holds
   end_of s p v (r ∷ own) w (Ended outcome attempts) before after ending does run =
       ended_end s p v w (r ∷ own) outcome attempts before after ending run.holds does.0 does.1 does.2 run
@@ -408,11 +408,11 @@ module _ {L C : Type 0} (state : L → LinkState) (start_at : L → LinkStart) w
   pub allowance-le : (phase : Phase L C) → allowance state start_at phase ≤ 4
   allowance-le ReadHead = omega arith
   allowance-le (Refuse answer e) = omega arith
-  allowance-le (Connect context text) = omega arith
+  allowance-le (Connect context request text) = omega arith
   allowance-le (SendHead a text) = omega arith
   allowance-le (ReadResponse a) = omega arith
-  allowance-le (WriteHead a text left) = omega arith
-  allowance-le (RelayBody a left) = omega arith
+  allowance-le (WriteHead a reply text left) = omega arith
+  allowance-le (RelayBody a reply left) = omega arith
   allowance-le (Close a keep outcome) = omega arith
   allowance-le (Ended outcome attempts) = omega arith
 
@@ -422,11 +422,11 @@ module _ {L C : Type 0} (state : L → LinkState) (start_at : L → LinkStart) w
       → ending.outcome ≢ TurnLimit
   over_end v ReadHead before after ending going does over = absurd (not_true (sym over))
   over_end v (Refuse answer e) before after ending going does over = absurd (not_true (sym over))
-  over_end v (Connect context text) before after ending going does over = absurd (not_true (sym over))
+  over_end v (Connect context request text) before after ending going does over = absurd (not_true (sym over))
   over_end v (SendHead a text) before after ending going does over = absurd (not_true (sym over))
   over_end v (ReadResponse a) before after ending going does over = absurd (not_true (sym over))
-  over_end v (WriteHead a text left) before after ending going does over = absurd (not_true (sym over))
-  over_end v (RelayBody a left) before after ending going does over = absurd (not_true (sym over))
+  over_end v (WriteHead a reply text left) before after ending going does over = absurd (not_true (sym over))
+  over_end v (RelayBody a reply left) before after ending going does over = absurd (not_true (sym over))
   over_end v (Close a keep outcome) before after ending going does over = λ limit. going (sym does.0 ∙ limit)
   over_end v (Ended outcome attempts) before after ending going does over = λ limit. going (sym does.0 ∙ limit)
 
@@ -435,11 +435,11 @@ module _ {L C : Type 0} (state : L → LinkState) (start_at : L → LinkStart) w
       → Finishes phase before after ending → is_over phase ≡ false → ending.outcome ≡ TurnLimit
   going_end ReadHead before after ending does live = does.limit
   going_end (Refuse answer e) before after ending does live = does.limit
-  going_end (Connect context text) before after ending does live = does.limit
+  going_end (Connect context request text) before after ending does live = does.limit
   going_end (SendHead a text) before after ending does live = does.limit
   going_end (ReadResponse a) before after ending does live = does.limit
-  going_end (WriteHead a text left) before after ending does live = does.limit
-  going_end (RelayBody a left) before after ending does live = does.limit
+  going_end (WriteHead a reply text left) before after ending does live = does.limit
+  going_end (RelayBody a reply left) before after ending does live = does.limit
   going_end (Close a keep outcome) before after ending does live = absurd (not_true live)
   going_end (Ended outcome attempts) before after ending does live = absurd (not_true live)
 
@@ -448,10 +448,10 @@ pub rests_end : {L C : Type 0} (w x : World) (phase next : Phase L C) (did : Run
     → Rests w x phase next did → is_over phase ≡ true → did ≡ step.Ended
 rests_end w x ReadHead next did rests over = absurd (not_true (sym over))
 rests_end w x (Refuse answer e) next did rests over = absurd (not_true (sym over))
-rests_end w x (Connect context text) next did rests over = absurd (not_true (sym over))
+rests_end w x (Connect context request text) next did rests over = absurd (not_true (sym over))
 rests_end w x (SendHead a text) next did rests over = absurd (not_true (sym over))
 rests_end w x (ReadResponse a) next did rests over = absurd (not_true (sym over))
-rests_end w x (WriteHead a text left) next did rests over = absurd (not_true (sym over))
-rests_end w x (RelayBody a left) next did rests over = absurd (not_true (sym over))
+rests_end w x (WriteHead a reply text left) next did rests over = absurd (not_true (sym over))
+rests_end w x (RelayBody a reply left) next did rests over = absurd (not_true (sym over))
 rests_end w x (Close a keep outcome) next did rests over = rests.1
 rests_end w x (Ended outcome attempts) next did rests over = rests.1

@@ -122,11 +122,11 @@ module _ {L C : Type 0} (state : L → LinkState) (start_at : L → LinkStart) w
       → IsStalled state start_at w next
   stalled_by p q v u w ReadHead next live spends was = spends.2
   stalled_by p q v u w (Refuse answer e) next live spends was = spends.2
-  stalled_by p q v u w (Connect context text) next live spends was = spends.2
+  stalled_by p q v u w (Connect context request text) next live spends was = spends.2
   stalled_by p q v u w (SendHead a text) next live spends was = spends.2
   stalled_by p q v u w (ReadResponse a) next live spends was = spends.2
-  stalled_by p q v u w (WriteHead a text left) next live spends was = spends.2
-  stalled_by p q v u w (RelayBody a left) next live spends was = spends.2
+  stalled_by p q v u w (WriteHead a reply text left) next live spends was = spends.2
+  stalled_by p q v u w (RelayBody a reply left) next live spends was = spends.2
   stalled_by p q v u w (Close a keep outcome) next live spends was = absurd (not_true was)
   stalled_by p q v u w (Ended outcome attempts) next live spends was = absurd (not_true was)
 

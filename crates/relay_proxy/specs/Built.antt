@@ -1,27 +1,59 @@
--- The forms of exchange that the proxy relays so far: a GET by HTTP/1.1 without a body, answered by
--- one final head and a body of a stated length (RFC 9110, sections 9.3.1 and 15; RFC 9112, section 6).
-use Rattle.std.specs.Prelude.{◌≡◌, ℕ, List, codes, slice_get, Some}
+-- The forms of exchange that the proxy relays so far: a request by HTTP/1.1 without a body, answered
+-- by one final head and a body of a known length (RFC 9110, sections 9 and 15; RFC 9112, section 6).
+use Rattle.std.specs.Prelude.{◌≡◌, ◌≤◌, ◌⊎◌, ℕ, false, List, [], codes, slice_get, Some}
 use Rattle.http.specs.declared.version.TheConstants.Version.{HTTP_11}
 use Rattle.http_header.specs.HeaderMap.{ContainsKey}
 use Rattle.relay_tasks.specs.Head.{RequestHead, ResponseHead}
+use Rattle.relay_h1.specs.Options.{closes}
 use Rattle.relay_h1.specs.declared.Framing.{Framing}
-use Rattle.relay_h1.specs.declared.Framing.TheVariants.{Empty, Length}
+use Rattle.relay_h1.specs.declared.Framing.TheVariants.{Empty, Length, Chunked, UntilClose, Tunnel}
 
--- the method of each request that is relayed
-abbrev pub get_method : List ℕ
-get_method = codes "GET"
+-- a request for a tunnel, which the proxy does not make
+abbrev pub IsConnect : RequestHead → Type 0
+IsConnect head = head.method ≡ codes "CONNECT"
+
+-- a target in origin form or in asterisk form
+abbrev pub IsKnownTarget : List ℕ → Type 0
+IsKnownTarget target = (slice_get target 0 ≡ Some 47) ⊎ (target ≡ codes "*")
 
 -- a request that is relayed
 pub record IsBuiltRequest (head : RequestHead) (framing : Framing) : Type 0 where
-  pub method : head.method ≡ get_method
+  pub method : ¬ (IsConnect head)
   pub version : head.version ≡ HTTP_11
-  pub origin_form : slice_get head.target 0 ≡ Some 47
+  pub target : IsKnownTarget head.target
   pub no_body : framing ≡ Empty
   pub no_upgrade : ¬ (ContainsKey head.fields (codes "upgrade"))
-  pub no_connection : ¬ (ContainsKey head.fields (codes "connection"))
 
--- a response that is relayed, with a body of n bytes
+-- the framing gives the body n bytes
+abbrev pub HasLength : Framing → ℕ → Type 0
+HasLength Empty n = n ≡ 0
+HasLength (Length m) n = n ≡ m
+HasLength Chunked n = ⊥
+HasLength UntilClose n = ⊥
+HasLength Tunnel n = ⊥
+
+-- a response that is relayed, with a body of n bytes: its head is final
 pub record IsBuiltResponse (head : ResponseHead) (framing : Framing) (n : ℕ) : Type 0 where
-  pub version : head.version ≡ HTTP_11
-  pub length : framing ≡ Length n
-  pub no_connection : ¬ (ContainsKey head.fields (codes "connection"))
+  pub final : 200 ≤ head.status
+  pub length : HasLength framing n
+
+-- neither head has the option `close`
+pub record StayOpen (request : RequestHead) (response : ResponseHead) : Type 0 where
+  pub asks : closes request.fields ≡ false
+  pub answers : closes response.fields ≡ false
+
+-- a link may serve another request: it speaks HTTP/1.1, neither head closes it, and it gave no byte
+-- past the response (RFC 9112, section 9.3)
+pub record IsLinkReusable (request : RequestHead) (response : ResponseHead) (past : List ℕ)
+    : Type 0 where
+  pub version : response.version ≡ HTTP_11
+  pub stay_open : StayOpen request response
+  pub nothing_past : past ≡ []
+
+-- a client's connection may serve another request: it speaks HTTP/1.1, neither head closes it, and
+-- no byte past the request is ahead (RFC 9112, section 9.3)
+pub record IsClientReusable (request : RequestHead) (response : ResponseHead) (ahead : List ℕ)
+    : Type 0 where
+  pub version : request.version ≡ HTTP_11
+  pub stay_open : StayOpen request response
+  pub nothing_ahead : ahead ≡ []

@@ -43,12 +43,12 @@ pub record HandsBack {L C : Type 0}
 abbrev pub Settles :
     {L C : Type 0} → Phase L C → Option (List (Returned L)) → Option (List (Returned L)) → Phase L C → Type 0
 Settles ReadHead before after next = (next ≡ ReadHead) × (after ≡ before)
-Settles (Refuse answer e) before after next = (next ≡ Refuse answer e) × (after ≡ before)
-Settles (Connect context text) before after next = (next ≡ Connect context text) × (after ≡ before)
+Settles (Refuse answer error) before after next = (next ≡ Refuse answer error) × (after ≡ before)
+Settles (Connect context request text) before after next = (next ≡ Connect context request text) × (after ≡ before)
 Settles (SendHead a text) before after next = (next ≡ SendHead a text) × (after ≡ before)
 Settles (ReadResponse a) before after next = (next ≡ ReadResponse a) × (after ≡ before)
-Settles (WriteHead a text left) before after next = (next ≡ WriteHead a text left) × (after ≡ before)
-Settles (RelayBody a left) before after next = (next ≡ RelayBody a left) × (after ≡ before)
+Settles (WriteHead a reply text left) before after next = (next ≡ WriteHead a reply text left) × (after ≡ before)
+Settles (RelayBody a reply left) before after next = (next ≡ RelayBody a reply left) × (after ≡ before)
 Settles {L} (Close a keep outcome) before after next =
     (attempts : List AttemptRecord) × (next ≡ Ended outcome attempts)
     × HandsBack a keep outcome before after attempts
@@ -70,12 +70,12 @@ pub record GivesLinkUp {L C : Type 0}
 abbrev pub Finishes :
     {L C : Type 0} → Phase L C → Option (List (Returned L)) → Option (List (Returned L)) → Ending → Type 0
 Finishes ReadHead before after ending = GivesUp before after ending
-Finishes (Refuse answer e) before after ending = GivesUp before after ending
-Finishes (Connect context text) before after ending = GivesUp before after ending
+Finishes (Refuse answer error) before after ending = GivesUp before after ending
+Finishes (Connect context request text) before after ending = GivesUp before after ending
 Finishes (SendHead a text) before after ending = GivesLinkUp a before after ending
 Finishes (ReadResponse a) before after ending = GivesLinkUp a before after ending
-Finishes (WriteHead a text left) before after ending = GivesLinkUp a before after ending
-Finishes (RelayBody a left) before after ending = GivesLinkUp a before after ending
+Finishes (WriteHead a reply text left) before after ending = GivesLinkUp a before after ending
+Finishes (RelayBody a reply left) before after ending = GivesLinkUp a before after ending
 Finishes (Close a keep outcome) before after ending =
     (ending.outcome ≡ outcome) × HandsBack a keep outcome before after ending.attempts
 Finishes (Ended outcome attempts) before after ending =
@@ -91,12 +91,12 @@ IsQuiet state w (r ∷ own) =
 -- a request that has ended stays as it is, in the same world
 abbrev pub Rests : {L C : Type 0} → World → World → Phase L C → Phase L C → RunStep → Type 0
 Rests w x ReadHead next did = Unit {0}
-Rests w x (Refuse answer e) next did = Unit {0}
-Rests w x (Connect context text) next did = Unit {0}
+Rests w x (Refuse answer error) next did = Unit {0}
+Rests w x (Connect context request text) next did = Unit {0}
 Rests w x (SendHead a text) next did = Unit {0}
 Rests w x (ReadResponse a) next did = Unit {0}
-Rests w x (WriteHead a text left) next did = Unit {0}
-Rests w x (RelayBody a left) next did = Unit {0}
+Rests w x (WriteHead a reply text left) next did = Unit {0}
+Rests w x (RelayBody a reply left) next did = Unit {0}
 Rests w x (Close a keep outcome) next did =
     (next ≡ Close a keep outcome) × (did ≡ step.Ended) × (x ≡ w)
 Rests w x (Ended outcome attempts) next did =
@@ -106,15 +106,15 @@ module _ {L C : Type 0} (state : L → LinkState) (start_at : L → LinkStart) w
   -- a turn of a request that has not ended
   abbrev pub TurnOf : Start → Passed → Waited → World → World → Phase L C → Phase L C → RunStep → Type 0
   TurnOf s p v w x ReadHead next did = Advances state start_at s p v x ReadHead next did
-  TurnOf s p v w x (Refuse answer e) next did = Advances state start_at s p v x (Refuse answer e) next did
-  TurnOf s p v w x (Connect context text) next did =
-      Advances state start_at s p v x (Connect context text) next did
+  TurnOf s p v w x (Refuse answer error) next did = Advances state start_at s p v x (Refuse answer error) next did
+  TurnOf s p v w x (Connect context request text) next did =
+      Advances state start_at s p v x (Connect context request text) next did
   TurnOf s p v w x (SendHead a text) next did = Advances state start_at s p v x (SendHead a text) next did
   TurnOf s p v w x (ReadResponse a) next did = Advances state start_at s p v x (ReadResponse a) next did
-  TurnOf s p v w x (WriteHead a text left) next did =
-      Advances state start_at s p v x (WriteHead a text left) next did
-  TurnOf s p v w x (RelayBody a left) next did =
-      Advances state start_at s p v x (RelayBody a left) next did
+  TurnOf s p v w x (WriteHead a reply text left) next did =
+      Advances state start_at s p v x (WriteHead a reply text left) next did
+  TurnOf s p v w x (RelayBody a reply left) next did =
+      Advances state start_at s p v x (RelayBody a reply left) next did
   TurnOf s p v w x (Close a keep outcome) next did = Unit {0}
   TurnOf s p v w x (Ended outcome attempts) next did = Unit {0}
 
@@ -124,15 +124,15 @@ module _ {L C : Type 0} (state : L → LinkState) (start_at : L → LinkStart) w
   StepSpends p v q u w (Close a keep outcome) next did = (q ≡ p) × (u ≡ v)
   StepSpends p v q u w (Ended outcome attempts) next did = (q ≡ p) × (u ≡ v)
   StepSpends p v q u w ReadHead next did = Spends state start_at p v q u w ReadHead next did
-  StepSpends p v q u w (Refuse answer e) next did = Spends state start_at p v q u w (Refuse answer e) next did
-  StepSpends p v q u w (Connect context text) next did =
-      Spends state start_at p v q u w (Connect context text) next did
+  StepSpends p v q u w (Refuse answer error) next did = Spends state start_at p v q u w (Refuse answer error) next did
+  StepSpends p v q u w (Connect context request text) next did =
+      Spends state start_at p v q u w (Connect context request text) next did
   StepSpends p v q u w (SendHead a text) next did = Spends state start_at p v q u w (SendHead a text) next did
   StepSpends p v q u w (ReadResponse a) next did = Spends state start_at p v q u w (ReadResponse a) next did
-  StepSpends p v q u w (WriteHead a text left) next did =
-      Spends state start_at p v q u w (WriteHead a text left) next did
-  StepSpends p v q u w (RelayBody a left) next did =
-      Spends state start_at p v q u w (RelayBody a left) next did
+  StepSpends p v q u w (WriteHead a reply text left) next did =
+      Spends state start_at p v q u w (WriteHead a reply text left) next did
+  StepSpends p v q u w (RelayBody a reply left) next did =
+      Spends state start_at p v q u w (RelayBody a reply left) next did
 
   -- a step took the run so far on, and handed these links back
   pub record Steps

@@ -1,10 +1,12 @@
 -- How a request may end: each outcome with its cause, in terms of what passed.
-use Rattle.std.specs.Prelude.{◌≡◌, ◌≢◌, ℕ, ◌+◌, ◌<◌, ◌≤◌, ◌⊎◌, ◌↔◌, Bool, true, false, List, [], ◌∷◌, ◌++◌, length, take, drop, IsTrue, Option, None, Some}
-use Rattle.relay_tasks.specs.Error.{new_error, error_of_fault}
+use Rattle.std.specs.Prelude.{◌≡◌, ◌≢◌, ℕ, ◌+◌, ◌<◌, ◌≤◌, ◌⊎◌, ◌↔◌, Bool, true, false, List, [], ◌∷◌, ◌++◌, length, take, drop, IsTrue, ◌==◌, if◌then◌else◌, Option, None, Some}
+use Rattle.relay_tasks.specs.Error.{new_error, error_of_fault, explained}
 use Rattle.relay_tasks.specs.Head.{RequestHead, ResponseHead}
 use Rattle.relay_tasks.specs.declared.Context.{Context}
+use Rattle.relay_tasks.specs.declared.Context.TheVariants.{Mismatch101, ClientClosed, UpstreamClosed}
 use Rattle.relay_tasks.specs.declared.Error.{Error}
 use Rattle.relay_tasks.specs.declared.ErrorType.TheVariants as kind
+use Rattle.relay_tasks.specs.declared.RetryType.TheVariants.{ReusedOnly}
 use Rattle.relay_tasks.specs.declared.ErrorSource.{ErrorSource}
 use Rattle.relay_tasks.specs.declared.ErrorSource.TheVariants.{Upstream, Downstream}
 use Rattle.relay_tasks.specs.declared.Fault.{Fault}
@@ -16,8 +18,8 @@ use Rattle.relay_links.specs.declared.Returned.{Returned}
 use Rattle.relay_h1.specs.Verdict.{IsOpen, HasRequest, IsRefusedRequest, HasResponse, IsRefusedResponse, refused_from}
 use Rattle.relay_h1.specs.Wire.{request_text, response_text, generated}
 use Rattle.relay_h1.specs.declared.Framing.{Framing}
-use Rattle.relay_h1.specs.declared.Framing.TheVariants.{Empty, Length}
-use Rattle.relay_proxy.specs.Built.{get_method, IsBuiltRequest, IsBuiltResponse}
+use Rattle.relay_h1.specs.declared.Framing.TheVariants.{Empty}
+use Rattle.relay_proxy.specs.Built.{IsConnect, IsBuiltRequest, IsBuiltResponse, IsLinkReusable, IsClientReusable}
 use Rattle.relay_proxy.specs.Passed.{World, Start, Passed, Waited, asked, TellsClient, TellsLink, IsUnsent}
 use Rattle.relay_proxy.specs.declared.outcome.Outcome.{Outcome}
 use Rattle.relay_proxy.specs.declared.outcome.Outcome.TheVariants.{NoRequest, Refused, Served, TurnLimit, OutOfMemory}
@@ -33,18 +35,27 @@ pub record IsAccepted (s : Start) (p : Passed) (head : RequestHead) (len : ℕ) 
   pub has : HasRequest (asked s p) head Empty len
   pub built : IsBuiltRequest head Empty
 
--- the link's first len bytes are this head, which has a body of n bytes and is of a form that is relayed
-pub record IsAnswered (p : Passed) (head : ResponseHead) (len n : ℕ) : Type 0 where
-  pub has : HasResponse get_method false p.got head (Length n) len
-  pub built : IsBuiltResponse head (Length n) n
+-- the link's first len bytes are this head in answer to that method, which has a body of n bytes and
+-- is of a form that is relayed
+pub record IsAnswered (method : List ℕ) (p : Passed) (head : ResponseHead) (len n : ℕ)
+    : Type 0 where
+  pub framing : Framing
+  pub has : HasResponse method false p.got head framing len
+  pub built : IsBuiltResponse head framing n
 
 -- the response as far as its body has come
 abbrev pub response_so_far : Passed → ResponseHead → ℕ → ℕ → List ℕ
 response_so_far p head len n = response_text head ++ take n (drop len p.got)
 
--- the generated answer to a head that is refused
-abbrev pub refusal : List ℕ
-refusal = generated 400
+-- why the client is given a generated answer, which one, and the error that goes with it
+pub data IsTurnedDown (bytes answer : List ℕ) (error : Option Error) : Type 0 where
+  -- its head is refused
+  has_bad_head : (why : Context) → IsRefusedRequest bytes why → answer ≡ generated 400
+      → error ≡ Some (refused_from Downstream why) → IsTurnedDown bytes answer error
+  -- its head is valid, and asks for a tunnel to an authority
+  asks_to_connect : (head : RequestHead) (framing : Framing) (len : ℕ)
+      → HasRequest bytes head framing len → IsConnect head → answer ≡ generated 405
+      → error ≡ None → IsTurnedDown bytes answer error
 
 -- what was sent is the front of the client's head
 pub record SendsHead (s : Start) (p : Passed) : Type 0 where
@@ -53,11 +64,12 @@ pub record SendsHead (s : Start) (p : Passed) : Type 0 where
   pub accepted : IsAccepted s p head len
   pub part : IsPrefixOf p.sent (request_text head)
 
--- what was written is the front of the generated answer to a refused head
+-- what was written is the front of a generated answer
 pub record WritesRefusal (s : Start) (p : Passed) : Type 0 where
-  pub why : Context
-  pub refused : IsRefusedRequest (asked s p) why
-  pub part : IsPrefixOf p.written refusal
+  pub answer : List ℕ
+  pub error : Option Error
+  pub turned_down : IsTurnedDown (asked s p) answer error
+  pub part : IsPrefixOf p.written answer
 
 -- the whole head was sent, and what was written is the front of the response that came for it
 pub record WritesResponse (s : Start) (p : Passed) : Type 0 where
@@ -68,7 +80,7 @@ pub record WritesResponse (s : Start) (p : Passed) : Type 0 where
   pub head : ResponseHead
   pub len : ℕ
   pub n : ℕ
-  pub answered : IsAnswered p head len n
+  pub answered : IsAnswered request.method p head len n
   pub part : IsPrefixOf p.written (response_so_far p head len n)
 
 -- what was sent and what was written, whatever the outcome
@@ -84,6 +96,23 @@ fault_error side fault = record (error_of_fault fault) { esource = side }
 abbrev pub unrelayed : ErrorSource → Error
 unrelayed side = new_error (kind.Custom 1) side
 
+-- the error of a response whose head is valid and not relayed: a switch of protocols that was not
+-- asked for is refused
+abbrev pub unbuilt_error : ResponseHead → Error
+unbuilt_error head =
+    if head.status == 101 then refused_from Upstream Mismatch101 else unrelayed Upstream
+
+-- the error of a client that ended inside its head
+abbrev pub left_early : Error
+left_early = record (explained kind.ConnectionClosed ClientClosed) { esource = Downstream }
+
+-- the error of a response that the link ended: where no byte of it had come, the request may be
+-- tried again, if the connection was used before
+abbrev pub cut_off : Bool → Error
+cut_off true =
+    record (explained kind.ConnectionClosed UpstreamClosed) { esource = Upstream; retry = ReusedOnly }
+cut_off false = record (explained kind.ConnectionClosed UpstreamClosed) { esource = Upstream }
+
 -- the client ended before any byte
 pub record IsNoRequest (s : Start) (p : Passed) (w : World) : Type 0 where
   pub no_byte : asked s p ≡ []
@@ -91,12 +120,11 @@ pub record IsNoRequest (s : Start) (p : Passed) (w : World) : Type 0 where
   pub written : p.written ≡ []
   pub unsent : IsUnsent p
 
--- the head is refused, and the generated answer was written whole
-pub record IsRefusedHead (s : Start) (p : Passed) (e : Error) : Type 0 where
-  pub why : Context
-  pub refused : IsRefusedRequest (asked s p) why
-  pub error : e ≡ refused_from Downstream why
-  pub whole : p.written ≡ refusal
+-- the client was given a generated answer, whole
+pub record IsAnsweredHere (s : Start) (p : Passed) (error : Option Error) : Type 0 where
+  pub answer : List ℕ
+  pub turned_down : IsTurnedDown (asked s p) answer error
+  pub whole : p.written ≡ answer
   pub unsent : IsUnsent p
 
 -- the client ended inside its head, after at least one byte
@@ -105,18 +133,25 @@ pub record EndsInHead (s : Start) (p : Passed) (w : World) : Type 0 where
   pub open_head : IsOpen (asked s p)
   pub ended : w.client.ended ≡ true
 
--- the head is valid, and is not of a form that is relayed
+-- the head is valid, and is not of a form that is relayed or answered
 pub record IsUnbuiltRequest (s : Start) (p : Passed) : Type 0 where
   pub head : RequestHead
   pub framing : Framing
   pub len : ℕ
   pub has : HasRequest (asked s p) head framing len
+  pub no_connect : ¬ (IsConnect head)
   pub unbuilt : ¬ (IsBuiltRequest head framing)
 
--- nothing is relayed, and nothing was written: the head did not end, or is of another form
-pub record IsNotRelayed (s : Start) (p : Passed) (w : World) (e : Error) : Type 0 where
-  pub error : e ≡ unrelayed Downstream
-  pub why : EndsInHead s p w ⊎ IsUnbuiltRequest s p
+-- why nothing is relayed and no answer is given: the head did not end, or is of another form
+pub data IsLeftAlone (s : Start) (p : Passed) (w : World) (e : Error) : Type 0 where
+  ends_in_head : EndsInHead s p w → e ≡ left_early → IsLeftAlone s p w e
+  is_unbuilt : IsUnbuiltRequest s p → e ≡ unrelayed Downstream → IsLeftAlone s p w e
+
+-- nothing is relayed, and nothing was written
+pub record IsNotRelayed (s : Start) (p : Passed) (w : World) (error : Option Error) : Type 0 where
+  pub e : Error
+  pub is : error ≡ Some e
+  pub why : IsLeftAlone s p w e
   pub written : p.written ≡ []
   pub unsent : IsUnsent p
 
@@ -130,15 +165,16 @@ pub record FailsInHead (s : Start) (p : Passed) (w : World) (fault : Fault) : Ty
 -- a write of the generated answer failed
 pub record FailsInRefusal (s : Start) (p : Passed) (fault : Fault) : Type 0 where
   pub kind : IsWriteFault fault
-  pub why : Context
-  pub refused : IsRefusedRequest (asked s p) why
-  pub part : IsPrefixOf p.written refusal
-  pub left : p.written ≢ refusal
+  pub answer : List ℕ
+  pub error : Option Error
+  pub turned_down : IsTurnedDown (asked s p) answer error
+  pub part : IsPrefixOf p.written answer
+  pub left : p.written ≢ answer
 
 -- the client's link failed before a link was asked for
-pub record IsClientFault (s : Start) (p : Passed) (w : World) (e : Error) : Type 0 where
+pub record IsClientFault (s : Start) (p : Passed) (w : World) (error : Option Error) : Type 0 where
   pub fault : Fault
-  pub error : e ≡ fault_error Downstream fault
+  pub is : error ≡ Some (fault_error Downstream fault)
   pub rose : Rose s.faults w.client.faults
   pub place : FailsInHead s p w fault ⊎ FailsInRefusal s p fault
   pub unsent : IsUnsent p
@@ -158,14 +194,13 @@ pub record FailsToConnect (s : Start) (p : Passed) (w : World) (e : Error) : Typ
 -- how it ends where the client ended with these bytes of its head
 abbrev pub ended_outcome : List ℕ → Outcome
 ended_outcome [] = NoRequest
-ended_outcome (b ∷ bytes) = Refused (Some (unrelayed Downstream))
+ended_outcome (b ∷ bytes) = Refused (Some left_early)
 
 -- how a request ends that had no link
 abbrev pub EndsUnlinked : Start → Passed → World → Outcome → Type 0
 EndsUnlinked s p w NoRequest = IsNoRequest s p w
-EndsUnlinked s p w (Refused None) = ⊥
-EndsUnlinked s p w (Refused (Some e)) =
-    IsRefusedHead s p e ⊎ (IsNotRelayed s p w e ⊎ IsClientFault s p w e)
+EndsUnlinked s p w (Refused error) =
+    IsAnsweredHere s p error ⊎ (IsNotRelayed s p w error ⊎ IsClientFault s p w error)
 EndsUnlinked s p w (Served None reuse) = ⊥
 EndsUnlinked s p w (Served (Some e) reuse) = FailsToConnect s p w e × (reuse ≡ false)
 EndsUnlinked s p w TurnLimit = IsUnsent p
@@ -180,13 +215,13 @@ pub record IsRelayedWhole (s : Start) (p : Passed) (w : World) (keep reuse : Boo
   pub head : ResponseHead
   pub len : ℕ
   pub n : ℕ
-  pub answered : IsAnswered p head len n
+  pub answered : IsAnswered request.method p head len n
   pub body : len + n ≤ length p.got
   pub written : p.written ≡ response_so_far p head len n
-  -- the link is kept where no byte past the response was read
-  pub kept : IsTrue keep ↔ (length p.got ≡ len + n)
-  -- the client goes back where no byte past the request was read
-  pub goes_back : IsTrue reuse ↔ (w.ahead ≡ [])
+  -- the link is kept exactly where it may serve another request
+  pub kept : IsTrue keep ↔ IsLinkReusable request head (drop (len + n) p.got)
+  -- the client goes back exactly where it may ask for more
+  pub goes_back : IsTrue reuse ↔ IsClientReusable request head w.ahead
   pub ahead : w.ahead ≡ drop request_len (asked s p)
 
 -- the whole head was sent
@@ -197,48 +232,53 @@ pub record IsSentWhole (s : Start) (p : Passed) : Type 0 where
   pub sent : p.sent ≡ request_text request
 
 -- the response's head is of a form that is relayed, and its body has not come whole
-pub record IsInBody (p : Passed) : Type 0 where
+pub record IsInBody (method : List ℕ) (p : Passed) : Type 0 where
   pub head : ResponseHead
   pub len : ℕ
   pub n : ℕ
-  pub answered : IsAnswered p head len n
+  pub answered : IsAnswered method p head len n
   pub short : length p.got < len + n
 
 -- the response's head is refused, and nothing was written
-pub record IsBrokenHead (p : Passed) : Type 0 where
+pub record IsBrokenHead (method : List ℕ) (p : Passed) (e : Error) : Type 0 where
   pub why : Context
-  pub refused : IsRefusedResponse get_method false p.got why
+  pub refused : IsRefusedResponse method false p.got why
+  pub error : e ≡ refused_from Upstream why
   pub written : p.written ≡ []
 
 -- the response's head is valid, and not of a form that is relayed, and nothing was written
-pub record IsUnbuiltHead (p : Passed) : Type 0 where
+pub record IsUnbuiltHead (method : List ℕ) (p : Passed) (e : Error) : Type 0 where
   pub head : ResponseHead
   pub framing : Framing
   pub len : ℕ
-  pub has : HasResponse get_method false p.got head framing len
+  pub has : HasResponse method false p.got head framing len
   pub unbuilt : (n : ℕ) → ¬ (IsBuiltResponse head framing n)
+  pub error : e ≡ unbuilt_error head
   pub written : p.written ≡ []
 
 -- the link ended inside the response's head, and nothing was written
-pub record IsCutInHead (p : Passed) (link : LinkState) : Type 0 where
+pub record IsCutInHead (p : Passed) (link : LinkState) (e : Error) : Type 0 where
   pub open_head : IsOpen p.got
   pub ended : link.ended ≡ true
+  pub error : e ≡ cut_off (length p.got == 0)
   pub written : p.written ≡ []
 
 -- the link ended inside the response's body
-pub record IsCutInBody (p : Passed) (link : LinkState) : Type 0 where
-  pub body : IsInBody p
+pub record IsCutInBody (method : List ℕ) (p : Passed) (link : LinkState) (e : Error) : Type 0 where
+  pub body : IsInBody method p
   pub ended : link.ended ≡ true
+  pub error : e ≡ cut_off (length p.got == 0)
 
 -- the response is broken, of a form that is not relayed, or cut off
-abbrev pub IsUnfit : Passed → LinkState → Type 0
-IsUnfit p link = IsBrokenHead p ⊎ (IsUnbuiltHead p ⊎ (IsCutInHead p link ⊎ IsCutInBody p link))
+abbrev pub IsUnfit : List ℕ → Passed → LinkState → Error → Type 0
+IsUnfit method p link e =
+    IsBrokenHead method p e
+    ⊎ (IsUnbuiltHead method p e ⊎ (IsCutInHead p link e ⊎ IsCutInBody method p link e))
 
--- the response is unfit: the error says no more
+-- the response is unfit, which the error says
 pub record IsUnfitResponse (s : Start) (p : Passed) (link : LinkState) (e : Error) : Type 0 where
-  pub error : e ≡ unrelayed Upstream
   pub whole : IsSentWhole s p
-  pub why : IsUnfit p link
+  pub why : IsUnfit whole.request.method p link e
 
 -- the head was not sent whole: a write failed
 pub record IsInSending (s : Start) (p : Passed) (fault : Fault) : Type 0 where
@@ -260,7 +300,7 @@ pub record IsInHead (s : Start) (p : Passed) (link : LinkState) (fault : Fault) 
 pub record IsInOpenBody (s : Start) (p : Passed) (link : LinkState) (fault : Fault) : Type 0 where
   pub kind : IsReadFault fault
   pub whole : IsSentWhole s p
-  pub body : IsInBody p
+  pub body : IsInBody whole.request.method p
   pub ended : link.ended ≡ false
 
 -- the attempt's link failed
@@ -282,7 +322,7 @@ pub record IsLateClientFault
   pub head : ResponseHead
   pub len : ℕ
   pub n : ℕ
-  pub answered : IsAnswered p head len n
+  pub answered : IsAnswered whole.request.method p head len n
   pub ended : link.ended ≡ false
 
 -- an attempt failed: its link is not kept, and the client does not go back

@@ -1,16 +1,16 @@
 -- Causes the other way round: where a cause stands, the request has that outcome.
-use Rattle.std.specs.Prelude.{◌≡◌, ℕ, ◌+◌, ◌≤◌, ◌⊎◌, Bool, true, false, List, [], ◌∷◌, ◌++◌, length, Some, None}
+use Rattle.std.specs.Prelude.{◌≡◌, ℕ, ◌+◌, ◌≤◌, ◌⊎◌, Bool, true, false, List, [], ◌∷◌, ◌++◌, length, Option, Some, None}
 use Rattle.relay_tasks.specs.Head.{RequestHead, ResponseHead}
-use Rattle.relay_tasks.specs.declared.Context.{Context}
-use Rattle.relay_tasks.specs.declared.ErrorSource.TheVariants.{Upstream, Downstream}
+use Rattle.relay_tasks.specs.declared.Error.{Error}
 use Rattle.relay_links.specs.Count.{Rose}
 use Rattle.relay_links.specs.Link.{LinkState, LinkStart}
 use Rattle.relay_links.specs.declared.Returned.{Returned}
-use Rattle.relay_h1.specs.Verdict.{HasRequest, IsRefusedRequest, HasResponse, refused_from}
-use Rattle.relay_h1.specs.declared.Framing.TheVariants.{Empty, Length}
-use Rattle.relay_proxy.specs.Built.{get_method, IsBuiltRequest, IsBuiltResponse}
+use Rattle.relay_h1.specs.Verdict.{HasRequest, HasResponse}
+use Rattle.relay_h1.specs.declared.Framing.{Framing}
+use Rattle.relay_h1.specs.declared.Framing.TheVariants.{Empty}
+use Rattle.relay_proxy.specs.Built.{IsBuiltRequest, IsBuiltResponse}
 use Rattle.relay_proxy.specs.Passed.{World, Start, Passed, asked}
-use Rattle.relay_proxy.specs.Endings.{EndsInHead, IsUnbuiltRequest, IsSentWhole, IsUnfit, refusal, unrelayed}
+use Rattle.relay_proxy.specs.Endings.{IsTurnedDown, IsLeftAlone, IsSentWhole, IsUnfit}
 use Rattle.relay_proxy.specs.declared.outcome.Outcome.{Outcome}
 use Rattle.relay_proxy.specs.declared.outcome.Outcome.TheVariants.{NoRequest, Refused, Served, TurnLimit, OutOfMemory}
 
@@ -28,17 +28,40 @@ pub record AsksFor (s : Start) (p : Passed) (w : World) (text : List ℕ) : Type
   pub built : IsBuiltRequest head Empty
   pub ended : w.client.ended ≡ true → rest ≡ []
 
--- a link gives this text and no more, and it begins with a response that is relayed, whole
-pub record AnswersWith (p : Passed) (link : LinkState) (text : List ℕ) : Type 0 where
+-- a link gives this text and no more, and it begins with a response to that method that is relayed,
+-- whole
+pub record AnswersWith (method : List ℕ) (p : Passed) (link : LinkState) (text : List ℕ)
+    : Type 0 where
   pub rest : List ℕ
   pub joined : p.got ++ rest ≡ text
   pub head : ResponseHead
+  pub framing : Framing
   pub len : ℕ
   pub n : ℕ
-  pub has : HasResponse get_method false text head (Length n) len
-  pub built : IsBuiltResponse head (Length n) n
+  pub has : HasResponse method false text head framing len
+  pub built : IsBuiltResponse head framing n
   pub body : len + n ≤ length text
   pub ended : link.ended ≡ true → rest ≡ []
+
+-- the client was given a generated answer for its bytes
+pub record IsRefusal (s : Start) (p : Passed) (outcome : Outcome) : Type 0 where
+  pub answer : List ℕ
+  pub error : Option Error
+  pub turned_down : IsTurnedDown (asked s p) answer error
+  pub is : outcome ≡ Refused error
+
+-- nothing was relayed, and the error has its cause
+pub record IsLeft (s : Start) (p : Passed) (w : World) (outcome : Outcome) : Type 0 where
+  pub e : Error
+  pub why : IsLeftAlone s p w e
+  pub is : outcome ≡ Refused (Some e)
+
+-- the response was not relayed whole, and the error has its cause
+pub record IsMissed (method : List ℕ) (p : Passed) (link : LinkState) (outcome : Outcome)
+    : Type 0 where
+  pub e : Error
+  pub why : IsUnfit method p link e
+  pub is : outcome ≡ Served (Some e) false
 
 module _ {L : Type 0} (state : L → LinkState) (start_at : L → LinkStart) where
   -- no link and no call of the connector failed
@@ -52,18 +75,17 @@ module _ {L : Type 0} (state : L → LinkState) (start_at : L → LinkStart) whe
       : Type 0 where
     -- the client ended before any byte
     pub no_request : asked s p ≡ [] → w.client.ended ≡ true → IsUnfinished outcome ⊎ (outcome ≡ NoRequest)
-    -- the head is refused, and the generated answer was written whole
-    pub refused : (why : Context) → IsRefusedRequest (asked s p) why → p.written ≡ refusal
-        → IsUnfinished outcome
-        ⊎ ((because : Context) × (outcome ≡ Refused (Some (refused_from Downstream because))))
+    -- the head is refused or asks for a tunnel, and the generated answer was written whole
+    pub refused : (answer : List ℕ) (error : Option Error) → IsTurnedDown (asked s p) answer error
+        → p.written ≡ answer → IsUnfinished outcome ⊎ IsRefusal s p outcome
     -- the client ended inside its head, or the head is of a form that is not relayed
-    pub not_relayed : EndsInHead s p w ⊎ IsUnbuiltRequest s p
-        → IsUnfinished outcome ⊎ (outcome ≡ Refused (Some (unrelayed Downstream)))
+    pub not_relayed : (e : Error) → IsLeftAlone s p w e → IsUnfinished outcome ⊎ IsLeft s p w outcome
     -- the response is broken, cut off, or of a form that is not relayed
-    pub unfit : (r : Returned L) → own ≡ r ∷ [] → IsSentWhole s p → IsUnfit p (state r.link)
-        → IsUnfinished outcome ⊎ (outcome ≡ Served (Some (unrelayed Upstream)) false)
+    pub unfit : (r : Returned L) (e : Error) → own ≡ r ∷ [] → (whole : IsSentWhole s p)
+        → IsUnfit whole.request.method p (state r.link) e
+        → IsUnfinished outcome ⊎ IsMissed whole.request.method p (state r.link) outcome
     -- a request and a response that are relayed, with no fault
-    pub whole : (request response : List ℕ) → AsksFor s p w request
-        → ((r : Returned L) → own ≡ r ∷ [] → AnswersWith p (state r.link) response)
+    pub whole : (request response : List ℕ) (asks : AsksFor s p w request)
+        → ((r : Returned L) → own ≡ r ∷ [] → AnswersWith asks.head.method p (state r.link) response)
         → IsFaultless s w own
         → IsUnfinished outcome ⊎ ((reuse : Bool) × (outcome ≡ Served None reuse))

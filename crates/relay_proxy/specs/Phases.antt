@@ -1,15 +1,12 @@
 -- The phases of a request: what has passed when it stands in each of them, and what is left to do.
-use Rattle.std.specs.Prelude.{◌≡◌, ◌≢◌, ℕ, ◌+◌, ◌<◌, ◌≤◌, false, List, [], ◌∷◌, ◌++◌, length, take, drop}
+use Rattle.std.specs.Prelude.{◌≡◌, ◌≢◌, ℕ, ◌+◌, ◌<◌, ◌≤◌, false, List, [], ◌∷◌, ◌++◌, length, take, drop, Option}
 use Rattle.relay_tasks.specs.Head.{RequestHead, ResponseHead}
-use Rattle.relay_tasks.specs.declared.Context.{Context}
 use Rattle.relay_tasks.specs.declared.Error.{Error}
-use Rattle.relay_tasks.specs.declared.ErrorSource.TheVariants.{Downstream}
 use Rattle.relay_links.specs.Link.{LinkState, LinkStart, IsSound}
 use Rattle.relay_links.specs.declared.Returned.{Returned}
-use Rattle.relay_h1.specs.Verdict.{IsRefusedRequest, refused_from}
 use Rattle.relay_h1.specs.Wire.{request_text, response_text}
 use Rattle.relay_proxy.specs.Passed.{World, Start, Passed, Waited, asked, TellsClient, TellsLink, IsUnsent}
-use Rattle.relay_proxy.specs.Endings.{IsAccepted, IsAnswered, refusal, IsInOrder, EndsUnlinked, EndsLinked, EndsWith, IsAskedPeer, AttemptsUnlinked}
+use Rattle.relay_proxy.specs.Endings.{IsAccepted, IsAnswered, IsTurnedDown, IsInOrder, EndsUnlinked, EndsLinked, EndsWith, IsAskedPeer, AttemptsUnlinked}
 use Rattle.relay_proxy.specs.declared.outcome.Outcome.TheVariants.{TurnLimit}
 use Rattle.relay_proxy.specs.declared.machine.Phase.{Phase}
 use Rattle.relay_proxy.specs.declared.machine.Phase.TheVariants.{ReadHead, Refuse, Connect, SendHead, ReadResponse, WriteHead, RelayBody, Close, Ended}
@@ -21,12 +18,12 @@ pub record IsReadingHead (s : Start) (p : Passed) (ahead : List ℕ) : Type 0 wh
   pub written : p.written ≡ []
   pub unsent : IsUnsent p
 
--- the head is refused, and this is left of the generated answer
-pub record IsRefusing (s : Start) (p : Passed) (answer : List ℕ) (e : Error) : Type 0 where
-  pub why : Context
-  pub refused : IsRefusedRequest (asked s p) why
-  pub error : e ≡ refused_from Downstream why
-  pub joined : p.written ++ answer ≡ refusal
+-- the client is given a generated answer, and this is left of it
+pub record IsRefusing (s : Start) (p : Passed) (left : List ℕ) (error : Option Error)
+    : Type 0 where
+  pub answer : List ℕ
+  pub turned_down : IsTurnedDown (asked s p) answer error
+  pub joined : p.written ++ left ≡ answer
   pub unsent : IsUnsent p
 
 -- the head was accepted, and taken from what is ahead
@@ -36,16 +33,17 @@ pub record IsAsking (s : Start) (p : Passed) (ahead : List ℕ) (head : RequestH
   pub taken : ahead ≡ drop len (asked s p)
 
 -- a link is wanted for the head whose text this is
-pub record IsConnecting (s : Start) (p : Passed) (ahead text : List ℕ) : Type 0 where
-  pub head : RequestHead
+pub record IsConnecting
+    (s : Start) (p : Passed) (ahead : List ℕ) (head : RequestHead) (text : List ℕ) : Type 0 where
   pub asking : IsAsking s p ahead head
   pub whole : text ≡ request_text head
   pub written : p.written ≡ []
   pub unsent : IsUnsent p
 
 -- this is left of the head's text
-pub record IsSending (s : Start) (p : Passed) (ahead held text : List ℕ) : Type 0 where
-  pub head : RequestHead
+pub record IsSending
+    (s : Start) (p : Passed) (ahead : List ℕ) (head : RequestHead) (held text : List ℕ)
+    : Type 0 where
   pub asking : IsAsking s p ahead head
   pub joined : p.sent ++ text ≡ request_text head
   pub written : p.written ≡ []
@@ -53,9 +51,9 @@ pub record IsSending (s : Start) (p : Passed) (ahead held text : List ℕ) : Typ
   pub none_held : held ≡ []
 
 -- the head was sent whole, and the response's head is read: nothing was taken from what is held
-pub record IsAwaiting (s : Start) (p : Passed) (ahead : List ℕ) (link : LinkState) (held : List ℕ)
-    : Type 0 where
-  pub head : RequestHead
+pub record IsAwaiting
+    (s : Start) (p : Passed) (ahead : List ℕ) (head : RequestHead) (link : LinkState)
+    (held : List ℕ) : Type 0 where
   pub asking : IsAsking s p ahead head
   pub sent : p.sent ≡ request_text head
   pub written : p.written ≡ []
@@ -64,34 +62,34 @@ pub record IsAwaiting (s : Start) (p : Passed) (ahead : List ℕ) (link : LinkSt
   pub open_end : 0 < length held → link.ended ≡ false
 
 -- the response's head was accepted, with a body of n bytes
-pub record IsAnswering (s : Start) (p : Passed) (ahead : List ℕ) (link : LinkState) : Type 0 where
-  pub head : RequestHead
+pub record IsAnswering
+    (s : Start) (p : Passed) (ahead : List ℕ) (head : RequestHead) (link : LinkState)
+    (response : ResponseHead) : Type 0 where
   pub asking : IsAsking s p ahead head
   pub sent : p.sent ≡ request_text head
-  pub response : ResponseHead
   pub len : ℕ
   pub n : ℕ
-  pub answered : IsAnswered p response len n
+  pub answered : IsAnswered head.method p response len n
   pub within : len ≤ length p.got
   pub ended : link.ended ≡ false
 
 -- this is left of the response head's text, and all of its body
 pub record IsWritingHead
-    (s : Start) (p : Passed) (ahead : List ℕ) (link : LinkState) (held text : List ℕ) (left : ℕ)
-    : Type 0 where
-  pub answering : IsAnswering s p ahead link
-  pub joined : p.written ++ text ≡ response_text answering.response
+    (s : Start) (p : Passed) (ahead : List ℕ) (head : RequestHead) (link : LinkState)
+    (response : ResponseHead) (held text : List ℕ) (left : ℕ) : Type 0 where
+  pub answering : IsAnswering s p ahead head link response
+  pub joined : p.written ++ text ≡ response_text response
   pub rest_held : held ≡ drop answering.len p.got
   pub body : left ≡ answering.n
 
 -- the head's text was written, and done bytes of the body
 pub record IsRelayingBody
-    (s : Start) (p : Passed) (ahead : List ℕ) (link : LinkState) (held : List ℕ) (left : ℕ)
-    : Type 0 where
-  pub answering : IsAnswering s p ahead link
+    (s : Start) (p : Passed) (ahead : List ℕ) (head : RequestHead) (link : LinkState)
+    (response : ResponseHead) (held : List ℕ) (left : ℕ) : Type 0 where
+  pub answering : IsAnswering s p ahead head link response
   pub done : ℕ
   pub within : answering.len + done ≤ length p.got
-  pub written : p.written ≡ response_text answering.response ++ take done (drop answering.len p.got)
+  pub written : p.written ≡ response_text response ++ take done (drop answering.len p.got)
   pub rest_held : held ≡ drop (answering.len + done) p.got
   pub body : done + left ≡ answering.n
 
@@ -106,17 +104,22 @@ module _ {L C : Type 0} (state : L → LinkState) (start_at : L → LinkStart) w
   -- what has passed in each phase that is not the last
   abbrev pub IsAt : Start → Passed → Waited → World → Phase L C → Type 0
   IsAt s p v w ReadHead = IsReadingHead s p w.ahead
-  IsAt s p v w (Refuse answer e) = IsRefusing s p answer.output e
-  IsAt s p v w (Connect context text) = IsConnecting s p w.ahead text.output
+  IsAt s p v w (Refuse answer error) = IsRefusing s p answer.output error
+  IsAt s p v w (Connect context request text) =
+      IsConnecting s p w.ahead request text.output
   IsAt s p v w (SendHead a text) =
-      IsAttempt p v a × IsSending s p w.ahead a.connection.ahead text.output
-  IsAt s p v w (ReadResponse a) = IsAttempt p v a × IsAwaiting s p w.ahead (state a.connection.link) a.connection.ahead
-  IsAt s p v w (WriteHead a text left) =
+      IsAttempt p v a × IsSending s p w.ahead a.request a.connection.ahead text.output
+  IsAt s p v w (ReadResponse a) =
       IsAttempt p v a
-      × IsWritingHead s p w.ahead (state a.connection.link) a.connection.ahead text.output left
-  IsAt s p v w (RelayBody a left) =
+      × IsAwaiting s p w.ahead a.request (state a.connection.link) a.connection.ahead
+  IsAt s p v w (WriteHead a reply text left) =
       IsAttempt p v a
-      × IsRelayingBody s p w.ahead (state a.connection.link) a.connection.ahead left.bytes
+      × IsWritingHead s p w.ahead a.request (state a.connection.link) reply a.connection.ahead
+      text.output left
+  IsAt s p v w (RelayBody a reply left) =
+      IsAttempt p v a
+      × IsRelayingBody s p w.ahead a.request (state a.connection.link) reply a.connection.ahead
+      left.bytes
   IsAt s p v w (Close a keep outcome) =
       IsAttempt p v a
       × EndsLinked s p w (state a.connection.link) (start_at a.connection.link) keep outcome
@@ -127,12 +130,12 @@ module _ {L C : Type 0} (state : L → LinkState) (start_at : L → LinkStart) w
   abbrev pub PhaseHolds : Start → Passed → Waited → World → List (Returned L) → Phase L C → Type 0
   PhaseHolds s p v w [] phase = IsAt s p v w phase
   PhaseHolds s p v w (r ∷ own) ReadHead = ⊥
-  PhaseHolds s p v w (r ∷ own) (Refuse answer e) = ⊥
-  PhaseHolds s p v w (r ∷ own) (Connect context text) = ⊥
+  PhaseHolds s p v w (r ∷ own) (Refuse answer error) = ⊥
+  PhaseHolds s p v w (r ∷ own) (Connect context request text) = ⊥
   PhaseHolds s p v w (r ∷ own) (SendHead a text) = ⊥
   PhaseHolds s p v w (r ∷ own) (ReadResponse a) = ⊥
-  PhaseHolds s p v w (r ∷ own) (WriteHead a text left) = ⊥
-  PhaseHolds s p v w (r ∷ own) (RelayBody a left) = ⊥
+  PhaseHolds s p v w (r ∷ own) (WriteHead a reply text left) = ⊥
+  PhaseHolds s p v w (r ∷ own) (RelayBody a reply left) = ⊥
   PhaseHolds s p v w (r ∷ own) (Close a keep outcome) = ⊥
   PhaseHolds s p v w (r ∷ own) (Ended outcome attempts) =
       EndsWith state start_at s p v w (r ∷ own) attempts outcome
@@ -140,12 +143,12 @@ module _ {L C : Type 0} (state : L → LinkState) (start_at : L → LinkStart) w
   -- a request without a link has waited for none, and one that ended did not end by its turns
   abbrev pub IsGoing : Waited → Phase L C → Type 0
   IsGoing v ReadHead = v.link ≡ 0
-  IsGoing v (Refuse answer e) = v.link ≡ 0
-  IsGoing v (Connect context text) = v.link ≡ 0
+  IsGoing v (Refuse answer error) = v.link ≡ 0
+  IsGoing v (Connect context request text) = v.link ≡ 0
   IsGoing v (SendHead a text) = Unit {0}
   IsGoing v (ReadResponse a) = Unit {0}
-  IsGoing v (WriteHead a text left) = Unit {0}
-  IsGoing v (RelayBody a left) = Unit {0}
+  IsGoing v (WriteHead a reply text left) = Unit {0}
+  IsGoing v (RelayBody a reply left) = Unit {0}
   IsGoing v (Close a keep outcome) = outcome ≢ TurnLimit
   IsGoing v (Ended outcome attempts) = outcome ≢ TurnLimit
 
@@ -161,11 +164,11 @@ module _ {L C : Type 0} (state : L → LinkState) (start_at : L → LinkStart) w
   -- the turns beside one for each byte and wait that a request has taken when it comes to a phase
   abbrev pub allowance : Phase L C → ℕ
   allowance ReadHead = 0
-  allowance (Refuse answer e) = 1
-  allowance (Connect context text) = 1
+  allowance (Refuse answer error) = 1
+  allowance (Connect context request text) = 1
   allowance (SendHead a text) = 2
   allowance (ReadResponse a) = 2
-  allowance (WriteHead a text left) = 3
-  allowance (RelayBody a left) = 3
+  allowance (WriteHead a reply text left) = 3
+  allowance (RelayBody a reply left) = 3
   allowance (Close a keep outcome) = 4
   allowance (Ended outcome attempts) = 4

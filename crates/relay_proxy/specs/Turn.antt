@@ -12,6 +12,8 @@ use Rattle.relay_proxy.specs.declared.machine.Attempt.{Attempt}
 use Rattle.relay_proxy.specs.declared.machine.BodyLeft.{BodyLeft}
 use Rattle.relay_proxy.specs.declared.outcome.Outcome.TheVariants.{Served}
 use Rattle.relay_tasks.specs.declared.Error.{Error}
+use Rattle.relay_tasks.specs.Head.{ResponseHead}
+use Rattle.relay_proxy.specs.Built.{IsLinkReusable, IsClientReusable}
 use Rattle.relay_proxy.specs.Work.{total_work}
 use Rattle.relay_proxy.specs.declared.work.Work.{Work}
 use Rattle.relay_proxy.specs.declared.machine.RunStep.{RunStep}
@@ -37,24 +39,24 @@ module _ {L C : Type 0} (state : L → LinkState) (start_at : L → LinkStart) w
   -- how many links a phase holds
   abbrev pub links_held : Phase L C → ℕ
   links_held ReadHead = 0
-  links_held (Refuse answer e) = 0
-  links_held (Connect context text) = 0
+  links_held (Refuse answer error) = 0
+  links_held (Connect context request text) = 0
   links_held (SendHead a text) = 1
   links_held (ReadResponse a) = 1
-  links_held (WriteHead a text left) = 1
-  links_held (RelayBody a left) = 1
+  links_held (WriteHead a reply text left) = 1
+  links_held (RelayBody a reply left) = 1
   links_held (Close a keep outcome) = 1
   links_held (Ended outcome attempts) = 0
 
   -- the link that a phase waits for is silent
   abbrev pub IsStalled : World → Phase L C → Type 0
   IsStalled w ReadHead = w.client.silent_on_read ≡ true
-  IsStalled w (Refuse answer e) = w.client.silent_on_write ≡ true
-  IsStalled w (Connect context text) = ⊥
+  IsStalled w (Refuse answer error) = w.client.silent_on_write ≡ true
+  IsStalled w (Connect context request text) = ⊥
   IsStalled w (SendHead a text) = (state a.connection.link).silent_on_write ≡ true
   IsStalled w (ReadResponse a) = (state a.connection.link).silent_on_read ≡ true
-  IsStalled w (WriteHead a text left) = w.client.silent_on_write ≡ true
-  IsStalled w (RelayBody a left) =
+  IsStalled w (WriteHead a reply text left) = w.client.silent_on_write ≡ true
+  IsStalled w (RelayBody a reply left) =
       ((state a.connection.link).silent_on_read ≡ true) ⊎ (w.client.silent_on_write ≡ true)
   IsStalled w (Close a keep outcome) = ⊥
   IsStalled w (Ended outcome attempts) = ⊥
@@ -86,12 +88,14 @@ abbrev pub failed : {L C : Type 0} → Attempt L C → Error → Phase L C
 failed a e = Close a false (Served (Some e) false)
 
 -- what follows a write to the client: more of the body, or the end of a response that is whole
-abbrev pub IsRest : {L C : Type 0} → List ℕ → Attempt L C → ℕ → Next L C → Type 0
-IsRest ahead a left next =
-    (0 < left → ((rest : BodyLeft) × (rest.bytes ≡ left) × (next.phase ≡ RelayBody a rest))
+abbrev pub IsRest :
+    {L C : Type 0} → List ℕ → Attempt L C → ResponseHead → ℕ → Next L C → Type 0
+IsRest ahead a reply left next =
+    (0 < left → ((rest : BodyLeft) × (rest.bytes ≡ left) × (next.phase ≡ RelayBody a reply rest))
     × (next.step ≡ step.Moved))
     × (left ≡ 0 → ((keep : Bool) × (reuse : Bool)
-    × (IsTrue keep ↔ (a.connection.ahead ≡ [])) × (IsTrue reuse ↔ (ahead ≡ []))
+    × (IsTrue keep ↔ IsLinkReusable a.request reply a.connection.ahead)
+    × (IsTrue reuse ↔ IsClientReusable a.request reply ahead)
     × (next.phase ≡ Close a keep (Served None reuse)))
     × (next.step ≡ step.Ended))
     × (0 < total_work next.work)
@@ -99,24 +103,24 @@ IsRest ahead a left next =
 -- a turn did its work; a request that has ended does none
 abbrev pub WorksIn : {L C : Type 0} → Phase L C → RunStep → Work → Type 0
 WorksIn ReadHead did work = DoesWork did work
-WorksIn (Refuse answer e) did work = DoesWork did work
-WorksIn (Connect context text) did work = DoesWork did work
+WorksIn (Refuse answer error) did work = DoesWork did work
+WorksIn (Connect context request text) did work = DoesWork did work
 WorksIn (SendHead a text) did work = DoesWork did work
 WorksIn (ReadResponse a) did work = DoesWork did work
-WorksIn (WriteHead a text left) did work = DoesWork did work
-WorksIn (RelayBody a left) did work = DoesWork did work
+WorksIn (WriteHead a reply text left) did work = DoesWork did work
+WorksIn (RelayBody a reply left) did work = DoesWork did work
 WorksIn (Close a keep outcome) did work = (total_work work ≡ 0) × (did ≡ step.Ended)
 WorksIn (Ended outcome attempts) did work = (total_work work ≡ 0) × (did ≡ step.Ended)
 
 -- the request has ended, but for its link
 abbrev pub is_over : {L C : Type 0} → Phase L C → Bool
 is_over ReadHead = false
-is_over (Refuse answer e) = false
-is_over (Connect context text) = false
+is_over (Refuse answer error) = false
+is_over (Connect context request text) = false
 is_over (SendHead a text) = false
 is_over (ReadResponse a) = false
-is_over (WriteHead a text left) = false
-is_over (RelayBody a left) = false
+is_over (WriteHead a reply text left) = false
+is_over (RelayBody a reply left) = false
 is_over (Close a keep outcome) = true
 is_over (Ended outcome attempts) = true
 

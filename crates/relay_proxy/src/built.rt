@@ -1,13 +1,20 @@
-//! The forms of exchange that are relayed so far: a GET by HTTP/1.1 without a body, answered by one
-//! final head and a body of a stated length (RFC 9110, sections 9.3.1 and 15).
-ghost use Rattle.std.specs.Prelude.{◌≡◌, ◌↔◌, IsTrue, ℕ, IfSome, IfNone, slice_get, Some, codes};
+//! The forms of exchange that are relayed so far: a request by HTTP/1.1 without a body, answered by
+//! one final head and a body of a known length (RFC 9110, sections 9 and 15).
+ghost use Rattle.std.specs.Prelude.{◌≡◌, ◌↔◌, IsTrue, ℕ, IfSome, IfNone, codes};
 ghost use Rattle.http_header.specs.HeaderMap.{ContainsKey};
-ghost use Rattle.relay_proxy.specs.Built.{get_method, IsBuiltRequest, IsBuiltResponse};
+ghost use Rattle.relay_proxy.specs.Built.{IsConnect, IsKnownTarget, IsBuiltRequest, HasLength, IsBuiltResponse, StayOpen, IsLinkReusable, IsClientReusable};
 
-use http::{Method, Version};
+use http::Version;
 use http_header::HeaderMap;
-use relay_h1::Framing;
+use relay_h1::{Framing, closes};
 use relay_tasks::{RequestHeader, ResponseHeader};
+
+/// Whether a request asks for a tunnel.
+pub(crate) fn is_connect(head: &RequestHeader) -> bool
+    ensures { IsTrue result ↔ IsConnect head.now }
+{
+    head.method().as_str() == "CONNECT"
+}
 
 /// Whether a request is relayed.
 pub(crate) fn is_built_request(head: &RequestHeader, framing: Framing) -> bool
@@ -19,16 +26,13 @@ pub(crate) fn is_built_request(head: &RequestHeader, framing: Framing) -> bool
     if head.version() != Version::HTTP_11 {
         return false;
     }
-    if !is_get(head.method()) {
+    if is_connect(head) {
         return false;
     }
-    if !has_origin_form(head.raw_path()) {
+    if !is_known_target(head.raw_path()) {
         return false;
     }
     if names_upgrade(head.headers()) {
-        return false;
-    }
-    if names_connection(head.headers()) {
         return false;
     }
     true
@@ -39,30 +43,69 @@ pub(crate) fn built_length(head: &ResponseHeader, framing: Framing) -> Option<u6
     ensures built { IfSome result (λ n. IsBuiltResponse head.now framing n) }
     ensures unbuilt { IfNone result ((n : ℕ) → ¬ (IsBuiltResponse head.now framing n)) }
 {
-    if head.version() != Version::HTTP_11 {
+    if head.status() < 200 {
         return None;
     }
-    if names_connection(head.headers()) {
-        return None;
-    }
-    match framing {
-        Framing::Length(n) => Some(n),
-        Framing::Empty | Framing::Chunked | Framing::UntilClose | Framing::Tunnel => None,
-    }
+    length_of(framing)
 }
 
-fn is_get(method: &Method) -> bool
-    ensures { IsTrue result ↔ (method.now ≡ get_method) }
+fn length_of(framing: Framing) -> Option<u64>
+    ensures some { IfSome result (λ n. HasLength framing n) }
+    ensures none { IfNone result ((n : ℕ) → ¬ (HasLength framing n)) }
 {
-    method.as_str() == "GET"
+    match framing {
+        Framing::Empty => Some(0),
+        Framing::Length(n) => Some(n),
+        Framing::Chunked | Framing::UntilClose | Framing::Tunnel => None,
+    }
 }
 
-fn has_origin_form(target: &[u8]) -> bool
-    ensures { IsTrue result ↔ (slice_get target.now 0 ≡ Some 47) }
+/// Whether the link may serve another request, when it gave these bytes past the response.
+pub(crate) fn is_link_reusable(
+    request: &RequestHeader,
+    response: &ResponseHeader,
+    past: &[u8],
+) -> bool
+    ensures { IsTrue result ↔ IsLinkReusable request.now response.now past.now }
+{
+    if response.version() != Version::HTTP_11 {
+        return false;
+    }
+    if !past.is_empty() {
+        return false;
+    }
+    stay_open(request, response)
+}
+
+/// Whether the client may ask for more, when these bytes past its request are ahead.
+pub(crate) fn is_client_reusable(
+    request: &RequestHeader,
+    response: &ResponseHeader,
+    ahead: &[u8],
+) -> bool
+    ensures { IsTrue result ↔ IsClientReusable request.now response.now ahead.now }
+{
+    if request.version() != Version::HTTP_11 {
+        return false;
+    }
+    if !ahead.is_empty() {
+        return false;
+    }
+    stay_open(request, response)
+}
+
+fn stay_open(request: &RequestHeader, response: &ResponseHeader) -> bool
+    ensures { IsTrue result ↔ StayOpen request.now response.now }
+{
+    !closes(request.headers()) && !closes(response.headers())
+}
+
+fn is_known_target(target: &[u8]) -> bool
+    ensures { IsTrue result ↔ IsKnownTarget target.now }
 {
     match target {
-        [first, ..] => *first == b'/',
-        [] => false,
+        [b'/', ..] | [b'*'] => true,
+        _ => false,
     }
 }
 
@@ -70,10 +113,4 @@ fn names_upgrade(fields: &HeaderMap) -> bool
     ensures { IsTrue result ↔ ContainsKey fields.now (codes "upgrade") }
 {
     fields.contains_key("upgrade")
-}
-
-fn names_connection(fields: &HeaderMap) -> bool
-    ensures { IsTrue result ↔ ContainsKey fields.now (codes "connection") }
-{
-    fields.contains_key("connection")
 }

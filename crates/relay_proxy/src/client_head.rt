@@ -1,12 +1,15 @@
 //! The client's head: read, judged, and refused where it must be (RFC 9112, sections 2 and 3).
-ghost use Rattle.std.specs.Prelude.{◌≡◌, ◌≤◌, ℕ, [], length, Err};
-ghost use Rattle.relay_h1.specs.Verdict.{IsOpen, HasRequest, JudgesRequest};
-ghost use Rattle.relay_proxy.specs.Endings.{ended_outcome};
+ghost use Rattle.std.specs.Prelude.{◌≡◌, ◌≤◌, ℕ, [], length};
+ghost use Rattle.relay_tasks.specs.Head.{IsStatus};
+ghost use Rattle.relay_h1.specs.Verdict.{IsOpen, HasRequest};
+ghost use Rattle.relay_h1.specs.Wire.{generated};
+ghost use Rattle.relay_proxy.specs.Built.{IsConnect};
+ghost use Rattle.relay_proxy.specs.Endings.{IsTurnedDown, ended_outcome};
 ghost use Rattle.relay_proxy.specs.Passed.{World, Start, Passed, Waited, asked};
 ghost use Rattle.relay_proxy.specs.Phases.{RunSoFar};
 ghost use Rattle.relay_proxy.specs.Turn.{world_of, DoesWork, is_over, is_end, links_held, Advances};
 
-use crate::built::is_built_request;
+use crate::built::{is_built_request, is_connect};
 use crate::hooks::ProxyHttp;
 use crate::machine::{Next, Phase, RunStep};
 use crate::outcome::Outcome;
@@ -15,7 +18,7 @@ use crate::record::AttemptList;
 use crate::work::Work;
 use relay_h1::{Connection, Output, RequestRead, write_generated, write_request_head};
 use relay_links::{ByteLink, Got, Pause};
-use relay_tasks::{Error, ErrorType, Fail};
+use relay_tasks::{Context, Error, ErrorType, Fail};
 use std::alloc::Global;
 
 /// The client's head: judged where it stands, else its link is read once.
@@ -35,8 +38,8 @@ pub(crate) fn read_head<SV: ProxyHttp, D: ByteLink, U, L: ByteLink>(
 {
     match client.judge_request(alloc) {
         Ok(None) => await_head(alloc, client),
-        Ok(Some(read)) => accept_head(alloc, hooks, client, read),
-        Err(Fail::Error(error)) => refuse_head(alloc, error),
+        Ok(Some(read)) => take_head(alloc, hooks, client, read),
+        Err(Fail::Error(error)) => give_answer(alloc, 400, Some(error)),
         Err(Fail::OutOfMemory) => Next {
             phase: Phase::Ended(Outcome::OutOfMemory, AttemptList::new(alloc)),
             step: RunStep::Ended,
@@ -107,13 +110,38 @@ fn end_of_client(came: &[u8]) -> Outcome
     if came.is_empty() {
         Outcome::NoRequest
     } else {
+        let error = Error::explain(ErrorType::ConnectionClosed, Context::ClientClosed);
         Outcome::Refused {
-            error: Some(Error::new_down(ErrorType::Custom(1))),
+            error: Some(error.into_down()),
         }
     }
 }
 
-/// A head that is valid: it is taken from what is ahead, and its text is made.
+/// A head that is valid: it asks for a tunnel, which is refused, or it is looked at further.
+fn take_head<SV: ProxyHttp, D: ByteLink, U, L: ByteLink>(
+    alloc: Global,
+    hooks: &SV,
+    client: &mut Connection<D, U>,
+    read: RequestRead,
+) -> Next<L, SV::CTX>
+    requires { read.len ≤ length client.old.ahead }
+    ensures run { (s : Start) (p : Passed) (v : Waited) (faults : ℕ)
+        → RunSoFar {C = SV.CTX} L.state L.start s p v (world_of D.state client.old faults) [] (Phase.ReadHead)
+        → HasRequest client.old.ahead read.head read.framing read.len
+        → Advances L.state L.start s p v (world_of D.state client.new faults) (Phase.ReadHead)
+        result.phase result.step }
+    ensures work { DoesWork result.step result.work }
+    ensures over { is_over result.phase ≡ is_end result.step }
+    ensures unlinked { links_held L.state L.start result.phase ≡ 0 }
+    ensures kept { client.new.kept ≡ client.old.kept }
+{
+    if is_connect(&read.head) {
+        return give_answer(alloc, 405, None);
+    }
+    accept_head(alloc, hooks, client, read)
+}
+
+/// A head that is no request for a tunnel: it is taken from what is ahead, and its text is made.
 fn accept_head<SV: ProxyHttp, D: ByteLink, U, L: ByteLink>(
     alloc: Global,
     hooks: &SV,
@@ -124,6 +152,7 @@ fn accept_head<SV: ProxyHttp, D: ByteLink, U, L: ByteLink>(
     ensures run { (s : Start) (p : Passed) (v : Waited) (faults : ℕ)
         → RunSoFar {C = SV.CTX} L.state L.start s p v (world_of D.state client.old faults) [] (Phase.ReadHead)
         → HasRequest client.old.ahead read.head read.framing read.len
+        → ¬ (IsConnect read.head)
         → Advances L.state L.start s p v (world_of D.state client.new faults) (Phase.ReadHead)
         result.phase result.step }
     ensures work { DoesWork result.step result.work }
@@ -155,17 +184,18 @@ fn accept_head<SV: ProxyHttp, D: ByteLink, U, L: ByteLink>(
     };
     client.consume(read.len);
     Next {
-        phase: Phase::Connect(hooks.new_ctx(), text),
+        phase: Phase::Connect(hooks.new_ctx(), read.head, text),
         step: RunStep::Moved,
         work: Work::ENDED,
     }
 }
 
-/// A head that is refused: the generated answer is made.
-fn refuse_head<L: ByteLink, C>(alloc: Global, error: Error) -> Next<L, C>
+/// A head that is refused or asks for a tunnel: the generated answer with that status is made.
+fn give_answer<L: ByteLink, C>(alloc: Global, status: u16, error: Option<Error>) -> Next<L, C>
+    requires { IsStatus status }
     ensures run { (s : Start) (p : Passed) (v : Waited) (w : World)
         → RunSoFar {C = C} L.state L.start s p v w [] (Phase.ReadHead)
-        → JudgesRequest w.ahead (Err (Fail.Error error))
+        → IsTurnedDown w.ahead (generated status) error
         → Advances L.state L.start s p v w (Phase.ReadHead)
         result.phase result.step }
     ensures work { DoesWork result.step result.work }
@@ -173,7 +203,7 @@ fn refuse_head<L: ByteLink, C>(alloc: Global, error: Error) -> Next<L, C>
     ensures unlinked { links_held L.state L.start result.phase ≡ 0 }
 {
     let mut text = Vec::new(alloc);
-    let Ok(()) = write_generated(&mut text, 400) else {
+    let Ok(()) = write_generated(&mut text, status) else {
         return Next {
             phase: Phase::Ended(Outcome::OutOfMemory, AttemptList::new(alloc)),
             step: RunStep::Ended,
@@ -195,7 +225,7 @@ pub(crate) fn write_refusal<D: ByteLink, U, L: ByteLink, C>(
     alloc: Global,
     client: &mut Connection<D, U>,
     answer: Pending,
-    error: Error,
+    error: Option<Error>,
 ) -> Next<L, C>
     ensures run { (s : Start) (p : Passed) (v : Waited) (faults : ℕ)
         → RunSoFar {C = C} L.state L.start s p v (world_of D.state client.old faults) [] (Phase.Refuse answer error)
@@ -208,10 +238,7 @@ pub(crate) fn write_refusal<D: ByteLink, U, L: ByteLink, C>(
 {
     match answer.write_to(client) {
         Offered::Whole => Next {
-            phase: Phase::Ended(
-                Outcome::Refused { error: Some(error) },
-                AttemptList::new(alloc),
-            ),
+            phase: Phase::Ended(Outcome::Refused { error }, AttemptList::new(alloc)),
             step: RunStep::Ended,
             work: Work::USED,
         },

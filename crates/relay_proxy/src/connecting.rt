@@ -14,7 +14,7 @@ use crate::work::Work;
 use bytes::Bytes;
 use relay_h1::Connection;
 use relay_links::Connector;
-use relay_tasks::{Error, Peer};
+use relay_tasks::{Error, Peer, RequestHeader};
 use std::alloc::Global;
 
 /// The peer that each attempt asks for: the connector's only one.
@@ -33,13 +33,14 @@ pub(crate) fn connect<K: Connector, C: Drop>(
     alloc: Global,
     connector: &mut K,
     context: C,
+    request: RequestHeader,
     text: Pending,
 ) -> Next<K::Byte, C>
     ensures run { (s : Start) (p : Passed) (v : Waited) (client : LinkState) (ahead : List ℕ)
         → RunSoFar {C = C} K.Byte.state K.Byte.start s p v
-        (world_with client ahead (K.fault_count connector.old)) [] (Phase.Connect context text)
+        (world_with client ahead (K.fault_count connector.old)) [] (Phase.Connect context request text)
         → Advances K.Byte.state K.Byte.start s p v
-        (world_with client ahead (K.fault_count connector.new)) (Phase.Connect context text)
+        (world_with client ahead (K.fault_count connector.new)) (Phase.Connect context request text)
         result.phase result.step }
     ensures work { DoesWork result.step result.work }
     ensures over { is_over result.phase ≡ is_end result.step }
@@ -60,6 +61,7 @@ pub(crate) fn connect<K: Connector, C: Drop>(
         Ok((link, reused)) => {
             let connection = Connection::new(alloc, link);
             let attempt = Attempt {
+                request,
                 connection,
                 peer,
                 reused,

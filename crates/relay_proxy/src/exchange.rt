@@ -1,21 +1,19 @@
 //! The attempt: the head goes to the link, and the response's head and body come back.
 ghost use Rattle.std.specs.Prelude.{◌≡◌, ◌≤◌, ◌<◌, ℕ, [], length, false, true};
 ghost use Rattle.relay_h1.specs.Verdict.{IsOpen, HasResponse};
-ghost use Rattle.relay_proxy.specs.Built.{get_method};
-ghost use Rattle.relay_proxy.specs.Endings.{fault_error, unrelayed};
+ghost use Rattle.relay_proxy.specs.Endings.{fault_error, unbuilt_error, cut_off};
 ghost use Rattle.relay_proxy.specs.Passed.{World, Start, Passed, Waited, asked};
 ghost use Rattle.relay_proxy.specs.Phases.{RunSoFar};
 ghost use Rattle.relay_proxy.specs.Turn.{failed, IsRest, world_of, DoesWork, is_over, is_end, links_held, Advances};
 
-use crate::built::built_length;
+use crate::built::{built_length, is_client_reusable, is_link_reusable};
 use crate::machine::{Attempt, BodyLeft, Next, Phase, RunStep};
 use crate::outcome::Outcome;
 use crate::pending::{Offered, Pending};
 use crate::work::Work;
-use http::Method;
 use relay_h1::{Connection, Output, ResponseRead, write_response_head};
 use relay_links::{ByteLink, Got, Pause, Put};
-use relay_tasks::{Error, ErrorSource, ErrorType, Fail, Fault};
+use relay_tasks::{Context, Error, ErrorSource, ErrorType, Fail, Fault, ResponseHeader, RetryType};
 use std::alloc::Global;
 
 /// One write of the request's head.
@@ -95,19 +93,46 @@ fn client_failed<L, C>(attempt: Attempt<L, C>, fault: Fault) -> Phase<L, C>
     )
 }
 
-/// The attempt ends since its response is broken, cut off, or of a form that is not relayed.
-fn response_unfit<L, C>(attempt: Attempt<L, C>) -> Phase<L, C>
-    ensures { result ≡ failed attempt (unrelayed ErrorSource.Upstream) }
+/// The attempt ends with that error, since its response is broken, cut off, or of a form that is
+/// not relayed.
+fn response_unfit<L, C>(attempt: Attempt<L, C>, error: Error) -> Phase<L, C>
+    ensures { result ≡ failed attempt error }
 {
-    let error = Some(Error::new_up(ErrorType::Custom(1)));
     Phase::Close(
         attempt,
         false,
         Outcome::Served {
-            error,
+            error: Some(error),
             reuse: false,
         },
     )
+}
+
+/// The error of a response that the link ended. Where no byte of it had come, the request may be
+/// tried again, if the connection had been used before.
+fn cut_off(is_first: bool) -> Error
+    ensures { result ≡ cut_off is_first }
+{
+    let error = Error::explain(ErrorType::ConnectionClosed, Context::UpstreamClosed).into_up();
+    if is_first {
+        Error {
+            retry: RetryType::ReusedOnly,
+            ..error
+        }
+    } else {
+        error
+    }
+}
+
+/// The error of a response whose head is valid and not relayed.
+fn unbuilt_error(head: &ResponseHeader) -> Error
+    ensures { result ≡ unbuilt_error head.now }
+{
+    if head.status() == 101 {
+        Error::explain(ErrorType::InvalidHTTPHeader, Context::Mismatch101).into_up()
+    } else {
+        Error::new_up(ErrorType::Custom(1))
+    }
 }
 
 /// The response's head: judged where it stands, else the link is read once.
@@ -123,14 +148,15 @@ pub(crate) fn read_response<L: ByteLink, C: Drop>(
     ensures over { is_over result.phase ≡ is_end result.step }
     ensures linked { links_held L.state L.start result.phase ≡ 1 }
 {
-    match attempt
+    let held = &mut attempt;
+    match held
         .connection
-        .judge_response(alloc, &Method::GET, false)
+        .judge_response(alloc, held.request.method(), false)
     {
         Ok(None) => await_response(attempt),
         Ok(Some(read)) => accept_response(alloc, attempt, read),
-        Err(Fail::Error(_)) => Next {
-            phase: response_unfit(attempt),
+        Err(Fail::Error(error)) => Next {
+            phase: response_unfit(attempt, error),
             step: RunStep::Ended,
             work: Work::ENDED,
         },
@@ -174,11 +200,14 @@ fn await_response<L: ByteLink, C: Drop>(mut attempt: Attempt<L, C>) -> Next<L, C
             step: RunStep::Waited(Pause::Silent),
             work: Work::NONE,
         },
-        Ok(Got::End) => Next {
-            phase: response_unfit(attempt),
-            step: RunStep::Ended,
-            work: Work::USED_AND_ENDED,
-        },
+        Ok(Got::End) => {
+            let error = cut_off(attempt.connection.ahead().is_empty());
+            Next {
+                phase: response_unfit(attempt, error),
+                step: RunStep::Ended,
+                work: Work::USED_AND_ENDED,
+            }
+        }
         Ok(Got::Failed(fault)) => Next {
             phase: link_failed(attempt, fault),
             step: RunStep::Ended,
@@ -196,7 +225,8 @@ fn accept_response<L: ByteLink, C: Drop>(
     requires { read.len ≤ length attempt.connection.ahead }
     ensures run { (s : Start) (p : Passed) (v : Waited) (w : World)
         → RunSoFar {C = C} L.state L.start s p v w [] (Phase.ReadResponse attempt)
-        → HasResponse get_method false attempt.connection.ahead read.head read.framing read.len
+        → HasResponse attempt.request.method false attempt.connection.ahead read.head read.framing
+        read.len
         → Advances L.state L.start s p v w (Phase.ReadResponse attempt)
         result.phase result.step }
     ensures work { DoesWork result.step result.work }
@@ -204,8 +234,9 @@ fn accept_response<L: ByteLink, C: Drop>(
     ensures linked { links_held L.state L.start result.phase ≡ 1 }
 {
     let Some(left) = built_length(&read.head, read.framing) else {
+        let error = unbuilt_error(&read.head);
         return Next {
-            phase: response_unfit(attempt),
+            phase: response_unfit(attempt, error),
             step: RunStep::Ended,
             work: Work::ENDED,
         };
@@ -223,7 +254,7 @@ fn accept_response<L: ByteLink, C: Drop>(
     };
     attempt.connection.consume(read.len);
     Next {
-        phase: Phase::WriteHead(attempt, text, left),
+        phase: Phase::WriteHead(attempt, read.head, text, left),
         step: RunStep::Moved,
         work: Work::MOVED,
     }
@@ -233,12 +264,13 @@ fn accept_response<L: ByteLink, C: Drop>(
 pub(crate) fn write_head<D: ByteLink, U, L: ByteLink, C: Drop>(
     client: &mut Connection<D, U>,
     attempt: Attempt<L, C>,
+    reply: ResponseHeader,
     text: Pending,
     left: u64,
 ) -> Next<L, C>
     ensures run { (s : Start) (p : Passed) (v : Waited) (faults : ℕ)
-        → RunSoFar {C = C} L.state L.start s p v (world_of D.state client.old faults) [] (Phase.WriteHead attempt text left)
-        → Advances L.state L.start s p v (world_of D.state client.new faults) (Phase.WriteHead attempt text left)
+        → RunSoFar {C = C} L.state L.start s p v (world_of D.state client.old faults) [] (Phase.WriteHead attempt reply text left)
+        → Advances L.state L.start s p v (world_of D.state client.new faults) (Phase.WriteHead attempt reply text left)
         result.phase result.step }
     ensures work { DoesWork result.step result.work }
     ensures over { is_over result.phase ≡ is_end result.step }
@@ -246,19 +278,19 @@ pub(crate) fn write_head<D: ByteLink, U, L: ByteLink, C: Drop>(
     ensures kept { client.new.kept ≡ client.old.kept }
 {
     match text.write_to(client) {
-        Offered::Whole => relay_rest(client, attempt, left),
+        Offered::Whole => relay_rest(client, attempt, reply, left),
         Offered::Left(text) => Next {
-            phase: Phase::WriteHead(attempt, text, left),
+            phase: Phase::WriteHead(attempt, reply, text, left),
             step: RunStep::Moved,
             work: Work::USED,
         },
         Offered::NotReady(text) => Next {
-            phase: Phase::WriteHead(attempt, text, left),
+            phase: Phase::WriteHead(attempt, reply, text, left),
             step: RunStep::Waited(Pause::NotReady),
             work: Work::USED,
         },
         Offered::Silent(text) => Next {
-            phase: Phase::WriteHead(attempt, text, left),
+            phase: Phase::WriteHead(attempt, reply, text, left),
             step: RunStep::Waited(Pause::Silent),
             work: Work::NONE,
         },
@@ -279,20 +311,21 @@ pub(crate) fn write_head<D: ByteLink, U, L: ByteLink, C: Drop>(
 fn relay_rest<D, U, L, C>(
     client: &Connection<D, U>,
     attempt: Attempt<L, C>,
+    reply: ResponseHeader,
     left: u64,
 ) -> Next<L, C>
-    ensures rest { IsRest client.now.ahead attempt left result }
+    ensures rest { IsRest client.now.ahead attempt reply left result }
     ensures over { is_over result.phase ≡ is_end result.step }
 {
     if left > 0 {
         return Next {
-            phase: Phase::RelayBody(attempt, BodyLeft { bytes: left }),
+            phase: Phase::RelayBody(attempt, reply, BodyLeft { bytes: left }),
             step: RunStep::Moved,
             work: Work::USED,
         };
     }
-    let keep = attempt.connection.ahead().is_empty();
-    let reuse = client.ahead().is_empty();
+    let keep = is_link_reusable(&attempt.request, &reply, attempt.connection.ahead());
+    let reuse = is_client_reusable(&attempt.request, &reply, client.ahead());
     Next {
         phase: Phase::Close(attempt, keep, Outcome::Served { error: None, reuse }),
         step: RunStep::Ended,
@@ -304,11 +337,12 @@ fn relay_rest<D, U, L, C>(
 pub(crate) fn relay_body<D: ByteLink, U, L: ByteLink, C: Drop>(
     client: &mut Connection<D, U>,
     attempt: Attempt<L, C>,
+    reply: ResponseHeader,
     left: BodyLeft,
 ) -> Next<L, C>
     ensures run { (s : Start) (p : Passed) (v : Waited) (faults : ℕ)
-        → RunSoFar {C = C} L.state L.start s p v (world_of D.state client.old faults) [] (Phase.RelayBody attempt left)
-        → Advances L.state L.start s p v (world_of D.state client.new faults) (Phase.RelayBody attempt left)
+        → RunSoFar {C = C} L.state L.start s p v (world_of D.state client.old faults) [] (Phase.RelayBody attempt reply left)
+        → Advances L.state L.start s p v (world_of D.state client.new faults) (Phase.RelayBody attempt reply left)
         result.phase result.step }
     ensures work { DoesWork result.step result.work }
     ensures over { is_over result.phase ≡ is_end result.step }
@@ -316,18 +350,22 @@ pub(crate) fn relay_body<D: ByteLink, U, L: ByteLink, C: Drop>(
     ensures kept { client.new.kept ≡ client.old.kept }
 {
     if attempt.connection.ahead().is_empty() {
-        read_body(attempt, left)
+        read_body(attempt, reply, left)
     } else {
-        write_body(client, attempt, left)
+        write_body(client, attempt, reply, left)
     }
 }
 
 /// One read of the link, for more of the body.
-fn read_body<L: ByteLink, C: Drop>(mut attempt: Attempt<L, C>, left: BodyLeft) -> Next<L, C>
+fn read_body<L: ByteLink, C: Drop>(
+    mut attempt: Attempt<L, C>,
+    reply: ResponseHeader,
+    left: BodyLeft,
+) -> Next<L, C>
     ensures run { (s : Start) (p : Passed) (v : Waited) (w : World)
-        → RunSoFar {C = C} L.state L.start s p v w [] (Phase.RelayBody attempt left)
+        → RunSoFar {C = C} L.state L.start s p v w [] (Phase.RelayBody attempt reply left)
         → attempt.connection.ahead ≡ []
-        → Advances L.state L.start s p v w (Phase.RelayBody attempt left)
+        → Advances L.state L.start s p v w (Phase.RelayBody attempt reply left)
         result.phase result.step }
     ensures work { DoesWork result.step result.work }
     ensures over { is_over result.phase ≡ is_end result.step }
@@ -340,22 +378,22 @@ fn read_body<L: ByteLink, C: Drop>(mut attempt: Attempt<L, C>, left: BodyLeft) -
             work: Work::ENDED,
         },
         Ok(Got::Bytes(_)) => Next {
-            phase: Phase::RelayBody(attempt, left),
+            phase: Phase::RelayBody(attempt, reply, left),
             step: RunStep::Moved,
             work: Work::USED,
         },
         Ok(Got::NotReady) => Next {
-            phase: Phase::RelayBody(attempt, left),
+            phase: Phase::RelayBody(attempt, reply, left),
             step: RunStep::Waited(Pause::NotReady),
             work: Work::USED,
         },
         Ok(Got::Silent) => Next {
-            phase: Phase::RelayBody(attempt, left),
+            phase: Phase::RelayBody(attempt, reply, left),
             step: RunStep::Waited(Pause::Silent),
             work: Work::NONE,
         },
         Ok(Got::End) => Next {
-            phase: response_unfit(attempt),
+            phase: response_unfit(attempt, cut_off(false)),
             step: RunStep::Ended,
             work: Work::USED_AND_ENDED,
         },
@@ -371,12 +409,13 @@ fn read_body<L: ByteLink, C: Drop>(mut attempt: Attempt<L, C>, left: BodyLeft) -
 fn write_body<D: ByteLink, U, L: ByteLink, C: Drop>(
     client: &mut Connection<D, U>,
     mut attempt: Attempt<L, C>,
+    reply: ResponseHeader,
     left: BodyLeft,
 ) -> Next<L, C>
     requires { 0 < length attempt.connection.ahead }
     ensures run { (s : Start) (p : Passed) (v : Waited) (faults : ℕ)
-        → RunSoFar {C = C} L.state L.start s p v (world_of D.state client.old faults) [] (Phase.RelayBody attempt left)
-        → Advances L.state L.start s p v (world_of D.state client.new faults) (Phase.RelayBody attempt left)
+        → RunSoFar {C = C} L.state L.start s p v (world_of D.state client.old faults) [] (Phase.RelayBody attempt reply left)
+        → Advances L.state L.start s p v (world_of D.state client.new faults) (Phase.RelayBody attempt reply left)
         result.phase result.step }
     ensures work { DoesWork result.step result.work }
     ensures over { is_over result.phase ≡ is_end result.step }
@@ -384,14 +423,14 @@ fn write_body<D: ByteLink, U, L: ByteLink, C: Drop>(
     ensures kept { client.new.kept ≡ client.old.kept }
 {
     match attempt.connection.relay_body(client, left.bytes) {
-        Put::Took(n) => relay_rest(client, attempt, left.bytes - n as u64),
+        Put::Took(n) => relay_rest(client, attempt, reply, left.bytes - n as u64),
         Put::NotReady => Next {
-            phase: Phase::RelayBody(attempt, left),
+            phase: Phase::RelayBody(attempt, reply, left),
             step: RunStep::Waited(Pause::NotReady),
             work: Work::USED,
         },
         Put::Silent => Next {
-            phase: Phase::RelayBody(attempt, left),
+            phase: Phase::RelayBody(attempt, reply, left),
             step: RunStep::Waited(Pause::Silent),
             work: Work::NONE,
         },

@@ -31,6 +31,7 @@ fn release<K: Connector, C: Drop>(
     ensures faults { K.fault_count connector.new ≡ K.fault_count connector.old }
 {
     let Attempt {
+        request: _request,
         connection,
         peer,
         reused,
@@ -61,11 +62,13 @@ pub(crate) fn settle<K: Connector, C: Drop>(
     match phase {
         Phase::ReadHead => Phase::ReadHead,
         Phase::Refuse(answer, error) => Phase::Refuse(answer, error),
-        Phase::Connect(context, text) => Phase::Connect(context, text),
+        Phase::Connect(context, request, text) => Phase::Connect(context, request, text),
         Phase::SendHead(attempt, text) => Phase::SendHead(attempt, text),
         Phase::ReadResponse(attempt) => Phase::ReadResponse(attempt),
-        Phase::WriteHead(attempt, text, left) => Phase::WriteHead(attempt, text, left),
-        Phase::RelayBody(attempt, left) => Phase::RelayBody(attempt, left),
+        Phase::WriteHead(attempt, reply, text, left) => {
+            Phase::WriteHead(attempt, reply, text, left)
+        }
+        Phase::RelayBody(attempt, reply, left) => Phase::RelayBody(attempt, reply, left),
         Phase::Close(attempt, keep, outcome) => {
             let attempts = release(connector, attempt, keep, outcome);
             Phase::Ended(outcome, attempts)
@@ -114,11 +117,11 @@ pub(crate) fn finish<K: Connector, C: Drop>(
     match phase {
         Phase::ReadHead => give_up(alloc),
         Phase::Refuse(_answer, _error) => give_up(alloc),
-        Phase::Connect(_context, _text) => give_up(alloc),
+        Phase::Connect(_context, _request, _text) => give_up(alloc),
         Phase::SendHead(attempt, _text) => give_link_up(connector, attempt),
         Phase::ReadResponse(attempt) => give_link_up(connector, attempt),
-        Phase::WriteHead(attempt, _text, _left) => give_link_up(connector, attempt),
-        Phase::RelayBody(attempt, _left) => give_link_up(connector, attempt),
+        Phase::WriteHead(attempt, _reply, _text, _left) => give_link_up(connector, attempt),
+        Phase::RelayBody(attempt, _reply, _left) => give_link_up(connector, attempt),
         Phase::Close(attempt, keep, outcome) => Ending {
             outcome,
             attempts: release(connector, attempt, keep, outcome),

@@ -15,7 +15,7 @@ use crate::record::{AttemptList, AttemptRoom};
 use crate::work::Work;
 use relay_h1::Connection;
 use relay_links::Pause;
-use relay_tasks::{Error, Peer};
+use relay_tasks::{Error, Peer, RequestHeader, ResponseHeader};
 use std::mem;
 
 /// What one turn of a request did.
@@ -29,8 +29,9 @@ pub enum RunStep {
     Ended,
 }
 
-/// An attempt whose link is held.
+/// An attempt at a request whose link is held.
 pub(crate) struct Attempt<L, C> {
+    pub(crate) request: RequestHeader,
     pub(crate) connection: Connection<L, ()>,
     pub(crate) peer: Peer,
     pub(crate) reused: bool,
@@ -49,18 +50,18 @@ pub(crate) struct BodyLeft {
 pub(crate) enum Phase<L, C> {
     /// The client's head is read.
     ReadHead,
-    /// The head was refused, and the generated answer is written.
-    Refuse(Pending, Error),
+    /// The client is given a generated answer, with that error.
+    Refuse(Pending, Option<Error>),
     /// The head was accepted, and a link is wanted for its text.
-    Connect(C, Pending),
+    Connect(C, RequestHeader, Pending),
     /// The head's text is written to the link.
     SendHead(Attempt<L, C>, Pending),
     /// The response's head is read.
     ReadResponse(Attempt<L, C>),
     /// The text of the response's head is written; a body of that length follows.
-    WriteHead(Attempt<L, C>, Pending, u64),
-    /// The body is relayed.
-    RelayBody(Attempt<L, C>, BodyLeft),
+    WriteHead(Attempt<L, C>, ResponseHeader, Pending, u64),
+    /// The body of that response is relayed.
+    RelayBody(Attempt<L, C>, ResponseHeader, BodyLeft),
     /// The request has ended, and its link is to be handed back.
     Close(Attempt<L, C>, bool, Outcome),
     /// The request has ended.
@@ -97,11 +98,11 @@ impl<L, C> Phase<L, C> {
         match mem::replace(self, phase) {
             Phase::ReadHead => {}
             Phase::Refuse(_answer, _error) => unreachable!(),
-            Phase::Connect(_context, _text) => unreachable!(),
+            Phase::Connect(_context, _request, _text) => unreachable!(),
             Phase::SendHead(_attempt, _text) => unreachable!(),
             Phase::ReadResponse(_attempt) => unreachable!(),
-            Phase::WriteHead(_attempt, _text, _left) => unreachable!(),
-            Phase::RelayBody(_attempt, _left) => unreachable!(),
+            Phase::WriteHead(_attempt, _reply, _text, _left) => unreachable!(),
+            Phase::RelayBody(_attempt, _reply, _left) => unreachable!(),
             Phase::Close(_attempt, _keep, _outcome) => unreachable!(),
             Phase::Ended(_outcome, _attempts) => unreachable!(),
         }

@@ -43,11 +43,15 @@ pub(crate) fn take_turn<SV: ProxyHttp, K: Connector, D: ByteLink, U>(
     match phase {
         Phase::ReadHead => read_head(alloc, hooks, client),
         Phase::Refuse(answer, error) => write_refusal(alloc, client, answer, error),
-        Phase::Connect(context, text) => connect(alloc, connector, context, text),
+        Phase::Connect(context, request, text) => {
+            connect(alloc, connector, context, request, text)
+        }
         Phase::SendHead(attempt, text) => send_head(attempt, text),
         Phase::ReadResponse(attempt) => read_response(alloc, attempt),
-        Phase::WriteHead(attempt, text, left) => write_head(client, attempt, text, left),
-        Phase::RelayBody(attempt, left) => relay_body(client, attempt, left),
+        Phase::WriteHead(attempt, reply, text, left) => {
+            write_head(client, attempt, reply, text, left)
+        }
+        Phase::RelayBody(attempt, reply, left) => relay_body(client, attempt, reply, left),
         Phase::Close(attempt, keep, outcome) => Next {
             phase: Phase::Close(attempt, keep, outcome),
             step: RunStep::Ended,
