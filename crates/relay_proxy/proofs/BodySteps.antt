@@ -1,5 +1,6 @@
 -- Turns of an attempt whose response was accepted: its head is written, and its body is relayed.
-use Rattle.std.proofs.Common.{◌≡◌, ℕ, zero, suc, ◌+◌, ◌-◌, ◌<◌, ◌≤◌, ◌⊎◌, List, [], ◌++◌, length, take, drop, refl, sym, ap, subst, ◌∙◌, inl, inr, arith, length-append, append_assoc, append-nil, take-append-drop, length-take, length-drop}
+use Rattle.std.proofs.Common.{◌≡◌, ℕ, zero, suc, ◌+◌, ◌-◌, ◌<◌, ◌≤◌, ◌⊎◌, List, [], ◌++◌, length, take, drop, ◌==◌, ◌↔◌, IsTrue, Bool, false, refl, sym, ap, subst, ◌∙◌, inl, inr, arith, length-append, append_assoc, append-nil, take-append-drop, length-take, length-drop}
+use Rattle.std.proofs.lemmas.Bool.{ne_eqb}
 use Rattle.std.proofs.lemmas.List.{drop-append-le, take-append-le, drop-drop, take-take}
 use Rattle.std.proofs.Math.Seq.{take-add, drop-length}
 use Rattle.relay_tasks.specs.declared.ErrorSource.TheVariants.{Upstream, Downstream}
@@ -7,8 +8,11 @@ use Rattle.relay_tasks.specs.declared.Fault.{Fault}
 use Rattle.relay_links.specs.Link.{LinkState, LinkStart, GivesBytes, WaitsOnRead, EndsRead, FailsRead, TakesBytes, WaitsOnWrite, FailsWrite}
 use Rattle.relay_links.specs.declared.Pause.TheVariants.{NotReady}
 use Rattle.relay_h1.specs.Wire.{response_text}
+use Rattle.relay_tasks.specs.Head.{RequestHead, ResponseHead}
+use Rattle.relay_h1.proofs.HeadEndLemmas.{head_end-within}
+use Rattle.relay_proxy.specs.Built.{IsLinkReusable, IsClientReusable}
 use Rattle.relay_proxy.specs.Passed.{World, Start, Passed, Waited, amount, TellsClient}
-use Rattle.relay_proxy.specs.Endings.{IsPrefixOf, IsInOrder, response_so_far, IsInBody, fault_error, unrelayed}
+use Rattle.relay_proxy.specs.Endings.{IsPrefixOf, IsInOrder, response_so_far, IsInBody, fault_error, cut_off}
 use Rattle.relay_proxy.specs.Phases.{IsAnswering, IsWritingHead, IsRelayingBody, IsAttempt, RunSoFar, allowance}
 use Rattle.relay_proxy.specs.Turn.{Advances, failed, IsRest}
 use Rattle.relay_proxy.specs.Offer.{TakesFront}
@@ -40,20 +44,24 @@ body_part front body done n within =
 nothing_left : (bytes : List ℕ) (n : ℕ) → n ≤ length bytes → drop n bytes ≡ [] → length bytes ≡ n
 nothing_left bytes n within none = omega (arith, length-drop n bytes, ap length none)
 
--- a list of which all is dropped
-all_dropped : (bytes : List ℕ) (n : ℕ) → length bytes ≡ n → drop n bytes ≡ []
-all_dropped bytes n is = rw (← is) (drop-length bytes)
-
 -- a body that has not come whole
-in_body : (s : Start) (p : Passed) (ahead held : List ℕ) (link : LinkState) (left : BodyLeft)
-    → held ≡ [] → IsRelayingBody s p ahead link held left.bytes → IsInBody p
-in_body s p ahead held link left none h = record {
-  head = h.answering.response;
+in_body : (s : Start) (p : Passed) (ahead : List ℕ) (request : RequestHead) (link : LinkState) (reply : ResponseHead)
+    (held : List ℕ) (left : BodyLeft) → held ≡ []
+    → (h : IsRelayingBody s p ahead request link reply held left.bytes) → IsInBody h.answering.head.method p
+in_body s p ahead request link reply held left none h = record {
+  head = reply;
   len = h.answering.len;
   n = h.answering.n;
   answered = h.answering.answered;
   short = omega (arith, left.some, h.body, nothing_left p.got (h.answering.len + h.done) h.within (sym h.rest_held ∙ none));
 }
+
+-- a link that gave the response's head gave a byte
+some_came : (s : Start) (p : Passed) (ahead : List ℕ) (request : RequestHead) (link : LinkState) (reply : ResponseHead)
+    → IsAnswering s p ahead request link reply → (length p.got == 0) ≡ false
+some_came s p ahead request link reply h =
+    let within = head_end-within p.got h.len h.answered.has.starts.ends in
+    ne_eqb (length p.got) 0 (λ none. omega (arith, within.0, within.1))
 
 module _ {L C : Type 0} (state : L → LinkState) (start_at : L → LinkStart) where
   -- an attempt whose link passed nothing, while the client's side moved
@@ -68,15 +76,16 @@ module _ {L C : Type 0} (state : L → LinkState) (start_at : L → LinkStart) w
 
   -- what follows a write: more of the body, or the end of a response that is whole
   rest_follows : (s : Start) (p q : Passed) (v : Waited) (x : World) (phase : Phase L C) (a : Attempt L C)
-      (answering : IsAnswering s q x.ahead (state a.connection.link)) (done left : ℕ) (next : Next L C)
+      (reply : ResponseHead) (answering : IsAnswering s q x.ahead a.request (state a.connection.link) reply)
+      (done left : ℕ) (next : Next L C)
       → TellsClient s q v x → IsAttempt state start_at q v a
       → answering.len + done ≤ length q.got
-      → q.written ≡ response_text answering.response ++ take done (drop answering.len q.got)
+      → q.written ≡ response_text reply ++ take done (drop answering.len q.got)
       → a.connection.ahead ≡ drop (answering.len + done) q.got → done + left ≡ answering.n
-      → IsRest x.ahead a left next
+      → IsRest x.ahead a reply left next
       → allowance state start_at phase + amount p v < 3 + amount q v
       → Advances {C = C} state start_at s p v x phase next.phase next.step
-  rest_follows s p q v x phase a answering done left next tells attempt within written held body rest paid =
+  rest_follows s p q v x phase a reply answering done left next tells attempt within written held body rest paid =
       elim (zero_or_more left) as (λ _. Advances {C = C} state start_at s p v x phase next.phase next.step) [
         | inl more ↦
             let go = rest.0 more in
@@ -87,7 +96,7 @@ module _ {L C : Type 0} (state : L → LinkState) (start_at : L → LinkStart) w
               waited = v;
               run = record {
                 tells = tells;
-                order = order_of_answering s q x.ahead (state a.connection.link) answering part;
+                order = order_of_answering s q x.ahead a.request (state a.connection.link) reply answering part;
                 going = tt;
                 holds = (
                   attempt,
@@ -112,7 +121,7 @@ module _ {L C : Type 0} (state : L → LinkState) (start_at : L → LinkStart) w
               waited = v;
               run = record {
                 tells = tells;
-                order = order_of_answering s q x.ahead (state a.connection.link) answering part;
+                order = order_of_answering s q x.ahead a.request (state a.connection.link) reply answering part;
                 going = λ limit. cc;
                 holds = (
                   attempt,
@@ -121,17 +130,17 @@ module _ {L C : Type 0} (state : L → LinkState) (start_at : L → LinkStart) w
                     request_len = answering.asking.len;
                     accepted = answering.asking.accepted;
                     sent = answering.sent;
-                    head = answering.response;
+                    head = reply;
                     len = answering.len;
                     n = answering.n;
                     answered = answering.answered;
                     body = omega arith;
                     written = rw (← all none) written;
-                    kept = (
-                      λ keeps. omega (arith, nothing_left q.got (answering.len + done) within (sym held ∙ end.0.2.0 keeps)),
-                      λ is. end.0.2.1 (held ∙ all_dropped q.got (answering.len + done) (omega (arith, is))),
-                    );
-                    goes_back = end.0.3;
+                    kept = subst (λ (n : ℕ). IsTrue end.0.0 ↔ IsLinkReusable answering.head reply (drop (answering.len + n) q.got))
+                        (all none)
+                        (subst (λ (xs : List ℕ). IsTrue end.0.0 ↔ IsLinkReusable answering.head reply xs) held
+                        (subst (λ (h : RequestHead). IsTrue end.0.0 ↔ IsLinkReusable h reply a.connection.ahead) answering.is end.0.2));
+                    goes_back = subst (λ (h : RequestHead). IsTrue end.0.1 ↔ IsClientReusable h reply x.ahead) answering.is end.0.3;
                     ahead = answering.asking.taken;
                   },
                 );
@@ -147,30 +156,31 @@ module _ {L C : Type 0} (state : L → LinkState) (start_at : L → LinkStart) w
       all : left ≡ 0 → done ≡ answering.n
       all none = omega arith
 
-      part : IsPrefixOf q.written (response_so_far q answering.response answering.len answering.n)
+      part : IsPrefixOf q.written (response_so_far q reply answering.len answering.n)
       part = record {
         rest = drop done (take answering.n (drop answering.len q.got));
         joined = ap (λ (xs : List ℕ). xs ++ drop done (take answering.n (drop answering.len q.got))) written
-            ∙ body_part (response_text answering.response) (drop answering.len q.got) done answering.n (omega arith);
+            ∙ body_part (response_text reply) (drop answering.len q.got) done answering.n (omega arith);
       }
 
   -- the text of the response's head was written whole
-  pub head_wrote_all : (s : Start) (p : Passed) (v : Waited) (w x : World) (a : Attempt L C) (text : Pending) (n : ℕ)
-      (next : Next L C)
+  pub head_wrote_all : (s : Start) (p : Passed) (v : Waited) (w x : World) (a : Attempt L C) (reply : ResponseHead) (text : Pending)
+      (n : ℕ) (next : Next L C)
       → x.ahead ≡ w.ahead → x.connect_faults ≡ w.connect_faults → TakesFront w.client x.client text.output []
-      → IsRest x.ahead a n next
-      → RunSoFar {C = C} state start_at s p v w [] (WriteHead a text n)
-      → Advances {C = C} state start_at s p v x (WriteHead a text n) next.phase next.step
-  head_wrote_all s p v w x a text n next ahead same takes rest run =
-      rest_follows s p (written_more p (take takes.n text.output)) v x (WriteHead a text n) a
-      (answering_as s (written_more p (take takes.n text.output)) w.ahead x.ahead (state a.connection.link) (state a.connection.link)
-      ahead refl (answering_wrote s p w.ahead (take takes.n text.output) (state a.connection.link) run.holds.1.answering))
+      → IsRest x.ahead a reply n next
+      → RunSoFar {C = C} state start_at s p v w [] (WriteHead a reply text n)
+      → Advances {C = C} state start_at s p v x (WriteHead a reply text n) next.phase next.step
+  head_wrote_all s p v w x a reply text n next ahead same takes rest run =
+      rest_follows s p (written_more p (take takes.n text.output)) v x (WriteHead a reply text n) a reply
+      (answering_as s (written_more p (take takes.n text.output)) w.ahead x.ahead a.request a.request
+      (state a.connection.link) (state a.connection.link) reply ahead refl refl
+      (answering_wrote s p w.ahead (take takes.n text.output) a.request (state a.connection.link) reply run.holds.1.answering))
       0 n next
       (client_took s p v w x text.output takes.n same takes.takes run.tells)
       (attempt_same p (written_more p (take takes.n text.output)) v v a refl refl refl run.holds.0)
       (omega (arith, run.holds.1.answering.within))
       (ap (λ (xs : List ℕ). p.written ++ xs) (take_whole text.output takes.n takes.left) ∙ run.holds.1.joined
-      ∙ sym (append-nil (response_text run.holds.1.answering.response)))
+      ∙ sym (append-nil (response_text reply)))
       (run.holds.1.rest_held ∙ ap (λ (k : ℕ). drop k p.got) (plus_zero run.holds.1.answering.len))
       (omega (arith, run.holds.1.body))
       rest
@@ -184,19 +194,20 @@ module _ {L C : Type 0} (state : L → LinkState) (start_at : L → LinkStart) w
       plus_zero k = omega arith
 
   -- some of the text of the response's head was written
-  pub head_wrote_part : (s : Start) (p : Passed) (v : Waited) (w x : World) (a : Attempt L C) (text left : Pending) (n : ℕ)
+  pub head_wrote_part : (s : Start) (p : Passed) (v : Waited) (w x : World) (a : Attempt L C) (reply : ResponseHead)
+      (text left : Pending) (n : ℕ)
       → x.ahead ≡ w.ahead → x.connect_faults ≡ w.connect_faults → TakesFront w.client x.client text.output left.output
-      → RunSoFar {C = C} state start_at s p v w [] (WriteHead a text n)
-      → Advances {C = C} state start_at s p v x (WriteHead a text n) (WriteHead a left n) step.Moved
-  head_wrote_part s p v w x a text left n ahead same takes run = record {
+      → RunSoFar {C = C} state start_at s p v w [] (WriteHead a reply text n)
+      → Advances {C = C} state start_at s p v x (WriteHead a reply text n) (WriteHead a reply left n) step.Moved
+  head_wrote_part s p v w x a reply text left n ahead same takes run = record {
     passed = written_more p (take takes.n text.output);
     waited = v;
     run = record {
       tells = client_took s p v w x text.output takes.n same takes.takes run.tells;
-      order = order_of_answering s (written_more p (take takes.n text.output)) x.ahead (state a.connection.link) answering
+      order = order_of_answering s (written_more p (take takes.n text.output)) x.ahead a.request (state a.connection.link) reply answering
           (record {
             rest = left.output ++ take answering.n (drop answering.len p.got);
-            joined = head_then_body (p.written ++ take takes.n text.output) left.output (response_text answering.response)
+            joined = head_then_body (p.written ++ take takes.n text.output) left.output (response_text reply)
                 (take answering.n (drop answering.len p.got)) all;
           });
       going = tt;
@@ -217,20 +228,22 @@ module _ {L C : Type 0} (state : L → LinkState) (start_at : L → LinkStart) w
     );
   }
     where
-      answering : IsAnswering s (written_more p (take takes.n text.output)) x.ahead (state a.connection.link)
-      answering = answering_as s (written_more p (take takes.n text.output)) w.ahead x.ahead (state a.connection.link) (state a.connection.link)
-          ahead refl (answering_wrote s p w.ahead (take takes.n text.output) (state a.connection.link) run.holds.1.answering)
+      answering : IsAnswering s (written_more p (take takes.n text.output)) x.ahead a.request (state a.connection.link) reply
+      answering = answering_as s (written_more p (take takes.n text.output)) w.ahead x.ahead a.request a.request
+          (state a.connection.link) (state a.connection.link) reply ahead refl refl
+          (answering_wrote s p w.ahead (take takes.n text.output) a.request (state a.connection.link) reply run.holds.1.answering)
 
-      all : (p.written ++ take takes.n text.output) ++ left.output ≡ response_text run.holds.1.answering.response
+      all : (p.written ++ take takes.n text.output) ++ left.output ≡ response_text reply
       all = take_rest p.written text.output left.output takes.n takes.left ∙ run.holds.1.joined
 
   -- the client is not ready for the response's head
-  pub head_write_waits : (s : Start) (p : Passed) (v : Waited) (w x : World) (a : Attempt L C) (text left : Pending) (n : ℕ)
+  pub head_write_waits : (s : Start) (p : Passed) (v : Waited) (w x : World) (a : Attempt L C) (reply : ResponseHead)
+      (text left : Pending) (n : ℕ)
       → x.ahead ≡ w.ahead → x.connect_faults ≡ w.connect_faults → WaitsOnWrite w.client x.client
       → left.output ≡ text.output
-      → RunSoFar {C = C} state start_at s p v w [] (WriteHead a text n)
-      → Advances {C = C} state start_at s p v x (WriteHead a text n) (WriteHead a left n) (step.Waited NotReady)
-  head_write_waits s p v w x a text left n ahead same waits kept run = record {
+      → RunSoFar {C = C} state start_at s p v w [] (WriteHead a reply text n)
+      → Advances {C = C} state start_at s p v x (WriteHead a reply text n) (WriteHead a reply left n) (step.Waited NotReady)
+  head_write_waits s p v w x a reply text left n ahead same waits kept run = record {
     passed = p;
     waited = client_waited v;
     run = record {
@@ -239,8 +252,9 @@ module _ {L C : Type 0} (state : L → LinkState) (start_at : L → LinkStart) w
       going = tt;
       holds = (
         attempt_same p p v (client_waited v) a refl refl refl run.holds.0,
-        subst (λ (xs : List ℕ). IsWritingHead s p xs (state a.connection.link) a.connection.ahead left.output n) (sym ahead)
-            (subst (λ (xs : List ℕ). IsWritingHead s p w.ahead (state a.connection.link) a.connection.ahead xs n) (sym kept) run.holds.1),
+        subst (λ (xs : List ℕ). IsWritingHead s p xs a.request (state a.connection.link) reply a.connection.ahead left.output n) (sym ahead)
+            (subst (λ (xs : List ℕ). IsWritingHead s p w.ahead a.request (state a.connection.link) reply a.connection.ahead xs n) (sym kept)
+            run.holds.1),
       );
     };
     spends = (refl, omega arith, refl);
@@ -248,12 +262,12 @@ module _ {L C : Type 0} (state : L → LinkState) (start_at : L → LinkStart) w
 
   -- a write to the client failed while the response was relayed
   client_write_fails : (s : Start) (p : Passed) (v : Waited) (w x : World) (a : Attempt L C) (phase next : Phase L C)
-      (fault : Fault) (answering : IsAnswering s p w.ahead (state a.connection.link))
+      (fault : Fault) (reply : ResponseHead) (answering : IsAnswering s p w.ahead a.request (state a.connection.link) reply)
       → x.connect_faults ≡ w.connect_faults → FailsWrite w.client fault x.client
       → next ≡ failed a (fault_error Downstream fault)
       → TellsClient s p v w → IsInOrder s p → IsAttempt state start_at p v a → allowance state start_at phase < 4
       → Advances {C = C} state start_at s p v x phase next step.Ended
-  client_write_fails s p v w x a phase next fault answering same fails is tells order attempt less =
+  client_write_fails s p v w x a phase next fault reply answering same fails is tells order attempt less =
       fails_with state start_at s p v x phase next a (fault_error Downstream fault) is
       (client_still s p v w x (omega arith) fails.given fails.taken fails.waits
       (Rose-le w.client.faults x.client.faults fails.sound_before.faults_fit fails.faults) tells)
@@ -265,7 +279,7 @@ module _ {L C : Type 0} (state : L → LinkState) (start_at : L → LinkStart) w
           rose = λ below. omega (arith, tells.faults, fails.faults below);
           kind = fails.kind;
           whole = sent_whole_by s p w.ahead answering.head answering.asking answering.sent;
-          head = answering.response;
+          head = reply;
           len = answering.len;
           n = answering.n;
           answered = answering.answered;
@@ -277,27 +291,27 @@ module _ {L C : Type 0} (state : L → LinkState) (start_at : L → LinkStart) w
       less
 
   -- a write of the response's head failed
-  pub head_write_fails : (s : Start) (p : Passed) (v : Waited) (w x : World) (a : Attempt L C) (text : Pending) (n : ℕ)
-      (fault : Fault) (next : Phase L C)
+  pub head_write_fails : (s : Start) (p : Passed) (v : Waited) (w x : World) (a : Attempt L C) (reply : ResponseHead) (text : Pending)
+      (n : ℕ) (fault : Fault) (next : Phase L C)
       → x.connect_faults ≡ w.connect_faults → FailsWrite w.client fault x.client
       → next ≡ failed a (fault_error Downstream fault)
-      → RunSoFar {C = C} state start_at s p v w [] (WriteHead a text n)
-      → Advances {C = C} state start_at s p v x (WriteHead a text n) next step.Ended
-  head_write_fails s p v w x a text n fault next same fails is run =
-      client_write_fails s p v w x a (WriteHead a text n) next fault run.holds.1.answering same fails is run.tells run.order
+      → RunSoFar {C = C} state start_at s p v w [] (WriteHead a reply text n)
+      → Advances {C = C} state start_at s p v x (WriteHead a reply text n) next step.Ended
+  head_write_fails s p v w x a reply text n fault next same fails is run =
+      client_write_fails s p v w x a (WriteHead a reply text n) next fault reply run.holds.1.answering same fails is run.tells run.order
       run.holds.0 (omega arith)
 
   -- a write of the body failed
-  pub body_write_fails : (s : Start) (p : Passed) (v : Waited) (w x : World) (a : Attempt L C) (left : BodyLeft)
+  pub body_write_fails : (s : Start) (p : Passed) (v : Waited) (w x : World) (a : Attempt L C) (reply : ResponseHead) (left : BodyLeft)
       (fault : Fault) (b : Attempt L C) (next : Phase L C)
       → x.connect_faults ≡ w.connect_faults → FailsWrite w.client fault x.client
-      → b.connection.link ≡ a.connection.link → b.peer ≡ a.peer → b.reused ≡ a.reused
+      → b.connection.link ≡ a.connection.link → b.peer ≡ a.peer → b.reused ≡ a.reused → b.request ≡ a.request
       → next ≡ failed b (fault_error Downstream fault)
       → RunSoFar {C = C} state start_at s p v w [] (RelayBody a reply left)
       → Advances {C = C} state start_at s p v x (RelayBody a reply left) next step.Ended
-  body_write_fails s p v w x a left fault b next same fails link peer reused is run =
-      client_write_fails s p v w x b (RelayBody a reply left) next fault
-      (answering_as s p w.ahead w.ahead (state a.connection.link) (state b.connection.link) refl
+  body_write_fails s p v w x a reply left fault b next same fails link peer reused asks is run =
+      client_write_fails s p v w x b (RelayBody a reply left) next fault reply
+      (answering_as s p w.ahead w.ahead a.request b.request (state a.connection.link) (state b.connection.link) reply refl asks
       (ap (λ (l : L). (state l).ended) link) run.holds.1.answering)
       same fails is run.tells run.order (attempt_moved p v a b link peer reused run.holds.0) (omega arith)
     where
@@ -311,13 +325,13 @@ module _ {L C : Type 0} (state : L → LinkState) (start_at : L → LinkStart) w
       }
 
   -- the client is not ready for the body
-  pub body_write_waits : (s : Start) (p : Passed) (v : Waited) (w x : World) (a b : Attempt L C) (left : BodyLeft)
+  pub body_write_waits : (s : Start) (p : Passed) (v : Waited) (w x : World) (a b : Attempt L C) (reply : ResponseHead) (left : BodyLeft)
       → x.ahead ≡ w.ahead → x.connect_faults ≡ w.connect_faults → WaitsOnWrite w.client x.client
-      → b.connection.link ≡ a.connection.link → b.peer ≡ a.peer → b.reused ≡ a.reused
+      → b.connection.link ≡ a.connection.link → b.peer ≡ a.peer → b.reused ≡ a.reused → b.request ≡ a.request
       → b.connection.ahead ≡ a.connection.ahead
       → RunSoFar {C = C} state start_at s p v w [] (RelayBody a reply left)
-      → Advances {C = C} state start_at s p v x (RelayBody a reply left) (RelayBody b left) (step.Waited NotReady)
-  body_write_waits s p v w x a b left ahead same waits link peer reused held run = record {
+      → Advances {C = C} state start_at s p v x (RelayBody a reply left) (RelayBody b reply left) (step.Waited NotReady)
+  body_write_waits s p v w x a b reply left ahead same waits link peer reused asks held run = record {
     passed = p;
     waited = client_waited v;
     run = record {
@@ -333,7 +347,8 @@ module _ {L C : Type 0} (state : L → LinkState) (start_at : L → LinkStart) w
           reused = rw link (reused ∙ run.holds.0.reused);
         },
         record {
-          answering = answering_as s p w.ahead x.ahead (state a.connection.link) (state b.connection.link) ahead
+          answering = answering_as s p w.ahead x.ahead a.request b.request (state a.connection.link) (state b.connection.link) reply
+              ahead asks
               (ap (λ (l : L). (state l).ended) link) run.holds.1.answering;
           done = run.holds.1.done;
           within = run.holds.1.within;
@@ -347,20 +362,21 @@ module _ {L C : Type 0} (state : L → LinkState) (start_at : L → LinkStart) w
   }
 
   -- some of the body was written
-  pub body_wrote : (s : Start) (p : Passed) (v : Waited) (w x : World) (a b : Attempt L C) (left : BodyLeft) (k : ℕ)
+  pub body_wrote : (s : Start) (p : Passed) (v : Waited) (w x : World) (a b : Attempt L C) (reply : ResponseHead) (left : BodyLeft) (k : ℕ)
       (next : Next L C)
       → x.ahead ≡ w.ahead → x.connect_faults ≡ w.connect_faults
       → TakesBytes w.client (take left.bytes a.connection.ahead) k x.client
-      → b.connection.link ≡ a.connection.link → b.peer ≡ a.peer → b.reused ≡ a.reused
+      → b.connection.link ≡ a.connection.link → b.peer ≡ a.peer → b.reused ≡ a.reused → b.request ≡ a.request
       → b.connection.ahead ≡ drop k a.connection.ahead
-      → IsRest x.ahead b (left.bytes - k) next
+      → IsRest x.ahead b reply (left.bytes - k) next
       → RunSoFar {C = C} state start_at s p v w [] (RelayBody a reply left)
       → Advances {C = C} state start_at s p v x (RelayBody a reply left) next.phase next.step
-  body_wrote s p v w x a b left k next ahead same takes link peer reused held rest run =
-      rest_follows s p (written_more p (take k (take left.bytes a.connection.ahead))) v x (RelayBody a reply left) b
-      (answering_as s (written_more p (take k (take left.bytes a.connection.ahead))) w.ahead x.ahead
-      (state a.connection.link) (state b.connection.link) ahead (ap (λ (l : L). (state l).ended) link)
-      (answering_wrote s p w.ahead (take k (take left.bytes a.connection.ahead)) (state a.connection.link) run.holds.1.answering))
+  body_wrote s p v w x a b reply left k next ahead same takes link peer reused asks held rest run =
+      rest_follows s p (written_more p (take k (take left.bytes a.connection.ahead))) v x (RelayBody a reply left) b reply
+      (answering_as s (written_more p (take k (take left.bytes a.connection.ahead))) w.ahead x.ahead a.request b.request
+      (state a.connection.link) (state b.connection.link) reply ahead asks (ap (λ (l : L). (state l).ended) link)
+      (answering_wrote s p w.ahead (take k (take left.bytes a.connection.ahead)) a.request (state a.connection.link) reply
+      run.holds.1.answering))
       (run.holds.1.done + k) (left.bytes - k) next
       (client_took s p v w x (take left.bytes a.connection.ahead) k same takes run.tells)
       (record {
@@ -372,8 +388,8 @@ module _ {L C : Type 0} (state : L → LinkState) (start_at : L → LinkStart) w
       })
       (omega (arith, few.0, few.1))
       (ap (λ (xs : List ℕ). p.written ++ xs) piece ∙ ap (λ (xs : List ℕ). xs ++ take k (drop run.holds.1.done body)) run.holds.1.written
-      ∙ append_assoc (response_text run.holds.1.answering.response) (take run.holds.1.done body) (take k (drop run.holds.1.done body))
-      ∙ ap (λ (xs : List ℕ). response_text run.holds.1.answering.response ++ xs) (sym (take-add run.holds.1.done k body)))
+      ∙ append_assoc (response_text reply) (take run.holds.1.done body) (take k (drop run.holds.1.done body))
+      ∙ ap (λ (xs : List ℕ). response_text reply ++ xs) (sym (take-add run.holds.1.done k body)))
       (held ∙ ap (λ (xs : List ℕ). drop k xs) run.holds.1.rest_held
       ∙ drop-drop k (run.holds.1.answering.len + run.holds.1.done) p.got
       ∙ ap (λ (n : ℕ). drop n p.got) (regroup run.holds.1.answering.len run.holds.1.done k))
@@ -405,23 +421,23 @@ module _ {L C : Type 0} (state : L → LinkState) (start_at : L → LinkStart) w
           ∙ ap (λ (xs : List ℕ). take k xs) (run.holds.1.rest_held ∙ sym (drop-drop run.holds.1.done run.holds.1.answering.len p.got))
 
   -- more of the body came
-  pub body_came : (s : Start) (p : Passed) (v : Waited) (w : World) (a b : Attempt L C) (left : BodyLeft)
+  pub body_came : (s : Start) (p : Passed) (v : Waited) (w : World) (a b : Attempt L C) (reply : ResponseHead) (left : BodyLeft)
       (room : List ℕ) (n : ℕ)
-      → start_at b.connection.link ≡ start_at a.connection.link → b.peer ≡ a.peer → b.reused ≡ a.reused
+      → start_at b.connection.link ≡ start_at a.connection.link → b.peer ≡ a.peer → b.reused ≡ a.reused → b.request ≡ a.request
       → b.connection.ahead ≡ a.connection.ahead ++ take n room
       → GivesBytes (state a.connection.link) room n (state b.connection.link)
       → RunSoFar {C = C} state start_at s p v w [] (RelayBody a reply left)
-      → Advances {C = C} state start_at s p v w (RelayBody a reply left) (RelayBody b left) step.Moved
-  body_came s p v w a b left room n same peer reused grown gives run = record {
+      → Advances {C = C} state start_at s p v w (RelayBody a reply left) (RelayBody b reply left) step.Moved
+  body_came s p v w a b reply left room n same peer reused asks grown gives run = record {
     passed = got_more p (take n room);
     waited = v;
     run = record {
       tells = client_same s p (got_more p (take n room)) v v w refl refl refl run.tells;
-      order = order_of_answering s (got_more p (take n room)) w.ahead (state b.connection.link) answering
+      order = order_of_answering s (got_more p (take n room)) w.ahead b.request (state b.connection.link) reply answering
           (record {
             rest = drop run.holds.1.done (take answering.n (drop answering.len (p.got ++ take n room)));
             joined = ap (λ (xs : List ℕ). xs ++ drop run.holds.1.done (take answering.n (drop answering.len (p.got ++ take n room)))) written
-                ∙ body_part (response_text answering.response) (drop answering.len (p.got ++ take n room)) run.holds.1.done
+                ∙ body_part (response_text reply) (drop answering.len (p.got ++ take n room)) run.holds.1.done
                 answering.n (omega (arith, run.holds.1.body));
           });
       going = tt;
@@ -444,8 +460,9 @@ module _ {L C : Type 0} (state : L → LinkState) (start_at : L → LinkStart) w
     spends = omega (arith, length-append p.got (take n room), take_some room n gives.some gives.fits);
   }
     where
-      answering : IsAnswering s (got_more p (take n room)) w.ahead (state b.connection.link)
-      answering = answering_got s p w.ahead (take n room) (state a.connection.link) (state b.connection.link) gives.ended run.holds.1.answering
+      answering : IsAnswering s (got_more p (take n room)) w.ahead b.request (state b.connection.link) reply
+      answering = answering_got s p w.ahead (take n room) a.request b.request (state a.connection.link) (state b.connection.link)
+          reply asks gives.ended run.holds.1.answering
 
       longer : drop run.holds.1.answering.len (p.got ++ take n room) ≡ drop run.holds.1.answering.len p.got ++ take n room
       longer = drop-append-le run.holds.1.answering.len p.got (take n room) run.holds.1.answering.within
@@ -453,19 +470,19 @@ module _ {L C : Type 0} (state : L → LinkState) (start_at : L → LinkStart) w
       enough : run.holds.1.done ≤ length (drop run.holds.1.answering.len p.got)
       enough = omega (arith, run.holds.1.within, length-drop run.holds.1.answering.len p.got)
 
-      written : p.written ≡ response_text run.holds.1.answering.response ++ take run.holds.1.done (drop run.holds.1.answering.len (p.got ++ take n room))
-      written = run.holds.1.written ∙ ap (λ (xs : List ℕ). response_text run.holds.1.answering.response ++ xs)
+      written : p.written ≡ response_text reply ++ take run.holds.1.done (drop run.holds.1.answering.len (p.got ++ take n room))
+      written = run.holds.1.written ∙ ap (λ (xs : List ℕ). response_text reply ++ xs)
           (sym (take-append-le run.holds.1.done (drop run.holds.1.answering.len p.got) (take n room) enough)
           ∙ ap (λ (xs : List ℕ). take run.holds.1.done xs) (sym longer))
 
   -- the link is not ready for the body
-  pub body_waits : (s : Start) (p : Passed) (v : Waited) (w : World) (a b : Attempt L C) (left : BodyLeft)
-      → start_at b.connection.link ≡ start_at a.connection.link → b.peer ≡ a.peer → b.reused ≡ a.reused
+  pub body_waits : (s : Start) (p : Passed) (v : Waited) (w : World) (a b : Attempt L C) (reply : ResponseHead) (left : BodyLeft)
+      → start_at b.connection.link ≡ start_at a.connection.link → b.peer ≡ a.peer → b.reused ≡ a.reused → b.request ≡ a.request
       → b.connection.ahead ≡ a.connection.ahead
       → WaitsOnRead (state a.connection.link) (state b.connection.link)
       → RunSoFar {C = C} state start_at s p v w [] (RelayBody a reply left)
-      → Advances {C = C} state start_at s p v w (RelayBody a reply left) (RelayBody b left) (step.Waited NotReady)
-  body_waits s p v w a b left same peer reused held waits run = record {
+      → Advances {C = C} state start_at s p v w (RelayBody a reply left) (RelayBody b reply left) (step.Waited NotReady)
+  body_waits s p v w a b reply left same peer reused asks held waits run = record {
     passed = p;
     waited = link_waited v;
     run = record {
@@ -478,8 +495,8 @@ module _ {L C : Type 0} (state : L → LinkState) (start_at : L → LinkStart) w
             waits.given waits.taken waits.waits waits.faults run.holds.0.tells)
             waits.sound same peer reused run.holds.0,
         record {
-          answering = answering_as s p w.ahead w.ahead (state a.connection.link) (state b.connection.link) refl
-              (waits.ended ∙ sym run.holds.1.answering.ended) run.holds.1.answering;
+          answering = answering_as s p w.ahead w.ahead a.request b.request (state a.connection.link) (state b.connection.link) reply
+              refl asks (waits.ended ∙ sym run.holds.1.answering.ended) run.holds.1.answering;
           done = run.holds.1.done;
           within = run.holds.1.within;
           written = run.holds.1.written;
@@ -492,22 +509,23 @@ module _ {L C : Type 0} (state : L → LinkState) (start_at : L → LinkStart) w
   }
 
   -- the link ended in the body
-  pub body_cut : (s : Start) (p : Passed) (v : Waited) (w : World) (a b : Attempt L C) (left : BodyLeft) (next : Phase L C)
+  pub body_cut : (s : Start) (p : Passed) (v : Waited) (w : World) (a b : Attempt L C) (reply : ResponseHead) (left : BodyLeft) (next : Phase L C)
       → start_at b.connection.link ≡ start_at a.connection.link → b.peer ≡ a.peer → b.reused ≡ a.reused
       → EndsRead (state a.connection.link) (state b.connection.link) → a.connection.ahead ≡ []
-      → next ≡ failed b (unrelayed Upstream)
+      → next ≡ failed b (cut_off false)
       → RunSoFar {C = C} state start_at s p v w [] (RelayBody a reply left)
       → Advances {C = C} state start_at s p v w (RelayBody a reply left) next step.Ended
-  body_cut s p v w a b left next same peer reused ends none is run =
-      fails_with state start_at s p v w (RelayBody a reply left) next b (unrelayed Upstream) is run.tells run.order
+  body_cut s p v w a b reply left next same peer reused ends none is run =
+      fails_with state start_at s p v w (RelayBody a reply left) next b (cut_off false) is run.tells run.order
       (attempt_ended state start_at p v a b same peer reused ends run.holds.0)
       (record {
         why = inl (record {
-          error = refl;
           whole = sent_whole_by s p w.ahead run.holds.1.answering.head run.holds.1.answering.asking run.holds.1.answering.sent;
           why = inr (inr (inr (record {
-            body = in_body s p w.ahead a.connection.ahead (state a.connection.link) left none run.holds.1;
+            body = in_body s p w.ahead a.request (state a.connection.link) reply a.connection.ahead left none run.holds.1;
             ended = ends.ended;
+            error = ap (λ (b : Bool). cut_off b)
+                (sym (some_came s p w.ahead a.request (state a.connection.link) reply run.holds.1.answering));
           })));
         });
         not_kept = refl;
@@ -516,14 +534,14 @@ module _ {L C : Type 0} (state : L → LinkState) (start_at : L → LinkStart) w
       (omega arith)
 
   -- a read of the body failed
-  pub body_read_fails : (s : Start) (p : Passed) (v : Waited) (w : World) (a b : Attempt L C) (left : BodyLeft)
+  pub body_read_fails : (s : Start) (p : Passed) (v : Waited) (w : World) (a b : Attempt L C) (reply : ResponseHead) (left : BodyLeft)
       (fault : Fault) (next : Phase L C)
       → start_at b.connection.link ≡ start_at a.connection.link → b.peer ≡ a.peer → b.reused ≡ a.reused
       → FailsRead (state a.connection.link) fault (state b.connection.link) → a.connection.ahead ≡ []
       → next ≡ failed b (fault_error Upstream fault)
       → RunSoFar {C = C} state start_at s p v w [] (RelayBody a reply left)
       → Advances {C = C} state start_at s p v w (RelayBody a reply left) next step.Ended
-  body_read_fails s p v w a b left fault next same peer reused fails none is run =
+  body_read_fails s p v w a b reply left fault next same peer reused fails none is run =
       fails_with state start_at s p v w (RelayBody a reply left) next b (fault_error Upstream fault) is run.tells run.order
       (attempt_read_failed state start_at p v a b fault same peer reused fails run.holds.0)
       (record {
@@ -534,7 +552,7 @@ module _ {L C : Type 0} (state : L → LinkState) (start_at : L → LinkStart) w
           place = inr (inr (record {
             kind = fails.kind;
             whole = sent_whole_by s p w.ahead run.holds.1.answering.head run.holds.1.answering.asking run.holds.1.answering.sent;
-            body = in_body s p w.ahead a.connection.ahead (state a.connection.link) left none run.holds.1;
+            body = in_body s p w.ahead a.request (state a.connection.link) reply a.connection.ahead left none run.holds.1;
             ended = fails.ended;
           }));
         }));

@@ -1,20 +1,19 @@
 -- Each cause excludes the others, so that where one stands the outcome is its own.
-use Rattle.std.proofs.Common.{◌≡◌, ℕ, ◌+◌, ◌<◌, ◌≤◌, ◌⊎◌, Bool, true, false, List, [], ◌∷◌, ◌++◌, length, Some, None, refl, sym, ap, subst, ◌∙◌, inl, inr, arith, lit<, append-nil}
+use Rattle.std.proofs.Common.{◌≡◌, ℕ, ◌+◌, ◌<◌, ◌≤◌, ◌⊎◌, Bool, true, false, List, [], ◌∷◌, ◌++◌, length, Option, Some, None, refl, sym, ap, subst, ◌∙◌, inl, inr, arith, lit<, append-nil}
 use Rattle.relay_tasks.specs.Head.{RequestHead, ResponseHead}
-use Rattle.relay_tasks.specs.declared.Context.{Context}
 use Rattle.relay_tasks.specs.declared.Error.{Error}
-use Rattle.relay_tasks.specs.declared.ErrorSource.TheVariants.{Upstream, Downstream}
 use Rattle.relay_links.specs.Link.{LinkState, LinkStart}
 use Rattle.relay_links.specs.declared.Returned.{Returned}
-use Rattle.relay_h1.specs.Verdict.{IsOpen, HasRequest, IsRefusedRequest, HasResponse, IsRefusedResponse, refused_from}
+use Rattle.relay_h1.specs.Verdict.{IsOpen, HasRequest, IsRefusedRequest, HasResponse, IsRefusedResponse}
 use Rattle.relay_h1.specs.Wire.{request_text}
 use Rattle.relay_h1.specs.declared.Framing.{Framing}
-use Rattle.relay_h1.specs.declared.Framing.TheVariants.{Empty, Length}
+use Rattle.relay_h1.specs.declared.Framing.TheVariants.{Empty, Length, Chunked, UntilClose, Tunnel}
 use Rattle.relay_h1.proofs.VerdictLemmas.{HasRequest-IsOpen, IsRefusedRequest-IsOpen, HasRequest-IsRefusedRequest, HasRequest-unique, HasRequest-append, IsRefusedRequest-append, HasResponse-IsOpen, IsRefusedResponse-IsOpen, HasResponse-IsRefusedResponse, HasResponse-unique, HasResponse-append, IsRefusedResponse-append}
-use Rattle.relay_proxy.specs.Built.{get_method, IsBuiltRequest, IsBuiltResponse}
+use Rattle.relay_proxy.specs.Built.{IsConnect, IsBuiltRequest, HasLength, IsBuiltResponse}
 use Rattle.relay_proxy.specs.Passed.{World, Start, Passed, Waited, asked}
-use Rattle.relay_proxy.specs.Endings.{IsAccepted, IsAnswered, IsSentWhole, IsUnfit, EndsInHead, IsUnbuiltRequest, EndsUnlinked, EndsLinked, IsEnded, IsFailedAttempt, refusal, unrelayed}
-use Rattle.relay_proxy.specs.Exact.{IsUnfinished, AsksFor, AnswersWith, IsExact}
+use Rattle.relay_proxy.specs.Endings as endings
+use Rattle.relay_proxy.specs.Endings.{IsAccepted, IsAnswered, IsSentWhole, IsUnfit, IsTurnedDown, IsLeftAlone, EndsUnlinked, EndsLinked, IsEnded, IsFailedAttempt}
+use Rattle.relay_proxy.specs.Exact.{IsUnfinished, AsksFor, AnswersWith, IsRefusal, IsLeft, IsMissed, IsExact}
 use Rattle.relay_proxy.specs.declared.outcome.Outcome.{Outcome}
 use Rattle.relay_proxy.specs.declared.outcome.Outcome.TheVariants.{NoRequest, Refused, Served, TurnLimit, OutOfMemory}
 use Rattle.relay_proxy.specs.declared.record.AttemptRecord.{AttemptRecord}
@@ -29,10 +28,29 @@ has_nothing : {bytes : List ℕ} {head : RequestHead} {framing : Framing} {len :
 has_nothing {bytes} {head} {framing} {len} has none =
     HasRequest-IsOpen [] head framing len (subst (λ (xs : List ℕ). HasRequest xs head framing len) none has) open_nothing
 
--- a refused head in no bytes
-refuses_nothing : {bytes : List ℕ} {why : Context} → IsRefusedRequest bytes why → bytes ≡ [] → ⊥
-refuses_nothing {bytes} {why} refused none =
+-- a generated answer to no bytes
+turns_down_nothing : {bytes answer : List ℕ} {error : Option Error}
+    → IsTurnedDown bytes answer error → bytes ≡ [] → ⊥
+turns_down_nothing (endings.IsTurnedDown.has_bad_head why refused is told) none =
     IsRefusedRequest-IsOpen [] why (subst (λ (xs : List ℕ). IsRefusedRequest xs why) none refused) open_nothing
+turns_down_nothing (endings.IsTurnedDown.asks_to_connect head framing len has connect is told) none =
+    has_nothing has none
+
+-- a generated answer to an open head
+turns_down_open : {bytes answer : List ℕ} {error : Option Error}
+    → IsTurnedDown bytes answer error → IsOpen bytes → ⊥
+turns_down_open {bytes} (endings.IsTurnedDown.has_bad_head why refused is told) open_head =
+    IsRefusedRequest-IsOpen bytes why refused open_head
+turns_down_open {bytes} (endings.IsTurnedDown.asks_to_connect head framing len has connect is told) open_head =
+    HasRequest-IsOpen bytes head framing len has open_head
+
+-- a generated answer to a head that is valid and asks for no tunnel
+turns_down_other : {bytes answer : List ℕ} {error : Option Error} (head : RequestHead) (framing : Framing) (len : ℕ)
+    → IsTurnedDown bytes answer error → HasRequest bytes head framing len → ¬ (IsConnect head) → ⊥
+turns_down_other {bytes} head framing len (endings.IsTurnedDown.has_bad_head why refused is told) has no_connect =
+    HasRequest-IsRefusedRequest bytes head framing len why has refused
+turns_down_other {bytes} head framing len (endings.IsTurnedDown.asks_to_connect a f n x connect is told) has no_connect =
+    no_connect (subst (λ (h : RequestHead). IsConnect h) (HasRequest-unique bytes a head f framing n len x has).0 connect)
 
 -- a head that is relayed and one that is not
 built_or_not : {bytes : List ℕ} {a b : RequestHead} {f : Framing} {n m : ℕ}
@@ -41,26 +59,32 @@ built_or_not {bytes} {a} {b} {f} {n} {m} x built y unbuilt =
     let same = HasRequest-unique bytes a b Empty f n m x y in
     unbuilt (subst (λ (h : RequestHead). IsBuiltRequest h f) same.0 (subst (λ (g : Framing). IsBuiltRequest a g) same.1 built))
 
--- two framings by length
-one_length : {n m : ℕ} → Length n ≡ Length m → n ≡ m
-one_length same = cc
+-- a framing gives one length
+one_length : (f : Framing) (n m : ℕ) → HasLength f n → HasLength f m → n ≡ m
+one_length Empty n m a b = a ∙ sym b
+one_length (Length k) n m a b = a ∙ sym b
+one_length Chunked n m a b = absurd a
+one_length UntilClose n m a b = absurd a
+one_length Tunnel n m a b = absurd a
 
 -- a response that is relayed and one that is not
-answered_or_not : {bytes : List ℕ} {a b : ResponseHead} {f : Framing} {k n m : ℕ}
-    → HasResponse get_method false bytes a (Length k) n → IsBuiltResponse a (Length k) k
-    → HasResponse get_method false bytes b f m → ((j : ℕ) → ¬ (IsBuiltResponse b f j)) → ⊥
-answered_or_not {bytes} {a} {b} {f} {k} {n} {m} x built y unbuilt =
-    let same = HasResponse-unique get_method false bytes a b (Length k) f n m x y in
-    unbuilt k (subst (λ (h : ResponseHead). IsBuiltResponse h f k) same.0
-    (subst (λ (g : Framing). IsBuiltResponse a g k) same.1 built))
+answered_or_not : {method bytes : List ℕ} {a b : ResponseHead} {f g : Framing} {k n m : ℕ}
+    → HasResponse method false bytes a f n → IsBuiltResponse a f k
+    → HasResponse method false bytes b g m → ((j : ℕ) → ¬ (IsBuiltResponse b g j)) → ⊥
+answered_or_not {method} {bytes} {a} {b} {f} {g} {k} {n} {m} x built y unbuilt =
+    let same = HasResponse-unique method false bytes a b f g n m x y in
+    unbuilt k (subst (λ (h : ResponseHead). IsBuiltResponse h g k) same.0
+    (subst (λ (e : Framing). IsBuiltResponse a e k) same.1 built))
 
 -- a body that has come whole and one that has not
-whole_or_short : {bytes : List ℕ} {a b : ResponseHead} {j k n m : ℕ}
-    → HasResponse get_method false bytes a (Length j) n → HasResponse get_method false bytes b (Length k) m
+whole_or_short : {method bytes : List ℕ} {a b : ResponseHead} {f g : Framing} {n m : ℕ} (j k : ℕ)
+    → HasResponse method false bytes a f n → HasLength f j
+    → HasResponse method false bytes b g m → HasLength g k
     → n + j ≤ length bytes → length bytes < m + k → ⊥
-whole_or_short {bytes} {a} {b} {j} {k} {n} {m} x y whole short =
-    let same = HasResponse-unique get_method false bytes a b (Length j) (Length k) n m x y in
-    omega (arith, same.2, one_length same.1)
+whole_or_short {method} {bytes} {a} {b} {f} {g} {n} {m} j k x has y needs whole short =
+    let same = HasResponse-unique method false bytes a b f g n m x y in
+    omega (arith, same.2,
+    one_length g j k (subst (λ (e : Framing). HasLength e j) same.1 has) needs)
 
 -- two heads that were accepted are one
 one_head : {s : Start} {p : Passed} {a b : RequestHead} {n m : ℕ} → IsAccepted s p a n → IsAccepted s p b m → a ≡ b
@@ -101,214 +125,251 @@ linked_asks s p w link start keep reuse e failed =
 exact_no_request : (s : Start) (p : Passed) (w : World) (outcome : Outcome) → EndsUnlinked s p w outcome
     → asked s p ≡ [] → w.client.ended ≡ true → IsUnfinished outcome ⊎ (outcome ≡ NoRequest)
 exact_no_request s p w NoRequest ends none ended = inr refl
-exact_no_request s p w (Refused None) ends none ended = absurd ends
-exact_no_request s p w (Refused (Some e)) ends none ended =
-    elim ends as (λ _. IsUnfinished (Refused (Some e)) ⊎ (Refused (Some e) ≡ NoRequest)) [
-      | inl head ↦ absurd (refuses_nothing head.refused none)
-      | inr other ↦ elim other as (λ _. IsUnfinished (Refused (Some e)) ⊎ (Refused (Some e) ≡ NoRequest)) [
-        | inl not ↦ elim not.why as (λ _. IsUnfinished (Refused (Some e)) ⊎ (Refused (Some e) ≡ NoRequest)) [
-          | inl inside ↦ absurd (inside.begun none)
-          | inr unbuilt ↦ absurd (has_nothing unbuilt.has none)
-        ]
-        | inr fault ↦ elim fault.place as (λ _. IsUnfinished (Refused (Some e)) ⊎ (Refused (Some e) ≡ NoRequest)) [
-          | inl inside ↦ absurd (not_both ended inside.ended)
-          | inr refusing ↦ absurd (refuses_nothing refusing.refused none)
+exact_no_request s p w (Refused error) ends none ended =
+    absurd (elim ends as (λ _. ⊥) [
+      | inl answered ↦ turns_down_nothing answered.turned_down none
+      | inr other ↦ elim other as (λ _. ⊥) [
+        | inl alone ↦ left_nothing alone.why
+        | inr fault ↦ elim fault.place as (λ _. ⊥) [
+          | inl inside ↦ not_both ended inside.ended
+          | inr refusing ↦ turns_down_nothing refusing.turned_down none
         ]
       ]
-    ]
+    ])
+  where
+    left_nothing : {e : Error} → IsLeftAlone s p w e → ⊥
+    left_nothing (endings.IsLeftAlone.ends_in_head inside is) = inside.begun none
+    left_nothing (endings.IsLeftAlone.is_unbuilt unbuilt is) = has_nothing unbuilt.has none
 exact_no_request s p w (Served None reuse) ends none ended = absurd ends
 exact_no_request s p w (Served (Some e) reuse) ends none ended = absurd (has_nothing ends.0.accepted.has none)
 exact_no_request s p w TurnLimit ends none ended = inl (inl refl)
 exact_no_request s p w OutOfMemory ends none ended = inl (inr refl)
 
+-- a head that is turned down is not left alone
+turned_down_or_left : {s : Start} {p : Passed} {w : World} {answer : List ℕ} {error : Option Error} {e : Error}
+    → IsTurnedDown (asked s p) answer error → IsLeftAlone s p w e → ⊥
+turned_down_or_left down (endings.IsLeftAlone.ends_in_head inside is) = turns_down_open down inside.open_head
+turned_down_or_left down (endings.IsLeftAlone.is_unbuilt unbuilt is) =
+    turns_down_other unbuilt.head unbuilt.framing unbuilt.len down unbuilt.has unbuilt.no_connect
+
+-- the generated answer is one
+one_answer : {bytes a b : List ℕ} {d e : Option Error} → IsTurnedDown bytes a d → IsTurnedDown bytes b e → a ≡ b
+one_answer (endings.IsTurnedDown.has_bad_head why refused is told) (endings.IsTurnedDown.has_bad_head why2 refused2 is2 told2) =
+    is ∙ sym is2
+one_answer {bytes} (endings.IsTurnedDown.has_bad_head why refused is told)
+    (endings.IsTurnedDown.asks_to_connect head framing len has connect is2 told2) =
+    absurd (HasRequest-IsRefusedRequest bytes head framing len why has refused)
+one_answer {bytes} (endings.IsTurnedDown.asks_to_connect head framing len has connect is told)
+    (endings.IsTurnedDown.has_bad_head why refused is2 told2) =
+    absurd (HasRequest-IsRefusedRequest bytes head framing len why has refused)
+one_answer (endings.IsTurnedDown.asks_to_connect head framing len has connect is told)
+    (endings.IsTurnedDown.asks_to_connect head2 framing2 len2 has2 connect2 is2 told2) = is ∙ sym is2
+
 exact_refused : (s : Start) (p : Passed) (w : World) (outcome : Outcome) → EndsUnlinked s p w outcome
-    → (why : Context) → IsRefusedRequest (asked s p) why → p.written ≡ refusal
-    → IsUnfinished outcome ⊎ ((because : Context) × (outcome ≡ Refused (Some (refused_from Downstream because))))
-exact_refused s p w NoRequest ends why refused whole = absurd (refuses_nothing refused ends.no_byte)
-exact_refused s p w (Refused None) ends why refused whole = absurd ends
-exact_refused s p w (Refused (Some e)) ends why refused whole =
-    elim ends as (λ _. IsUnfinished (Refused (Some e)) ⊎ ((because : Context) × (Refused (Some e) ≡ Refused (Some (refused_from Downstream because))))) [
-      | inl head ↦ inr (head.why, ap (λ (x : Error). Refused (Some x)) head.error)
-      | inr other ↦ elim other as (λ _. IsUnfinished (Refused (Some e)) ⊎ ((because : Context) × (Refused (Some e) ≡ Refused (Some (refused_from Downstream because))))) [
-        | inl not ↦ elim not.why as (λ _. IsUnfinished (Refused (Some e)) ⊎ ((because : Context) × (Refused (Some e) ≡ Refused (Some (refused_from Downstream because))))) [
-          | inl inside ↦ absurd (IsRefusedRequest-IsOpen (asked s p) why refused inside.open_head)
-          | inr unbuilt ↦ absurd (HasRequest-IsRefusedRequest (asked s p) unbuilt.head unbuilt.framing unbuilt.len why unbuilt.has refused)
+    → (answer : List ℕ) (error : Option Error) → IsTurnedDown (asked s p) answer error → p.written ≡ answer
+    → IsUnfinished outcome ⊎ IsRefusal s p outcome
+exact_refused s p w NoRequest ends answer error down whole = absurd (turns_down_nothing down ends.no_byte)
+exact_refused s p w (Refused told) ends answer error down whole =
+    elim ends as (λ _. IsUnfinished (Refused told) ⊎ IsRefusal s p (Refused told)) [
+      | inl answered ↦ inr (record {
+          answer = answered.answer;
+          error = told;
+          turned_down = answered.turned_down;
+          is = refl;
+        })
+      | inr other ↦ absurd (elim other as (λ _. ⊥) [
+        | inl alone ↦ turned_down_or_left down alone.why
+        | inr fault ↦ elim fault.place as (λ _. ⊥) [
+          | inl inside ↦ turns_down_open down inside.open_head
+          | inr refusing ↦ refusing.left (whole ∙ one_answer down refusing.turned_down)
         ]
-        | inr fault ↦ elim fault.place as (λ _. IsUnfinished (Refused (Some e)) ⊎ ((because : Context) × (Refused (Some e) ≡ Refused (Some (refused_from Downstream because))))) [
-          | inl inside ↦ absurd (IsRefusedRequest-IsOpen (asked s p) why refused inside.open_head)
-          | inr refusing ↦ absurd (refusing.left whole)
-        ]
-      ]
+      ])
     ]
-exact_refused s p w (Served None reuse) ends why refused whole = absurd ends
-exact_refused s p w (Served (Some e) reuse) ends why refused whole =
-    absurd (HasRequest-IsRefusedRequest (asked s p) ends.0.head Empty ends.0.len why ends.0.accepted.has refused)
-exact_refused s p w TurnLimit ends why refused whole = inl (inl refl)
-exact_refused s p w OutOfMemory ends why refused whole = inl (inr refl)
+exact_refused s p w (Served None reuse) ends answer error down whole = absurd ends
+exact_refused s p w (Served (Some e) reuse) ends answer error down whole =
+    absurd (turns_down_other ends.0.head Empty ends.0.len down ends.0.accepted.has ends.0.accepted.built.method)
+exact_refused s p w TurnLimit ends answer error down whole = inl (inl refl)
+exact_refused s p w OutOfMemory ends answer error down whole = inl (inr refl)
 
--- a head that is accepted is not one that ends the request unrelayed
-relayed_or_not : (s : Start) (p : Passed) (w : World) (head : RequestHead) (len : ℕ) → IsAccepted s p head len
-    → EndsInHead s p w ⊎ IsUnbuiltRequest s p → ⊥
-relayed_or_not s p w head len accepted why =
-    elim why as (λ _. ⊥) [
-      | inl inside ↦ HasRequest-IsOpen (asked s p) head Empty len accepted.has inside.open_head
-      | inr unbuilt ↦ built_or_not accepted.has accepted.built unbuilt.has unbuilt.unbuilt
-    ]
-
--- a refused head is not one that ends the request unrelayed
-refused_or_not : (s : Start) (p : Passed) (w : World) (why : Context) → IsRefusedRequest (asked s p) why
-    → EndsInHead s p w ⊎ IsUnbuiltRequest s p → ⊥
-refused_or_not s p w why refused cause =
-    elim cause as (λ _. ⊥) [
-      | inl inside ↦ IsRefusedRequest-IsOpen (asked s p) why refused inside.open_head
-      | inr unbuilt ↦ HasRequest-IsRefusedRequest (asked s p) unbuilt.head unbuilt.framing unbuilt.len why unbuilt.has refused
-    ]
+-- a head that is accepted is not left alone
+relayed_or_not : {s : Start} {p : Passed} {w : World} {e : Error} (head : RequestHead) (len : ℕ) → IsAccepted s p head len
+    → IsLeftAlone s p w e → ⊥
+relayed_or_not {s} {p} head len accepted (endings.IsLeftAlone.ends_in_head inside is) =
+    HasRequest-IsOpen (asked s p) head Empty len accepted.has inside.open_head
+relayed_or_not head len accepted (endings.IsLeftAlone.is_unbuilt unbuilt is) =
+    built_or_not accepted.has accepted.built unbuilt.has unbuilt.unbuilt
 
 exact_unrelayed : (s : Start) (p : Passed) (w : World) (outcome : Outcome) → EndsUnlinked s p w outcome
-    → EndsInHead s p w ⊎ IsUnbuiltRequest s p
-    → IsUnfinished outcome ⊎ (outcome ≡ Refused (Some (unrelayed Downstream)))
-exact_unrelayed s p w NoRequest ends cause =
-    absurd (elim cause as (λ _. ⊥) [
-      | inl inside ↦ inside.begun ends.no_byte
-      | inr unbuilt ↦ has_nothing unbuilt.has ends.no_byte
-    ])
-exact_unrelayed s p w (Refused None) ends cause = absurd ends
-exact_unrelayed s p w (Refused (Some e)) ends cause =
-    elim ends as (λ _. IsUnfinished (Refused (Some e)) ⊎ (Refused (Some e) ≡ Refused (Some (unrelayed Downstream)))) [
-      | inl head ↦ absurd (refused_or_not s p w head.why head.refused cause)
-      | inr other ↦ elim other as (λ _. IsUnfinished (Refused (Some e)) ⊎ (Refused (Some e) ≡ Refused (Some (unrelayed Downstream)))) [
-        | inl not ↦ inr (ap (λ (x : Error). Refused (Some x)) not.error)
+    → (e : Error) → IsLeftAlone s p w e → IsUnfinished outcome ⊎ IsLeft s p w outcome
+exact_unrelayed s p w NoRequest ends e (endings.IsLeftAlone.ends_in_head inside is) = absurd (inside.begun ends.no_byte)
+exact_unrelayed s p w NoRequest ends e (endings.IsLeftAlone.is_unbuilt unbuilt is) =
+    absurd (has_nothing unbuilt.has ends.no_byte)
+exact_unrelayed s p w (Refused told) ends e cause =
+    elim ends as (λ _. IsUnfinished (Refused told) ⊎ IsLeft s p w (Refused told)) [
+      | inl answered ↦ absurd (turned_down_or_left answered.turned_down cause)
+      | inr other ↦ elim other as (λ _. IsUnfinished (Refused told) ⊎ IsLeft s p w (Refused told)) [
+        | inl alone ↦ inr (record { e = alone.e; why = alone.why; is = ap (λ (x : Option Error). Refused x) alone.is })
         | inr fault ↦ absurd (elim fault.place as (λ _. ⊥) [
-          | inl inside ↦ elim cause as (λ _. ⊥) [
-            | inl ended ↦ not_both ended.ended inside.ended
-            | inr unbuilt ↦ HasRequest-IsOpen (asked s p) unbuilt.head unbuilt.framing unbuilt.len unbuilt.has inside.open_head
-          ]
-          | inr refusing ↦ refused_or_not s p w refusing.why refusing.refused cause
+          | inl inside ↦ fails_or_left inside.ended inside.open_head cause
+          | inr refusing ↦ turned_down_or_left refusing.turned_down cause
         ])
       ]
     ]
-exact_unrelayed s p w (Served None reuse) ends cause = absurd ends
-exact_unrelayed s p w (Served (Some e) reuse) ends cause =
-    absurd (relayed_or_not s p w ends.0.head ends.0.len ends.0.accepted cause)
-exact_unrelayed s p w TurnLimit ends cause = inl (inl refl)
-exact_unrelayed s p w OutOfMemory ends cause = inl (inr refl)
+  where
+    fails_or_left : {e : Error} → w.client.ended ≡ false → IsOpen (asked s p) → IsLeftAlone s p w e → ⊥
+    fails_or_left live open_head (endings.IsLeftAlone.ends_in_head inside is) = not_both inside.ended live
+    fails_or_left live open_head (endings.IsLeftAlone.is_unbuilt unbuilt is) =
+        HasRequest-IsOpen (asked s p) unbuilt.head unbuilt.framing unbuilt.len unbuilt.has open_head
+exact_unrelayed s p w (Served None reuse) ends e cause = absurd ends
+exact_unrelayed s p w (Served (Some told) reuse) ends e cause =
+    absurd (relayed_or_not ends.0.head ends.0.len ends.0.accepted cause)
+exact_unrelayed s p w TurnLimit ends e cause = inl (inl refl)
+exact_unrelayed s p w OutOfMemory ends e cause = inl (inr refl)
 
 -- a response whose head was accepted while the link is open is not unfit
-answered_open : (p : Passed) (link : LinkState) (head : ResponseHead) (len n : ℕ) → IsAnswered p head len n
-    → link.ended ≡ false → IsUnfit p link → ⊥
-answered_open p link head len n answered live unfit =
+answered_open : (method : List ℕ) (p : Passed) (link : LinkState) (e : Error) (head : ResponseHead) (len n : ℕ)
+    → IsAnswered method p head len n → link.ended ≡ false → IsUnfit method p link e → ⊥
+answered_open method p link e head len n answered live unfit =
     elim unfit as (λ _. ⊥) [
-      | inl broken ↦ HasResponse-IsRefusedResponse get_method false p.got head (Length n) len broken.why answered.has broken.refused
+      | inl broken ↦ HasResponse-IsRefusedResponse method false p.got head answered.framing len broken.why answered.has broken.refused
       | inr other ↦ elim other as (λ _. ⊥) [
         | inl unbuilt ↦ answered_or_not answered.has answered.built unbuilt.has unbuilt.unbuilt
         | inr cut ↦ elim cut as (λ _. ⊥) [
-          | inl head_cut ↦ HasResponse-IsOpen get_method false p.got head (Length n) len answered.has head_cut.open_head
+          | inl head_cut ↦ HasResponse-IsOpen method false p.got head answered.framing len answered.has head_cut.open_head
           | inr body_cut ↦ not_both body_cut.ended live
         ]
       ]
     ]
 
 -- a head that is open on an open link is not unfit
-open_fit : (p : Passed) (link : LinkState) → IsOpen p.got → link.ended ≡ false → IsUnfit p link → ⊥
-open_fit p link open_head live unfit =
+open_fit : (method : List ℕ) (p : Passed) (link : LinkState) (e : Error) → IsOpen p.got → link.ended ≡ false
+    → IsUnfit method p link e → ⊥
+open_fit method p link e open_head live unfit =
     elim unfit as (λ _. ⊥) [
-      | inl broken ↦ IsRefusedResponse-IsOpen get_method false p.got broken.why broken.refused open_head
+      | inl broken ↦ IsRefusedResponse-IsOpen method false p.got broken.why broken.refused open_head
       | inr other ↦ elim other as (λ _. ⊥) [
-        | inl unbuilt ↦ HasResponse-IsOpen get_method false p.got unbuilt.head unbuilt.framing unbuilt.len unbuilt.has open_head
+        | inl unbuilt ↦ HasResponse-IsOpen method false p.got unbuilt.head unbuilt.framing unbuilt.len unbuilt.has open_head
         | inr cut ↦ elim cut as (λ _. ⊥) [
           | inl head_cut ↦ not_both head_cut.ended live
-          | inr body_cut ↦ HasResponse-IsOpen get_method false p.got body_cut.body.head (Length body_cut.body.n) body_cut.body.len body_cut.body.answered.has open_head
+          | inr body_cut ↦ HasResponse-IsOpen method false p.got body_cut.body.head body_cut.body.answered.framing
+              body_cut.body.len body_cut.body.answered.has open_head
         ]
       ]
     ]
 
 -- a response that came whole is not unfit
-whole_fit : (p : Passed) (link : LinkState) (head : ResponseHead) (len n : ℕ) → IsAnswered p head len n
-    → len + n ≤ length p.got → IsUnfit p link → ⊥
-whole_fit p link head len n answered body unfit =
+whole_fit : (method : List ℕ) (p : Passed) (link : LinkState) (e : Error) (head : ResponseHead) (len n : ℕ)
+    → IsAnswered method p head len n → len + n ≤ length p.got → IsUnfit method p link e → ⊥
+whole_fit method p link e head len n answered body unfit =
     elim unfit as (λ _. ⊥) [
-      | inl broken ↦ HasResponse-IsRefusedResponse get_method false p.got head (Length n) len broken.why answered.has broken.refused
+      | inl broken ↦ HasResponse-IsRefusedResponse method false p.got head answered.framing len broken.why answered.has broken.refused
       | inr other ↦ elim other as (λ _. ⊥) [
         | inl unbuilt ↦ answered_or_not answered.has answered.built unbuilt.has unbuilt.unbuilt
         | inr cut ↦ elim cut as (λ _. ⊥) [
-          | inl head_cut ↦ HasResponse-IsOpen get_method false p.got head (Length n) len answered.has head_cut.open_head
-          | inr body_cut ↦ whole_or_short answered.has body_cut.body.answered.has body body_cut.body.short
+          | inl head_cut ↦ HasResponse-IsOpen method false p.got head answered.framing len answered.has head_cut.open_head
+          | inr body_cut ↦ whole_or_short n body_cut.body.n answered.has answered.built.length body_cut.body.answered.has
+              body_cut.body.answered.built.length body body_cut.body.short
         ]
       ]
     ]
 
 exact_unfit : (s : Start) (p : Passed) (w : World) (link : LinkState) (start : LinkStart) (keep : Bool) (outcome : Outcome)
-    → EndsLinked s p w link start keep outcome → IsSentWhole s p → IsUnfit p link
-    → IsUnfinished outcome ⊎ (outcome ≡ Served (Some (unrelayed Upstream)) false)
-exact_unfit s p w link start keep NoRequest ends sent unfit = absurd ends
-exact_unfit s p w link start keep (Refused error) ends sent unfit = absurd ends
-exact_unfit s p w link start keep (Served None reuse) ends sent unfit =
-    absurd (whole_fit p link ends.head ends.len ends.n ends.answered ends.body unfit)
-exact_unfit s p w link start keep (Served (Some e) reuse) ends sent unfit =
-    elim ends.why as (λ _. IsUnfinished (Served (Some e) reuse) ⊎ (Served (Some e) reuse ≡ Served (Some (unrelayed Upstream)) false)) [
-      | inl bad ↦ inr (ap (λ (x : Error). Served (Some x) reuse) bad.error ∙ ap (λ (b : Bool). Served (Some (unrelayed Upstream)) b) ends.stays)
+    → EndsLinked s p w link start keep outcome → (sent : IsSentWhole s p) (e : Error)
+    → IsUnfit sent.request.method p link e
+    → IsUnfinished outcome ⊎ IsMissed sent.request.method p link outcome
+exact_unfit s p w link start keep NoRequest ends sent e unfit = absurd ends
+exact_unfit s p w link start keep (Refused error) ends sent e unfit = absurd ends
+exact_unfit s p w link start keep (Served None reuse) ends sent e unfit =
+    absurd (whole_fit ends.request.method p link e ends.head ends.len ends.n ends.answered ends.body
+    (subst (λ (h : RequestHead). IsUnfit h.method p link e) (one_head sent.accepted ends.accepted) unfit))
+exact_unfit s p w link start keep (Served (Some told) reuse) ends sent e unfit =
+    elim ends.why as (λ _. IsUnfinished (Served (Some told) reuse) ⊎ IsMissed sent.request.method p link (Served (Some told) reuse)) [
+      | inl bad ↦ inr (record {
+          e = told;
+          why = subst (λ (h : RequestHead). IsUnfit h.method p link told) (one_head bad.whole.accepted sent.accepted) bad.why;
+          is = ap (λ (b : Bool). Served (Some told) b) ends.stays;
+        })
       | inr other ↦ absurd (elim other as (λ _. ⊥) [
         | inl fault ↦ elim fault.place as (λ _. ⊥) [
           | inl sending ↦ sending.left (sent.sent ∙ ap request_text (one_head sent.accepted sending.accepted))
           | inr later ↦ elim later as (λ _. ⊥) [
-            | inl head ↦ open_fit p link head.open_head head.ended unfit
-            | inr body ↦ answered_open p link body.body.head body.body.len body.body.n body.body.answered body.ended unfit
+            | inl head ↦ open_fit sent.request.method p link e head.open_head head.ended unfit
+            | inr body ↦ answered_open body.whole.request.method p link e body.body.head body.body.len body.body.n
+                body.body.answered body.ended
+                (subst (λ (h : RequestHead). IsUnfit h.method p link e) (one_head sent.accepted body.whole.accepted) unfit)
           ]
         ]
-        | inr client ↦ answered_open p link client.head client.len client.n client.answered client.ended unfit
+        | inr client ↦ answered_open client.whole.request.method p link e client.head client.len client.n client.answered
+            client.ended
+            (subst (λ (h : RequestHead). IsUnfit h.method p link e) (one_head sent.accepted client.whole.accepted) unfit)
       ])
     ]
-exact_unfit s p w link start keep TurnLimit ends sent unfit = inl (inl refl)
-exact_unfit s p w link start keep OutOfMemory ends sent unfit = inl (inr refl)
+exact_unfit s p w link start keep TurnLimit ends sent e unfit = inl (inl refl)
+exact_unfit s p w link start keep OutOfMemory ends sent e unfit = inl (inr refl)
 
--- a text that is relayed is not refused, nor of another form, as far as it has come
-asks_not_refused : (s : Start) (p : Passed) (w : World) (text : List ℕ) (why : Context) → AsksFor s p w text
-    → IsRefusedRequest (asked s p) why → ⊥
-asks_not_refused s p w text why asks refused =
+-- a text that is relayed is not turned down, as far as it has come
+asks_not_refused : {s : Start} {p : Passed} {w : World} {text answer : List ℕ} {error : Option Error}
+    → AsksFor s p w text → IsTurnedDown (asked s p) answer error → ⊥
+asks_not_refused {s} {p} {w} {text} asks (endings.IsTurnedDown.has_bad_head why refused is told) =
     HasRequest-IsRefusedRequest text asks.head Empty asks.len why asks.has
     (subst (λ (xs : List ℕ). IsRefusedRequest xs why) asks.joined (IsRefusedRequest-append (asked s p) asks.rest why refused))
+asks_not_refused {s} {p} {w} {text} asks (endings.IsTurnedDown.asks_to_connect head framing len has connect is told) =
+    let all = subst (λ (xs : List ℕ). HasRequest xs head framing len) asks.joined
+            (HasRequest-append (asked s p) asks.rest head framing len has) in
+    asks.built.method (subst (λ (h : RequestHead). IsConnect h)
+    (HasRequest-unique text head asks.head framing Empty len asks.len all asks.has).0 connect)
 
 -- where the client ended, all of its text has come
 all_asked : (s : Start) (p : Passed) (w : World) (text : List ℕ) → AsksFor s p w text → w.client.ended ≡ true → asked s p ≡ text
 all_asked s p w text asks ended =
     sym (append-nil (asked s p)) ∙ ap (λ (xs : List ℕ). asked s p ++ xs) (sym (asks.ended ended)) ∙ asks.joined
 
-asks_not_unrelayed : (s : Start) (p : Passed) (w : World) (text : List ℕ) → AsksFor s p w text
-    → EndsInHead s p w ⊎ IsUnbuiltRequest s p → ⊥
-asks_not_unrelayed s p w text asks cause =
-    elim cause as (λ _. ⊥) [
-      | inl inside ↦ HasRequest-IsOpen text asks.head Empty asks.len asks.has
-          (subst (λ (xs : List ℕ). IsOpen xs) (all_asked s p w text asks inside.ended) inside.open_head)
-      | inr unbuilt ↦ built_or_not asks.has asks.built
-          (subst (λ (xs : List ℕ). HasRequest xs unbuilt.head unbuilt.framing unbuilt.len) asks.joined
-          (HasRequest-append (asked s p) asks.rest unbuilt.head unbuilt.framing unbuilt.len unbuilt.has))
-          unbuilt.unbuilt
-    ]
+asks_not_unrelayed : {s : Start} {p : Passed} {w : World} {text : List ℕ} {e : Error} → AsksFor s p w text
+    → IsLeftAlone s p w e → ⊥
+asks_not_unrelayed {s} {p} {w} {text} asks (endings.IsLeftAlone.ends_in_head inside is) =
+    HasRequest-IsOpen text asks.head Empty asks.len asks.has
+    (subst (λ (xs : List ℕ). IsOpen xs) (all_asked s p w text asks inside.ended) inside.open_head)
+asks_not_unrelayed {s} {p} {w} {text} asks (endings.IsLeftAlone.is_unbuilt unbuilt is) =
+    built_or_not asks.has asks.built
+    (subst (λ (xs : List ℕ). HasRequest xs unbuilt.head unbuilt.framing unbuilt.len) asks.joined
+    (HasRequest-append (asked s p) asks.rest unbuilt.head unbuilt.framing unbuilt.len unbuilt.has))
+    unbuilt.unbuilt
+
+-- the head that was accepted is the one that the whole text begins with
+asks_that : {s : Start} {p : Passed} {w : World} {text : List ℕ} {head : RequestHead} {len : ℕ}
+    (asks : AsksFor s p w text) → IsAccepted s p head len → head ≡ asks.head
+asks_that {s} {p} {w} {text} {head} {len} asks accepted =
+    (HasRequest-unique text head asks.head Empty Empty len asks.len
+    (subst (λ (xs : List ℕ). HasRequest xs head Empty len) asks.joined
+    (HasRequest-append (asked s p) asks.rest head Empty len accepted.has)) asks.has).0
 
 -- where the link ended, all of its text has come
-all_got : (p : Passed) (link : LinkState) (text : List ℕ) → AnswersWith p link text → link.ended ≡ true → p.got ≡ text
-all_got p link text answers ended =
+all_got : (method : List ℕ) (p : Passed) (link : LinkState) (text : List ℕ) → AnswersWith method p link text
+    → link.ended ≡ true → p.got ≡ text
+all_got method p link text answers ended =
     sym (append-nil p.got) ∙ ap (λ (xs : List ℕ). p.got ++ xs) (sym (answers.ended ended)) ∙ answers.joined
 
-answers_not_unfit : (p : Passed) (link : LinkState) (text : List ℕ) → AnswersWith p link text → IsUnfit p link → ⊥
-answers_not_unfit p link text answers unfit =
+answers_not_unfit : (method : List ℕ) (p : Passed) (link : LinkState) (e : Error) (text : List ℕ)
+    → AnswersWith method p link text → IsUnfit method p link e → ⊥
+answers_not_unfit method p link e text answers unfit =
     elim unfit as (λ _. ⊥) [
-      | inl broken ↦ HasResponse-IsRefusedResponse get_method false text answers.head (Length answers.n) answers.len broken.why
-          answers.has (subst (λ (xs : List ℕ). IsRefusedResponse get_method false xs broken.why) answers.joined
-          (IsRefusedResponse-append get_method false p.got answers.rest broken.why broken.refused))
+      | inl broken ↦ HasResponse-IsRefusedResponse method false text answers.head answers.framing answers.len broken.why
+          answers.has (subst (λ (xs : List ℕ). IsRefusedResponse method false xs broken.why) answers.joined
+          (IsRefusedResponse-append method false p.got answers.rest broken.why broken.refused))
       | inr other ↦ elim other as (λ _. ⊥) [
         | inl unbuilt ↦ answered_or_not answers.has answers.built
-            (subst (λ (xs : List ℕ). HasResponse get_method false xs unbuilt.head unbuilt.framing unbuilt.len) answers.joined
-            (HasResponse-append get_method false p.got answers.rest unbuilt.head unbuilt.framing unbuilt.len unbuilt.has))
+            (subst (λ (xs : List ℕ). HasResponse method false xs unbuilt.head unbuilt.framing unbuilt.len) answers.joined
+            (HasResponse-append method false p.got answers.rest unbuilt.head unbuilt.framing unbuilt.len unbuilt.has))
             unbuilt.unbuilt
         | inr cut ↦ elim cut as (λ _. ⊥) [
-          | inl head_cut ↦ HasResponse-IsOpen get_method false text answers.head (Length answers.n) answers.len answers.has
-              (subst (λ (xs : List ℕ). IsOpen xs) (all_got p link text answers head_cut.ended) head_cut.open_head)
+          | inl head_cut ↦ HasResponse-IsOpen method false text answers.head answers.framing answers.len answers.has
+              (subst (λ (xs : List ℕ). IsOpen xs) (all_got method p link text answers head_cut.ended) head_cut.open_head)
           | inr body_cut ↦
-              let all = all_got p link text answers body_cut.ended in
-              whole_or_short answers.has
-              (subst (λ (xs : List ℕ). HasResponse get_method false xs body_cut.body.head (Length body_cut.body.n) body_cut.body.len) all
-              body_cut.body.answered.has)
+              let all = all_got method p link text answers body_cut.ended in
+              whole_or_short answers.n body_cut.body.n answers.has answers.built.length
+              (subst (λ (xs : List ℕ). HasResponse method false xs body_cut.body.head body_cut.body.answered.framing
+              body_cut.body.len) all body_cut.body.answered.has)
+              body_cut.body.answered.built.length
               answers.body (omega (arith, body_cut.body.short, ap length all))
         ]
       ]
@@ -320,12 +381,11 @@ whole_unlinked : (s : Start) (p : Passed) (w : World) (outcome : Outcome) (text 
     → IsUnfinished outcome ⊎ ((reuse : Bool) × (outcome ≡ Served None reuse))
 whole_unlinked s p w NoRequest text ends asks client connector =
     absurd (has_nothing asks.has (sym (all_asked s p w text asks ends.ended) ∙ ends.no_byte))
-whole_unlinked s p w (Refused None) text ends asks client connector = absurd ends
-whole_unlinked s p w (Refused (Some e)) text ends asks client connector =
+whole_unlinked s p w (Refused error) text ends asks client connector =
     absurd (elim ends as (λ _. ⊥) [
-      | inl head ↦ asks_not_refused s p w text head.why asks head.refused
+      | inl answered ↦ asks_not_refused asks answered.turned_down
       | inr other ↦ elim other as (λ _. ⊥) [
-        | inl not ↦ asks_not_unrelayed s p w text asks not.why
+        | inl alone ↦ asks_not_unrelayed asks alone.why
         | inr fault ↦ client fault.rose
       ]
     ])
@@ -335,23 +395,25 @@ whole_unlinked s p w TurnLimit text ends asks client connector = inl (inl refl)
 whole_unlinked s p w OutOfMemory text ends asks client connector = inl (inr refl)
 
 whole_linked : (s : Start) (p : Passed) (w : World) (link : LinkState) (start : LinkStart) (keep : Bool) (outcome : Outcome)
-    (text : List ℕ) → EndsLinked s p w link start keep outcome → AnswersWith p link text
+    (asked_for text : List ℕ) → EndsLinked s p w link start keep outcome
+    → (asks : AsksFor s p w asked_for) → AnswersWith asks.head.method p link text
     → ¬ (Rattle.relay_links.specs.Count.Rose s.faults w.client.faults)
     → ¬ (Rattle.relay_links.specs.Count.Rose start.faults link.faults)
     → IsUnfinished outcome ⊎ ((reuse : Bool) × (outcome ≡ Served None reuse))
-whole_linked s p w link start keep NoRequest text ends answers client faults = absurd ends
-whole_linked s p w link start keep (Refused error) text ends answers client faults = absurd ends
-whole_linked s p w link start keep (Served None reuse) text ends answers client faults = inr (reuse, refl)
-whole_linked s p w link start keep (Served (Some e) reuse) text ends answers client faults =
+whole_linked s p w link start keep NoRequest asked_for text ends asks answers client faults = absurd ends
+whole_linked s p w link start keep (Refused error) asked_for text ends asks answers client faults = absurd ends
+whole_linked s p w link start keep (Served None reuse) asked_for text ends asks answers client faults = inr (reuse, refl)
+whole_linked s p w link start keep (Served (Some e) reuse) asked_for text ends asks answers client faults =
     absurd (elim ends.why as (λ _. ⊥) [
-      | inl bad ↦ answers_not_unfit p link text answers bad.why
+      | inl bad ↦ answers_not_unfit asks.head.method p link e text answers
+          (subst (λ (h : RequestHead). IsUnfit h.method p link e) (asks_that asks bad.whole.accepted) bad.why)
       | inr other ↦ elim other as (λ _. ⊥) [
         | inl fault ↦ faults fault.rose
         | inr late ↦ client late.rose
       ]
     ])
-whole_linked s p w link start keep TurnLimit text ends answers client faults = inl (inl refl)
-whole_linked s p w link start keep OutOfMemory text ends answers client faults = inl (inr refl)
+whole_linked s p w link start keep TurnLimit asked_for text ends asks answers client faults = inl (inl refl)
+whole_linked s p w link start keep OutOfMemory asked_for text ends asks answers client faults = inl (inr refl)
 
 -- lists of one and of none
 one_not_none : {R : Type 0} {r : R} → [] ≡ r ∷ [] → ⊥
@@ -378,9 +440,9 @@ module _ {L : Type 0} (state : L → LinkState) (start_at : L → LinkStart) whe
       → IsExact state start_at s p w [] outcome
   exact_unlinked s p w outcome ends = record {
     no_request = λ none ended. exact_no_request s p w outcome ends none ended;
-    refused = λ why refused whole. exact_refused s p w outcome ends why refused whole;
-    not_relayed = λ cause. exact_unrelayed s p w outcome ends cause;
-    unfit = λ r one sent unfit. absurd (one_not_none one);
+    refused = λ answer error down whole. exact_refused s p w outcome ends answer error down whole;
+    not_relayed = λ e cause. exact_unrelayed s p w outcome ends e cause;
+    unfit = λ r e one sent unfit. absurd (one_not_none one);
     whole = λ request response asks answers faultless.
         whole_unlinked s p w outcome request ends asks faultless.client faultless.connector;
   }
@@ -396,24 +458,25 @@ module _ {L : Type 0} (state : L → LinkState) (start_at : L → LinkStart) whe
           | inl unfinished ↦ inl unfinished
           | inr one ↦ absurd (has_nothing one.accepted.has none)
         ];
-        refused = λ why refused whole.
-            elim asks as (λ _. IsUnfinished outcome
-            ⊎ ((because : Context) × (outcome ≡ Refused (Some (refused_from Downstream because))))) [
+        refused = λ answer error down whole.
+            elim asks as (λ _. IsUnfinished outcome ⊎ IsRefusal s p outcome) [
               | inl unfinished ↦ inl unfinished
               | inr one ↦ absurd
-                  (HasRequest-IsRefusedRequest (asked s p) one.head Empty one.len why one.accepted.has refused)
+                  (turns_down_other one.head Empty one.len down one.accepted.has one.accepted.built.method)
             ];
-        not_relayed = λ cause.
-            elim asks as (λ _. IsUnfinished outcome ⊎ (outcome ≡ Refused (Some (unrelayed Downstream)))) [
+        not_relayed = λ e cause.
+            elim asks as (λ _. IsUnfinished outcome ⊎ IsLeft s p w outcome) [
               | inl unfinished ↦ inl unfinished
-              | inr one ↦ absurd (relayed_or_not s p w one.head one.len one.accepted cause)
+              | inr one ↦ absurd (relayed_or_not one.head one.len one.accepted cause)
             ];
-        unfit = λ q one sent unfit.
-            exact_unfit s p w (state r.link) (start_at r.link) r.keep outcome ends sent
-            (subst (λ (x : Returned L). IsUnfit p (state x.link)) (sym (same_one one)) unfit);
+        unfit = λ q e one sent unfit.
+            subst (λ (x : Returned L). IsUnfinished outcome ⊎ IsMissed sent.request.method p (state x.link) outcome)
+            (same_one one)
+            (exact_unfit s p w (state r.link) (start_at r.link) r.keep outcome ends sent e
+            (subst (λ (x : Returned L). IsUnfit sent.request.method p (state x.link) e) (sym (same_one one)) unfit));
         whole = λ request response asked_for answers faultless.
-            whole_linked s p w (state r.link) (start_at r.link) r.keep outcome response ends (answers r refl)
-            faultless.client (faultless.link r refl);
+            whole_linked s p w (state r.link) (start_at r.link) r.keep outcome request response ends asked_for
+            (answers r refl) faultless.client (faultless.link r refl);
       }
 
   -- how a request ended, the other way round

@@ -1,5 +1,5 @@
 -- Turns of an attempt: the head is sent, the response's head comes and is written, the body is relayed.
-use Rattle.std.proofs.Common.{◌≡◌, ℕ, ◌<◌, ◌≤◌, false, List, [], ◌∷◌, ◌++◌, length, take, drop, Some, refl, sym, ap, subst, ◌∙◌, inl, inr, arith, length-append, append_assoc, append-nil}
+use Rattle.std.proofs.Common.{◌≡◌, ℕ, ◌<◌, ◌≤◌, false, List, [], ◌∷◌, ◌++◌, length, take, drop, ◌==◌, Some, refl, sym, ap, subst, ◌∙◌, inl, inr, arith, length-append, append_assoc, append-nil}
 use Rattle.relay_tasks.specs.declared.Context.{Context}
 use Rattle.relay_tasks.specs.declared.Error.{Error}
 use Rattle.relay_tasks.specs.declared.ErrorSource.TheVariants.{Upstream}
@@ -11,16 +11,15 @@ use Rattle.relay_links.specs.Link.{LinkState, LinkStart, IsSound, IsHandedOut, G
 use Rattle.relay_links.specs.Told.{Since, told_length}
 use Rattle.relay_links.specs.declared.Pause.TheVariants.{NotReady}
 use Rattle.relay_links.proofs.SinceLemmas.{Since-start}
-use Rattle.relay_h1.specs.Verdict.{IsOpen, HasResponse, IsRefusedResponse}
+use Rattle.relay_h1.specs.Verdict.{IsOpen, HasResponse, IsRefusedResponse, refused_from}
 use Rattle.relay_h1.specs.Wire.{request_text, response_text}
 use Rattle.relay_h1.specs.declared.Connection.{Connection}
 use Rattle.relay_h1.specs.declared.Framing.{Framing}
-use Rattle.relay_h1.specs.declared.Framing.TheVariants.{Length}
 use Rattle.relay_h1.proofs.HeadEndLemmas.{head_end-within}
 use Rattle.relay_h1.proofs.VerdictLemmas.{HasResponse-append}
-use Rattle.relay_proxy.specs.Built.{get_method, IsBuiltResponse}
+use Rattle.relay_proxy.specs.Built.{IsBuiltResponse}
 use Rattle.relay_proxy.specs.Passed.{World, Start, Passed, Waited, TellsClient, TellsLink}
-use Rattle.relay_proxy.specs.Endings.{IsPrefixOf, IsInOrder, response_so_far, IsSentWhole, EndsLinked, IsAskedPeer, fault_error, unrelayed}
+use Rattle.relay_proxy.specs.Endings.{IsPrefixOf, IsInOrder, response_so_far, IsSentWhole, EndsLinked, IsAskedPeer, fault_error, unbuilt_error, cut_off}
 use Rattle.relay_proxy.specs.Phases.{IsAsking, IsAnswering, IsAttempt, RunSoFar, allowance}
 use Rattle.relay_proxy.specs.Turn.{Advances, failed}
 use Rattle.relay_proxy.specs.Offer.{TakesFront}
@@ -60,15 +59,16 @@ order_of_sending s p ahead head rest asking joined written = record {
 }
 
 -- the head was sent whole
-pub sent_whole_by : (s : Start) (p : Passed) (ahead : List ℕ) (head : RequestHead)
+abbrev pub sent_whole_by : (s : Start) (p : Passed) (ahead : List ℕ) (head : RequestHead)
     → IsAsking s p ahead head → p.sent ≡ request_text head → IsSentWhole s p
 sent_whole_by s p ahead head asking sent =
     record { request = head; request_len = asking.len; accepted = asking.accepted; sent = sent }
 
 -- what was written is the front of the response
-pub order_of_answering : (s : Start) (p : Passed) (ahead : List ℕ) (link : LinkState) (a : IsAnswering s p ahead link)
-    → IsPrefixOf p.written (response_so_far p a.response a.len a.n) → IsInOrder s p
-order_of_answering s p ahead link a part = record {
+pub order_of_answering : (s : Start) (p : Passed) (ahead : List ℕ) (request : RequestHead) (link : LinkState)
+    (reply : ResponseHead) (a : IsAnswering s p ahead request link reply)
+    → IsPrefixOf p.written (response_so_far p reply a.len a.n) → IsInOrder s p
+order_of_answering s p ahead request link reply a part = record {
   sent = inr (record {
     head = a.head;
     len = a.asking.len;
@@ -80,7 +80,7 @@ order_of_answering s p ahead link a part = record {
     request_len = a.asking.len;
     accepted = a.asking.accepted;
     sent = a.sent;
-    head = a.response;
+    head = reply;
     len = a.len;
     n = a.n;
     answered = a.answered;
@@ -89,49 +89,64 @@ order_of_answering s p ahead link a part = record {
 }
 
 -- a response that was accepted stays accepted when more is written
-abbrev pub answering_wrote : (s : Start) (p : Passed) (ahead more : List ℕ) (link : LinkState)
-    → IsAnswering s p ahead link → IsAnswering s (written_more p more) ahead link
-answering_wrote s p ahead more link a = record {
+abbrev pub answering_wrote : (s : Start) (p : Passed) (ahead more : List ℕ) (request : RequestHead) (link : LinkState)
+    (reply : ResponseHead)
+    → IsAnswering s p ahead request link reply → IsAnswering s (written_more p more) ahead request link reply
+answering_wrote s p ahead more request link reply a = record {
   head = a.head;
+  is = a.is;
   asking = asking_as s p (written_more p more) ahead a.head refl a.asking;
   sent = a.sent;
-  response = a.response;
   len = a.len;
   n = a.n;
-  answered = record { has = a.answered.has; built = a.answered.built };
+  answered = record { framing = a.answered.framing; has = a.answered.has; built = a.answered.built };
   within = a.within;
   ended = a.ended;
 }
 
 -- a response that was accepted stays accepted when more comes
-abbrev pub answering_got : (s : Start) (p : Passed) (ahead more : List ℕ) (link after : LinkState) → after.ended ≡ false
-    → IsAnswering s p ahead link → IsAnswering s (got_more p more) ahead after
-answering_got s p ahead more link after open_end a = record {
+abbrev pub answering_got : (s : Start) (p : Passed) (ahead more : List ℕ) (request now : RequestHead) (link after : LinkState)
+    (reply : ResponseHead) → now ≡ request → after.ended ≡ false
+    → IsAnswering s p ahead request link reply → IsAnswering s (got_more p more) ahead now after reply
+answering_got s p ahead more request now link after reply asks open_end a = record {
   head = a.head;
+  is = asks ∙ a.is;
   asking = asking_as s p (got_more p more) ahead a.head refl a.asking;
   sent = a.sent;
-  response = a.response;
   len = a.len;
   n = a.n;
-  answered = record { has = HasResponse-append get_method false p.got more a.response (Length a.n) a.len a.answered.has; built = a.answered.built };
+  answered = record {
+    framing = a.answered.framing;
+    has = HasResponse-append a.head.method false p.got more reply a.answered.framing a.len a.answered.has;
+    built = a.answered.built;
+  };
   within = omega (arith, a.within, length-append p.got more);
   ended = open_end;
 }
 
 -- the same response, as the client's bytes and the link stand now
-abbrev pub answering_as : (s : Start) (p : Passed) (ahead now : List ℕ) (link after : LinkState)
-    → now ≡ ahead → after.ended ≡ link.ended → IsAnswering s p ahead link → IsAnswering s p now after
-answering_as s p ahead now link after same ended a = record {
+abbrev pub answering_as : (s : Start) (p : Passed) (ahead now : List ℕ) (request again : RequestHead) (link after : LinkState)
+    (reply : ResponseHead) → now ≡ ahead → again ≡ request → after.ended ≡ link.ended
+    → IsAnswering s p ahead request link reply → IsAnswering s p now again after reply
+answering_as s p ahead now request again link after reply same asks ended a = record {
   head = a.head;
+  is = asks ∙ a.is;
   asking = subst (λ (xs : List ℕ). IsAsking s p xs a.head) (sym same) a.asking;
   sent = a.sent;
-  response = a.response;
   len = a.len;
   n = a.n;
   answered = a.answered;
   within = a.within;
   ended = ended ∙ a.ended;
 }
+
+-- a response in the same bytes, to the same method
+answers_to : (method asked : List ℕ) (got held : List ℕ) (head : ResponseHead) (framing : Framing) (len : ℕ)
+    → asked ≡ method → held ≡ got → HasResponse asked false held head framing len
+    → HasResponse method false got head framing len
+answers_to method asked got held head framing len same all has =
+    subst (λ (m : List ℕ). HasResponse m false got head framing len) same
+    (subst (λ (xs : List ℕ). HasResponse asked false xs head framing len) all has)
 
 -- the text of the head and then of the body, as far as it has come
 pub head_then_body : (front text head body : List ℕ) → front ++ text ≡ head → front ++ (text ++ body) ≡ head ++ body
@@ -152,13 +167,13 @@ module _ {L C : Type 0} (state : L → LinkState) (start_at : L → LinkStart) w
   }
 
   -- a link was handed out
-  pub link_given : (s : Start) (p : Passed) (v : Waited) (w x : World) (context : C) (text : Pending) (a : Attempt L C)
+  pub link_given : (s : Start) (p : Passed) (v : Waited) (w x : World) (context : C) (request : RequestHead) (text : Pending) (a : Attempt L C)
       → x.client ≡ w.client → x.ahead ≡ w.ahead → w.connect_faults ≤ x.connect_faults
       → IsHandedOut (state a.connection.link) (start_at a.connection.link) a.reused
-      → a.connection.ahead ≡ [] → IsAskedPeer a.peer
+      → a.connection.ahead ≡ [] → IsAskedPeer a.peer → a.request ≡ request
       → RunSoFar {C = C} state start_at s p v w [] (Connect context request text)
       → Advances {C = C} state start_at s p v x (Connect context request text) (SendHead a text) step.Moved
-  link_given s p v w x context text a client ahead faults handed none peer run = record {
+  link_given s p v w x context request text a client ahead faults handed none peer is run = record {
     passed = p;
     waited = v;
     run = record {
@@ -180,8 +195,9 @@ module _ {L C : Type 0} (state : L → LinkState) (start_at : L → LinkStart) w
           reused = sym handed.marked;
         },
         record {
-          head = run.holds.head;
-          asking = subst (λ (xs : List ℕ). IsAsking s p xs run.holds.head) (sym ahead) run.holds.asking;
+          head = request;
+          is = is;
+          asking = subst (λ (xs : List ℕ). IsAsking s p xs request) (sym ahead) run.holds.asking;
           joined = ap (λ (xs : List ℕ). xs ++ text.output) run.holds.unsent.sent ∙ run.holds.whole;
           written = run.holds.written;
           got = run.holds.unsent.got;
@@ -196,7 +212,7 @@ module _ {L C : Type 0} (state : L → LinkState) (start_at : L → LinkStart) w
       since told place at items nothing = rw (at, nothing) (Since-start [] told)
 
   -- the connector gave no link
-  pub link_denied : (s : Start) (p : Passed) (v : Waited) (w x : World) (context : C) (text : Pending) (fault : Fault)
+  pub link_denied : (s : Start) (p : Passed) (v : Waited) (w x : World) (context : C) (request : RequestHead) (text : Pending) (fault : Fault)
       (e : Error) (attempt : AttemptRecord) (attempts : List AttemptRecord)
       → x.client ≡ w.client → x.ahead ≡ w.ahead → w.connect_faults ≤ x.connect_faults
       → IsConnectFault fault → Rose w.connect_faults x.connect_faults → e ≡ fault_error Upstream fault
@@ -204,7 +220,7 @@ module _ {L C : Type 0} (state : L → LinkState) (start_at : L → LinkStart) w
       → attempt.reused ≡ false → attempt.kept ≡ false → attempt.error ≡ Some e
       → RunSoFar {C = C} state start_at s p v w [] (Connect context request text)
       → Advances {C = C} state start_at s p v x (Connect context request text) (Ended (outcome.Served (Some e) false) attempts) step.Ended
-  link_denied s p v w x context text fault e attempt attempts client ahead faults kind rose is one peer reused kept error run = record {
+  link_denied s p v w x context request text fault e attempt attempts client ahead faults kind rose is one peer reused kept error run = record {
     passed = p;
     waited = v;
     run = record {
@@ -220,7 +236,7 @@ module _ {L C : Type 0} (state : L → LinkState) (start_at : L → LinkStart) w
             kind = kind;
             error = is;
             rose = λ below. omega (arith, run.tells.connect_faults, rose below);
-            head = run.holds.head;
+            head = request;
             len = run.holds.asking.len;
             accepted = run.holds.asking.accepted;
             written = run.holds.written;
@@ -236,12 +252,12 @@ module _ {L C : Type 0} (state : L → LinkState) (start_at : L → LinkStart) w
 
   -- the head was sent whole
   pub sent_all : (s : Start) (p : Passed) (v : Waited) (w : World) (a b : Attempt L C) (text : Pending)
-      → start_at b.connection.link ≡ start_at a.connection.link → b.peer ≡ a.peer → b.reused ≡ a.reused
+      → start_at b.connection.link ≡ start_at a.connection.link → b.peer ≡ a.peer → b.reused ≡ a.reused → b.request ≡ a.request
       → b.connection.ahead ≡ a.connection.ahead
       → TakesFront (state a.connection.link) (state b.connection.link) text.output []
       → RunSoFar {C = C} state start_at s p v w [] (SendHead a text)
       → Advances {C = C} state start_at s p v w (SendHead a text) (ReadResponse b) step.Moved
-  sent_all s p v w a b text same peer reused held takes run = record {
+  sent_all s p v w a b text same peer reused asks held takes run = record {
     passed = sent_more p (take takes.n text.output);
     waited = v;
     run = record {
@@ -256,6 +272,7 @@ module _ {L C : Type 0} (state : L → LinkState) (start_at : L → LinkStart) w
             takes.takes.sound same peer reused run.holds.0,
         record {
           head = run.holds.1.head;
+          is = asks ∙ run.holds.1.is;
           asking = asking;
           sent = all;
           written = run.holds.1.written;
@@ -279,12 +296,12 @@ module _ {L C : Type 0} (state : L → LinkState) (start_at : L → LinkStart) w
 
   -- some of the head was sent
   pub sent_part : (s : Start) (p : Passed) (v : Waited) (w : World) (a b : Attempt L C) (text left : Pending)
-      → start_at b.connection.link ≡ start_at a.connection.link → b.peer ≡ a.peer → b.reused ≡ a.reused
+      → start_at b.connection.link ≡ start_at a.connection.link → b.peer ≡ a.peer → b.reused ≡ a.reused → b.request ≡ a.request
       → b.connection.ahead ≡ a.connection.ahead
       → TakesFront (state a.connection.link) (state b.connection.link) text.output left.output
       → RunSoFar {C = C} state start_at s p v w [] (SendHead a text)
       → Advances {C = C} state start_at s p v w (SendHead a text) (SendHead b left) step.Moved
-  sent_part s p v w a b text left same peer reused held takes run = record {
+  sent_part s p v w a b text left same peer reused asks held takes run = record {
     passed = sent_more p (take takes.n text.output);
     waited = v;
     run = record {
@@ -299,6 +316,7 @@ module _ {L C : Type 0} (state : L → LinkState) (start_at : L → LinkStart) w
             takes.takes.sound same peer reused run.holds.0,
         record {
           head = run.holds.1.head;
+          is = asks ∙ run.holds.1.is;
           asking = asking;
           joined = all;
           written = run.holds.1.written;
@@ -322,12 +340,12 @@ module _ {L C : Type 0} (state : L → LinkState) (start_at : L → LinkStart) w
 
   -- the link is not ready for the head
   pub sending_waits : (s : Start) (p : Passed) (v : Waited) (w : World) (a b : Attempt L C) (text left : Pending)
-      → start_at b.connection.link ≡ start_at a.connection.link → b.peer ≡ a.peer → b.reused ≡ a.reused
+      → start_at b.connection.link ≡ start_at a.connection.link → b.peer ≡ a.peer → b.reused ≡ a.reused → b.request ≡ a.request
       → b.connection.ahead ≡ a.connection.ahead
       → WaitsOnWrite (state a.connection.link) (state b.connection.link) → left.output ≡ text.output
       → RunSoFar {C = C} state start_at s p v w [] (SendHead a text)
       → Advances {C = C} state start_at s p v w (SendHead a text) (SendHead b left) (step.Waited NotReady)
-  sending_waits s p v w a b text left same peer reused held waits kept run = record {
+  sending_waits s p v w a b text left same peer reused asks held waits kept run = record {
     passed = p;
     waited = link_waited v;
     run = record {
@@ -341,6 +359,7 @@ module _ {L C : Type 0} (state : L → LinkState) (start_at : L → LinkStart) w
             waits.sound same peer reused run.holds.0,
         record {
           head = run.holds.1.head;
+          is = asks ∙ run.holds.1.is;
           asking = run.holds.1.asking;
           joined = ap (λ (xs : List ℕ). p.sent ++ xs) kept ∙ run.holds.1.joined;
           written = run.holds.1.written;
@@ -410,12 +429,12 @@ module _ {L C : Type 0} (state : L → LinkState) (start_at : L → LinkStart) w
 
   -- more of the response's head came
   pub response_came : (s : Start) (p : Passed) (v : Waited) (w : World) (a b : Attempt L C) (room : List ℕ) (n : ℕ)
-      → start_at b.connection.link ≡ start_at a.connection.link → b.peer ≡ a.peer → b.reused ≡ a.reused
+      → start_at b.connection.link ≡ start_at a.connection.link → b.peer ≡ a.peer → b.reused ≡ a.reused → b.request ≡ a.request
       → b.connection.ahead ≡ a.connection.ahead ++ take n room
       → GivesBytes (state a.connection.link) room n (state b.connection.link)
       → RunSoFar {C = C} state start_at s p v w [] (ReadResponse a)
       → Advances {C = C} state start_at s p v w (ReadResponse a) (ReadResponse b) step.Moved
-  response_came s p v w a b room n same peer reused grown gives run = record {
+  response_came s p v w a b room n same peer reused asks grown gives run = record {
     passed = got_more p (take n room);
     waited = v;
     run = record {
@@ -431,6 +450,7 @@ module _ {L C : Type 0} (state : L → LinkState) (start_at : L → LinkStart) w
             gives.sound same peer reused run.holds.0,
         record {
           head = run.holds.1.head;
+          is = asks ∙ run.holds.1.is;
           asking = asking_as s p (got_more p (take n room)) w.ahead run.holds.1.head refl run.holds.1.asking;
           sent = run.holds.1.sent;
           written = run.holds.1.written;
@@ -444,12 +464,12 @@ module _ {L C : Type 0} (state : L → LinkState) (start_at : L → LinkStart) w
 
   -- the link is not ready for the response's head
   pub response_waits : (s : Start) (p : Passed) (v : Waited) (w : World) (a b : Attempt L C)
-      → start_at b.connection.link ≡ start_at a.connection.link → b.peer ≡ a.peer → b.reused ≡ a.reused
+      → start_at b.connection.link ≡ start_at a.connection.link → b.peer ≡ a.peer → b.reused ≡ a.reused → b.request ≡ a.request
       → b.connection.ahead ≡ a.connection.ahead
       → WaitsOnRead (state a.connection.link) (state b.connection.link)
       → RunSoFar {C = C} state start_at s p v w [] (ReadResponse a)
       → Advances {C = C} state start_at s p v w (ReadResponse a) (ReadResponse b) (step.Waited NotReady)
-  response_waits s p v w a b same peer reused held waits run = record {
+  response_waits s p v w a b same peer reused asks held waits run = record {
     passed = p;
     waited = link_waited v;
     run = record {
@@ -463,6 +483,7 @@ module _ {L C : Type 0} (state : L → LinkState) (start_at : L → LinkStart) w
             waits.sound same peer reused run.holds.0,
         record {
           head = run.holds.1.head;
+          is = asks ∙ run.holds.1.is;
           asking = run.holds.1.asking;
           sent = run.holds.1.sent;
           written = run.holds.1.written;
@@ -502,19 +523,19 @@ module _ {L C : Type 0} (state : L → LinkState) (start_at : L → LinkStart) w
   pub response_cut : (s : Start) (p : Passed) (v : Waited) (w : World) (a b : Attempt L C) (next : Phase L C)
       → start_at b.connection.link ≡ start_at a.connection.link → b.peer ≡ a.peer → b.reused ≡ a.reused
       → EndsRead (state a.connection.link) (state b.connection.link) → IsOpen a.connection.ahead
-      → next ≡ failed b (unrelayed Upstream)
+      → next ≡ failed b (cut_off (length a.connection.ahead == 0))
       → RunSoFar {C = C} state start_at s p v w [] (ReadResponse a)
       → Advances {C = C} state start_at s p v w (ReadResponse a) next step.Ended
   response_cut s p v w a b next same peer reused ends open_head is run =
-      fails_with s p v w (ReadResponse a) next b (unrelayed Upstream) is run.tells run.order
+      fails_with s p v w (ReadResponse a) next b (cut_off (length a.connection.ahead == 0)) is run.tells run.order
       (attempt_ended p v a b same peer reused ends run.holds.0)
       (record {
         why = inl (record {
-          error = refl;
           whole = sent_whole_by s p w.ahead run.holds.1.head run.holds.1.asking run.holds.1.sent;
           why = inr (inr (inl (record {
             open_head = subst (λ (xs : List ℕ). IsOpen xs) run.holds.1.all_held open_head;
             ended = ends.ended;
+            error = ap (λ (xs : List ℕ). cut_off (length xs == 0)) run.holds.1.all_held;
             written = run.holds.1.written;
           })));
         });
@@ -554,19 +575,21 @@ module _ {L C : Type 0} (state : L → LinkState) (start_at : L → LinkStart) w
   -- the response's head is refused
   pub response_broken : (s : Start) (p : Passed) (v : Waited) (w : World) (a : Attempt L C) (why : Context)
       (next : Phase L C)
-      → IsRefusedResponse get_method false a.connection.ahead why → next ≡ failed a (unrelayed Upstream)
+      → IsRefusedResponse a.request.method false a.connection.ahead why
+      → next ≡ failed a (refused_from Upstream why)
       → RunSoFar {C = C} state start_at s p v w [] (ReadResponse a)
       → Advances {C = C} state start_at s p v w (ReadResponse a) next step.Ended
   response_broken s p v w a why next refused is run =
-      fails_with s p v w (ReadResponse a) next a (unrelayed Upstream) is run.tells run.order
+      fails_with s p v w (ReadResponse a) next a (refused_from Upstream why) is run.tells run.order
       run.holds.0
       (record {
         why = inl (record {
-          error = refl;
           whole = sent_whole_by s p w.ahead run.holds.1.head run.holds.1.asking run.holds.1.sent;
           why = inl (record {
             why = why;
-            refused = subst (λ (xs : List ℕ). IsRefusedResponse get_method false xs why) run.holds.1.all_held refused;
+            refused = subst (λ (xs : List ℕ). IsRefusedResponse run.holds.1.head.method false xs why) run.holds.1.all_held
+                (subst (λ (h : RequestHead). IsRefusedResponse h.method false a.connection.ahead why) run.holds.1.is refused);
+            error = refl;
             written = run.holds.1.written;
           });
         });
@@ -578,23 +601,24 @@ module _ {L C : Type 0} (state : L → LinkState) (start_at : L → LinkStart) w
   -- the response's head is valid, and not of a form that is relayed
   pub response_unbuilt : (s : Start) (p : Passed) (v : Waited) (w : World) (a : Attempt L C) (head : ResponseHead)
       (framing : Framing) (len : ℕ) (next : Phase L C)
-      → HasResponse get_method false a.connection.ahead head framing len
-      → ((n : ℕ) → ¬ (IsBuiltResponse head framing n)) → next ≡ failed a (unrelayed Upstream)
+      → HasResponse a.request.method false a.connection.ahead head framing len
+      → ((n : ℕ) → ¬ (IsBuiltResponse head framing n)) → next ≡ failed a (unbuilt_error head)
       → RunSoFar {C = C} state start_at s p v w [] (ReadResponse a)
       → Advances {C = C} state start_at s p v w (ReadResponse a) next step.Ended
   response_unbuilt s p v w a head framing len next has unbuilt is run =
-      fails_with s p v w (ReadResponse a) next a (unrelayed Upstream) is run.tells run.order
+      fails_with s p v w (ReadResponse a) next a (unbuilt_error head) is run.tells run.order
       run.holds.0
       (record {
         why = inl (record {
-          error = refl;
           whole = sent_whole_by s p w.ahead run.holds.1.head run.holds.1.asking run.holds.1.sent;
           why = inr (inl (record {
             head = head;
             framing = framing;
             len = len;
-            has = subst (λ (xs : List ℕ). HasResponse get_method false xs head framing len) run.holds.1.all_held has;
+            has = answers_to run.holds.1.head.method a.request.method p.got a.connection.ahead head framing len
+                (ap (λ (h : RequestHead). h.method) run.holds.1.is) run.holds.1.all_held has;
             unbuilt = unbuilt;
+            error = refl;
             written = run.holds.1.written;
           }));
         });
@@ -606,13 +630,13 @@ module _ {L C : Type 0} (state : L → LinkState) (start_at : L → LinkStart) w
   -- the response's head was accepted, and taken from what is held
   pub response_accepted : (s : Start) (p : Passed) (v : Waited) (w : World) (a b : Attempt L C) (head : ResponseHead)
       (framing : Framing) (len n : ℕ) (text : Pending)
-      → b.connection.link ≡ a.connection.link → b.peer ≡ a.peer → b.reused ≡ a.reused
+      → b.connection.link ≡ a.connection.link → b.peer ≡ a.peer → b.reused ≡ a.reused → b.request ≡ a.request
       → b.connection.ahead ≡ drop len a.connection.ahead
-      → HasResponse get_method false a.connection.ahead head framing len
+      → HasResponse a.request.method false a.connection.ahead head framing len
       → IsBuiltResponse head framing n → text.output ≡ response_text head
       → RunSoFar {C = C} state start_at s p v w [] (ReadResponse a)
-      → Advances {C = C} state start_at s p v w (ReadResponse a) (WriteHead b text n) step.Moved
-  response_accepted s p v w a b head framing len n text link peer reused held has built whole run = record {
+      → Advances {C = C} state start_at s p v w (ReadResponse a) (WriteHead b head text n) step.Moved
+  response_accepted s p v w a b head framing len n text link peer reused asks held has built whole run = record {
     passed = p;
     waited = v;
     run = record {
@@ -629,15 +653,16 @@ module _ {L C : Type 0} (state : L → LinkState) (start_at : L → LinkStart) w
         record {
           answering = record {
             head = run.holds.1.head;
+            is = asks ∙ run.holds.1.is;
             asking = run.holds.1.asking;
             sent = run.holds.1.sent;
-            response = head;
             len = len;
             n = n;
             answered = record {
-              has = subst (λ (f : Framing). HasResponse get_method false p.got head f len) built.length
-                  (subst (λ (xs : List ℕ). HasResponse get_method false xs head framing len) run.holds.1.all_held has);
-              built = subst (λ (f : Framing). IsBuiltResponse head f n) built.length built;
+              framing = framing;
+              has = answers_to run.holds.1.head.method a.request.method p.got a.connection.ahead head framing len
+                  (ap (λ (h : RequestHead). h.method) run.holds.1.is) run.holds.1.all_held has;
+              built = built;
             };
             within = omega (arith, ends_within.1, ap length run.holds.1.all_held);
             ended = rw link (run.holds.1.open_end (omega (arith, ends_within.0, ends_within.1)));

@@ -42,8 +42,10 @@ pub record IsConnecting
 
 -- this is left of the head's text
 pub record IsSending
-    (s : Start) (p : Passed) (ahead : List ℕ) (head : RequestHead) (held text : List ℕ)
+    (s : Start) (p : Passed) (ahead : List ℕ) (request : RequestHead) (held text : List ℕ)
     : Type 0 where
+  pub head : RequestHead
+  pub is : request ≡ head
   pub asking : IsAsking s p ahead head
   pub joined : p.sent ++ text ≡ request_text head
   pub written : p.written ≡ []
@@ -52,8 +54,10 @@ pub record IsSending
 
 -- the head was sent whole, and the response's head is read: nothing was taken from what is held
 pub record IsAwaiting
-    (s : Start) (p : Passed) (ahead : List ℕ) (head : RequestHead) (link : LinkState)
+    (s : Start) (p : Passed) (ahead : List ℕ) (request : RequestHead) (link : LinkState)
     (held : List ℕ) : Type 0 where
+  pub head : RequestHead
+  pub is : request ≡ head
   pub asking : IsAsking s p ahead head
   pub sent : p.sent ≡ request_text head
   pub written : p.written ≡ []
@@ -63,8 +67,10 @@ pub record IsAwaiting
 
 -- the response's head was accepted, with a body of n bytes
 pub record IsAnswering
-    (s : Start) (p : Passed) (ahead : List ℕ) (head : RequestHead) (link : LinkState)
+    (s : Start) (p : Passed) (ahead : List ℕ) (request : RequestHead) (link : LinkState)
     (response : ResponseHead) : Type 0 where
+  pub head : RequestHead
+  pub is : request ≡ head
   pub asking : IsAsking s p ahead head
   pub sent : p.sent ≡ request_text head
   pub len : ℕ
@@ -75,18 +81,18 @@ pub record IsAnswering
 
 -- this is left of the response head's text, and all of its body
 pub record IsWritingHead
-    (s : Start) (p : Passed) (ahead : List ℕ) (head : RequestHead) (link : LinkState)
+    (s : Start) (p : Passed) (ahead : List ℕ) (request : RequestHead) (link : LinkState)
     (response : ResponseHead) (held text : List ℕ) (left : ℕ) : Type 0 where
-  pub answering : IsAnswering s p ahead head link response
+  pub answering : IsAnswering s p ahead request link response
   pub joined : p.written ++ text ≡ response_text response
   pub rest_held : held ≡ drop answering.len p.got
   pub body : left ≡ answering.n
 
 -- the head's text was written, and done bytes of the body
 pub record IsRelayingBody
-    (s : Start) (p : Passed) (ahead : List ℕ) (head : RequestHead) (link : LinkState)
+    (s : Start) (p : Passed) (ahead : List ℕ) (request : RequestHead) (link : LinkState)
     (response : ResponseHead) (held : List ℕ) (left : ℕ) : Type 0 where
-  pub answering : IsAnswering s p ahead head link response
+  pub answering : IsAnswering s p ahead request link response
   pub done : ℕ
   pub within : answering.len + done ≤ length p.got
   pub written : p.written ≡ response_text response ++ take done (drop answering.len p.got)
