@@ -44,10 +44,9 @@ fresh_taken client read fresh = ap (λ (s : LinkState). told_length s.taken) fre
 -- a request that had no link sent nothing
 unlinked_sent : (s : Start) (p : Passed) (w : World) (outcome : Outcome) → EndsUnlinked s p w outcome → [] ≡ p.sent
 unlinked_sent s p w ended.NoRequest ends = sym ends.unsent.sent
-unlinked_sent s p w (ended.Refused None) ends = absurd ends
-unlinked_sent s p w (ended.Refused (Some e)) (inl refused) = sym refused.unsent.sent
-unlinked_sent s p w (ended.Refused (Some e)) (inr (inl unrelayed)) = sym unrelayed.unsent.sent
-unlinked_sent s p w (ended.Refused (Some e)) (inr (inr fault)) = sym fault.unsent.sent
+unlinked_sent s p w (ended.Refused error) (inl answered) = sym answered.unsent.sent
+unlinked_sent s p w (ended.Refused error) (inr (inl alone)) = sym alone.unsent.sent
+unlinked_sent s p w (ended.Refused error) (inr (inr fault)) = sym fault.unsent.sent
 unlinked_sent s p w (ended.Served None reuse) ends = absurd ends
 unlinked_sent s p w (ended.Served (Some e) reuse) ends = sym ends.0.unsent.sent
 unlinked_sent s p w ended.TurnLimit ends = sym ends.sent

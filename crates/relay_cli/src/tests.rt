@@ -1,42 +1,40 @@
 //! The program's calls over sources and sinks in memory: its statuses, and what it writes.
 use crate::run::{run_command, run_script};
 use relay_links::{SliceSource, VecSink};
-use std::alloc::AllocError;
+use std::alloc::{AllocError, Global};
+use std::process::Abort;
 
 mod exchange;
 
 /// What a run of the words over an input wrote, behind the number of its status and a space.
-fn answer(rt: &HostRuntime, words: &[&str], input: &[u8]) -> Result<String, AllocError> {
-    let alloc = rt.alloc();
+fn answer(alloc: Global, words: &[&str], input: &[u8]) -> Result<String, AllocError> {
     let mut given = Vec::new(alloc);
     for word in words {
-        given.push(Vec::from_slice(rt.alloc(), word.as_bytes())?)?;
+        given.push(Vec::from_slice(alloc, word.as_bytes())?)?;
     }
-    let mut source = SliceSource::new(input, Vec::new(rt.alloc()));
-    let mut sink = VecSink::new(rt.alloc(), Vec::new(rt.alloc()));
-    let status = run_command(rt.alloc(), &given, &mut source, &mut sink);
-    let text = String::from_utf8_lossy(rt.alloc(), sink.bytes())?;
-    format!(in rt.alloc(); "{status} {text}")
+    let mut source = SliceSource::new(input, Vec::new(alloc));
+    let mut sink = VecSink::new(alloc, Vec::new(alloc));
+    let status = run_command(alloc, &given, &mut source, &mut sink);
+    let text = String::from_utf8_lossy(alloc, sink.bytes())?;
+    format!(in alloc; "{status} {text}")
 }
 
 #[test]
 fn runs_nothing_but_its_words(rt: HostRuntime) -> Result<(), AllocError> {
     let usage = "6 usage: relay run | relay gen N | relay pair | relay serve PORT PEER\n";
-    assert_eq!(rt; answer(&rt, &["x"], b"{}")?.as_str(), usage);
-    assert_eq!(rt; answer(&rt, &[], b"{}")?.as_str(), usage);
-    assert_eq!(rt; answer(&rt, &["run", "run"], b"{}")?.as_str(), usage);
+    assert_eq!(rt; answer(rt.alloc(), &["x"], b"{}")?.as_str(), usage);
+    assert_eq!(rt; answer(rt.alloc(), &[], b"{}")?.as_str(), usage);
+    assert_eq!(rt; answer(rt.alloc(), &["run", "run"], b"{}")?.as_str(), usage);
     assert_eq!(rt;
-        answer(&rt, &["run"], b"{}")?.as_str(),
+        answer(rt.alloc(), &["run"], b"{}")?.as_str(),
         "2 script refused\n"
     );
     Ok(())
 }
 
 /// The bytes of a script with these items of the client and of the peer.
-fn script(rt: &HostRuntime, client: &str, peer: &str) -> Result<String, AllocError> {
-    format!(in rt.alloc();
-        "{{\"client\":[{client}],\"peers\":[{{\"name\":\"a\",\"read\":[{peer}]}}]}}"
-    )
+fn script(alloc: Global, client: &str, peer: &str) -> Result<String, AllocError> {
+    format!(in alloc; "{{\"client\":[{client}],\"peers\":[{{\"name\":\"a\",\"read\":[{peer}]}}]}}")
 }
 
 const GET: &str = "{\"text\":\"GET /a HTTP/1.1\\r\\nHost: h.example\\r\\n\\r\\n\"}";
@@ -69,11 +67,6 @@ fn reports_one_get_through_one_peer(rt: HostRuntime) -> Result<(), AllocError> {
         ),
         ("{\"text\":\"GET / HTTP/1.1\\r\\n\\r\\n\"}", ANSWER, REFUSED),
         (
-            "{\"text\":\"POST /a HTTP/1.1\\r\\nHost: h.example\\r\\n\\r\\n\"}",
-            ANSWER,
-            "0 request 1\noutcome Refused\nerror Custom(1) Downstream false\nreuse no\nwritten \n",
-        ),
-        (
             "{\"fault\":\"Read\"}",
             ANSWER,
             "0 request 1\noutcome Refused\nerror ReadError Downstream false\nreuse no\nwritten \n",
@@ -85,11 +78,245 @@ fn reports_one_get_through_one_peer(rt: HostRuntime) -> Result<(), AllocError> {
         ),
         (GET, "{\"fault\":\"Read\"}", FAILED),
     ] {
-        let input = script(&rt, client, peer)?;
-        let found = answer(&rt, &["run"], input.as_bytes())?;
+        let input = script(rt.alloc(), client, peer)?;
+        let found = answer(rt.alloc(), &["run"], input.as_bytes())?;
         assert_eq!(rt; found.as_str(), report, "at {client} and {peer}");
     }
     Ok(())
+}
+
+/// A text item with these lines, each of which ends in CR LF, and an empty line.
+fn head(alloc: Global, lines: &[&str]) -> Result<String, AllocError> {
+    let mut text = String::new(alloc);
+    text.push_str("{\"text\":\"")?;
+    for line in lines {
+        text.push_str(line)?;
+        text.push_str("\\r\\n")?;
+    }
+    text.push_str("\\r\\n\"}")?;
+    Ok(text)
+}
+
+/// What is printed of a head with these lines.
+fn printed(alloc: Global, lines: &[&str]) -> Result<String, AllocError> {
+    let mut text = String::new(alloc);
+    for line in lines {
+        text.push_str(line)?;
+        text.push_str("\\r\\n")?;
+    }
+    text.push_str("\\r\\n")?;
+    Ok(text)
+}
+
+#[test]
+fn answers_connect_with_405(rt: HostRuntime) -> Result<(), AllocError> {
+    let client = head(rt.alloc(), &["CONNECT h:443 HTTP/1.1", "Host: h:443"])?;
+    let input = script(rt.alloc(), client.as_str(), ANSWER)?;
+    let written = printed(
+        rt.alloc(),
+        &[
+            "HTTP/1.1 405 Method Not Allowed",
+            "server: Pingora",
+            "content-length: 0",
+            "cache-control: private, no-store",
+        ],
+    )?;
+    let report = format!(in rt.alloc();
+        "0 request 1\noutcome Refused\nerror -\nreuse no\nwritten {written}\n"
+    )?;
+    assert_eq!(rt;
+        answer(rt.alloc(), &["run"], input.as_bytes())?.as_str(),
+        report.as_str()
+    );
+    Ok(())
+}
+
+#[test]
+fn refuses_connect_without_host_as_any_head(rt: HostRuntime) -> Result<(), AllocError> {
+    let client = head(rt.alloc(), &["CONNECT h:443 HTTP/1.1"])?;
+    let input = script(rt.alloc(), client.as_str(), ANSWER)?;
+    assert_eq!(rt;
+        answer(rt.alloc(), &["run"], input.as_bytes())?.as_str(),
+        REFUSED
+    );
+    Ok(())
+}
+
+/// Checks how a request that ends before its link is used is reported.
+fn assert_left(
+    rt: &impl Abort,
+    alloc: Global,
+    client: &str,
+    error: &str,
+) -> Result<(), AllocError> {
+    let input = script(alloc, client, ANSWER)?;
+    let report = format!(in alloc;
+        "0 request 1\noutcome Refused\nerror {error}\nreuse no\nwritten \n"
+    )?;
+    assert_eq!(rt;
+        answer(alloc, &["run"], input.as_bytes())?.as_str(),
+        report.as_str()
+    );
+    Ok(())
+}
+
+#[test]
+fn leaves_alone_what_it_does_not_relay(rt: HostRuntime) -> Result<(), AllocError> {
+    let inside = "{\"text\":\"GET / HT\"},{\"end\":true}";
+    assert_left(&rt, rt.alloc(), inside, "ConnectionClosed Downstream false")?;
+    let body = head(
+        rt.alloc(),
+        &["POST /c HTTP/1.1", "Host: h.example", "Content-Length: 1"],
+    )?;
+    assert_left(&rt, rt.alloc(), body.as_str(), "Custom(1) Downstream false")?;
+    let old = head(rt.alloc(), &["GET /o HTTP/1.0"])?;
+    assert_left(&rt, rt.alloc(), old.as_str(), "Custom(1) Downstream false")?;
+    let upgrade = head(
+        rt.alloc(),
+        &["GET /w HTTP/1.1", "Host: h.example", "Upgrade: websocket"],
+    )?;
+    assert_left(
+        &rt,
+        rt.alloc(),
+        upgrade.as_str(),
+        "Custom(1) Downstream false",
+    )
+}
+
+/// Checks what a request and a response come to: whether each goes back, or the error.
+fn assert_served(
+    rt: &impl Abort,
+    alloc: Global,
+    request: &[&str],
+    response: &[&str],
+    body: &str,
+    tail: &str,
+) -> Result<(), AllocError> {
+    let client = head(alloc, request)?;
+    let answered = head(alloc, response)?;
+    let peer = format!(in alloc; "{answered},{{\"text\":\"{body}\"}},{{\"end\":true}}")?;
+    let input = script(alloc, client.as_str(), peer.as_str())?;
+    let found = answer(alloc, &["run"], input.as_bytes())?;
+    assert!(rt; found.as_str().contains(tail), "{found} has no {tail}");
+    Ok(())
+}
+
+const HOST: &str = "Host: h.example";
+
+#[test]
+fn relays_any_method_without_a_body(rt: HostRuntime) -> Result<(), AllocError> {
+    let post = ["POST /a HTTP/1.1", HOST];
+    let whole = "error -\nreuse yes\nwritten HTTP/1.1 200 OK\\r\\ncontent-length: 2\\r\\n\\r\\nhi\n\
+        attempt 1 a reused no kept yes error -\nsent POST /a HTTP/1.1\\r\\nhost: h.example\\r\\n";
+    assert_served(
+        &rt,
+        rt.alloc(),
+        &post,
+        &["HTTP/1.1 200 OK", "Content-Length: 2"],
+        "hi",
+        whole,
+    )?;
+    let options = ["OPTIONS * HTTP/1.1", HOST];
+    let asterisk = "kept yes error -\nsent OPTIONS * HTTP/1.1\\r\\nhost: h.example\\r\\n\\r\\n\n";
+    assert_served(
+        &rt,
+        rt.alloc(),
+        &options,
+        &["HTTP/1.1 200 OK", "Content-Length: 2"],
+        "hi",
+        asterisk,
+    )
+}
+
+#[test]
+fn relays_a_response_that_has_no_body(rt: HostRuntime) -> Result<(), AllocError> {
+    let head_of = ["HEAD /a HTTP/1.1", HOST];
+    let no_body = "written HTTP/1.1 200 OK\\r\\ncontent-length: 2\\r\\n\\r\\n\nattempt";
+    assert_served(
+        &rt,
+        rt.alloc(),
+        &head_of,
+        &["HTTP/1.1 200 OK", "Content-Length: 2"],
+        "hi",
+        no_body,
+    )?;
+    let get = ["GET /a HTTP/1.1", HOST];
+    let nothing = "error -\nreuse yes\nwritten HTTP/1.1 204 No Content\\r\\n\\r\\n\nattempt";
+    assert_served(
+        &rt,
+        rt.alloc(),
+        &get,
+        &["HTTP/1.1 204 No Content"],
+        "x",
+        nothing,
+    )
+}
+
+#[test]
+fn tells_why_a_response_was_not_relayed(rt: HostRuntime) -> Result<(), AllocError> {
+    let get = ["GET /a HTTP/1.1", HOST];
+    let closed = "error ConnectionClosed Upstream false\nreuse no\n";
+    assert_served(
+        &rt,
+        rt.alloc(),
+        &get,
+        &["HTTP/1.1 200 OK", "Content-Length: 3"],
+        "hi",
+        closed,
+    )?;
+    let broken = "error InvalidHTTPHeader Upstream false\nreuse no\nwritten \n";
+    assert_served(&rt, rt.alloc(), &get, &["HTTP/1.1 twenty OK"], "hi", broken)?;
+    assert_served(
+        &rt,
+        rt.alloc(),
+        &get,
+        &["HTTP/1.1 101 Switching Protocols"],
+        "hi",
+        broken,
+    )?;
+    let unbuilt = "error Custom(1) Upstream false\nreuse no\nwritten \n";
+    assert_served(
+        &rt,
+        rt.alloc(),
+        &get,
+        &["HTTP/1.1 102 Processing"],
+        "hi",
+        unbuilt,
+    )?;
+    assert_served(&rt, rt.alloc(), &get, &["HTTP/1.1 200 OK"], "hi", unbuilt)
+}
+
+#[test]
+fn uses_no_connection_again_that_is_to_be_closed(rt: HostRuntime) -> Result<(), AllocError> {
+    let get = ["GET /a HTTP/1.1", HOST];
+    let length = "Content-Length: 2";
+    let neither = "error -\nreuse no\n";
+    let link = "kept no error -";
+    let close = ["GET /a HTTP/1.1", HOST, "Connection: x , CLOSE"];
+    assert_served(
+        &rt,
+        rt.alloc(),
+        &close,
+        &["HTTP/1.1 200 OK", length],
+        "hi",
+        neither,
+    )?;
+    assert_served(
+        &rt,
+        rt.alloc(),
+        &close,
+        &["HTTP/1.1 200 OK", length],
+        "hi",
+        link,
+    )?;
+    let closing = ["HTTP/1.1 200 OK", length, "Connection: close"];
+    assert_served(&rt, rt.alloc(), &get, &closing, "hi", neither)?;
+    assert_served(&rt, rt.alloc(), &get, &closing, "hi", link)?;
+    let old = ["HTTP/1.0 200 OK", length];
+    assert_served(&rt, rt.alloc(), &get, &old, "hi", "error -\nreuse yes\n")?;
+    assert_served(&rt, rt.alloc(), &get, &old, "hi", link)?;
+    let stays = ["HTTP/1.1 200 OK", length, "Connection: keep-alive, closed"];
+    assert_served(&rt, rt.alloc(), &get, &stays, "hi", "kept yes error -")
 }
 
 #[test]
@@ -120,11 +347,11 @@ fn refuses_what_is_no_script(rt: HostRuntime) -> Result<(), AllocError> {
         "{\"client\":[],\"peers\":[{\"name\":\"a\"}]} x",
     ];
     for script in refused {
-        let found = answer(&rt, &["run"], script.as_bytes())?;
+        let found = answer(rt.alloc(), &["run"], script.as_bytes())?;
         assert_eq!(rt; found.as_str(), "2 script refused\n", "at {script}");
     }
     let no_text = answer(
-        &rt,
+        rt.alloc(),
         &["run"],
         b"{\"client\":[],\"peers\":[{\"name\":\"\xff\"}]}",
     )?;
@@ -136,7 +363,7 @@ fn refuses_what_is_no_script(rt: HostRuntime) -> Result<(), AllocError> {
 fn refuses_more_than_it_reads(rt: HostRuntime) -> Result<(), AllocError> {
     let input = vec![in rt.alloc(); b' '; 16_777_217]?;
     assert_eq!(rt;
-        answer(&rt, &["run"], &input)?.as_str(),
+        answer(rt.alloc(), &["run"], &input)?.as_str(),
         "2 script refused\n"
     );
     Ok(())
