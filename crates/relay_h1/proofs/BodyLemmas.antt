@@ -1,16 +1,12 @@
 -- What a text says of a body: one thing, and always something.
-use Rattle.std.proofs.Common.{◌≡◌, ℕ, ◌<◌, Bool, true, false, ◌&&◌, List, [], ◌∷◌, length, take, drop, refl, sym, ◌∙◌, ap, subst, arith}
+use Rattle.std.proofs.Common.{◌≡◌, ℕ, List, [], take, drop, refl, sym, ◌∙◌, ap, subst, arith}
 use Rattle.httparse.specs.Grammar.{chunk_size}
 use Rattle.httparse.proofs.ChunkLemmas.{chunk_line_unique}
 use Rattle.relay_h1.specs.declared.framing.Framing.{Framing}
 use Rattle.relay_h1.specs.declared.framing.Framing.TheVariants as framing
 use Rattle.relay_h1.specs.Body.{BodyText, BodyMark, open_text, ended_text, broken_text, behind, line_end, most_line, IsLineOf, StartsWithLine, IsLineOpen, IsLineBroken, begins_with_crlf, trailer_end, IsTrailerOpen, IsTrailerTooLong, EndsTrailer, ChunkedPlace, Chunked, Body}
 use Rattle.relay_h1.specs.Body as body
-
--- nothing and more is nothing
-and-false : (b : Bool) → (b && false) ≡ false
-and-false true = refl
-and-false false = refl
+use Rattle.relay_h1.proofs.CrlfLemmas.{crlf_is_long}
 
 -- a text is a line of one size
 pub IsLineOf-unique : (text : List ℕ) (a b : ℕ) → IsLineOf text a → IsLineOf text b → a ≡ b
@@ -85,16 +81,6 @@ EndsTrailer-unique bytes n m x y =
     let ends_y = y.ends in
     cc
 
--- fewer than two bytes begin no CR LF
-pub crlf-short : (bytes : List ℕ) → length bytes < 2 → begins_with_crlf bytes ≡ false
-crlf-short [] few = refl
-crlf-short (a ∷ []) few = simp and-false
-crlf-short (a ∷ b ∷ bytes) few = absurd (omega arith)
-
--- bytes that begin with CR LF are two at least
-pub crlf_is_long : (bytes : List ℕ) → begins_with_crlf bytes ≡ true → ¬ (length bytes < 2)
-crlf_is_long bytes begins few = let none = crlf-short bytes few in cc
-
 -- what bytes say from a place on is one text
 pub Chunked-unique : (place : ChunkedPlace) (bytes : List ℕ) (a b : BodyText)
     → Chunked place bytes a → Chunked place bytes b → a ≡ b
@@ -159,14 +145,14 @@ Chunked-unique _ _ _ _ (body.Chunked.crlf_open bytes x) (body.Chunked.crlf_open 
 Chunked-unique _ _ _ _ (body.Chunked.crlf_open bytes x) (body.Chunked.crlf_broken _ y none) =
     absurd (omega arith)
 Chunked-unique _ _ _ _ (body.Chunked.crlf_open bytes x) (body.Chunked.crlf_whole _ t y d) =
-    absurd (crlf_is_long bytes y x)
+    absurd (omega (arith, crlf_is_long bytes y))
 Chunked-unique _ _ _ _ (body.Chunked.crlf_broken bytes x none) (body.Chunked.crlf_open _ y) =
     absurd (omega arith)
 Chunked-unique _ _ _ _ (body.Chunked.crlf_broken bytes x none) (body.Chunked.crlf_broken _ y _) = refl
 Chunked-unique _ _ _ _ (body.Chunked.crlf_broken bytes x none) (body.Chunked.crlf_whole _ t y d) =
     absurd (cc)
 Chunked-unique _ _ _ _ (body.Chunked.crlf_whole bytes s x c) (body.Chunked.crlf_open _ y) =
-    absurd (crlf_is_long bytes x y)
+    absurd (omega (arith, crlf_is_long bytes x))
 Chunked-unique _ _ _ _ (body.Chunked.crlf_whole bytes s x c) (body.Chunked.crlf_broken _ y none) =
     absurd (cc)
 Chunked-unique _ _ _ _ (body.Chunked.crlf_whole bytes s x c) (body.Chunked.crlf_whole _ t y d) =

@@ -1,5 +1,7 @@
 pub mod AheadLemmas
 pub mod BodyLemmas
+pub mod BodyReaderLemmas
+pub mod CrlfLemmas
 pub mod HeadEndLemmas
 pub mod HeadLemmas
 pub mod JudgeLemmas
