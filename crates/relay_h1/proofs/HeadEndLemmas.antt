@@ -105,7 +105,7 @@ NoMarkBefore-append place bytes more margin none_before = λ k less.
     (none_before k less)
 
 -- a place that was shifted comes from a place
-shifted-some : (n len : ℕ) (place : Option ℕ) → shifted n place ≡ Some len
+pub shifted-some : (n len : ℕ) (place : Option ℕ) → shifted n place ≡ Some len
     → (k : ℕ) × (place ≡ Some k) × (len ≡ k + n)
 shifted-some n len None is = cc
 shifted-some n len (Some k) is = (k, refl, cc)

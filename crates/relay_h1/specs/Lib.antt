@@ -7,3 +7,5 @@ pub mod Wire
 pub mod Ahead
 pub mod Move
 pub mod Verdict
+pub mod Body
+pub mod BodyReader

@@ -166,7 +166,7 @@ impl<D: ByteLink, U> Connection<D, U> {
     }
 }
 
-fn front(bytes: &[u8], most: u64) -> &[u8]
+pub(crate) fn front(bytes: &[u8], most: u64) -> &[u8]
     ensures { result.now ≡ take most bytes.now }
 {
     if bytes.len() as u64 <= most {

@@ -2,6 +2,7 @@
 #![tactic(auto)]
 
 mod ahead;
+mod body_reader;
 mod connection;
 mod framing;
 mod head;
@@ -13,6 +14,7 @@ mod verdict;
 mod wire;
 
 pub use ahead::{Ahead, READ_SIZE};
+pub use body_reader::{BodyReader, Cut, MAX_LINE, MAX_TRAILER};
 pub use connection::Connection;
 pub use framing::{Framing, request_framing, response_framing};
 pub use head::{HeadReader, MAX_FIELDS, MAX_HEAD};
