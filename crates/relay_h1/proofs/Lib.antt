@@ -2,5 +2,6 @@ pub mod AheadLemmas
 pub mod HeadEndLemmas
 pub mod HeadLemmas
 pub mod JudgeLemmas
+pub mod SizeLemmas
 pub mod VerdictLemmas
 pub mod WireLemmas

@@ -6,3 +6,4 @@ pub mod Wire
 pub mod Ahead
 pub mod Move
 pub mod Verdict
+pub mod BodyWire

@@ -2,16 +2,19 @@
 #![tactic(auto)]
 
 mod ahead;
+mod body_writer;
 mod connection;
 mod framing;
 mod head;
 mod output;
+mod size_line;
 #[cfg(test)]
 mod tests;
 mod verdict;
 mod wire;
 
 pub use ahead::{Ahead, READ_SIZE};
+pub use body_writer::BodyWriter;
 pub use connection::Connection;
 pub use framing::{Framing, request_framing, response_framing};
 pub use head::{HeadReader, MAX_FIELDS, MAX_HEAD};
