@@ -7,3 +7,4 @@ pub mod Ahead
 pub mod Move
 pub mod Verdict
 pub mod BodyWire
+pub mod ClientHead

@@ -1,6 +1,7 @@
 //! Outside texts and numbers, and each public call once with ample memory.
 
 mod body_writer;
+mod client_head;
 mod connection;
 mod framing;
 mod head;
