@@ -1,4 +1,5 @@
 pub mod AheadLemmas
+pub mod BodyLemmas
 pub mod ClientHeadLemmas
 pub mod HeadEndLemmas
 pub mod HeadLemmas

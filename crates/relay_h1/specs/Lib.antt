@@ -6,5 +6,6 @@ pub mod Wire
 pub mod Ahead
 pub mod Move
 pub mod Verdict
+pub mod Body
 pub mod BodyWire
 pub mod ClientHead
