@@ -3,8 +3,10 @@ pub mod BodyLemmas
 pub mod BodyReaderLemmas
 pub mod ChunkLineLemmas
 pub mod CrlfLemmas
+pub mod ClientHeadLemmas
 pub mod HeadEndLemmas
 pub mod HeadLemmas
 pub mod JudgeLemmas
+pub mod SizeLemmas
 pub mod VerdictLemmas
 pub mod WireLemmas

@@ -9,3 +9,5 @@ pub mod Move
 pub mod Verdict
 pub mod Body
 pub mod BodyReader
+pub mod BodyWire
+pub mod ClientHead

@@ -90,7 +90,7 @@ fn opens_tunnel(asked: bool, status: u16) -> bool
     asked && status == 101
 }
 
-fn has_no_body(method: &Method, status: u16) -> bool
+pub(crate) fn has_no_body(method: &Method, status: u16) -> bool
     ensures { result ≡ has_no_body method.now status }
 {
     method.as_str() == "HEAD" || is_bodiless(status)

@@ -3,11 +3,14 @@
 
 mod ahead;
 mod body_reader;
+mod body_writer;
+mod client_head;
 mod connection;
 mod framing;
 mod head;
 mod options;
 mod output;
+mod size_line;
 #[cfg(test)]
 mod tests;
 mod verdict;
@@ -15,6 +18,8 @@ mod wire;
 
 pub use ahead::{Ahead, READ_SIZE};
 pub use body_reader::{BodyReader, Cut, MAX_LINE, MAX_TRAILER};
+pub use body_writer::BodyWriter;
+pub use client_head::{add_chunked, client_framing, frame_for_client, is_sent_to, lacks_framing};
 pub use connection::Connection;
 pub use framing::{Framing, request_framing, response_framing};
 pub use head::{HeadReader, MAX_FIELDS, MAX_HEAD};

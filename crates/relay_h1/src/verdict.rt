@@ -162,7 +162,7 @@ fn admit_response(alloc: Global, text: &[u8], method: &Method, asked: bool) -> R
     }
 }
 
-fn settle(framing: Framing, head: &mut ResponseHeader)
+pub(crate) fn settle(framing: Framing, head: &mut ResponseHeader)
     ensures { head.new ≡ settled framing head.old }
 {
     match framing {
