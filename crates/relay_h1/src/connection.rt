@@ -1,10 +1,13 @@
 //! A link with the bytes that were read ahead from it, and what is kept for its next request.
-ghost use Rattle.std.specs.Prelude.{◌≡◌, ◌≤◌, ◌<◌, [], length, take, drop, None, Some, IfOk, OnErr, option_copied};
+ghost use Rattle.std.specs.Prelude.{◌≡◌, ◌≤◌, ◌<◌, ◌++◌, ℕ, List, [], length, take, drop, None, Some, IfOk, OnErr, option_copied};
 ghost use Rattle.relay_h1.specs.HeadEnd.{head_end};
 ghost use Rattle.relay_h1.specs.Move.{ReadsMore, WritesOut, RelaysBody};
+ghost use Rattle.relay_h1.specs.BodyReader.{Answers, IsExact, Takes, piece_of, SoFar, Tells};
+ghost use Rattle.relay_h1.specs.declared.framing.Framing.{Framing};
 ghost use Rattle.relay_h1.specs.Verdict.{JudgesRequest, JudgesResponse};
 
 use crate::ahead::Ahead;
+use crate::body_reader::{BodyReader, Cut};
 use crate::output::{Output, taken};
 use crate::verdict::{RequestRead, ResponseRead, judge_request, judge_response};
 use http::Method;
@@ -99,6 +102,26 @@ impl<D, U> Connection<D, U> {
         ensures same { self.new ≡ self.old }
     {
         judge_response(alloc, &mut self.ahead, method, asked)
+    }
+}
+
+impl<D, U> Connection<D, U> {
+    /// Takes a piece of the body at the front of the bytes that were read ahead, as
+    /// `BodyReader::take` does.
+    pub fn take_body(&mut self, alloc: Global, reader: &mut BodyReader) -> Cut
+        ensures answer { Answers reader.old self.old.ahead reader.new self.new.ahead result }
+        ensures exact { IsExact reader.old self.old.ahead result }
+        ensures takes { Takes reader.old self.old.ahead (piece_of result) reader.new
+            self.new.ahead }
+        ensures keeps { (framing : Framing) (given body : List ℕ)
+            → SoFar framing given body reader.old self.old.ahead
+            → SoFar framing given (body ++ piece_of result) reader.new self.new.ahead }
+        ensures tells { (framing : Framing) (given body : List ℕ)
+            → SoFar framing given body reader.old self.old.ahead
+            → Tells framing given (body ++ piece_of result) (length self.new.ahead) result }
+        ensures same { self.new ≡ record self.old { ahead = self.new.ahead } }
+    {
+        reader.take(alloc, &mut self.ahead)
     }
 }
 

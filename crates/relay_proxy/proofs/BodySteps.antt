@@ -12,6 +12,7 @@ use Rattle.relay_tasks.specs.Head.{RequestHead, ResponseHead}
 use Rattle.relay_h1.proofs.HeadEndLemmas.{head_end-within}
 use Rattle.relay_proxy.specs.Built.{IsLinkReusable, IsClientReusable}
 use Rattle.relay_proxy.specs.Passed.{World, Start, Passed, Waited, amount, TellsClient}
+use Rattle.relay_proxy.specs.Endings as endings
 use Rattle.relay_proxy.specs.Endings.{IsPrefixOf, IsInOrder, response_so_far, IsInBody, fault_error, cut_off}
 use Rattle.relay_proxy.specs.Phases.{IsAnswering, IsWritingHead, IsRelayingBody, IsAttempt, RunSoFar, allowance}
 use Rattle.relay_proxy.specs.Turn.{Advances, failed, IsRest}
@@ -65,7 +66,7 @@ some_came s p ahead request link reply h =
 
 module _ {L C : Type 0} (state : L → LinkState) (start_at : L → LinkStart) where
   -- an attempt whose link passed nothing, while the client's side moved
-  attempt_same : (p q : Passed) (v u : Waited) (a : Attempt L C) → q.got ≡ p.got → q.sent ≡ p.sent → u.link ≡ v.link
+  pub attempt_same : (p q : Passed) (v u : Waited) (a : Attempt L C) → q.got ≡ p.got → q.sent ≡ p.sent → u.link ≡ v.link
       → IsAttempt state start_at p v a → IsAttempt state start_at q u a
   attempt_same p q v u a got sent waits h = record {
     tells = link_same p q v u (state a.connection.link) (start_at a.connection.link) got sent waits h.tells;
@@ -125,7 +126,7 @@ module _ {L C : Type 0} (state : L → LinkState) (start_at : L → LinkStart) w
                 going = λ limit. cc;
                 holds = (
                   attempt,
-                  record {
+                  inl (record {
                     request = answering.head;
                     request_len = answering.asking.len;
                     accepted = answering.asking.accepted;
@@ -142,7 +143,7 @@ module _ {L C : Type 0} (state : L → LinkState) (start_at : L → LinkStart) w
                         (subst (λ (h : RequestHead). IsTrue end.0.0 ↔ IsLinkReusable h reply a.connection.ahead) answering.is end.0.2));
                     goes_back = subst (λ (h : RequestHead). IsTrue end.0.1 ↔ IsClientReusable h reply x.ahead) answering.is end.0.3;
                     ahead = answering.asking.taken;
-                  },
+                  }),
                 );
               };
               spends = omega (arith, paid);
@@ -265,7 +266,7 @@ module _ {L C : Type 0} (state : L → LinkState) (start_at : L → LinkStart) w
       (fault : Fault) (reply : ResponseHead) (answering : IsAnswering s p w.ahead a.request (state a.connection.link) reply)
       → x.connect_faults ≡ w.connect_faults → FailsWrite w.client fault x.client
       → next ≡ failed a (fault_error Downstream fault)
-      → TellsClient s p v w → IsInOrder s p → IsAttempt state start_at p v a → allowance state start_at phase < 4
+      → TellsClient s p v w → IsInOrder s p → IsAttempt state start_at p v a → allowance state start_at phase < 5
       → Advances {C = C} state start_at s p v x phase next step.Ended
   client_write_fails s p v w x a phase next fault reply answering same fails is tells order attempt less =
       fails_with state start_at s p v x phase next a (fault_error Downstream fault) is
@@ -279,11 +280,7 @@ module _ {L C : Type 0} (state : L → LinkState) (start_at : L → LinkStart) w
           rose = λ below. omega (arith, tells.faults, fails.faults below);
           kind = fails.kind;
           whole = sent_whole_by s p w.ahead answering.head answering.asking answering.sent;
-          head = reply;
-          len = answering.len;
-          n = answering.n;
-          answered = answering.answered;
-          ended = answering.ended;
+          writing = endings.IsBeingWritten.has_length reply answering.len answering.n answering.answered answering.ended;
         }));
         not_kept = refl;
         stays = refl;
@@ -521,12 +518,12 @@ module _ {L C : Type 0} (state : L → LinkState) (start_at : L → LinkStart) w
       (record {
         why = inl (record {
           whole = sent_whole_by s p w.ahead run.holds.1.answering.head run.holds.1.answering.asking run.holds.1.answering.sent;
-          why = inr (inr (inr (record {
+          why = inl (endings.IsUnfit.is_cut_in_body (record {
             body = in_body s p w.ahead a.request (state a.connection.link) reply a.connection.ahead left none run.holds.1;
             ended = ends.ended;
             error = ap (λ (b : Bool). cut_off b)
                 (sym (some_came s p w.ahead a.request (state a.connection.link) reply run.holds.1.answering));
-          })));
+          }));
         });
         not_kept = refl;
         stays = refl;
@@ -552,7 +549,7 @@ module _ {L C : Type 0} (state : L → LinkState) (start_at : L → LinkStart) w
           place = inr (inr (record {
             kind = fails.kind;
             whole = sent_whole_by s p w.ahead run.holds.1.answering.head run.holds.1.answering.asking run.holds.1.answering.sent;
-            body = in_body s p w.ahead a.request (state a.connection.link) reply a.connection.ahead left none run.holds.1;
+            body = inl (in_body s p w.ahead a.request (state a.connection.link) reply a.connection.ahead left none run.holds.1);
             ended = fails.ended;
           }));
         }));

@@ -17,8 +17,9 @@ use Rattle.relay_h1.specs.declared.Connection.{Connection}
 use Rattle.relay_h1.specs.declared.Framing.{Framing}
 use Rattle.relay_h1.proofs.HeadEndLemmas.{head_end-within}
 use Rattle.relay_h1.proofs.VerdictLemmas.{HasResponse-append}
-use Rattle.relay_proxy.specs.Built.{IsBuiltResponse}
+use Rattle.relay_proxy.specs.Built.{IsBuiltResponse, IsBuiltStream}
 use Rattle.relay_proxy.specs.Passed.{World, Start, Passed, Waited, TellsClient, TellsLink}
+use Rattle.relay_proxy.specs.Endings as endings
 use Rattle.relay_proxy.specs.Endings.{IsPrefixOf, IsInOrder, response_so_far, IsSentWhole, EndsLinked, IsAskedPeer, fault_error, unbuilt_error, cut_off}
 use Rattle.relay_proxy.specs.Phases.{IsAsking, IsAnswering, IsAttempt, RunSoFar, allowance}
 use Rattle.relay_proxy.specs.Turn.{Advances, failed}
@@ -75,7 +76,7 @@ order_of_answering s p ahead request link reply a part = record {
     accepted = a.asking.accepted;
     part = record { rest = []; joined = append-nil p.sent ∙ a.sent };
   });
-  written = inr (inr (record {
+  written = inr (inr (inl (record {
     request = a.head;
     request_len = a.asking.len;
     accepted = a.asking.accepted;
@@ -85,7 +86,7 @@ order_of_answering s p ahead request link reply a part = record {
     n = a.n;
     answered = a.answered;
     part = part;
-  }));
+  })));
 }
 
 -- a response that was accepted stays accepted when more is written
@@ -376,7 +377,7 @@ module _ {L C : Type 0} (state : L → LinkState) (start_at : L → LinkStart) w
       → next ≡ failed b e → TellsClient s p v x → IsInOrder s p
       → IsAttempt state start_at p v b
       → EndsLinked s p x (state b.connection.link) (start_at b.connection.link) false (outcome.Served (Some e) false)
-      → allowance state start_at phase < 4
+      → allowance state start_at phase < 5
       → Advances {C = C} state start_at s p v x phase next step.Ended
   fails_with s p v x phase next b e is tells order attempt ends less =
       subst (λ (n : Phase L C). Advances state start_at s p v x phase n step.Ended) (sym is) (record {
@@ -532,12 +533,12 @@ module _ {L C : Type 0} (state : L → LinkState) (start_at : L → LinkStart) w
       (record {
         why = inl (record {
           whole = sent_whole_by s p w.ahead run.holds.1.head run.holds.1.asking run.holds.1.sent;
-          why = inr (inr (inl (record {
+          why = inl (endings.IsUnfit.is_cut_in_head (record {
             open_head = subst (λ (xs : List ℕ). IsOpen xs) run.holds.1.all_held open_head;
             ended = ends.ended;
             error = ap (λ (xs : List ℕ). cut_off (length xs == 0)) run.holds.1.all_held;
             written = run.holds.1.written;
-          })));
+          }));
         });
         not_kept = refl;
         stays = refl;
@@ -585,13 +586,13 @@ module _ {L C : Type 0} (state : L → LinkState) (start_at : L → LinkStart) w
       (record {
         why = inl (record {
           whole = sent_whole_by s p w.ahead run.holds.1.head run.holds.1.asking run.holds.1.sent;
-          why = inl (record {
+          why = inl (endings.IsUnfit.has_broken_head (record {
             why = why;
             refused = subst (λ (xs : List ℕ). IsRefusedResponse run.holds.1.head.method false xs why) run.holds.1.all_held
                 (subst (λ (h : RequestHead). IsRefusedResponse h.method false a.connection.ahead why) run.holds.1.is refused);
             error = refl;
             written = run.holds.1.written;
-          });
+          }));
         });
         not_kept = refl;
         stays = refl;
@@ -602,22 +603,24 @@ module _ {L C : Type 0} (state : L → LinkState) (start_at : L → LinkStart) w
   pub response_unbuilt : (s : Start) (p : Passed) (v : Waited) (w : World) (a : Attempt L C) (head : ResponseHead)
       (framing : Framing) (len : ℕ) (next : Phase L C)
       → HasResponse a.request.method false a.connection.ahead head framing len
-      → ((n : ℕ) → ¬ (IsBuiltResponse head framing n)) → next ≡ failed a (unbuilt_error head)
+      → ((n : ℕ) → ¬ (IsBuiltResponse head framing n)) → ¬ (IsBuiltStream head framing)
+      → next ≡ failed a (unbuilt_error head)
       → RunSoFar {C = C} state start_at s p v w [] (ReadResponse a)
       → Advances {C = C} state start_at s p v w (ReadResponse a) next step.Ended
-  response_unbuilt s p v w a head framing len next has unbuilt is run =
+  response_unbuilt s p v w a head framing len next has unbuilt unstreamed is run =
       fails_with s p v w (ReadResponse a) next a (unbuilt_error head) is run.tells run.order
       run.holds.0
       (record {
         why = inl (record {
           whole = sent_whole_by s p w.ahead run.holds.1.head run.holds.1.asking run.holds.1.sent;
-          why = inr (inl (record {
+          why = inl (endings.IsUnfit.has_unbuilt_head (record {
             head = head;
             framing = framing;
             len = len;
             has = answers_to run.holds.1.head.method a.request.method p.got a.connection.ahead head framing len
                 (ap (λ (h : RequestHead). h.method) run.holds.1.is) run.holds.1.all_held has;
             unbuilt = unbuilt;
+            unstreamed = unstreamed;
             error = refl;
             written = run.holds.1.written;
           }));

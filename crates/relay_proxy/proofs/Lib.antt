@@ -5,3 +5,4 @@ pub mod BodySteps
 pub mod StepLemmas
 pub mod UnderWay
 pub mod ExactLemmas
+pub mod StreamSteps

@@ -16,7 +16,7 @@ use Rattle.relay_proxy.specs.Closing.{Hands, HandsBack, Settles, GivesUp, Finish
 use Rattle.relay_proxy.specs.declared.finish.Ending.{Ending}
 use Rattle.relay_proxy.specs.declared.machine.Attempt.{Attempt}
 use Rattle.relay_proxy.specs.declared.machine.Phase.{Phase}
-use Rattle.relay_proxy.specs.declared.machine.Phase.TheVariants.{ReadHead, Refuse, Connect, SendHead, ReadResponse, WriteHead, RelayBody, Close, Ended}
+use Rattle.relay_proxy.specs.declared.machine.Phase.TheVariants.{ReadHead, Refuse, Connect, SendHead, ReadResponse, WriteHead, RelayBody, WriteChunks, ReadChunks, WriteLast, Close, Ended}
 use Rattle.relay_proxy.specs.declared.machine.RunStep.{RunStep}
 use Rattle.relay_proxy.specs.declared.machine.RunStep.TheVariants as step
 use Rattle.relay_proxy.specs.declared.outcome.Outcome.{Outcome}
@@ -122,6 +122,12 @@ module _ {L C : Type 0} (state : L → LinkState) (start_at : L → LinkStart) w
       stays s p v w (WriteHead a reply text left) settled before after does.0 does.1 run
   settle_run s p v w (RelayBody a reply left) settled before after does run =
       stays s p v w (RelayBody a reply left) settled before after does.0 does.1 run
+  settle_run s p v w (WriteChunks a stream text) settled before after does run =
+      stays s p v w (WriteChunks a stream text) settled before after does.0 does.1 run
+  settle_run s p v w (ReadChunks a stream) settled before after does run =
+      stays s p v w (ReadChunks a stream) settled before after does.0 does.1 run
+  settle_run s p v w (WriteLast a stream text) settled before after does run =
+      stays s p v w (WriteLast a stream text) settled before after does.0 does.1 run
   settle_run s p v w (Close a keep outcome) settled before after does run = record {
     handed = does.2.entry ∷ [];
     gained = does.2.gained;
@@ -159,6 +165,9 @@ module _ {L C : Type 0} (state : L → LinkState) (start_at : L → LinkStart) w
   counts_turn (ReadResponse a) before after did work works is = counts_work before after did work works is
   counts_turn (WriteHead a reply text left) before after did work works is = counts_work before after did work works is
   counts_turn (RelayBody a reply left) before after did work works is = counts_work before after did work works is
+  counts_turn (WriteChunks a stream text) before after did work works is = counts_work before after did work works is
+  counts_turn (ReadChunks a stream) before after did work works is = counts_work before after did work works is
+  counts_turn (WriteLast a stream text) before after did work works is = counts_work before after did work works is
   counts_turn (Close a keep outcome) before after did work works is = counts_rest before after did work works.0 works.1 is
   counts_turn (Ended outcome attempts) before after did work works is = counts_rest before after did work works.0 works.1 is
 
@@ -283,6 +292,15 @@ module _ {L C : Type 0} (state : L → LinkState) (start_at : L → LinkStart) w
   step_on s p v [] w x (RelayBody a reply left) turns work spent n next did before mid after turn rests kept does works is running =
       live_on s p v x (record { phase = RelayBody a reply left; turns = turns; work = work }) n next did before mid after (λ q u h. h)
       (turn running.run) kept does (counts_work turns n.turns did spent works is) running.turns
+  step_on s p v [] w x (WriteChunks a stream text) turns work spent n next did before mid after turn rests kept does works is running =
+      live_on s p v x (record { phase = WriteChunks a stream text; turns = turns; work = work }) n next did before mid after (λ q u h. h)
+      (turn running.run) kept does (counts_work turns n.turns did spent works is) running.turns
+  step_on s p v [] w x (ReadChunks a stream) turns work spent n next did before mid after turn rests kept does works is running =
+      live_on s p v x (record { phase = ReadChunks a stream; turns = turns; work = work }) n next did before mid after (λ q u h. h)
+      (turn running.run) kept does (counts_work turns n.turns did spent works is) running.turns
+  step_on s p v [] w x (WriteLast a stream text) turns work spent n next did before mid after turn rests kept does works is running =
+      live_on s p v x (record { phase = WriteLast a stream text; turns = turns; work = work }) n next did before mid after (λ q u h. h)
+      (turn running.run) kept does (counts_work turns n.turns did spent works is) running.turns
   step_on s p v [] w x (Close a keep outcome) turns work spent n next did before mid after turn rests kept does works is running =
       closed_on s p v w x a keep outcome turns work spent n next did before mid after rests kept does works.0 is running
   step_on s p v [] w x (Ended outcome attempts) turns work spent n next did before mid after turn rests kept does works is running =
@@ -300,6 +318,12 @@ module _ {L C : Type 0} (state : L → LinkState) (start_at : L → LinkStart) w
   step_on s p v (r ∷ own) w x (WriteHead a reply text left) turns work spent n next did before mid after turn rests kept does works is running =
       absurd running.run.holds
   step_on s p v (r ∷ own) w x (RelayBody a reply left) turns work spent n next did before mid after turn rests kept does works is running =
+      absurd running.run.holds
+  step_on s p v (r ∷ own) w x (WriteChunks a stream text) turns work spent n next did before mid after turn rests kept does works is running =
+      absurd running.run.holds
+  step_on s p v (r ∷ own) w x (ReadChunks a stream) turns work spent n next did before mid after turn rests kept does works is running =
+      absurd running.run.holds
+  step_on s p v (r ∷ own) w x (WriteLast a stream text) turns work spent n next did before mid after turn rests kept does works is running =
       absurd running.run.holds
   step_on s p v (r ∷ own) w x (Close a keep outcome) turns work spent n next did before mid after turn rests kept does works is running =
       absurd running.run.holds
@@ -388,6 +412,15 @@ module _ {L C : Type 0} (state : L → LinkState) (start_at : L → LinkStart) w
   end_of s p v [] w (RelayBody a reply left) before after ending does run =
       linked_end s p v w (RelayBody a reply left) a false before after ending TurnLimit does.limit does.back run run.holds.0 refl
       (λ l same h. elim h [ inl r ↦ inl (rw same r) | inr k ↦ inr (inr k) ])
+  end_of s p v [] w (WriteChunks a stream text) before after ending does run =
+      linked_end s p v w (WriteChunks a stream text) a false before after ending TurnLimit does.limit does.back run run.holds.0 refl
+      (λ l same h. inr (inr h))
+  end_of s p v [] w (ReadChunks a stream) before after ending does run =
+      linked_end s p v w (ReadChunks a stream) a false before after ending TurnLimit does.limit does.back run run.holds.0 refl
+      (λ l same h. inl (rw same h))
+  end_of s p v [] w (WriteLast a stream text) before after ending does run =
+      linked_end s p v w (WriteLast a stream text) a false before after ending TurnLimit does.limit does.back run run.holds.0 refl
+      (λ l same h. inr (inr h))
   end_of s p v [] w (Close a keep outcome) before after ending does run =
       linked_end s p v w (Close a keep outcome) a keep before after ending outcome does.0 does.1 run run.holds.0 run.holds.1
       (λ l same h. absurd h)
@@ -400,12 +433,15 @@ module _ {L C : Type 0} (state : L → LinkState) (start_at : L → LinkStart) w
   end_of s p v (r ∷ own) w (ReadResponse a) before after ending does run = absurd run.holds
   end_of s p v (r ∷ own) w (WriteHead a reply text left) before after ending does run = absurd run.holds
   end_of s p v (r ∷ own) w (RelayBody a reply left) before after ending does run = absurd run.holds
+  end_of s p v (r ∷ own) w (WriteChunks a stream text) before after ending does run = absurd run.holds
+  end_of s p v (r ∷ own) w (ReadChunks a stream) before after ending does run = absurd run.holds
+  end_of s p v (r ∷ own) w (WriteLast a stream text) before after ending does run = absurd run.holds
   end_of s p v (r ∷ own) w (Close a keep outcome) before after ending does run = absurd run.holds
   end_of s p v (r ∷ own) w (Ended outcome attempts) before after ending does run =
       ended_end s p v w (r ∷ own) outcome attempts before after ending run.holds does.0 does.1 does.2 run
 
   -- few phases have many turns
-  pub allowance-le : (phase : Phase L C) → allowance state start_at phase ≤ 4
+  pub allowance-le : (phase : Phase L C) → allowance state start_at phase ≤ 5
   allowance-le ReadHead = omega arith
   allowance-le (Refuse answer e) = omega arith
   allowance-le (Connect context request text) = omega arith
@@ -413,6 +449,9 @@ module _ {L C : Type 0} (state : L → LinkState) (start_at : L → LinkStart) w
   allowance-le (ReadResponse a) = omega arith
   allowance-le (WriteHead a reply text left) = omega arith
   allowance-le (RelayBody a reply left) = omega arith
+  allowance-le (WriteChunks a stream text) = omega arith
+  allowance-le (ReadChunks a stream) = omega arith
+  allowance-le (WriteLast a stream text) = omega arith
   allowance-le (Close a keep outcome) = omega arith
   allowance-le (Ended outcome attempts) = omega arith
 
@@ -427,6 +466,9 @@ module _ {L C : Type 0} (state : L → LinkState) (start_at : L → LinkStart) w
   over_end v (ReadResponse a) before after ending going does over = absurd (not_true (sym over))
   over_end v (WriteHead a reply text left) before after ending going does over = absurd (not_true (sym over))
   over_end v (RelayBody a reply left) before after ending going does over = absurd (not_true (sym over))
+  over_end v (WriteChunks a stream text) before after ending going does over = absurd (not_true (sym over))
+  over_end v (ReadChunks a stream) before after ending going does over = absurd (not_true (sym over))
+  over_end v (WriteLast a stream text) before after ending going does over = absurd (not_true (sym over))
   over_end v (Close a keep outcome) before after ending going does over = λ limit. going (sym does.0 ∙ limit)
   over_end v (Ended outcome attempts) before after ending going does over = λ limit. going (sym does.0 ∙ limit)
 
@@ -440,6 +482,9 @@ module _ {L C : Type 0} (state : L → LinkState) (start_at : L → LinkStart) w
   going_end (ReadResponse a) before after ending does live = does.limit
   going_end (WriteHead a reply text left) before after ending does live = does.limit
   going_end (RelayBody a reply left) before after ending does live = does.limit
+  going_end (WriteChunks a stream text) before after ending does live = does.limit
+  going_end (ReadChunks a stream) before after ending does live = does.limit
+  going_end (WriteLast a stream text) before after ending does live = does.limit
   going_end (Close a keep outcome) before after ending does live = absurd (not_true live)
   going_end (Ended outcome attempts) before after ending does live = absurd (not_true live)
 
@@ -453,5 +498,8 @@ rests_end w x (SendHead a text) next did rests over = absurd (not_true (sym over
 rests_end w x (ReadResponse a) next did rests over = absurd (not_true (sym over))
 rests_end w x (WriteHead a reply text left) next did rests over = absurd (not_true (sym over))
 rests_end w x (RelayBody a reply left) next did rests over = absurd (not_true (sym over))
+rests_end w x (WriteChunks a stream text) next did rests over = absurd (not_true (sym over))
+rests_end w x (ReadChunks a stream) next did rests over = absurd (not_true (sym over))
+rests_end w x (WriteLast a stream text) next did rests over = absurd (not_true (sym over))
 rests_end w x (Close a keep outcome) next did rests over = rests.1
 rests_end w x (Ended outcome attempts) next did rests over = rests.1

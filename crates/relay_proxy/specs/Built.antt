@@ -1,9 +1,10 @@
 -- The forms of exchange that the proxy relays so far: a request by HTTP/1.1 without a body, answered
--- by one final head and a body of a known length (RFC 9110, sections 9 and 15; RFC 9112, section 6).
-use Rattle.std.specs.Prelude.{◌≡◌, ◌≤◌, ◌⊎◌, ℕ, false, List, [], codes, slice_get, Some}
+-- by one final head and its body (RFC 9110, sections 9 and 15; RFC 9112, section 6).
+use Rattle.std.specs.Prelude.{◌≡◌, ◌≤◌, ◌⊎◌, ℕ, Bool, true, false, List, [], codes, slice_get, Some}
 use Rattle.http.specs.declared.version.TheConstants.Version.{HTTP_11}
 use Rattle.http_header.specs.HeaderMap.{ContainsKey}
 use Rattle.relay_tasks.specs.Head.{RequestHead, ResponseHead}
+use Rattle.relay_h1.specs.ClientHead.{chunked_head}
 use Rattle.relay_h1.specs.Options.{closes}
 use Rattle.relay_h1.specs.declared.Framing.{Framing}
 use Rattle.relay_h1.specs.declared.Framing.TheVariants.{Empty, Length, Chunked, UntilClose, Tunnel}
@@ -37,6 +38,35 @@ pub record IsBuiltResponse (head : ResponseHead) (framing : Framing) (n : ℕ) :
   pub final : 200 ≤ head.status
   pub length : HasLength framing n
 
+-- the framing lets a body end by its own text, or with the connection
+abbrev pub IsStreamed : Framing → Type 0
+IsStreamed Empty = ⊥
+IsStreamed (Length m) = ⊥
+IsStreamed Chunked = Unit {0}
+IsStreamed UntilClose = Unit {0}
+IsStreamed Tunnel = ⊥
+
+-- a response whose body is sent in chunks: its head is final
+pub record IsBuiltStream (head : ResponseHead) (framing : Framing) : Type 0 where
+  pub final : 200 ≤ head.status
+  pub streamed : IsStreamed framing
+
+-- the head of such a response as the client gets it: what ends with the connection is chunked now
+abbrev pub streamed_head : Framing → ResponseHead → ResponseHead
+streamed_head Empty head = head
+streamed_head (Length m) head = head
+streamed_head Chunked head = head
+streamed_head UntilClose head = chunked_head head
+streamed_head Tunnel head = head
+
+-- a body that ends with the connection leaves no link behind
+abbrev pub is_until_close : Framing → Bool
+is_until_close Empty = false
+is_until_close (Length m) = false
+is_until_close Chunked = false
+is_until_close UntilClose = true
+is_until_close Tunnel = false
+
 -- neither head has the option `close`
 pub record StayOpen (request : RequestHead) (response : ResponseHead) : Type 0 where
   pub asks : closes request.fields ≡ false
@@ -49,6 +79,13 @@ pub record IsLinkReusable (request : RequestHead) (response : ResponseHead) (pas
   pub version : response.version ≡ HTTP_11
   pub stay_open : StayOpen request response
   pub nothing_past : past ≡ []
+
+-- a link may serve another request behind a response that was sent in chunks
+pub record IsStreamReusable
+    (request : RequestHead) (framing : Framing) (reply : ResponseHead) (past : List ℕ)
+    : Type 0 where
+  pub ends_itself : is_until_close framing ≡ false
+  pub reusable : IsLinkReusable request reply past
 
 -- a client's connection may serve another request: it speaks HTTP/1.1, neither head closes it, and
 -- no byte past the request is ahead (RFC 9112, section 9.3)

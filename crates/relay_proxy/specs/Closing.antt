@@ -10,7 +10,7 @@ use Rattle.relay_proxy.specs.Turn.{Spends, IsStalled, Advances}
 use Rattle.relay_proxy.specs.declared.finish.Ending.{Ending}
 use Rattle.relay_proxy.specs.declared.machine.Attempt.{Attempt}
 use Rattle.relay_proxy.specs.declared.machine.Phase.{Phase}
-use Rattle.relay_proxy.specs.declared.machine.Phase.TheVariants.{ReadHead, Refuse, Connect, SendHead, ReadResponse, WriteHead, RelayBody, Close, Ended}
+use Rattle.relay_proxy.specs.declared.machine.Phase.TheVariants.{ReadHead, Refuse, Connect, SendHead, ReadResponse, WriteHead, RelayBody, WriteChunks, ReadChunks, WriteLast, Close, Ended}
 use Rattle.relay_proxy.specs.declared.machine.RunStep.{RunStep}
 use Rattle.relay_proxy.specs.declared.machine.RunStep.TheVariants as step
 use Rattle.relay_proxy.specs.declared.outcome.Outcome.{Outcome}
@@ -49,6 +49,9 @@ Settles (SendHead a text) before after next = (next ≡ SendHead a text) × (aft
 Settles (ReadResponse a) before after next = (next ≡ ReadResponse a) × (after ≡ before)
 Settles (WriteHead a reply text left) before after next = (next ≡ WriteHead a reply text left) × (after ≡ before)
 Settles (RelayBody a reply left) before after next = (next ≡ RelayBody a reply left) × (after ≡ before)
+Settles (WriteChunks a stream text) before after next = (next ≡ WriteChunks a stream text) × (after ≡ before)
+Settles (ReadChunks a stream) before after next = (next ≡ ReadChunks a stream) × (after ≡ before)
+Settles (WriteLast a stream text) before after next = (next ≡ WriteLast a stream text) × (after ≡ before)
 Settles {L} (Close a keep outcome) before after next =
     (attempts : List AttemptRecord) × (next ≡ Ended outcome attempts)
     × HandsBack a keep outcome before after attempts
@@ -76,6 +79,9 @@ Finishes (SendHead a text) before after ending = GivesLinkUp a before after endi
 Finishes (ReadResponse a) before after ending = GivesLinkUp a before after ending
 Finishes (WriteHead a reply text left) before after ending = GivesLinkUp a before after ending
 Finishes (RelayBody a reply left) before after ending = GivesLinkUp a before after ending
+Finishes (WriteChunks a stream text) before after ending = GivesLinkUp a before after ending
+Finishes (ReadChunks a stream) before after ending = GivesLinkUp a before after ending
+Finishes (WriteLast a stream text) before after ending = GivesLinkUp a before after ending
 Finishes (Close a keep outcome) before after ending =
     (ending.outcome ≡ outcome) × HandsBack a keep outcome before after ending.attempts
 Finishes (Ended outcome attempts) before after ending =
@@ -97,6 +103,9 @@ Rests w x (SendHead a text) next did = Unit {0}
 Rests w x (ReadResponse a) next did = Unit {0}
 Rests w x (WriteHead a reply text left) next did = Unit {0}
 Rests w x (RelayBody a reply left) next did = Unit {0}
+Rests w x (WriteChunks a stream text) next did = Unit {0}
+Rests w x (ReadChunks a stream) next did = Unit {0}
+Rests w x (WriteLast a stream text) next did = Unit {0}
 Rests w x (Close a keep outcome) next did =
     (next ≡ Close a keep outcome) × (did ≡ step.Ended) × (x ≡ w)
 Rests w x (Ended outcome attempts) next did =
@@ -115,6 +124,12 @@ module _ {L C : Type 0} (state : L → LinkState) (start_at : L → LinkStart) w
       Advances state start_at s p v x (WriteHead a reply text left) next did
   TurnOf s p v w x (RelayBody a reply left) next did =
       Advances state start_at s p v x (RelayBody a reply left) next did
+  TurnOf s p v w x (WriteChunks a stream text) next did =
+      Advances state start_at s p v x (WriteChunks a stream text) next did
+  TurnOf s p v w x (ReadChunks a stream) next did =
+      Advances state start_at s p v x (ReadChunks a stream) next did
+  TurnOf s p v w x (WriteLast a stream text) next did =
+      Advances state start_at s p v x (WriteLast a stream text) next did
   TurnOf s p v w x (Close a keep outcome) next did = Unit {0}
   TurnOf s p v w x (Ended outcome attempts) next did = Unit {0}
 
@@ -133,6 +148,12 @@ module _ {L C : Type 0} (state : L → LinkState) (start_at : L → LinkStart) w
       Spends state start_at p v q u w (WriteHead a reply text left) next did
   StepSpends p v q u w (RelayBody a reply left) next did =
       Spends state start_at p v q u w (RelayBody a reply left) next did
+  StepSpends p v q u w (WriteChunks a stream text) next did =
+      Spends state start_at p v q u w (WriteChunks a stream text) next did
+  StepSpends p v q u w (ReadChunks a stream) next did =
+      Spends state start_at p v q u w (ReadChunks a stream) next did
+  StepSpends p v q u w (WriteLast a stream text) next did =
+      Spends state start_at p v q u w (WriteLast a stream text) next did
 
   -- a step took the run so far on, and handed these links back
   pub record Steps

@@ -1,14 +1,16 @@
 -- How a request may end: each outcome with its cause, in terms of what passed.
-use Rattle.std.specs.Prelude.{◌≡◌, ◌≢◌, ℕ, ◌+◌, ◌<◌, ◌≤◌, ◌⊎◌, ◌↔◌, Bool, true, false, List, [], ◌∷◌, ◌++◌, length, take, drop, IsTrue, ◌==◌, if◌then◌else◌, Option, None, Some}
+use Rattle.std.specs.Prelude.{◌≡◌, ◌≢◌, ℕ, ◌+◌, ◌<◌, ◌≤◌, ◌⊎◌, ◌↔◌, Bool, true, false, List, [], ◌∷◌, ◌++◌, length, take, drop, IsTrue, ◌==◌, if◌then◌else◌, Option, None, Some, codes}
+use Rattle.std.specs.List.{concat}
+use Rattle.http_header.specs.HeaderMap.{RefusesInsert}
 use Rattle.relay_tasks.specs.Error.{new_error, error_of_fault, explained}
 use Rattle.relay_tasks.specs.Head.{RequestHead, ResponseHead}
 use Rattle.relay_tasks.specs.declared.Context.{Context}
-use Rattle.relay_tasks.specs.declared.Context.TheVariants.{Mismatch101, ClientClosed, UpstreamClosed}
+use Rattle.relay_tasks.specs.declared.Context.TheVariants.{Mismatch101, ClientClosed, UpstreamClosed, HeadTooLong, BadFraming}
 use Rattle.relay_tasks.specs.declared.Error.{Error}
 use Rattle.relay_tasks.specs.declared.ErrorType.TheVariants as kind
 use Rattle.relay_tasks.specs.declared.RetryType.TheVariants.{ReusedOnly}
 use Rattle.relay_tasks.specs.declared.ErrorSource.{ErrorSource}
-use Rattle.relay_tasks.specs.declared.ErrorSource.TheVariants.{Upstream, Downstream}
+use Rattle.relay_tasks.specs.declared.ErrorSource.TheVariants.{Upstream, Downstream, Internal}
 use Rattle.relay_tasks.specs.declared.Fault.{Fault}
 use Rattle.relay_tasks.specs.declared.Peer.{Peer}
 use Rattle.relay_links.specs.Count.{Rose}
@@ -18,8 +20,10 @@ use Rattle.relay_links.specs.declared.Returned.{Returned}
 use Rattle.relay_h1.specs.Verdict.{IsOpen, HasRequest, IsRefusedRequest, HasResponse, IsRefusedResponse, refused_from}
 use Rattle.relay_h1.specs.Wire.{request_text, response_text, generated}
 use Rattle.relay_h1.specs.declared.Framing.{Framing}
-use Rattle.relay_h1.specs.declared.Framing.TheVariants.{Empty}
-use Rattle.relay_proxy.specs.Built.{IsConnect, IsBuiltRequest, IsBuiltResponse, IsLinkReusable, IsClientReusable}
+use Rattle.relay_h1.specs.Body.{BodyText, broken, open_text, ended_text, Body}
+use Rattle.relay_h1.specs.BodyWire.{pieces_text, end_text}
+use Rattle.relay_h1.specs.declared.Framing.TheVariants.{Empty, Length, Chunked, UntilClose, Tunnel}
+use Rattle.relay_proxy.specs.Built.{IsConnect, IsBuiltRequest, IsBuiltResponse, IsBuiltStream, streamed_head, IsLinkReusable, IsStreamReusable, IsClientReusable}
 use Rattle.relay_proxy.specs.Passed.{World, Start, Passed, Waited, asked, TellsClient, TellsLink, IsUnsent}
 use Rattle.relay_proxy.specs.declared.outcome.Outcome.{Outcome}
 use Rattle.relay_proxy.specs.declared.outcome.Outcome.TheVariants.{NoRequest, Refused, Served, TurnLimit, OutOfMemory}
@@ -42,6 +46,43 @@ pub record IsAnswered (method : List ℕ) (p : Passed) (head : ResponseHead) (le
   pub framing : Framing
   pub has : HasResponse method false p.got head framing len
   pub built : IsBuiltResponse head framing n
+
+-- the link's first len bytes are this head in answer to that method, whose body is sent in chunks
+pub record IsAnsweredByStream
+    (method : List ℕ) (p : Passed) (head : ResponseHead) (framing : Framing) (len : ℕ)
+    : Type 0 where
+  pub has : HasResponse method false p.got head framing len
+  pub built : IsBuiltStream head framing
+
+-- the body ended with its first n bytes: by its text, or with the link
+pub data IsWholeBody (framing : Framing) (link : LinkState) (bytes body : List ℕ) (n : ℕ)
+    : Type 0 where
+  ends_by_text : Body framing bytes (ended_text body n) → IsWholeBody framing link bytes body n
+  ends_with_link : framing ≡ UntilClose → link.ended ≡ true → body ≡ bytes → n ≡ length bytes
+      → IsWholeBody framing link bytes body n
+
+-- the bytes say that whole body, or all of them are a body that the connection ends
+abbrev pub EndsBody : Framing → List ℕ → List ℕ → Type 0
+EndsBody Empty bytes body = (n : ℕ) × Body Empty bytes (ended_text body n)
+EndsBody (Length m) bytes body = (n : ℕ) × Body (Length m) bytes (ended_text body n)
+EndsBody Chunked bytes body = (n : ℕ) × Body Chunked bytes (ended_text body n)
+EndsBody UntilClose bytes body = body ≡ bytes
+EndsBody Tunnel bytes body = body ≡ bytes
+
+-- the pieces, joined, are the front of the body that the bytes say
+pub record AreFrontOf (framing : Framing) (bytes : List ℕ) (pieces : List (List ℕ)) : Type 0 where
+  pub text : BodyText
+  pub says : Body framing bytes text
+  pub rest : List ℕ
+  pub joined : concat pieces ++ rest ≡ text.bytes
+
+-- the response in chunks, as far as its body came in these pieces
+abbrev pub stream_so_far : ResponseHead → List (List ℕ) → List ℕ
+stream_so_far reply pieces = response_text reply ++ pieces_text Chunked pieces
+
+-- the response in chunks, whole
+abbrev pub stream_whole : ResponseHead → List (List ℕ) → List ℕ
+stream_whole reply pieces = stream_so_far reply pieces ++ end_text Chunked
 
 -- the response as far as its body has come
 abbrev pub response_so_far : Passed → ResponseHead → ℕ → ℕ → List ℕ
@@ -83,10 +124,27 @@ pub record WritesResponse (s : Start) (p : Passed) : Type 0 where
   pub answered : IsAnswered request.method p head len n
   pub part : IsPrefixOf p.written (response_so_far p head len n)
 
+-- the whole head was sent, and what was written is the front of the response in chunks: its pieces
+-- are the front of the body that came, and its last chunk stands only where that body has ended
+pub record WritesStream (s : Start) (p : Passed) : Type 0 where
+  pub request : RequestHead
+  pub request_len : ℕ
+  pub accepted : IsAccepted s p request request_len
+  pub sent : p.sent ≡ request_text request
+  pub head : ResponseHead
+  pub framing : Framing
+  pub len : ℕ
+  pub answered : IsAnsweredByStream request.method p head framing len
+  pub pieces : List (List ℕ)
+  pub front : AreFrontOf framing (drop len p.got) pieces
+  pub part : IsPrefixOf p.written (stream_so_far (streamed_head framing head) pieces)
+      ⊎ (EndsBody framing (drop len p.got) (concat pieces)
+      × IsPrefixOf p.written (stream_whole (streamed_head framing head) pieces))
+
 -- what was sent and what was written, whatever the outcome
 pub record IsInOrder (s : Start) (p : Passed) : Type 0 where
   pub sent : (p.sent ≡ []) ⊎ SendsHead s p
-  pub written : (p.written ≡ []) ⊎ (WritesRefusal s p ⊎ WritesResponse s p)
+  pub written : (p.written ≡ []) ⊎ (WritesRefusal s p ⊎ (WritesResponse s p ⊎ WritesStream s p))
 
 -- an error of that side which tells of the fault
 abbrev pub fault_error : ErrorSource → Fault → Error
@@ -224,6 +282,28 @@ pub record IsRelayedWhole (s : Start) (p : Passed) (w : World) (keep reuse : Boo
   pub goes_back : IsTrue reuse ↔ IsClientReusable request head w.ahead
   pub ahead : w.ahead ≡ drop request_len (asked s p)
 
+-- request and response were relayed whole, the response in chunks
+pub record IsStreamedWhole
+    (s : Start) (p : Passed) (w : World) (link : LinkState) (keep reuse : Bool) : Type 0 where
+  pub request : RequestHead
+  pub request_len : ℕ
+  pub accepted : IsAccepted s p request request_len
+  pub sent : p.sent ≡ request_text request
+  pub head : ResponseHead
+  pub framing : Framing
+  pub len : ℕ
+  pub answered : IsAnsweredByStream request.method p head framing len
+  pub pieces : List (List ℕ)
+  pub n : ℕ
+  pub whole : IsWholeBody framing link (drop len p.got) (concat pieces) n
+  pub written : p.written ≡ stream_whole (streamed_head framing head) pieces
+  -- the link is kept exactly where it may serve another request
+  pub kept : IsTrue keep
+      ↔ IsStreamReusable request framing (streamed_head framing head) (drop (len + n) p.got)
+  -- the client goes back exactly where it may ask for more
+  pub goes_back : IsTrue reuse ↔ IsClientReusable request (streamed_head framing head) w.ahead
+  pub ahead : w.ahead ≡ drop request_len (asked s p)
+
 -- the whole head was sent
 pub record IsSentWhole (s : Start) (p : Passed) : Type 0 where
   pub request : RequestHead
@@ -239,6 +319,15 @@ pub record IsInBody (method : List ℕ) (p : Passed) : Type 0 where
   pub answered : IsAnswered method p head len n
   pub short : length p.got < len + n
 
+-- the response's head was accepted, its body is sent in chunks, and it has not ended by its text
+pub record IsInStream (method : List ℕ) (p : Passed) : Type 0 where
+  pub head : ResponseHead
+  pub framing : Framing
+  pub len : ℕ
+  pub answered : IsAnsweredByStream method p head framing len
+  pub body : List ℕ
+  pub still : Body framing (drop len p.got) (open_text body)
+
 -- the response's head is refused, and nothing was written
 pub record IsBrokenHead (method : List ℕ) (p : Passed) (e : Error) : Type 0 where
   pub why : Context
@@ -253,6 +342,7 @@ pub record IsUnbuiltHead (method : List ℕ) (p : Passed) (e : Error) : Type 0 w
   pub len : ℕ
   pub has : HasResponse method false p.got head framing len
   pub unbuilt : (n : ℕ) → ¬ (IsBuiltResponse head framing n)
+  pub unstreamed : ¬ (IsBuiltStream head framing)
   pub error : e ≡ unbuilt_error head
   pub written : p.written ≡ []
 
@@ -269,16 +359,46 @@ pub record IsCutInBody (method : List ℕ) (p : Passed) (link : LinkState) (e : 
   pub ended : link.ended ≡ true
   pub error : e ≡ cut_off (length p.got == 0)
 
+-- the link ended inside a body that comes in chunks
+pub record IsCutInStream (method : List ℕ) (p : Passed) (link : LinkState) (e : Error)
+    : Type 0 where
+  pub stream : IsInStream method p
+  pub chunked : stream.framing ≡ Chunked
+  pub ended : link.ended ≡ true
+  pub error : e ≡ cut_off false
+
+-- the response's head lacks a framing, and has no room for the field that would say it
+pub record IsFullHead (method : List ℕ) (p : Passed) (e : Error) : Type 0 where
+  pub head : ResponseHead
+  pub len : ℕ
+  pub answered : IsAnsweredByStream method p head UntilClose len
+  pub full : RefusesInsert head.fields (codes "transfer-encoding")
+  pub error : e ≡ refused_from Internal HeadTooLong
+  pub written : p.written ≡ []
+
 -- the response is broken, of a form that is not relayed, or cut off
-abbrev pub IsUnfit : List ℕ → Passed → LinkState → Error → Type 0
-IsUnfit method p link e =
-    IsBrokenHead method p e
-    ⊎ (IsUnbuiltHead method p e ⊎ (IsCutInHead p link e ⊎ IsCutInBody method p link e))
+pub data IsUnfit (method : List ℕ) (p : Passed) (link : LinkState) (e : Error) : Type 0 where
+  has_broken_head : IsBrokenHead method p e → IsUnfit method p link e
+  has_unbuilt_head : IsUnbuiltHead method p e → IsUnfit method p link e
+  has_full_head : IsFullHead method p e → IsUnfit method p link e
+  is_cut_in_head : IsCutInHead p link e → IsUnfit method p link e
+  is_cut_in_body : IsCutInBody method p link e → IsUnfit method p link e
+  is_cut_in_stream : IsCutInStream method p link e → IsUnfit method p link e
+
+-- the body comes in chunks, and its text is broken
+pub record HasBrokenBody (method : List ℕ) (p : Passed) (e : Error) : Type 0 where
+  pub head : ResponseHead
+  pub framing : Framing
+  pub len : ℕ
+  pub answered : IsAnsweredByStream method p head framing len
+  pub body : List ℕ
+  pub breaks : Body framing (drop len p.got) (record { bytes = body; mark = broken })
+  pub error : e ≡ refused_from Upstream BadFraming
 
 -- the response is unfit, which the error says
 pub record IsUnfitResponse (s : Start) (p : Passed) (link : LinkState) (e : Error) : Type 0 where
   pub whole : IsSentWhole s p
-  pub why : IsUnfit whole.request.method p link e
+  pub why : IsUnfit whole.request.method p link e ⊎ HasBrokenBody whole.request.method p e
 
 -- the head was not sent whole: a write failed
 pub record IsInSending (s : Start) (p : Passed) (fault : Fault) : Type 0 where
@@ -300,7 +420,7 @@ pub record IsInHead (s : Start) (p : Passed) (link : LinkState) (fault : Fault) 
 pub record IsInOpenBody (s : Start) (p : Passed) (link : LinkState) (fault : Fault) : Type 0 where
   pub kind : IsReadFault fault
   pub whole : IsSentWhole s p
-  pub body : IsInBody whole.request.method p
+  pub body : IsInBody whole.request.method p ⊎ IsInStream whole.request.method p
   pub ended : link.ended ≡ false
 
 -- the attempt's link failed
@@ -311,6 +431,14 @@ pub record IsLinkFault
   pub rose : Rose start.faults link.faults
   pub place : IsInSending s p fault ⊎ (IsInHead s p link fault ⊎ IsInOpenBody s p link fault)
 
+-- the response's head was accepted, and the link has not ended, or a body that it ends has
+pub data IsBeingWritten (method : List ℕ) (p : Passed) (link : LinkState) : Type 0 where
+  has_length : (head : ResponseHead) (len n : ℕ) → IsAnswered method p head len n
+      → link.ended ≡ false → IsBeingWritten method p link
+  is_streamed : (head : ResponseHead) (framing : Framing) (len : ℕ)
+      → IsAnsweredByStream method p head framing len
+      → (framing ≡ Chunked → link.ended ≡ false) → IsBeingWritten method p link
+
 -- the client's link failed while the response was written to it
 pub record IsLateClientFault
     (s : Start) (p : Passed) (w : World) (link : LinkState) (e : Error) : Type 0 where
@@ -319,11 +447,7 @@ pub record IsLateClientFault
   pub error : e ≡ fault_error Downstream fault
   pub rose : Rose s.faults w.client.faults
   pub whole : IsSentWhole s p
-  pub head : ResponseHead
-  pub len : ℕ
-  pub n : ℕ
-  pub answered : IsAnswered whole.request.method p head len n
-  pub ended : link.ended ≡ false
+  pub writing : IsBeingWritten whole.request.method p link
 
 -- an attempt failed: its link is not kept, and the client does not go back
 pub record IsFailedAttempt
@@ -337,7 +461,8 @@ pub record IsFailedAttempt
 abbrev pub EndsLinked : Start → Passed → World → LinkState → LinkStart → Bool → Outcome → Type 0
 EndsLinked s p w link start keep NoRequest = ⊥
 EndsLinked s p w link start keep (Refused error) = ⊥
-EndsLinked s p w link start keep (Served None reuse) = IsRelayedWhole s p w keep reuse
+EndsLinked s p w link start keep (Served None reuse) =
+    IsRelayedWhole s p w keep reuse ⊎ IsStreamedWhole s p w link keep reuse
 EndsLinked s p w link start keep (Served (Some e) reuse) = IsFailedAttempt s p w link start keep reuse e
 EndsLinked s p w link start keep TurnLimit = keep ≡ false
 EndsLinked s p w link start keep OutOfMemory = keep ≡ false

@@ -1,5 +1,6 @@
 -- Causes the other way round: where a cause stands, the request has that outcome.
-use Rattle.std.specs.Prelude.{◌≡◌, ℕ, ◌+◌, ◌≤◌, ◌⊎◌, Bool, true, false, List, [], ◌∷◌, ◌++◌, length, Option, Some, None}
+use Rattle.std.specs.Prelude.{◌≡◌, ℕ, ◌+◌, ◌≤◌, ◌⊎◌, Bool, true, false, List, [], ◌∷◌, ◌++◌, length, drop, Option, Some, None, codes}
+use Rattle.http_header.specs.HeaderMap.{RefusesInsert}
 use Rattle.relay_tasks.specs.Head.{RequestHead, ResponseHead}
 use Rattle.relay_tasks.specs.declared.Error.{Error}
 use Rattle.relay_links.specs.Count.{Rose}
@@ -7,10 +8,11 @@ use Rattle.relay_links.specs.Link.{LinkState, LinkStart}
 use Rattle.relay_links.specs.declared.Returned.{Returned}
 use Rattle.relay_h1.specs.Verdict.{HasRequest, HasResponse}
 use Rattle.relay_h1.specs.declared.Framing.{Framing}
-use Rattle.relay_h1.specs.declared.Framing.TheVariants.{Empty}
+use Rattle.relay_h1.specs.Body.{ended_text, Body}
+use Rattle.relay_h1.specs.declared.Framing.TheVariants.{Empty, Chunked, UntilClose}
 use Rattle.relay_proxy.specs.Built.{IsBuiltRequest, IsBuiltResponse}
 use Rattle.relay_proxy.specs.Passed.{World, Start, Passed, asked}
-use Rattle.relay_proxy.specs.Endings.{IsTurnedDown, IsLeftAlone, IsSentWhole, IsUnfit}
+use Rattle.relay_proxy.specs.Endings.{IsTurnedDown, IsLeftAlone, IsSentWhole, IsUnfit, HasBrokenBody}
 use Rattle.relay_proxy.specs.declared.outcome.Outcome.{Outcome}
 use Rattle.relay_proxy.specs.declared.outcome.Outcome.TheVariants.{NoRequest, Refused, Served, TurnLimit, OutOfMemory}
 
@@ -28,19 +30,27 @@ pub record AsksFor (s : Start) (p : Passed) (w : World) (text : List ℕ) : Type
   pub built : IsBuiltRequest head Empty
   pub ended : w.client.ended ≡ true → rest ≡ []
 
--- a link gives this text and no more, and it begins with a response to that method that is relayed,
--- whole
+-- the text begins with a response to that method that is relayed, whole; `closed` is whether it is
+-- followed by the end of the link
+pub data IsResponse (method text : List ℕ) (closed : Bool) : Type 0 where
+  has_length : (head : ResponseHead) (framing : Framing) (len n : ℕ)
+      → HasResponse method false text head framing len → IsBuiltResponse head framing n
+      → len + n ≤ length text → IsResponse method text closed
+  is_chunked : (head : ResponseHead) (len n : ℕ) (body : List ℕ)
+      → HasResponse method false text head Chunked len → 200 ≤ head.status
+      → Body Chunked (drop len text) (ended_text body n) → IsResponse method text closed
+  ends_with_link : (head : ResponseHead) (len : ℕ)
+      → HasResponse method false text head UntilClose len → 200 ≤ head.status
+      → ¬ (RefusesInsert head.fields (codes "transfer-encoding"))
+      → closed ≡ true → IsResponse method text closed
+
+-- a link gives this text and no more, and it is such a response
 pub record AnswersWith (method : List ℕ) (p : Passed) (link : LinkState) (text : List ℕ)
     : Type 0 where
   pub rest : List ℕ
   pub joined : p.got ++ rest ≡ text
-  pub head : ResponseHead
-  pub framing : Framing
-  pub len : ℕ
-  pub n : ℕ
-  pub has : HasResponse method false text head framing len
-  pub built : IsBuiltResponse head framing n
-  pub body : len + n ≤ length text
+  pub closed : Bool
+  pub response : IsResponse method text closed
   pub ended : link.ended ≡ true → rest ≡ []
 
 -- the client was given a generated answer for its bytes
@@ -60,7 +70,7 @@ pub record IsLeft (s : Start) (p : Passed) (w : World) (outcome : Outcome) : Typ
 pub record IsMissed (method : List ℕ) (p : Passed) (link : LinkState) (outcome : Outcome)
     : Type 0 where
   pub e : Error
-  pub why : IsUnfit method p link e
+  pub why : IsUnfit method p link e ⊎ HasBrokenBody method p e
   pub is : outcome ≡ Served (Some e) false
 
 module _ {L : Type 0} (state : L → LinkState) (start_at : L → LinkStart) where
@@ -80,9 +90,13 @@ module _ {L : Type 0} (state : L → LinkState) (start_at : L → LinkStart) whe
         → p.written ≡ answer → IsUnfinished outcome ⊎ IsRefusal s p outcome
     -- the client ended inside its head, or the head is of a form that is not relayed
     pub not_relayed : (e : Error) → IsLeftAlone s p w e → IsUnfinished outcome ⊎ IsLeft s p w outcome
-    -- the response is broken, cut off, or of a form that is not relayed
+    -- the response is cut off, or of a form that is not relayed, or its head is broken
     pub unfit : (r : Returned L) (e : Error) → own ≡ r ∷ [] → (whole : IsSentWhole s p)
         → IsUnfit whole.request.method p (state r.link) e
+        → IsUnfinished outcome ⊎ IsMissed whole.request.method p (state r.link) outcome
+    -- the body's text is broken, and no write to the client failed
+    pub broken : (r : Returned L) (e : Error) → own ≡ r ∷ [] → (whole : IsSentWhole s p)
+        → HasBrokenBody whole.request.method p e → ¬ (Rose s.faults w.client.faults)
         → IsUnfinished outcome ⊎ IsMissed whole.request.method p (state r.link) outcome
     -- a request and a response that are relayed, with no fault
     pub whole : (request response : List ℕ) (asks : AsksFor s p w request)

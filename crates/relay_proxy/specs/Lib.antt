@@ -8,3 +8,4 @@ pub mod Work
 pub mod Closing
 pub mod Request
 pub mod Exact
+pub mod Stream

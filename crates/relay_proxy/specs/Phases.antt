@@ -6,11 +6,16 @@ use Rattle.relay_links.specs.Link.{LinkState, LinkStart, IsSound}
 use Rattle.relay_links.specs.declared.Returned.{Returned}
 use Rattle.relay_h1.specs.Wire.{request_text, response_text}
 use Rattle.relay_proxy.specs.Passed.{World, Start, Passed, Waited, asked, TellsClient, TellsLink, IsUnsent}
-use Rattle.relay_proxy.specs.Endings.{IsAccepted, IsAnswered, IsTurnedDown, IsInOrder, EndsUnlinked, EndsLinked, EndsWith, IsAskedPeer, AttemptsUnlinked}
+use Rattle.relay_proxy.specs.Endings.{IsAccepted, IsAnswered, IsAnsweredByStream, IsWholeBody, stream_so_far, stream_whole, IsTurnedDown, IsInOrder, EndsUnlinked, EndsLinked, EndsWith, IsAskedPeer, AttemptsUnlinked}
 use Rattle.relay_proxy.specs.declared.outcome.Outcome.TheVariants.{TurnLimit}
 use Rattle.relay_proxy.specs.declared.machine.Phase.{Phase}
-use Rattle.relay_proxy.specs.declared.machine.Phase.TheVariants.{ReadHead, Refuse, Connect, SendHead, ReadResponse, WriteHead, RelayBody, Close, Ended}
+use Rattle.relay_proxy.specs.declared.machine.Phase.TheVariants.{ReadHead, Refuse, Connect, SendHead, ReadResponse, WriteHead, RelayBody, WriteChunks, ReadChunks, WriteLast, Close, Ended}
 use Rattle.relay_proxy.specs.declared.machine.Attempt.{Attempt}
+use Rattle.relay_proxy.specs.declared.machine.Stream.{Stream}
+use Rattle.relay_proxy.specs.Built.{streamed_head}
+use Rattle.relay_h1.specs.BodyReader.{SoFar}
+use Rattle.relay_h1.specs.declared.Framing.TheVariants.{Chunked}
+use Rattle.std.specs.List.{concat}
 
 -- the client's head is read: nothing was taken from what is ahead
 pub record IsReadingHead (s : Start) (p : Passed) (ahead : List ℕ) : Type 0 where
@@ -99,6 +104,56 @@ pub record IsRelayingBody
   pub rest_held : held ≡ drop (answering.len + done) p.got
   pub body : done + left ≡ answering.n
 
+-- the response's head was accepted, and its body is sent in chunks
+pub record IsStreaming
+    (s : Start) (p : Passed) (ahead : List ℕ) (request : RequestHead) (stream : Stream)
+    : Type 0 where
+  pub head : RequestHead
+  pub is : request ≡ head
+  pub asking : IsAsking s p ahead head
+  pub sent : p.sent ≡ request_text head
+  pub given : ResponseHead
+  pub len : ℕ
+  pub answered : IsAnsweredByStream head.method p given stream.framing len
+  pub within : len ≤ length p.got
+  pub reply : stream.head ≡ streamed_head stream.framing given
+
+-- these pieces of the body were cut, and more is to be cut from what is held
+pub record IsCutting
+    (s : Start) (p : Passed) (ahead : List ℕ) (request : RequestHead) (link : LinkState)
+    (stream : Stream) (held : List ℕ) (pieces : List (List ℕ)) : Type 0 where
+  pub streaming : IsStreaming s p ahead request stream
+  pub so_far : SoFar stream.framing (drop streaming.len p.got) (concat pieces) stream.reader held
+  pub ended : link.ended ≡ false
+
+-- this is left of the response in chunks as far as it was cut, and more is to come
+pub record IsWritingChunks
+    (s : Start) (p : Passed) (ahead : List ℕ) (request : RequestHead) (link : LinkState)
+    (stream : Stream) (held text : List ℕ) : Type 0 where
+  pub pieces : List (List ℕ)
+  pub cutting : IsCutting s p ahead request link stream held pieces
+  pub joined : p.written ++ text ≡ stream_so_far stream.head pieces
+
+-- all that was cut was written
+pub record IsReadingChunks
+    (s : Start) (p : Passed) (ahead : List ℕ) (request : RequestHead) (link : LinkState)
+    (stream : Stream) (held : List ℕ) : Type 0 where
+  pub pieces : List (List ℕ)
+  pub cutting : IsCutting s p ahead request link stream held pieces
+  pub written : p.written ≡ stream_so_far stream.head pieces
+
+-- the body has ended, and this is left of the response in chunks
+pub record IsWritingLast
+    (s : Start) (p : Passed) (ahead : List ℕ) (request : RequestHead) (link : LinkState)
+    (stream : Stream) (held text : List ℕ) : Type 0 where
+  pub pieces : List (List ℕ)
+  pub streaming : IsStreaming s p ahead request stream
+  pub n : ℕ
+  pub whole : IsWholeBody stream.framing link (drop streaming.len p.got) (concat pieces) n
+  pub rest_held : stream.framing ≡ Chunked → held ≡ drop (streaming.len + n) p.got
+  pub joined : p.written ++ text ≡ stream_whole stream.head pieces
+  pub ended : stream.framing ≡ Chunked → link.ended ≡ false
+
 module _ {L C : Type 0} (state : L → LinkState) (start_at : L → LinkStart) where
   -- the attempt's link tells what passed
   pub record IsAttempt (p : Passed) (v : Waited) (a : Attempt L C) : Type 0 where
@@ -126,6 +181,17 @@ module _ {L C : Type 0} (state : L → LinkState) (start_at : L → LinkStart) w
       IsAttempt p v a
       × IsRelayingBody s p w.ahead a.request (state a.connection.link) reply a.connection.ahead
       left.bytes
+  IsAt s p v w (WriteChunks a stream text) =
+      IsAttempt p v a
+      × IsWritingChunks s p w.ahead a.request (state a.connection.link) stream a.connection.ahead
+      text.output
+  IsAt s p v w (ReadChunks a stream) =
+      IsAttempt p v a
+      × IsReadingChunks s p w.ahead a.request (state a.connection.link) stream a.connection.ahead
+  IsAt s p v w (WriteLast a stream text) =
+      IsAttempt p v a
+      × IsWritingLast s p w.ahead a.request (state a.connection.link) stream a.connection.ahead
+      text.output
   IsAt s p v w (Close a keep outcome) =
       IsAttempt p v a
       × EndsLinked s p w (state a.connection.link) (start_at a.connection.link) keep outcome
@@ -142,6 +208,9 @@ module _ {L C : Type 0} (state : L → LinkState) (start_at : L → LinkStart) w
   PhaseHolds s p v w (r ∷ own) (ReadResponse a) = ⊥
   PhaseHolds s p v w (r ∷ own) (WriteHead a reply text left) = ⊥
   PhaseHolds s p v w (r ∷ own) (RelayBody a reply left) = ⊥
+  PhaseHolds s p v w (r ∷ own) (WriteChunks a stream text) = ⊥
+  PhaseHolds s p v w (r ∷ own) (ReadChunks a stream) = ⊥
+  PhaseHolds s p v w (r ∷ own) (WriteLast a stream text) = ⊥
   PhaseHolds s p v w (r ∷ own) (Close a keep outcome) = ⊥
   PhaseHolds s p v w (r ∷ own) (Ended outcome attempts) =
       EndsWith state start_at s p v w (r ∷ own) attempts outcome
@@ -155,6 +224,9 @@ module _ {L C : Type 0} (state : L → LinkState) (start_at : L → LinkStart) w
   IsGoing v (ReadResponse a) = Unit {0}
   IsGoing v (WriteHead a reply text left) = Unit {0}
   IsGoing v (RelayBody a reply left) = Unit {0}
+  IsGoing v (WriteChunks a stream text) = Unit {0}
+  IsGoing v (ReadChunks a stream) = Unit {0}
+  IsGoing v (WriteLast a stream text) = Unit {0}
   IsGoing v (Close a keep outcome) = outcome ≢ TurnLimit
   IsGoing v (Ended outcome attempts) = outcome ≢ TurnLimit
 
@@ -176,5 +248,8 @@ module _ {L C : Type 0} (state : L → LinkState) (start_at : L → LinkStart) w
   allowance (ReadResponse a) = 2
   allowance (WriteHead a reply text left) = 3
   allowance (RelayBody a reply left) = 3
-  allowance (Close a keep outcome) = 4
-  allowance (Ended outcome attempts) = 4
+  allowance (WriteChunks a stream text) = 3
+  allowance (ReadChunks a stream) = 3
+  allowance (WriteLast a stream text) = 4
+  allowance (Close a keep outcome) = 5
+  allowance (Ended outcome attempts) = 5

@@ -58,13 +58,13 @@ module _ {L C : Type 0} (state : L → LinkState) (start_at : L → LinkStart) w
     pub handed : List (Returned L)
     pub gained : after ≡ more before handed
     pub ended : IsEnded state start_at s p v w (own ++ handed) processed.history.attempts processed.outcome
-    pub turns : processed.history.turns_taken ≤ 4 + amount p v
+    pub turns : processed.history.turns_taken ≤ 5 + amount p v
     -- a request that has ended gives no `TurnLimit`
     pub over : is_over m.phase ≡ true → processed.outcome ≢ TurnLimit
     pub quiet : processed.outcome ≡ TurnLimit → IsStalled state start_at w m.phase → IsQuiet state w (own ++ handed)
 
 -- a whole request: what passed is told by the links, in order; the connector's list gained the
--- links that were handed back; the outcome has its cause; and each turn but four was a byte or a wait
+-- links that were handed back; the outcome has its cause; and each turn but five was a byte or a wait
 pub record Processes {L : Type 0} (state : L → LinkState) (start_at : L → LinkStart)
     (s : Start) (w : World) (before after : Option (List (Returned L))) (turns : ℕ) (processed : Processed)
     : Type 0 where
@@ -75,7 +75,7 @@ pub record Processes {L : Type 0} (state : L → LinkState) (start_at : L → Li
   pub ended : IsEnded state start_at s passed waited w own processed.history.attempts processed.outcome
   -- the other way round: where a cause stands, the outcome is its own
   pub exact : IsExact state start_at s passed w own processed.outcome
-  pub few_turns : processed.history.turns_taken ≤ 4 + amount passed waited
+  pub few_turns : processed.history.turns_taken ≤ 5 + amount passed waited
   -- a request that has not ended took all its turns, or met a link that is silent
   pub limit : processed.outcome ≡ TurnLimit
       → (processed.history.turns_taken ≡ turns) ⊎ IsQuiet state w own

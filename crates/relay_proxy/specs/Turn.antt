@@ -6,7 +6,7 @@ use Rattle.relay_h1.specs.declared.Connection.{Connection}
 use Rattle.relay_proxy.specs.Passed.{World, Start, Passed, Waited, amount}
 use Rattle.relay_proxy.specs.Phases.{RunSoFar, allowance}
 use Rattle.relay_proxy.specs.declared.machine.Phase.{Phase}
-use Rattle.relay_proxy.specs.declared.machine.Phase.TheVariants.{ReadHead, Refuse, Connect, SendHead, ReadResponse, WriteHead, RelayBody, Close, Ended}
+use Rattle.relay_proxy.specs.declared.machine.Phase.TheVariants.{ReadHead, Refuse, Connect, SendHead, ReadResponse, WriteHead, RelayBody, WriteChunks, ReadChunks, WriteLast, Close, Ended}
 use Rattle.relay_proxy.specs.declared.machine.Next.{Next}
 use Rattle.relay_proxy.specs.declared.machine.Attempt.{Attempt}
 use Rattle.relay_proxy.specs.declared.machine.BodyLeft.{BodyLeft}
@@ -45,6 +45,9 @@ module _ {L C : Type 0} (state : L → LinkState) (start_at : L → LinkStart) w
   links_held (ReadResponse a) = 1
   links_held (WriteHead a reply text left) = 1
   links_held (RelayBody a reply left) = 1
+  links_held (WriteChunks a stream text) = 1
+  links_held (ReadChunks a stream) = 1
+  links_held (WriteLast a stream text) = 1
   links_held (Close a keep outcome) = 1
   links_held (Ended outcome attempts) = 0
 
@@ -58,6 +61,9 @@ module _ {L C : Type 0} (state : L → LinkState) (start_at : L → LinkStart) w
   IsStalled w (WriteHead a reply text left) = w.client.silent_on_write ≡ true
   IsStalled w (RelayBody a reply left) =
       ((state a.connection.link).silent_on_read ≡ true) ⊎ (w.client.silent_on_write ≡ true)
+  IsStalled w (WriteChunks a stream text) = w.client.silent_on_write ≡ true
+  IsStalled w (ReadChunks a stream) = (state a.connection.link).silent_on_read ≡ true
+  IsStalled w (WriteLast a stream text) = w.client.silent_on_write ≡ true
   IsStalled w (Close a keep outcome) = ⊥
   IsStalled w (Ended outcome attempts) = ⊥
 
@@ -109,6 +115,9 @@ WorksIn (SendHead a text) did work = DoesWork did work
 WorksIn (ReadResponse a) did work = DoesWork did work
 WorksIn (WriteHead a reply text left) did work = DoesWork did work
 WorksIn (RelayBody a reply left) did work = DoesWork did work
+WorksIn (WriteChunks a stream text) did work = DoesWork did work
+WorksIn (ReadChunks a stream) did work = DoesWork did work
+WorksIn (WriteLast a stream text) did work = DoesWork did work
 WorksIn (Close a keep outcome) did work = (total_work work ≡ 0) × (did ≡ step.Ended)
 WorksIn (Ended outcome attempts) did work = (total_work work ≡ 0) × (did ≡ step.Ended)
 
@@ -121,6 +130,9 @@ is_over (SendHead a text) = false
 is_over (ReadResponse a) = false
 is_over (WriteHead a reply text left) = false
 is_over (RelayBody a reply left) = false
+is_over (WriteChunks a stream text) = false
+is_over (ReadChunks a stream) = false
+is_over (WriteLast a stream text) = false
 is_over (Close a keep outcome) = true
 is_over (Ended outcome attempts) = true
 

@@ -2,7 +2,7 @@
 //! one final head and a body of a known length (RFC 9110, sections 9 and 15).
 ghost use Rattle.std.specs.Prelude.{◌≡◌, ◌↔◌, IsTrue, ℕ, IfSome, IfNone, codes};
 ghost use Rattle.http_header.specs.HeaderMap.{ContainsKey};
-ghost use Rattle.relay_proxy.specs.Built.{IsConnect, IsKnownTarget, IsBuiltRequest, HasLength, IsBuiltResponse, StayOpen, IsLinkReusable, IsClientReusable};
+ghost use Rattle.relay_proxy.specs.Built.{IsConnect, IsKnownTarget, IsBuiltRequest, HasLength, IsBuiltResponse, IsStreamed, IsBuiltStream, is_until_close, StayOpen, IsLinkReusable, IsStreamReusable, IsClientReusable};
 
 use http::Version;
 use http_header::HeaderMap;
@@ -58,6 +58,43 @@ fn length_of(framing: Framing) -> Option<u64>
         Framing::Length(n) => Some(n),
         Framing::Chunked | Framing::UntilClose | Framing::Tunnel => None,
     }
+}
+
+/// Whether the body of a response is sent in chunks.
+pub(crate) fn is_built_stream(head: &ResponseHeader, framing: Framing) -> bool
+    ensures { IsTrue result ↔ IsBuiltStream head.now framing }
+{
+    if head.status() < 200 {
+        return false;
+    }
+    is_streamed(framing)
+}
+
+fn is_streamed(framing: Framing) -> bool
+    ensures { IsTrue result ↔ IsStreamed framing }
+{
+    match framing {
+        Framing::Chunked | Framing::UntilClose => true,
+        Framing::Empty | Framing::Length(_) | Framing::Tunnel => false,
+    }
+}
+
+fn is_until_close(framing: Framing) -> bool
+    ensures { result ≡ is_until_close framing }
+{
+    framing == Framing::UntilClose
+}
+
+/// Whether the link may serve another request behind a response that was sent in chunks.
+pub(crate) fn is_stream_reusable(
+    request: &RequestHeader,
+    framing: Framing,
+    reply: &ResponseHeader,
+    past: &[u8],
+) -> bool
+    ensures { IsTrue result ↔ IsStreamReusable request.now framing reply.now past.now }
+{
+    !is_until_close(framing) && is_link_reusable(request, reply, past)
 }
 
 /// Whether the link may serve another request, when it gave these bytes past the response.

@@ -1,15 +1,17 @@
 //! The attempt: the head goes to the link, and the response's head and body come back.
 ghost use Rattle.std.specs.Prelude.{◌≡◌, ◌≤◌, ◌<◌, ℕ, [], length, false, true};
 ghost use Rattle.relay_h1.specs.Verdict.{IsOpen, HasResponse};
+ghost use Rattle.relay_proxy.specs.Built.{IsBuiltStream};
 ghost use Rattle.relay_proxy.specs.Endings.{fault_error, unbuilt_error, cut_off};
 ghost use Rattle.relay_proxy.specs.Passed.{World, Start, Passed, Waited, asked};
 ghost use Rattle.relay_proxy.specs.Phases.{RunSoFar};
 ghost use Rattle.relay_proxy.specs.Turn.{failed, IsRest, world_of, DoesWork, is_over, is_end, links_held, Advances};
 
-use crate::built::{built_length, is_client_reusable, is_link_reusable};
+use crate::built::{built_length, is_built_stream, is_client_reusable, is_link_reusable};
 use crate::machine::{Attempt, BodyLeft, Next, Phase, RunStep};
 use crate::outcome::Outcome;
 use crate::pending::{Offered, Pending};
+use crate::stream::accept_stream;
 use crate::work::Work;
 use relay_h1::{Connection, Output, ResponseRead, write_response_head};
 use relay_links::{ByteLink, Got, Pause, Put};
@@ -64,7 +66,7 @@ pub(crate) fn send_head<L: ByteLink, C: Drop>(
 }
 
 /// The attempt ends with a fault of its link.
-fn link_failed<L, C>(attempt: Attempt<L, C>, fault: Fault) -> Phase<L, C>
+pub(crate) fn link_failed<L, C>(attempt: Attempt<L, C>, fault: Fault) -> Phase<L, C>
     ensures { result ≡ failed attempt (fault_error ErrorSource.Upstream fault) }
 {
     let error = Some(Error::of_fault(fault).into_up());
@@ -79,7 +81,7 @@ fn link_failed<L, C>(attempt: Attempt<L, C>, fault: Fault) -> Phase<L, C>
 }
 
 /// The attempt ends with a fault of the client's link.
-fn client_failed<L, C>(attempt: Attempt<L, C>, fault: Fault) -> Phase<L, C>
+pub(crate) fn client_failed<L, C>(attempt: Attempt<L, C>, fault: Fault) -> Phase<L, C>
     ensures { result ≡ failed attempt (fault_error ErrorSource.Downstream fault) }
 {
     let error = Some(Error::of_fault(fault).into_down());
@@ -95,7 +97,7 @@ fn client_failed<L, C>(attempt: Attempt<L, C>, fault: Fault) -> Phase<L, C>
 
 /// The attempt ends with that error, since its response is broken, cut off, or of a form that is
 /// not relayed.
-fn response_unfit<L, C>(attempt: Attempt<L, C>, error: Error) -> Phase<L, C>
+pub(crate) fn response_unfit<L, C>(attempt: Attempt<L, C>, error: Error) -> Phase<L, C>
     ensures { result ≡ failed attempt error }
 {
     Phase::Close(
@@ -110,7 +112,7 @@ fn response_unfit<L, C>(attempt: Attempt<L, C>, error: Error) -> Phase<L, C>
 
 /// The error of a response that the link ended. Where no byte of it had come, the request may be
 /// tried again, if the connection had been used before.
-fn cut_off(is_first: bool) -> Error
+pub(crate) fn cut_off(is_first: bool) -> Error
     ensures { result ≡ cut_off is_first }
 {
     let error = Error::explain(ErrorType::ConnectionClosed, Context::UpstreamClosed).into_up();
@@ -154,7 +156,7 @@ pub(crate) fn read_response<L: ByteLink, C: Drop>(
         .judge_response(alloc, held.request.method(), false)
     {
         Ok(None) => await_response(attempt),
-        Ok(Some(read)) => accept_response(alloc, attempt, read),
+        Ok(Some(read)) => take_response(alloc, attempt, read),
         Err(Fail::Error(error)) => Next {
             phase: response_unfit(attempt, error),
             step: RunStep::Ended,
@@ -216,7 +218,31 @@ fn await_response<L: ByteLink, C: Drop>(mut attempt: Attempt<L, C>) -> Next<L, C
     }
 }
 
-/// A response's head that is valid: it is taken from what is held, and its text is made.
+/// A response's head that is valid: its body has a length, is sent in chunks, or is not relayed.
+fn take_response<L: ByteLink, C: Drop>(
+    alloc: Global,
+    attempt: Attempt<L, C>,
+    read: ResponseRead,
+) -> Next<L, C>
+    requires { read.len ≤ length attempt.connection.ahead }
+    ensures run { (s : Start) (p : Passed) (v : Waited) (w : World)
+        → RunSoFar {C = C} L.state L.start s p v w [] (Phase.ReadResponse attempt)
+        → HasResponse attempt.request.method false attempt.connection.ahead read.head read.framing
+        read.len
+        → Advances L.state L.start s p v w (Phase.ReadResponse attempt)
+        result.phase result.step }
+    ensures work { DoesWork result.step result.work }
+    ensures over { is_over result.phase ≡ is_end result.step }
+    ensures linked { links_held L.state L.start result.phase ≡ 1 }
+{
+    if is_built_stream(&read.head, read.framing) {
+        return accept_stream(alloc, attempt, read);
+    }
+    accept_response(alloc, attempt, read)
+}
+
+/// A response's head whose body is not sent in chunks: it is taken from what is held, and its text
+/// is made.
 fn accept_response<L: ByteLink, C: Drop>(
     alloc: Global,
     mut attempt: Attempt<L, C>,
@@ -227,6 +253,7 @@ fn accept_response<L: ByteLink, C: Drop>(
         → RunSoFar {C = C} L.state L.start s p v w [] (Phase.ReadResponse attempt)
         → HasResponse attempt.request.method false attempt.connection.ahead read.head read.framing
         read.len
+        → ¬ (IsBuiltStream read.head read.framing)
         → Advances L.state L.start s p v w (Phase.ReadResponse attempt)
         result.phase result.step }
     ensures work { DoesWork result.step result.work }

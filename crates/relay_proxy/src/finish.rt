@@ -69,6 +69,9 @@ pub(crate) fn settle<K: Connector, C: Drop>(
             Phase::WriteHead(attempt, reply, text, left)
         }
         Phase::RelayBody(attempt, reply, left) => Phase::RelayBody(attempt, reply, left),
+        Phase::WriteChunks(attempt, stream, text) => Phase::WriteChunks(attempt, stream, text),
+        Phase::ReadChunks(attempt, stream) => Phase::ReadChunks(attempt, stream),
+        Phase::WriteLast(attempt, stream, text) => Phase::WriteLast(attempt, stream, text),
         Phase::Close(attempt, keep, outcome) => {
             let attempts = release(connector, attempt, keep, outcome);
             Phase::Ended(outcome, attempts)
@@ -122,6 +125,9 @@ pub(crate) fn finish<K: Connector, C: Drop>(
         Phase::ReadResponse(attempt) => give_link_up(connector, attempt),
         Phase::WriteHead(attempt, _reply, _text, _left) => give_link_up(connector, attempt),
         Phase::RelayBody(attempt, _reply, _left) => give_link_up(connector, attempt),
+        Phase::WriteChunks(attempt, _stream, _text) => give_link_up(connector, attempt),
+        Phase::ReadChunks(attempt, _stream) => give_link_up(connector, attempt),
+        Phase::WriteLast(attempt, _stream, _text) => give_link_up(connector, attempt),
         Phase::Close(attempt, keep, outcome) => Ending {
             outcome,
             attempts: release(connector, attempt, keep, outcome),

@@ -5,6 +5,8 @@
 //!    |           |          |             |             |            |
 //!    +-> Refuse  +-> Ended  +-------------+-------------+------------+--> Close (the attempt failed)
 //!    +-> Ended (nothing asked, nothing relayed)
+//!
+//! ReadResponse -> WriteChunks <-> ReadChunks -> WriteLast -> Close (a body that is sent in chunks)
 //! ```
 
 ghost use Rattle.std.specs.Prelude.{◌<◌, ◌≡◌};
@@ -13,7 +15,7 @@ use crate::outcome::Outcome;
 use crate::pending::Pending;
 use crate::record::{AttemptList, AttemptRoom};
 use crate::work::Work;
-use relay_h1::Connection;
+use relay_h1::{BodyReader, Connection, Framing};
 use relay_links::Pause;
 use relay_tasks::{Error, Peer, RequestHeader, ResponseHeader};
 use std::mem;
@@ -39,6 +41,15 @@ pub(crate) struct Attempt<L, C> {
     pub(crate) context: C,
 }
 
+/// A response whose body is sent in chunks: its head as the client gets it, the framing of its body
+/// on the link, and where that body is read.
+#[derive(Drop)]
+pub(crate) struct Stream {
+    pub(crate) head: ResponseHeader,
+    pub(crate) framing: Framing,
+    pub(crate) reader: BodyReader,
+}
+
 /// How many bytes of a body are still to come: at least one.
 #[derive(Clone, Copy)]
 pub(crate) struct BodyLeft {
@@ -62,6 +73,12 @@ pub(crate) enum Phase<L, C> {
     WriteHead(Attempt<L, C>, ResponseHeader, Pending, u64),
     /// The body of that response is relayed.
     RelayBody(Attempt<L, C>, ResponseHeader, BodyLeft),
+    /// The text of a response in chunks is written, as far as it was cut; more is to come.
+    WriteChunks(Attempt<L, C>, Stream, Pending),
+    /// All that was cut of that response was written.
+    ReadChunks(Attempt<L, C>, Stream),
+    /// The body of that response has ended, and the last of its text is written.
+    WriteLast(Attempt<L, C>, Stream, Pending),
     /// The request has ended, and its link is to be handed back.
     Close(Attempt<L, C>, bool, Outcome),
     /// The request has ended.
@@ -103,6 +120,9 @@ impl<L, C> Phase<L, C> {
             Phase::ReadResponse(_attempt) => unreachable!(),
             Phase::WriteHead(_attempt, _reply, _text, _left) => unreachable!(),
             Phase::RelayBody(_attempt, _reply, _left) => unreachable!(),
+            Phase::WriteChunks(_attempt, _stream, _text) => unreachable!(),
+            Phase::ReadChunks(_attempt, _stream) => unreachable!(),
+            Phase::WriteLast(_attempt, _stream, _text) => unreachable!(),
             Phase::Close(_attempt, _keep, _outcome) => unreachable!(),
             Phase::Ended(_outcome, _attempts) => unreachable!(),
         }

@@ -10,6 +10,7 @@ use crate::connecting::connect;
 use crate::exchange::{read_response, relay_body, send_head, write_head};
 use crate::hooks::ProxyHttp;
 use crate::machine::{Next, Phase, RunStep};
+use crate::stream::{read_chunks, write_chunks, write_last};
 use crate::work::Work;
 use relay_h1::Connection;
 use relay_links::{ByteLink, Connector};
@@ -52,6 +53,9 @@ pub(crate) fn take_turn<SV: ProxyHttp, K: Connector, D: ByteLink, U>(
             write_head(client, attempt, reply, text, left)
         }
         Phase::RelayBody(attempt, reply, left) => relay_body(client, attempt, reply, left),
+        Phase::WriteChunks(attempt, stream, text) => write_chunks(client, attempt, stream, text),
+        Phase::ReadChunks(attempt, stream) => read_chunks(alloc, client, attempt, stream),
+        Phase::WriteLast(attempt, stream, text) => write_last(client, attempt, stream, text),
         Phase::Close(attempt, keep, outcome) => Next {
             phase: Phase::Close(attempt, keep, outcome),
             step: RunStep::Ended,
