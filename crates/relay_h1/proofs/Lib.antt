@@ -1,6 +1,7 @@
 pub mod AheadLemmas
 pub mod BodyLemmas
 pub mod BodyReaderLemmas
+pub mod BodyStays
 pub mod ChunkLineLemmas
 pub mod CrlfLemmas
 pub mod ClientHeadLemmas
