@@ -226,51 +226,147 @@ exact_unrelayed s p w (Served (Some told) reuse) ends e cause =
 exact_unrelayed s p w TurnLimit ends e cause = inl (inl refl)
 exact_unrelayed s p w OutOfMemory ends e cause = inl (inr refl)
 
--- a response whose head was accepted while the link is open is not unfit
-answered_open : (method : List ℕ) (p : Passed) (link : LinkState) (e : Error) (head : ResponseHead) (len n : ℕ)
-    → IsAnswered method p head len n → link.ended ≡ false → IsUnfit method p link e → ⊥
-answered_open method p link e head len n answered live unfit =
-    elim unfit as (λ _. ⊥) [
-      | inl broken ↦ HasResponse-IsRefusedResponse method false p.got head answered.framing len broken.why answered.has broken.refused
-      | inr other ↦ elim other as (λ _. ⊥) [
-        | inl unbuilt ↦ answered_or_not answered.has answered.built unbuilt.has unbuilt.unbuilt
-        | inr cut ↦ elim cut as (λ _. ⊥) [
-          | inl head_cut ↦ HasResponse-IsOpen method false p.got head answered.framing len answered.has head_cut.open_head
-          | inr body_cut ↦ not_both body_cut.ended live
-        ]
-      ]
-    ]
+-- ---- responses in chunks
+
+-- no framing both has a length and lets a body end by itself
+one_kind : (f : Framing) (n : ℕ) → HasLength f n → IsStreamed f → ⊥
+one_kind Empty n sized streamed = streamed
+one_kind (Length m) n sized streamed = streamed
+one_kind Chunked n sized streamed = sized
+one_kind UntilClose n sized streamed = sized
+one_kind Tunnel n sized streamed = sized
+
+-- a response with a length and one in chunks
+sized_or_streamed : {method bytes : List ℕ} {a b : ResponseHead} {f g : Framing} {n m : ℕ} (k : ℕ)
+    → HasResponse method false bytes a f n → IsBuiltResponse a f k
+    → HasResponse method false bytes b g m → IsBuiltStream b g → ⊥
+sized_or_streamed {method} {bytes} {a} {b} {f} {g} {n} {m} k x built y stream =
+    let same = HasResponse-unique method false bytes a b f g n m x y in
+    one_kind g k (subst (λ (e : Framing). HasLength e k) same.1 built.length) stream.streamed
+
+-- a response in chunks and one that is not relayed
+streamed_or_not : {method bytes : List ℕ} {a b : ResponseHead} {f g : Framing} {n m : ℕ}
+    → HasResponse method false bytes a f n → IsBuiltStream a f
+    → HasResponse method false bytes b g m → ¬ (IsBuiltStream b g) → ⊥
+streamed_or_not {method} {bytes} {a} {b} {f} {g} {n} {m} x built y unbuilt =
+    let same = HasResponse-unique method false bytes a b f g n m x y in
+    unbuilt (subst (λ (h : ResponseHead). IsBuiltStream h g) same.0
+    (subst (λ (e : Framing). IsBuiltStream a e) same.1 built))
+
+-- what two bodies behind one head say is one
+one_body : {method bytes : List ℕ} {a b : ResponseHead} {f g : Framing} {n m : ℕ} {x y : BodyText}
+    → HasResponse method false bytes a f n → HasResponse method false bytes b g m
+    → Body f (drop n bytes) x → Body g (drop m bytes) y → x ≡ y
+one_body {method} {bytes} {a} {b} {f} {g} {n} {m} {x} {y} one other says also =
+    let same = HasResponse-unique method false bytes a b f g n m one other in
+    Body-unique g (drop m bytes) x y
+    (subst (λ (k : ℕ). Body g (drop k bytes) x) same.2
+    (subst (λ (e : Framing). Body e (drop n bytes) x) same.1 says)) also
+
+-- a body that has ended is not open, nor broken, and an open one is not broken
+ended_open : {whole cut : List ℕ} {n : ℕ} → ended_text whole n ≡ open_text cut → ⊥
+ended_open {whole} {cut} {n} same = apart (ap (λ (t : BodyText). t.mark) same)
+  where
+    apart : body.BodyMark.ended n ≡ body.BodyMark.still_open → ⊥
+    apart is = cc
+
+ended_broken : {whole cut : List ℕ} {n : ℕ} → ended_text whole n ≡ record { bytes = cut; mark = broken } → ⊥
+ended_broken {whole} {cut} {n} same = apart (ap (λ (t : BodyText). t.mark) same)
+  where
+    apart : body.BodyMark.ended n ≡ body.BodyMark.broken → ⊥
+    apart is = cc
+
+open_broken : {whole cut : List ℕ} → open_text whole ≡ record { bytes = cut; mark = broken } → ⊥
+open_broken {whole} {cut} same = apart (ap (λ (t : BodyText). t.mark) same)
+  where
+    apart : body.BodyMark.still_open ≡ body.BodyMark.broken → ⊥
+    apart is = cc
+
+-- a body that the connection ends is never broken
+close_broken : {f : Framing} {bytes cut : List ℕ} → f ≡ UntilClose
+    → Body f bytes (record { bytes = cut; mark = broken }) → ⊥
+close_broken {f} {bytes} {cut} close says =
+    open_broken {bytes} {cut} (sym (subst (λ (e : Framing). Body e bytes (record { bytes = cut; mark = broken })) close says))
+
+-- ---- what is not unfit
+
+-- a response with a length, whose head was accepted, is unfit only where the link ended inside it
+sized_fit : {method : List ℕ} {p : Passed} {link : LinkState} {e : Error} (head : ResponseHead) (len n : ℕ)
+    → IsAnswered method p head len n → IsUnfit method p link e
+    → (link.ended ≡ true) × (length p.got < len + n)
+sized_fit {method} {p} head len n answered (endings.IsUnfit.has_broken_head broken) =
+    absurd (HasResponse-IsRefusedResponse method false p.got head answered.framing len broken.why answered.has broken.refused)
+sized_fit head len n answered (endings.IsUnfit.has_unbuilt_head unbuilt) =
+    absurd (answered_or_not answered.has answered.built unbuilt.has unbuilt.unbuilt)
+sized_fit head len n answered (endings.IsUnfit.has_full_head full) =
+    absurd (sized_or_streamed n answered.has answered.built full.answered.has full.answered.built)
+sized_fit {method} {p} head len n answered (endings.IsUnfit.is_cut_in_head cut) =
+    absurd (HasResponse-IsOpen method false p.got head answered.framing len answered.has cut.open_head)
+sized_fit {method} {p} head len n answered (endings.IsUnfit.is_cut_in_body cut) =
+    let same = HasResponse-unique method false p.got head cut.body.head answered.framing cut.body.answered.framing len
+            cut.body.len answered.has cut.body.answered.has in
+    (cut.ended, omega (arith, cut.body.short, same.2,
+    one_length cut.body.answered.framing n cut.body.n
+    (subst (λ (f : Framing). HasLength f n) same.1 answered.built.length) cut.body.answered.built.length))
+sized_fit head len n answered (endings.IsUnfit.is_cut_in_stream cut) =
+    absurd (sized_or_streamed n answered.has answered.built cut.stream.answered.has cut.stream.answered.built)
+
+-- a response in chunks, whose head was accepted and has room for its framing
+record IsStreamCut (p : Passed) (link : LinkState) (framing : Framing) (len : ℕ) : Type 0 where
+  chunked : framing ≡ Chunked
+  ended : link.ended ≡ true
+  body : List ℕ
+  still : Body framing (drop len p.got) (open_text body)
+
+-- it is unfit only where it has no room for its framing, or where the link ended inside it
+stream_fit : {method : List ℕ} {p : Passed} {link : LinkState} {e : Error} (head : ResponseHead) (framing : Framing) (len : ℕ)
+    → IsAnsweredByStream method p head framing len → IsUnfit method p link e
+    → ((framing ≡ UntilClose) × RefusesInsert head.fields (codes "transfer-encoding")) ⊎ IsStreamCut p link framing len
+stream_fit {method} {p} head framing len answered (endings.IsUnfit.has_broken_head broken) =
+    absurd (HasResponse-IsRefusedResponse method false p.got head framing len broken.why answered.has broken.refused)
+stream_fit head framing len answered (endings.IsUnfit.has_unbuilt_head unbuilt) =
+    absurd (streamed_or_not answered.has answered.built unbuilt.has unbuilt.unstreamed)
+stream_fit {method} {p} head framing len answered (endings.IsUnfit.has_full_head full) =
+    let same = HasResponse-unique method false p.got head full.head framing UntilClose len full.len answered.has
+            full.answered.has in
+    inl (same.1, subst (λ (h : ResponseHead). RefusesInsert h.fields (codes "transfer-encoding")) (sym same.0) full.full)
+stream_fit {method} {p} head framing len answered (endings.IsUnfit.is_cut_in_head cut) =
+    absurd (HasResponse-IsOpen method false p.got head framing len answered.has cut.open_head)
+stream_fit head framing len answered (endings.IsUnfit.is_cut_in_body cut) =
+    absurd (sized_or_streamed cut.body.n cut.body.answered.has cut.body.answered.built answered.has answered.built)
+stream_fit {method} {p} head framing len answered (endings.IsUnfit.is_cut_in_stream cut) =
+    let same = HasResponse-unique method false p.got head cut.stream.head framing cut.stream.framing len cut.stream.len
+            answered.has cut.stream.answered.has in
+    inr (record {
+      chunked = same.1 ∙ cut.chunked;
+      ended = cut.ended;
+      body = cut.stream.body;
+      still = subst (λ (f : Framing). Body f (drop len p.got) (open_text cut.stream.body)) (sym same.1)
+          (subst (λ (k : ℕ). Body cut.stream.framing (drop k p.got) (open_text cut.stream.body)) (sym same.2) cut.stream.still);
+    })
 
 -- a head that is open on an open link is not unfit
-open_fit : (method : List ℕ) (p : Passed) (link : LinkState) (e : Error) → IsOpen p.got → link.ended ≡ false
+open_fit : {method : List ℕ} {p : Passed} {link : LinkState} {e : Error} → IsOpen p.got → link.ended ≡ false
     → IsUnfit method p link e → ⊥
-open_fit method p link e open_head live unfit =
-    elim unfit as (λ _. ⊥) [
-      | inl broken ↦ IsRefusedResponse-IsOpen method false p.got broken.why broken.refused open_head
-      | inr other ↦ elim other as (λ _. ⊥) [
-        | inl unbuilt ↦ HasResponse-IsOpen method false p.got unbuilt.head unbuilt.framing unbuilt.len unbuilt.has open_head
-        | inr cut ↦ elim cut as (λ _. ⊥) [
-          | inl head_cut ↦ not_both head_cut.ended live
-          | inr body_cut ↦ HasResponse-IsOpen method false p.got body_cut.body.head body_cut.body.answered.framing
-              body_cut.body.len body_cut.body.answered.has open_head
-        ]
-      ]
-    ]
+open_fit {method} {p} open_head live (endings.IsUnfit.has_broken_head broken) =
+    IsRefusedResponse-IsOpen method false p.got broken.why broken.refused open_head
+open_fit {method} {p} open_head live (endings.IsUnfit.has_unbuilt_head unbuilt) =
+    HasResponse-IsOpen method false p.got unbuilt.head unbuilt.framing unbuilt.len unbuilt.has open_head
+open_fit {method} {p} open_head live (endings.IsUnfit.has_full_head full) =
+    HasResponse-IsOpen method false p.got full.head UntilClose full.len full.answered.has open_head
+open_fit open_head live (endings.IsUnfit.is_cut_in_head cut) = not_both cut.ended live
+open_fit open_head live (endings.IsUnfit.is_cut_in_body cut) = not_both cut.ended live
+open_fit open_head live (endings.IsUnfit.is_cut_in_stream cut) = not_both cut.ended live
 
--- a response that came whole is not unfit
-whole_fit : (method : List ℕ) (p : Passed) (link : LinkState) (e : Error) (head : ResponseHead) (len n : ℕ)
-    → IsAnswered method p head len n → len + n ≤ length p.got → IsUnfit method p link e → ⊥
-whole_fit method p link e head len n answered body unfit =
-    elim unfit as (λ _. ⊥) [
-      | inl broken ↦ HasResponse-IsRefusedResponse method false p.got head answered.framing len broken.why answered.has broken.refused
-      | inr other ↦ elim other as (λ _. ⊥) [
-        | inl unbuilt ↦ answered_or_not answered.has answered.built unbuilt.has unbuilt.unbuilt
-        | inr cut ↦ elim cut as (λ _. ⊥) [
-          | inl head_cut ↦ HasResponse-IsOpen method false p.got head answered.framing len answered.has head_cut.open_head
-          | inr body_cut ↦ whole_or_short n body_cut.body.n answered.has answered.built.length body_cut.body.answered.has
-              body_cut.body.answered.built.length body body_cut.body.short
-        ]
-      ]
+-- a response that is being written is not unfit
+written_fit : {method : List ℕ} {p : Passed} {link : LinkState} {e : Error}
+    → IsBeingWritten method p link → IsUnfit method p link e → HasRoom method p → ⊥
+written_fit (endings.IsBeingWritten.has_length head len n answered live) unfit room =
+    not_both (sized_fit head len n answered unfit).0 live
+written_fit (endings.IsBeingWritten.is_streamed head framing len answered live) unfit room =
+    elim (stream_fit head framing len answered unfit) as (λ _. ⊥) [
+      | inl full ↦ room head framing len answered full.0 full.1
+      | inr cut ↦ not_both cut.ended (live cut.chunked)
     ]
 
 exact_unfit : (s : Start) (p : Passed) (w : World) (link : LinkState) (start : LinkStart) (keep : Bool) (outcome : Outcome)

@@ -142,7 +142,7 @@ answering_as s p ahead now request again link after reply same asks ended a = re
 }
 
 -- a response in the same bytes, to the same method
-answers_to : (method asked : List ℕ) (got held : List ℕ) (head : ResponseHead) (framing : Framing) (len : ℕ)
+pub answers_to : (method asked : List ℕ) (got held : List ℕ) (head : ResponseHead) (framing : Framing) (len : ℕ)
     → asked ≡ method → held ≡ got → HasResponse asked false held head framing len
     → HasResponse method false got head framing len
 answers_to method asked got held head framing len same all has =

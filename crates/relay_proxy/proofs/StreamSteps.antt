@@ -42,7 +42,7 @@ use Rattle.relay_proxy.specs.declared.machine.RunStep.TheVariants as step
 use Rattle.relay_proxy.specs.declared.machine.Stream.{Stream}
 use Rattle.relay_proxy.specs.declared.outcome.Outcome.TheVariants.{Served, OutOfMemory}
 use Rattle.relay_proxy.specs.declared.pending.Pending.{Pending}
-use Rattle.relay_proxy.proofs.Tells.{Rose-le, written_more, got_more, client_waited, link_waited, client_took, client_still, client_waits, client_same, link_gave, link_waits, link_still, take_some, take_whole, take_rest}
+use Rattle.relay_proxy.proofs.Tells.{Rose-le, written_more, got_more, client_waited, link_waited, client_took, client_still, client_waits, client_same, link_gave, link_waits, link_still, take_some, take_whole, take_rest, not_true}
 use Rattle.relay_proxy.proofs.ExchangeSteps.{asking_as, answers_to, sent_whole_by, head_then_body, attempt_as, fails_with, attempt_ended, attempt_read_failed}
 use Rattle.relay_proxy.proofs.BodySteps.{attempt_same}
 
@@ -120,8 +120,11 @@ ends_body Chunked link given whole n streamed (endings.IsWholeBody.ends_with_lin
     not_close same = cc
 ends_body UntilClose link given whole n streamed (endings.IsWholeBody.ends_by_text says) = absurd (not_ended says)
   where
+    apart : body.BodyMark.ended n ≡ body.BodyMark.still_open → ⊥
+    apart same = cc
+
     not_ended : ended_text whole n ≡ open_text given → ⊥
-    not_ended same = cc
+    not_ended same = apart (ap (λ (t : BodyText). t.mark) same)
 ends_body UntilClose link given whole n streamed (endings.IsWholeBody.ends_with_link is ended all size) = all
 ends_body Tunnel link given whole n streamed is = absurd streamed
 
@@ -214,6 +217,18 @@ left_of written text whole joined = record { rest = text; joined = joined }
 -- a text that was written whole
 all_of : (written whole : List ℕ) → written ≡ whole → IsPrefixOf written whole
 all_of written whole is = record { rest = []; joined = append-nil written ∙ is }
+
+-- the one framing that the connection ends
+pub close_of : (f : Framing) → is_until_close f ≡ true → f ≡ UntilClose
+close_of Empty is = absurd (not_true is)
+close_of (Length n) is = absurd (not_true is)
+close_of Chunked is = absurd (not_true is)
+close_of UntilClose is = refl
+close_of Tunnel is = absurd (not_true is)
+
+-- any other framing
+pub no_close : (f : Framing) → is_until_close f ≡ false → ¬ (f ≡ UntilClose)
+no_close f is same = not_true (sym is ∙ ap (λ (g : Framing). is_until_close g) same)
 
 module _ {L C : Type 0} (state : L → LinkState) (start_at : L → LinkStart) where
   -- the response's head was accepted, and taken from what is held
@@ -454,7 +469,7 @@ module _ {L C : Type 0} (state : L → LinkState) (start_at : L → LinkStart) w
       (λ chunked. run.holds.1.cutting.ended) same fails is run.tells run.order run.holds.0 (omega arith)
 
   -- an attempt whose reader cut something
-  attempt_cut : (p : Passed) (v : Waited) (a b : Attempt L C) → b.connection.link ≡ a.connection.link
+  pub attempt_cut : (p : Passed) (v : Waited) (a b : Attempt L C) → b.connection.link ≡ a.connection.link
       → b.peer ≡ a.peer → b.reused ≡ a.reused → IsAttempt state start_at p v a → IsAttempt state start_at p v b
   attempt_cut p v a b link peer reused h = record {
     tells = rw link h.tells;
@@ -623,22 +638,22 @@ module _ {L C : Type 0} (state : L → LinkState) (start_at : L → LinkStart) w
       still : RunSoFar {C = C} state start_at s p v w [] (ReadChunks b (record st { reader = at }))
       still = nothing_cut s p v w a b st at link peer reused asks keeps run
 
-      left_behind : b.connection.ahead
-          ≡ drop (run.holds.1.cutting.streaming.len + (length given - length b.connection.ahead)) p.got
-      left_behind = rest_of given b.connection.ahead still.holds.1.cutting.so_far
-          ∙ drop-drop (length given - length b.connection.ahead) run.holds.1.cutting.streaming.len p.got
-
-      rest_of : (bytes ahead : List ℕ) → SoFar st.framing bytes (concat run.holds.1.pieces) at ahead
-          → ahead ≡ drop (length bytes - length ahead) bytes
-      rest_of bytes ahead so_far =
-          sym (rw (size so_far.consumed ahead bytes so_far.split, so_far.split) (drop_front so_far.consumed ahead))
-
       size : (front ahead bytes : List ℕ) → bytes ≡ front ++ ahead → length bytes - length ahead ≡ length front
       size front ahead bytes is = omega (arith, ap length is, length-append front ahead)
 
       drop_front : (front ahead : List ℕ) → drop (length front) (front ++ ahead) ≡ ahead
       drop_front [] ahead = refl
       drop_front (x ∷ front) ahead = drop_front front ahead
+
+      rest_of : (bytes ahead : List ℕ) → SoFar st.framing bytes (concat run.holds.1.pieces) at ahead
+          → ahead ≡ drop (length bytes - length ahead) bytes
+      rest_of bytes ahead so_far =
+          sym (rw (size so_far.consumed ahead bytes so_far.split, so_far.split) (drop_front so_far.consumed ahead))
+
+      left_behind : b.connection.ahead
+          ≡ drop (run.holds.1.cutting.streaming.len + (length given - length b.connection.ahead)) p.got
+      left_behind = rest_of given b.connection.ahead still.holds.1.cutting.so_far
+          ∙ drop-drop (length given - length b.connection.ahead) run.holds.1.cutting.streaming.len p.got
 
   -- more of the body came
   pub stream_came : (s : Start) (p : Passed) (v : Waited) (w : World) (a b : Attempt L C) (st : Stream)
@@ -946,6 +961,9 @@ module _ {L C : Type 0} (state : L → LinkState) (start_at : L → LinkStart) w
       take_some_of : (xs : List ℕ) (n : ℕ) → 1 ≤ n → n ≤ length xs → 1 ≤ length (take n xs)
       take_some_of xs n some fits = take_some xs n some fits
 
+      not_closed : true ≡ false → ⊥
+      not_closed is = cc
+
       past_of : (request : RequestHead) (f : Framing) (reply : ResponseHead) (held past : List ℕ) → IsStreamed f
           → (keep : Bool) → (f ≡ Chunked → held ≡ past) → (IsTrue keep ↔ IsStreamReusable request f reply held)
           → (IsTrue keep ↔ IsStreamReusable request f reply past)
@@ -958,9 +976,6 @@ module _ {L C : Type 0} (state : L → LinkState) (start_at : L → LinkStart) w
         λ reusable. absurd (not_closed reusable.ends_itself),
       )
       past_of request Tunnel reply held past streamed keep same kept = absurd streamed
-
-      not_closed : true ≡ false → ⊥
-      not_closed is = cc
 
   -- some of the last of the response was written
   pub last_wrote_part : (s : Start) (p : Passed) (v : Waited) (w x : World) (a : Attempt L C) (st : Stream)

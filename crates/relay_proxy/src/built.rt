@@ -79,7 +79,8 @@ fn is_streamed(framing: Framing) -> bool
     }
 }
 
-fn is_until_close(framing: Framing) -> bool
+/// Whether the body ends with the connection.
+pub(crate) fn is_until_close(framing: Framing) -> bool
     ensures { result ≡ is_until_close framing }
 {
     framing == Framing::UntilClose

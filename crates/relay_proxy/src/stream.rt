@@ -17,7 +17,7 @@ ghost use Rattle.relay_proxy.specs.Stream.{IsAwaitingChunks, EndsStream, IsStrea
 ghost use Rattle.relay_tasks.specs.Head.{ResponseHead};
 ghost use Rattle.relay_h1.specs.declared.framing.Framing.TheVariants.{Chunked, UntilClose};
 
-use crate::built::{is_client_reusable, is_stream_reusable};
+use crate::built::{is_client_reusable, is_stream_reusable, is_until_close};
 use crate::exchange::{client_failed, cut_off, link_failed, response_unfit};
 use crate::machine::{Attempt, Next, Phase, RunStep, Stream};
 use crate::outcome::Outcome;
@@ -301,9 +301,7 @@ fn await_chunks<L: ByteLink, C: Drop>(
             step: RunStep::Waited(Pause::Silent),
             work: Work::NONE,
         },
-        Ok(Got::End) if stream.framing == Framing::UntilClose => {
-            end_stream(alloc, attempt, stream)
-        }
+        Ok(Got::End) if is_until_close(stream.framing) => end_stream(alloc, attempt, stream),
         Ok(Got::End) => Next {
             phase: response_unfit(attempt, cut_off(false)),
             step: RunStep::Ended,

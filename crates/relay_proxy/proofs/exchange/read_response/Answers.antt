@@ -14,8 +14,8 @@ returns-in-Ok-None-clause-run g c = λ s p v w run.
     turn_as g.L.ByteLink.state g.L.ByteLink.start s p v w c.args.attempt _ _ _ c.judge_response.ensures.same
     (λ still. c.await_response.ensures.run s p v w still (rw c.judge_response.ensures.same verdict)) run
 
-pub accept_response-requires : goal.accept_response-requires
-accept_response-requires g c =
+pub take_response-requires : goal.take_response-requires
+take_response-requires g c =
     let verdict = rw c.in-Ok-Some.field-0-is at c.in-Ok-Some.ensures.verdict in
     rw c.judge_response.ensures.same (head_end-within _ _ verdict.starts.ends).1
 
@@ -23,7 +23,7 @@ pub returns-in-Ok-Some-clause-run : goal.returns-in-Ok-Some-clause-run
 returns-in-Ok-Some-clause-run g c = λ s p v w run.
     let verdict = rw c.in-Ok-Some.field-0-is at c.in-Ok-Some.ensures.verdict in
     turn_as g.L.ByteLink.state g.L.ByteLink.start s p v w c.args.attempt _ _ _ c.judge_response.ensures.same
-    (λ still. c.accept_response.ensures.run s p v w still
+    (λ still. c.take_response.ensures.run s p v w still
     (rw (c.judge_response.ensures.same, ← c.method.ensures) verdict)) run
 
 pub returns-in-Err-Error-clause-run : goal.returns-in-Err-Error-clause-run
