@@ -1,5 +1,5 @@
 -- Each cause excludes the others, so that where one stands the outcome is its own.
-use Rattle.std.proofs.Common.{◌≡◌, ℕ, ◌+◌, ◌<◌, ◌≤◌, ◌⊎◌, Bool, true, false, List, [], ◌∷◌, ◌++◌, length, Option, Some, None, refl, sym, ap, subst, ◌∙◌, inl, inr, arith, lit<, append-nil}
+use Rattle.std.proofs.Common.{◌≡◌, ℕ, ◌+◌, ◌<◌, ◌≤◌, ◌⊎◌, Bool, true, false, List, [], ◌∷◌, ◌++◌, length, drop, codes, Option, Some, None, refl, sym, ap, subst, ◌∙◌, inl, inr, arith, lit<, append-nil}
 use Rattle.relay_tasks.specs.Head.{RequestHead, ResponseHead}
 use Rattle.relay_tasks.specs.declared.Error.{Error}
 use Rattle.relay_links.specs.Link.{LinkState, LinkStart}
@@ -9,11 +9,19 @@ use Rattle.relay_h1.specs.Wire.{request_text}
 use Rattle.relay_h1.specs.declared.Framing.{Framing}
 use Rattle.relay_h1.specs.declared.Framing.TheVariants.{Empty, Length, Chunked, UntilClose, Tunnel}
 use Rattle.relay_h1.proofs.VerdictLemmas.{HasRequest-IsOpen, IsRefusedRequest-IsOpen, HasRequest-IsRefusedRequest, HasRequest-unique, HasRequest-append, IsRefusedRequest-append, HasResponse-IsOpen, IsRefusedResponse-IsOpen, HasResponse-IsRefusedResponse, HasResponse-unique, HasResponse-append, IsRefusedResponse-append}
-use Rattle.relay_proxy.specs.Built.{IsConnect, IsBuiltRequest, HasLength, IsBuiltResponse}
+use Rattle.http_header.specs.HeaderMap.{RefusesInsert}
+use Rattle.std.proofs.lemmas.List.{drop-append-le}
+use Rattle.relay_h1.specs.Body as body
+use Rattle.relay_h1.specs.Body.{BodyText, broken, open_text, ended_text, Body}
+use Rattle.relay_h1.proofs.BodyLemmas.{Body-unique}
+use Rattle.relay_h1.proofs.BodyStays.{Body-broken-append}
+use Rattle.relay_h1.proofs.HeadEndLemmas.{head_end-within}
+use Rattle.relay_proxy.specs.Built.{IsConnect, IsBuiltRequest, HasLength, IsBuiltResponse, IsStreamed, IsBuiltStream, HasRoom}
 use Rattle.relay_proxy.specs.Passed.{World, Start, Passed, Waited, asked}
 use Rattle.relay_proxy.specs.Endings as endings
-use Rattle.relay_proxy.specs.Endings.{IsAccepted, IsAnswered, IsSentWhole, IsUnfit, IsTurnedDown, IsLeftAlone, EndsUnlinked, EndsLinked, IsEnded, IsFailedAttempt}
-use Rattle.relay_proxy.specs.Exact.{IsUnfinished, AsksFor, AnswersWith, IsRefusal, IsLeft, IsMissed, IsExact}
+use Rattle.relay_proxy.specs.Endings.{IsAccepted, IsAnswered, IsAnsweredByStream, IsWholeBody, IsSentWhole, IsUnfit, IsUnfitResponse, HasBrokenBody, IsBeingWritten, IsTurnedDown, IsLeftAlone, EndsUnlinked, EndsLinked, IsEnded, IsFailedAttempt}
+use Rattle.relay_proxy.specs.Exact as exact
+use Rattle.relay_proxy.specs.Exact.{IsResponse, IsUnfinished, AsksFor, AnswersWith, IsRefusal, IsLeft, IsMissed, IsExact}
 use Rattle.relay_proxy.specs.declared.outcome.Outcome.{Outcome}
 use Rattle.relay_proxy.specs.declared.outcome.Outcome.TheVariants.{NoRequest, Refused, Served, TurnLimit, OutOfMemory}
 use Rattle.relay_proxy.specs.declared.record.AttemptRecord.{AttemptRecord}
@@ -264,29 +272,29 @@ one_body {method} {bytes} {a} {b} {f} {g} {n} {m} {x} {y} one other says also =
     (subst (λ (e : Framing). Body e (drop n bytes) x) same.1 says)) also
 
 -- a body that has ended is not open, nor broken, and an open one is not broken
-ended_open : {whole cut : List ℕ} {n : ℕ} → ended_text whole n ≡ open_text cut → ⊥
-ended_open {whole} {cut} {n} same = apart (ap (λ (t : BodyText). t.mark) same)
+ended_open : (whole cut : List ℕ) (n : ℕ) → ended_text whole n ≡ open_text cut → ⊥
+ended_open whole cut n same = apart (ap (λ (t : BodyText). t.mark) same)
   where
     apart : body.BodyMark.ended n ≡ body.BodyMark.still_open → ⊥
     apart is = cc
 
-ended_broken : {whole cut : List ℕ} {n : ℕ} → ended_text whole n ≡ record { bytes = cut; mark = broken } → ⊥
-ended_broken {whole} {cut} {n} same = apart (ap (λ (t : BodyText). t.mark) same)
+ended_broken : (whole cut : List ℕ) (n : ℕ) → ended_text whole n ≡ record { bytes = cut; mark = broken } → ⊥
+ended_broken whole cut n same = apart (ap (λ (t : BodyText). t.mark) same)
   where
     apart : body.BodyMark.ended n ≡ body.BodyMark.broken → ⊥
     apart is = cc
 
-open_broken : {whole cut : List ℕ} → open_text whole ≡ record { bytes = cut; mark = broken } → ⊥
-open_broken {whole} {cut} same = apart (ap (λ (t : BodyText). t.mark) same)
+open_broken : (whole cut : List ℕ) → open_text whole ≡ record { bytes = cut; mark = broken } → ⊥
+open_broken whole cut same = apart (ap (λ (t : BodyText). t.mark) same)
   where
     apart : body.BodyMark.still_open ≡ body.BodyMark.broken → ⊥
     apart is = cc
 
 -- a body that the connection ends is never broken
-close_broken : {f : Framing} {bytes cut : List ℕ} → f ≡ UntilClose
+close_broken : {f : Framing} (bytes cut : List ℕ) → f ≡ UntilClose
     → Body f bytes (record { bytes = cut; mark = broken }) → ⊥
-close_broken {f} {bytes} {cut} close says =
-    open_broken {bytes} {cut} (sym (subst (λ (e : Framing). Body e bytes (record { bytes = cut; mark = broken })) close says))
+close_broken {f} bytes cut close says =
+    open_broken bytes cut (sym (subst (λ (e : Framing). Body e bytes (record { bytes = cut; mark = broken })) close says))
 
 -- ---- what is not unfit
 
@@ -294,12 +302,12 @@ close_broken {f} {bytes} {cut} close says =
 sized_fit : {method : List ℕ} {p : Passed} {link : LinkState} {e : Error} (head : ResponseHead) (len n : ℕ)
     → IsAnswered method p head len n → IsUnfit method p link e
     → (link.ended ≡ true) × (length p.got < len + n)
-sized_fit {method} {p} head len n answered (endings.IsUnfit.has_broken_head broken) =
-    absurd (HasResponse-IsRefusedResponse method false p.got head answered.framing len broken.why answered.has broken.refused)
+sized_fit {method} {p} head len n answered (endings.IsUnfit.has_broken_head bad) =
+    absurd (HasResponse-IsRefusedResponse method false p.got head answered.framing len bad.why answered.has bad.refused)
 sized_fit head len n answered (endings.IsUnfit.has_unbuilt_head unbuilt) =
     absurd (answered_or_not answered.has answered.built unbuilt.has unbuilt.unbuilt)
 sized_fit head len n answered (endings.IsUnfit.has_full_head full) =
-    absurd (sized_or_streamed n answered.has answered.built full.answered.has full.answered.built)
+    absurd (sized_or_streamed n answered.has answered.built full.has full.built)
 sized_fit {method} {p} head len n answered (endings.IsUnfit.is_cut_in_head cut) =
     absurd (HasResponse-IsOpen method false p.got head answered.framing len answered.has cut.open_head)
 sized_fit {method} {p} head len n answered (endings.IsUnfit.is_cut_in_body cut) =
@@ -311,25 +319,24 @@ sized_fit {method} {p} head len n answered (endings.IsUnfit.is_cut_in_body cut) 
 sized_fit head len n answered (endings.IsUnfit.is_cut_in_stream cut) =
     absurd (sized_or_streamed n answered.has answered.built cut.stream.answered.has cut.stream.answered.built)
 
--- a response in chunks, whose head was accepted and has room for its framing
+-- the link ended inside a body that comes in chunks
 record IsStreamCut (p : Passed) (link : LinkState) (framing : Framing) (len : ℕ) : Type 0 where
   chunked : framing ≡ Chunked
   ended : link.ended ≡ true
-  body : List ℕ
-  still : Body framing (drop len p.got) (open_text body)
+  cut : List ℕ
+  still : Body framing (drop len p.got) (open_text cut)
 
--- it is unfit only where it has no room for its framing, or where the link ended inside it
+-- a response in chunks, whose head was accepted, is unfit only where the link ended inside it
 stream_fit : {method : List ℕ} {p : Passed} {link : LinkState} {e : Error} (head : ResponseHead) (framing : Framing) (len : ℕ)
-    → IsAnsweredByStream method p head framing len → IsUnfit method p link e
-    → ((framing ≡ UntilClose) × RefusesInsert head.fields (codes "transfer-encoding")) ⊎ IsStreamCut p link framing len
-stream_fit {method} {p} head framing len answered (endings.IsUnfit.has_broken_head broken) =
-    absurd (HasResponse-IsRefusedResponse method false p.got head framing len broken.why answered.has broken.refused)
+    → IsAnsweredByStream method p head framing len → IsUnfit method p link e → IsStreamCut p link framing len
+stream_fit {method} {p} head framing len answered (endings.IsUnfit.has_broken_head bad) =
+    absurd (HasResponse-IsRefusedResponse method false p.got head framing len bad.why answered.has bad.refused)
 stream_fit head framing len answered (endings.IsUnfit.has_unbuilt_head unbuilt) =
     absurd (streamed_or_not answered.has answered.built unbuilt.has unbuilt.unstreamed)
 stream_fit {method} {p} head framing len answered (endings.IsUnfit.has_full_head full) =
-    let same = HasResponse-unique method false p.got head full.head framing UntilClose len full.len answered.has
-            full.answered.has in
-    inl (same.1, subst (λ (h : ResponseHead). RefusesInsert h.fields (codes "transfer-encoding")) (sym same.0) full.full)
+    let same = HasResponse-unique method false p.got head full.head framing UntilClose len full.len answered.has full.has in
+    absurd (answered.room same.1
+    (subst (λ (h : ResponseHead). RefusesInsert h.fields (codes "transfer-encoding")) (sym same.0) full.full))
 stream_fit {method} {p} head framing len answered (endings.IsUnfit.is_cut_in_head cut) =
     absurd (HasResponse-IsOpen method false p.got head framing len answered.has cut.open_head)
 stream_fit head framing len answered (endings.IsUnfit.is_cut_in_body cut) =
@@ -337,37 +344,75 @@ stream_fit head framing len answered (endings.IsUnfit.is_cut_in_body cut) =
 stream_fit {method} {p} head framing len answered (endings.IsUnfit.is_cut_in_stream cut) =
     let same = HasResponse-unique method false p.got head cut.stream.head framing cut.stream.framing len cut.stream.len
             answered.has cut.stream.answered.has in
-    inr (record {
+    record {
       chunked = same.1 ∙ cut.chunked;
       ended = cut.ended;
-      body = cut.stream.body;
+      cut = cut.stream.body;
       still = subst (λ (f : Framing). Body f (drop len p.got) (open_text cut.stream.body)) (sym same.1)
           (subst (λ (k : ℕ). Body cut.stream.framing (drop k p.got) (open_text cut.stream.body)) (sym same.2) cut.stream.still);
-    })
+    }
 
 -- a head that is open on an open link is not unfit
 open_fit : {method : List ℕ} {p : Passed} {link : LinkState} {e : Error} → IsOpen p.got → link.ended ≡ false
     → IsUnfit method p link e → ⊥
-open_fit {method} {p} open_head live (endings.IsUnfit.has_broken_head broken) =
-    IsRefusedResponse-IsOpen method false p.got broken.why broken.refused open_head
+open_fit {method} {p} open_head live (endings.IsUnfit.has_broken_head bad) =
+    IsRefusedResponse-IsOpen method false p.got bad.why bad.refused open_head
 open_fit {method} {p} open_head live (endings.IsUnfit.has_unbuilt_head unbuilt) =
     HasResponse-IsOpen method false p.got unbuilt.head unbuilt.framing unbuilt.len unbuilt.has open_head
 open_fit {method} {p} open_head live (endings.IsUnfit.has_full_head full) =
-    HasResponse-IsOpen method false p.got full.head UntilClose full.len full.answered.has open_head
+    HasResponse-IsOpen method false p.got full.head UntilClose full.len full.has open_head
 open_fit open_head live (endings.IsUnfit.is_cut_in_head cut) = not_both cut.ended live
 open_fit open_head live (endings.IsUnfit.is_cut_in_body cut) = not_both cut.ended live
 open_fit open_head live (endings.IsUnfit.is_cut_in_stream cut) = not_both cut.ended live
 
 -- a response that is being written is not unfit
 written_fit : {method : List ℕ} {p : Passed} {link : LinkState} {e : Error}
-    → IsBeingWritten method p link → IsUnfit method p link e → HasRoom method p → ⊥
-written_fit (endings.IsBeingWritten.has_length head len n answered live) unfit room =
+    → IsBeingWritten method p link → IsUnfit method p link e → ⊥
+written_fit (endings.IsBeingWritten.has_length head len n answered live) unfit =
     not_both (sized_fit head len n answered unfit).0 live
-written_fit (endings.IsBeingWritten.is_streamed head framing len answered live) unfit room =
-    elim (stream_fit head framing len answered unfit) as (λ _. ⊥) [
-      | inl full ↦ room head framing len answered full.0 full.1
-      | inr cut ↦ not_both cut.ended (live cut.chunked)
-    ]
+written_fit (endings.IsBeingWritten.is_streamed head framing len answered live) unfit =
+    let cut = stream_fit head framing len answered unfit in
+    not_both cut.ended (live cut.chunked)
+
+-- a body that has ended is not cut
+whole_or_cut : {p : Passed} {link : LinkState} {framing : Framing} {len n : ℕ} {whole : List ℕ}
+    → IsWholeBody framing link (drop len p.got) whole n → IsStreamCut p link framing len → ⊥
+whole_or_cut {p} {link} {framing} {len} {n} {whole} (endings.IsWholeBody.ends_by_text says) cut =
+    ended_open whole cut.cut n (Body-unique framing (drop len p.got) _ _ says cut.still)
+whole_or_cut (endings.IsWholeBody.ends_with_link close ended all size) cut =
+    apart (sym cut.chunked ∙ close)
+  where
+    apart : Chunked ≡ UntilClose → ⊥
+    apart is = cc
+
+-- a body that has ended is not broken
+whole_or_broken : {bytes whole : List ℕ} {link : LinkState} {framing : Framing} {n : ℕ} (cut : List ℕ)
+    → IsWholeBody framing link bytes whole n → Body framing bytes (record { bytes = cut; mark = broken }) → ⊥
+whole_or_broken {bytes} {whole} {link} {framing} {n} cut (endings.IsWholeBody.ends_by_text says) breaks =
+    ended_broken whole cut n (Body-unique framing bytes _ _ says breaks)
+whole_or_broken {bytes} {whole} cut (endings.IsWholeBody.ends_with_link close ended all size) breaks =
+    close_broken bytes cut close breaks
+
+-- the text of a body that is broken, behind the head that was accepted
+same_breaks : {method : List ℕ} {p : Passed} {e : Error} (head : ResponseHead) (framing : Framing) (len : ℕ)
+    → HasResponse method false p.got head framing len → (breaks : HasBrokenBody method p e)
+    → Body framing (drop len p.got) (record { bytes = breaks.body; mark = broken })
+same_breaks {method} {p} head framing len has breaks =
+    let same = HasResponse-unique method false p.got head breaks.head framing breaks.framing len breaks.len has
+            breaks.answered.has in
+    subst (λ (f : Framing). Body f (drop len p.got) (record { bytes = breaks.body; mark = broken })) (sym same.1)
+    (subst (λ (k : ℕ). Body breaks.framing (drop k p.got) (record { bytes = breaks.body; mark = broken })) (sym same.2)
+    breaks.breaks)
+
+-- a response that was unfit was missed
+missed : (s : Start) (p : Passed) (link : LinkState) (told : Error) (reuse : Bool) (sent : IsSentWhole s p)
+    → IsUnfitResponse s p link told → reuse ≡ false → IsMissed sent.request.method p link (Served (Some told) reuse)
+missed s p link told reuse sent bad stays = record {
+  e = told;
+  why = subst (λ (h : RequestHead). IsUnfit h.method p link told ⊎ HasBrokenBody h.method p told)
+      (one_head bad.whole.accepted sent.accepted) bad.why;
+  is = ap (λ (b : Bool). Served (Some told) b) stays;
+}
 
 exact_unfit : (s : Start) (p : Passed) (w : World) (link : LinkState) (start : LinkStart) (keep : Bool) (outcome : Outcome)
     → EndsLinked s p w link start keep outcome → (sent : IsSentWhole s p) (e : Error)
@@ -376,32 +421,80 @@ exact_unfit : (s : Start) (p : Passed) (w : World) (link : LinkState) (start : L
 exact_unfit s p w link start keep NoRequest ends sent e unfit = absurd ends
 exact_unfit s p w link start keep (Refused error) ends sent e unfit = absurd ends
 exact_unfit s p w link start keep (Served None reuse) ends sent e unfit =
-    absurd (whole_fit ends.request.method p link e ends.head ends.len ends.n ends.answered ends.body
-    (subst (λ (h : RequestHead). IsUnfit h.method p link e) (one_head sent.accepted ends.accepted) unfit))
+    absurd (elim ends as (λ _. ⊥) [
+      | inl whole ↦
+          let cut = sized_fit whole.head whole.len whole.n whole.answered
+                  (subst (λ (h : RequestHead). IsUnfit h.method p link e) (one_head sent.accepted whole.accepted) unfit) in
+          absurd (omega (arith, cut.1, whole.body))
+      | inr whole ↦ whole_or_cut whole.whole (stream_fit whole.head whole.framing whole.len whole.answered
+          (subst (λ (h : RequestHead). IsUnfit h.method p link e) (one_head sent.accepted whole.accepted) unfit))
+    ])
 exact_unfit s p w link start keep (Served (Some told) reuse) ends sent e unfit =
     elim ends.why as (λ _. IsUnfinished (Served (Some told) reuse) ⊎ IsMissed sent.request.method p link (Served (Some told) reuse)) [
-      | inl bad ↦ inr (record {
-          e = told;
-          why = subst (λ (h : RequestHead). IsUnfit h.method p link told) (one_head bad.whole.accepted sent.accepted) bad.why;
-          is = ap (λ (b : Bool). Served (Some told) b) ends.stays;
-        })
+      | inl bad ↦ inr (missed s p link told reuse sent bad ends.stays)
       | inr other ↦ absurd (elim other as (λ _. ⊥) [
         | inl fault ↦ elim fault.place as (λ _. ⊥) [
           | inl sending ↦ sending.left (sent.sent ∙ ap request_text (one_head sent.accepted sending.accepted))
           | inr later ↦ elim later as (λ _. ⊥) [
-            | inl head ↦ open_fit sent.request.method p link e head.open_head head.ended unfit
-            | inr body ↦ answered_open body.whole.request.method p link e body.body.head body.body.len body.body.n
-                body.body.answered body.ended
-                (subst (λ (h : RequestHead). IsUnfit h.method p link e) (one_head sent.accepted body.whole.accepted) unfit)
+            | inl head ↦ open_fit head.open_head head.ended unfit
+            | inr within ↦
+                let there = subst (λ (h : RequestHead). IsUnfit h.method p link e)
+                        (one_head sent.accepted within.whole.accepted) unfit in
+                elim within.body as (λ _. ⊥) [
+                  | inl sized ↦ not_both (sized_fit sized.head sized.len sized.n sized.answered there).0 within.ended
+                  | inr stream ↦ not_both (stream_fit stream.head stream.framing stream.len stream.answered there).ended
+                      within.ended
+                ]
           ]
         ]
-        | inr client ↦ answered_open client.whole.request.method p link e client.head client.len client.n client.answered
-            client.ended
+        | inr client ↦ written_fit client.writing
             (subst (λ (h : RequestHead). IsUnfit h.method p link e) (one_head sent.accepted client.whole.accepted) unfit)
       ])
     ]
 exact_unfit s p w link start keep TurnLimit ends sent e unfit = inl (inl refl)
 exact_unfit s p w link start keep OutOfMemory ends sent e unfit = inl (inr refl)
+
+exact_broken : (s : Start) (p : Passed) (w : World) (link : LinkState) (start : LinkStart) (keep : Bool) (outcome : Outcome)
+    → EndsLinked s p w link start keep outcome → (sent : IsSentWhole s p) (e : Error)
+    → HasBrokenBody sent.request.method p e → ¬ (Rattle.relay_links.specs.Count.Rose s.faults w.client.faults)
+    → IsUnfinished outcome ⊎ IsMissed sent.request.method p link outcome
+exact_broken s p w link start keep NoRequest ends sent e breaks calm = absurd ends
+exact_broken s p w link start keep (Refused error) ends sent e breaks calm = absurd ends
+exact_broken s p w link start keep (Served None reuse) ends sent e breaks calm =
+    absurd (elim ends as (λ _. ⊥) [
+      | inl whole ↦
+          let there = subst (λ (h : RequestHead). HasBrokenBody h.method p e) (one_head sent.accepted whole.accepted) breaks in
+          sized_or_streamed whole.n whole.answered.has whole.answered.built there.answered.has there.answered.built
+      | inr whole ↦
+          let there = subst (λ (h : RequestHead). HasBrokenBody h.method p e) (one_head sent.accepted whole.accepted) breaks in
+          whole_or_broken there.body whole.whole (same_breaks whole.head whole.framing whole.len whole.answered.has there)
+    ])
+exact_broken s p w link start keep (Served (Some told) reuse) ends sent e breaks calm =
+    elim ends.why as (λ _. IsUnfinished (Served (Some told) reuse) ⊎ IsMissed sent.request.method p link (Served (Some told) reuse)) [
+      | inl bad ↦ inr (missed s p link told reuse sent bad ends.stays)
+      | inr other ↦ absurd (elim other as (λ _. ⊥) [
+        | inl fault ↦ elim fault.place as (λ _. ⊥) [
+          | inl sending ↦ sending.left (sent.sent ∙ ap request_text (one_head sent.accepted sending.accepted))
+          | inr later ↦ elim later as (λ _. ⊥) [
+            | inl head ↦ HasResponse-IsOpen sent.request.method false p.got breaks.head breaks.framing breaks.len
+                breaks.answered.has head.open_head
+            | inr within ↦
+                let there = subst (λ (h : RequestHead). HasBrokenBody h.method p e)
+                        (one_head sent.accepted within.whole.accepted) breaks in
+                elim within.body as (λ _. ⊥) [
+                  | inl sized ↦ sized_or_streamed sized.n sized.answered.has sized.answered.built there.answered.has
+                      there.answered.built
+                  | inr stream ↦ open_broken stream.body there.body
+                      (Body-unique stream.framing (drop stream.len p.got) _ _ stream.still
+                      (same_breaks stream.head stream.framing stream.len stream.answered.has there))
+                ]
+          ]
+        ]
+        | inr client ↦ calm client.rose
+      ])
+    ]
+exact_broken s p w link start keep TurnLimit ends sent e breaks calm = inl (inl refl)
+exact_broken s p w link start keep OutOfMemory ends sent e breaks calm = inl (inr refl)
 
 -- a text that is relayed is not turned down, as far as it has come
 asks_not_refused : {s : Start} {p : Passed} {w : World} {text answer : List ℕ} {error : Option Error}
@@ -445,31 +538,134 @@ all_got : (method : List ℕ) (p : Passed) (link : LinkState) (text : List ℕ) 
 all_got method p link text answers ended =
     sym (append-nil p.got) ∙ ap (λ (xs : List ℕ). p.got ++ xs) (sym (answers.ended ended)) ∙ answers.joined
 
-answers_not_unfit : (method : List ℕ) (p : Passed) (link : LinkState) (e : Error) (text : List ℕ)
+-- the head that a response begins with
+record IsHeaded (method text : List ℕ) : Type 0 where
+  head : ResponseHead
+  framing : Framing
+  len : ℕ
+  has : HasResponse method false text head framing len
+
+headed : {method text : List ℕ} → IsResponse method text → IsHeaded method text
+headed (exact.IsResponse.has_length head framing len n has built whole) =
+    record { head = head; framing = framing; len = len; has = has }
+headed (exact.IsResponse.is_chunked head len n cut has final ends) =
+    record { head = head; framing = Chunked; len = len; has = has }
+headed (exact.IsResponse.ends_with_link head len has final room) =
+    record { head = head; framing = UntilClose; len = len; has = has }
+
+-- chunks do not end with the connection
+not_close : Chunked ≡ UntilClose → ⊥
+not_close is = cc
+
+-- a response that is relayed, and a head that is not
+response_or_not : {method text : List ℕ} {head : ResponseHead} {framing : Framing} {len : ℕ} → IsResponse method text
+    → HasResponse method false text head framing len → ((n : ℕ) → ¬ (IsBuiltResponse head framing n))
+    → ¬ (IsBuiltStream head framing) → ⊥
+response_or_not (exact.IsResponse.has_length h f len n has built whole) other unbuilt unstreamed =
+    answered_or_not has built other unbuilt
+response_or_not (exact.IsResponse.is_chunked h len n cut has final ends) other unbuilt unstreamed =
+    streamed_or_not has (record { final = final; streamed = tt {0} }) other unstreamed
+response_or_not (exact.IsResponse.ends_with_link h len has final room) other unbuilt unstreamed =
+    streamed_or_not has (record { final = final; streamed = tt {0} }) other unstreamed
+
+-- a response that is relayed, and a head that has no room for its framing
+response_or_full : {method text : List ℕ} {head : ResponseHead} {len : ℕ} → IsResponse method text
+    → HasResponse method false text head UntilClose len → IsBuiltStream head UntilClose
+    → RefusesInsert head.fields (codes "transfer-encoding") → ⊥
+response_or_full (exact.IsResponse.has_length h f k n has built whole) other stream full =
+    sized_or_streamed n has built other stream
+response_or_full {method} {text} {head} {len} (exact.IsResponse.is_chunked h k n cut has final ends) other stream full =
+    not_close (HasResponse-unique method false text h head Chunked UntilClose k len has other).1
+response_or_full {method} {text} {head} {len} (exact.IsResponse.ends_with_link h k has final room) other stream full =
+    room refl (subst (λ (x : ResponseHead). RefusesInsert x.fields (codes "transfer-encoding"))
+    (sym (HasResponse-unique method false text h head UntilClose UntilClose k len has other).0) full)
+
+-- a response that is relayed, and a body with a length that has not come whole
+response_or_short : {method text : List ℕ} {head : ResponseHead} {framing : Framing} {len : ℕ} (n : ℕ)
+    → IsResponse method text → HasResponse method false text head framing len → IsBuiltResponse head framing n
+    → length text < len + n → ⊥
+response_or_short n (exact.IsResponse.has_length h f k m has built whole) other sized short =
+    whole_or_short m n has built.length other sized.length whole short
+response_or_short n (exact.IsResponse.is_chunked h k m cut has final ends) other sized short =
+    sized_or_streamed n other sized has (record { final = final; streamed = tt {0} })
+response_or_short n (exact.IsResponse.ends_with_link h k has final room) other sized short =
+    sized_or_streamed n other sized has (record { final = final; streamed = tt {0} })
+
+-- a response that is relayed, and a body in chunks that has not ended
+response_or_open : {method text : List ℕ} {head : ResponseHead} {framing : Framing} {len : ℕ} (cut : List ℕ)
+    → IsResponse method text → HasResponse method false text head framing len → IsBuiltStream head framing
+    → framing ≡ Chunked → Body framing (drop len text) (open_text cut) → ⊥
+response_or_open cut (exact.IsResponse.has_length h f k m has built whole) other stream chunked still =
+    sized_or_streamed m has built other stream
+response_or_open {method} {text} cut (exact.IsResponse.is_chunked h k m whole has final ends) other stream chunked still =
+    ended_open whole cut m (one_body has other ends still)
+response_or_open {method} {text} {head} {framing} {len} cut (exact.IsResponse.ends_with_link h k has final room) other
+    stream chunked still =
+    not_close (sym ((HasResponse-unique method false text h head UntilClose framing k len has other).1 ∙ chunked))
+
+-- a response that is relayed, and a body that is broken
+response_or_broken : {method text : List ℕ} {head : ResponseHead} {framing : Framing} {len : ℕ} (cut : List ℕ)
+    → IsResponse method text → HasResponse method false text head framing len → IsBuiltStream head framing
+    → Body framing (drop len text) (record { bytes = cut; mark = broken }) → ⊥
+response_or_broken cut (exact.IsResponse.has_length h f k m has built whole) other stream breaks =
+    sized_or_streamed m has built other stream
+response_or_broken {method} {text} cut (exact.IsResponse.is_chunked h k m whole has final ends) other stream breaks =
+    ended_broken whole cut m (one_body has other ends breaks)
+response_or_broken {method} {text} {head} {framing} {len} cut (exact.IsResponse.ends_with_link h k has final room) other
+    stream breaks =
+    close_broken (drop len text) cut (sym (HasResponse-unique method false text h head UntilClose framing k len has other).1) breaks
+
+-- a response that is relayed is not unfit, as far as it has come
+answers_not_unfit : {method : List ℕ} {p : Passed} {link : LinkState} {e : Error} {text : List ℕ}
     → AnswersWith method p link text → IsUnfit method p link e → ⊥
-answers_not_unfit method p link e text answers unfit =
-    elim unfit as (λ _. ⊥) [
-      | inl broken ↦ HasResponse-IsRefusedResponse method false text answers.head answers.framing answers.len broken.why
-          answers.has (subst (λ (xs : List ℕ). IsRefusedResponse method false xs broken.why) answers.joined
-          (IsRefusedResponse-append method false p.got answers.rest broken.why broken.refused))
-      | inr other ↦ elim other as (λ _. ⊥) [
-        | inl unbuilt ↦ answered_or_not answers.has answers.built
-            (subst (λ (xs : List ℕ). HasResponse method false xs unbuilt.head unbuilt.framing unbuilt.len) answers.joined
-            (HasResponse-append method false p.got answers.rest unbuilt.head unbuilt.framing unbuilt.len unbuilt.has))
-            unbuilt.unbuilt
-        | inr cut ↦ elim cut as (λ _. ⊥) [
-          | inl head_cut ↦ HasResponse-IsOpen method false text answers.head answers.framing answers.len answers.has
-              (subst (λ (xs : List ℕ). IsOpen xs) (all_got method p link text answers head_cut.ended) head_cut.open_head)
-          | inr body_cut ↦
-              let all = all_got method p link text answers body_cut.ended in
-              whole_or_short answers.n body_cut.body.n answers.has answers.built.length
-              (subst (λ (xs : List ℕ). HasResponse method false xs body_cut.body.head body_cut.body.answered.framing
-              body_cut.body.len) all body_cut.body.answered.has)
-              body_cut.body.answered.built.length
-              answers.body (omega (arith, body_cut.body.short, ap length all))
-        ]
-      ]
-    ]
+answers_not_unfit {method} {p} {link} {e} {text} answers (endings.IsUnfit.has_broken_head bad) =
+    let first = headed answers.response in
+    HasResponse-IsRefusedResponse method false text first.head first.framing first.len bad.why first.has
+    (subst (λ (xs : List ℕ). IsRefusedResponse method false xs bad.why) answers.joined
+    (IsRefusedResponse-append method false p.got answers.rest bad.why bad.refused))
+answers_not_unfit {method} {p} {link} {e} {text} answers (endings.IsUnfit.has_unbuilt_head unbuilt) =
+    response_or_not answers.response
+    (subst (λ (xs : List ℕ). HasResponse method false xs unbuilt.head unbuilt.framing unbuilt.len) answers.joined
+    (HasResponse-append method false p.got answers.rest unbuilt.head unbuilt.framing unbuilt.len unbuilt.has))
+    unbuilt.unbuilt unbuilt.unstreamed
+answers_not_unfit {method} {p} {link} {e} {text} answers (endings.IsUnfit.has_full_head full) =
+    response_or_full answers.response
+    (subst (λ (xs : List ℕ). HasResponse method false xs full.head UntilClose full.len) answers.joined
+    (HasResponse-append method false p.got answers.rest full.head UntilClose full.len full.has))
+    full.built full.full
+answers_not_unfit {method} {p} {link} {e} {text} answers (endings.IsUnfit.is_cut_in_head cut) =
+    let first = headed answers.response in
+    HasResponse-IsOpen method false text first.head first.framing first.len first.has
+    (subst (λ (xs : List ℕ). IsOpen xs) (all_got method p link text answers cut.ended) cut.open_head)
+answers_not_unfit {method} {p} {link} {e} {text} answers (endings.IsUnfit.is_cut_in_body cut) =
+    let all = all_got method p link text answers cut.ended in
+    response_or_short cut.body.n answers.response
+    (subst (λ (xs : List ℕ). HasResponse method false xs cut.body.head cut.body.answered.framing cut.body.len) all
+    cut.body.answered.has)
+    cut.body.answered.built (omega (arith, cut.body.short, ap length all))
+answers_not_unfit {method} {p} {link} {e} {text} answers (endings.IsUnfit.is_cut_in_stream cut) =
+    let all = all_got method p link text answers cut.ended in
+    response_or_open cut.stream.body answers.response
+    (subst (λ (xs : List ℕ). HasResponse method false xs cut.stream.head cut.stream.framing cut.stream.len) all
+    cut.stream.answered.has)
+    cut.stream.answered.built cut.chunked
+    (subst (λ (xs : List ℕ). Body cut.stream.framing (drop cut.stream.len xs) (open_text cut.stream.body)) all cut.stream.still)
+
+-- a response that is relayed is not broken, as far as it has come
+answers_not_broken : {method : List ℕ} {p : Passed} {link : LinkState} {e : Error} {text : List ℕ}
+    → AnswersWith method p link text → HasBrokenBody method p e → ⊥
+answers_not_broken {method} {p} {link} {e} {text} answers breaks =
+    response_or_broken breaks.body answers.response
+    (subst (λ (xs : List ℕ). HasResponse method false xs breaks.head breaks.framing breaks.len) answers.joined
+    (HasResponse-append method false p.got answers.rest breaks.head breaks.framing breaks.len breaks.answered.has))
+    breaks.answered.built
+    (subst (λ (xs : List ℕ). Body breaks.framing (drop breaks.len xs) (record { bytes = breaks.body; mark = broken })) answers.joined
+    (subst (λ (xs : List ℕ). Body breaks.framing xs (record { bytes = breaks.body; mark = broken }))
+    (sym (drop-append-le breaks.len p.got answers.rest within))
+    (Body-broken-append breaks.framing (drop breaks.len p.got) answers.rest breaks.body breaks.breaks)))
+  where
+    within : breaks.len ≤ length p.got
+    within = (head_end-within p.got breaks.len breaks.answered.has.starts.ends).1
 
 whole_unlinked : (s : Start) (p : Passed) (w : World) (outcome : Outcome) (text : List ℕ) → EndsUnlinked s p w outcome
     → AsksFor s p w text → ¬ (Rattle.relay_links.specs.Count.Rose s.faults w.client.faults)
@@ -501,8 +697,12 @@ whole_linked s p w link start keep (Refused error) asked_for text ends asks answ
 whole_linked s p w link start keep (Served None reuse) asked_for text ends asks answers client faults = inr (reuse, refl)
 whole_linked s p w link start keep (Served (Some e) reuse) asked_for text ends asks answers client faults =
     absurd (elim ends.why as (λ _. ⊥) [
-      | inl bad ↦ answers_not_unfit asks.head.method p link e text answers
-          (subst (λ (h : RequestHead). IsUnfit h.method p link e) (asks_that asks bad.whole.accepted) bad.why)
+      | inl bad ↦ elim bad.why as (λ _. ⊥) [
+        | inl unfit ↦ answers_not_unfit answers
+            (subst (λ (h : RequestHead). IsUnfit h.method p link e) (asks_that asks bad.whole.accepted) unfit)
+        | inr breaks ↦ answers_not_broken answers
+            (subst (λ (h : RequestHead). HasBrokenBody h.method p e) (asks_that asks bad.whole.accepted) breaks)
+      ]
       | inr other ↦ elim other as (λ _. ⊥) [
         | inl fault ↦ faults fault.rose
         | inr late ↦ client late.rose
@@ -524,7 +724,10 @@ linked_or_unfinished : (s : Start) (p : Passed) (w : World) (link : LinkState) (
 linked_or_unfinished s p w link start keep NoRequest ends = absurd ends
 linked_or_unfinished s p w link start keep (Refused error) ends = absurd ends
 linked_or_unfinished s p w link start keep (Served None reuse) ends =
-    inr (record { head = ends.request; len = ends.request_len; accepted = ends.accepted })
+    inr (elim ends as (λ _. Asks s p) [
+      | inl whole ↦ record { head = whole.request; len = whole.request_len; accepted = whole.accepted }
+      | inr whole ↦ record { head = whole.request; len = whole.request_len; accepted = whole.accepted }
+    ])
 linked_or_unfinished s p w link start keep (Served (Some e) reuse) ends =
     inr (linked_asks s p w link start keep reuse e ends)
 linked_or_unfinished s p w link start keep TurnLimit ends = inl (inl refl)
@@ -539,6 +742,7 @@ module _ {L : Type 0} (state : L → LinkState) (start_at : L → LinkStart) whe
     refused = λ answer error down whole. exact_refused s p w outcome ends answer error down whole;
     not_relayed = λ e cause. exact_unrelayed s p w outcome ends e cause;
     unfit = λ r e one sent unfit. absurd (one_not_none one);
+    broken = λ r e one sent breaks calm. absurd (one_not_none one);
     whole = λ request response asks answers faultless.
         whole_unlinked s p w outcome request ends asks faultless.client faultless.connector;
   }
@@ -570,6 +774,10 @@ module _ {L : Type 0} (state : L → LinkState) (start_at : L → LinkStart) whe
             (same_one one)
             (exact_unfit s p w (state r.link) (start_at r.link) r.keep outcome ends sent e
             (subst (λ (x : Returned L). IsUnfit sent.request.method p (state x.link) e) (sym (same_one one)) unfit));
+        broken = λ q e one sent breaks calm.
+            subst (λ (x : Returned L). IsUnfinished outcome ⊎ IsMissed sent.request.method p (state x.link) outcome)
+            (same_one one)
+            (exact_broken s p w (state r.link) (start_at r.link) r.keep outcome ends sent e breaks calm);
         whole = λ request response asked_for answers faultless.
             whole_linked s p w (state r.link) (start_at r.link) r.keep outcome request response ends asked_for
             (answers r refl) faultless.client (faultless.link r refl);

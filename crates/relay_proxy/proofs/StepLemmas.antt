@@ -1,6 +1,6 @@
 -- A step takes the run so far on, and the end adds up what it says.
 use Rattle.std.proofs.Common.{◌≡◌, ◌≢◌, ℕ, ◌+◌, ◌<◌, ◌≤◌, ◌⊎◌, Bool, true, false, List, [], ◌∷◌, ◌++◌, length, Option, None, Some, nat_lt, cond, lt-ltb, refl, sym, ap, subst, ◌∙◌, inl, inr, arith, append_assoc, append-nil}
-use Rattle.relay_links.specs.Count.{up}
+use Rattle.relay_links.specs.Count.{last_count, up}
 use Rattle.relay_links.specs.Link.{LinkState, LinkStart}
 use Rattle.relay_links.specs.Told.{more}
 use Rattle.relay_links.specs.declared.Pause.TheVariants.{NotReady, Silent}
@@ -11,7 +11,7 @@ use Rattle.relay_proxy.specs.Phases.{IsAttempt, IsGoing, RunSoFar, allowance}
 use Rattle.relay_proxy.specs.Request.{Counts, IsRunning, StepsOn}
 use Rattle.relay_proxy.specs.Turn.{Advances, Spends, IsStalled, DoesWork, WorksIn, is_over}
 use Rattle.relay_proxy.specs.declared.machine.Machine.{Machine}
-use Rattle.relay_proxy.specs.Work.{total_work, turns_after}
+use Rattle.relay_proxy.specs.Work.{total_work, added_work, turns_after}
 use Rattle.relay_proxy.specs.Closing.{Hands, HandsBack, Settles, GivesUp, Finishes, Rests, TurnOf, StepSpends, Ends}
 use Rattle.relay_proxy.specs.declared.finish.Ending.{Ending}
 use Rattle.relay_proxy.specs.declared.machine.Attempt.{Attempt}
@@ -487,6 +487,44 @@ module _ {L C : Type 0} (state : L → LinkState) (start_at : L → LinkStart) w
   going_end (WriteLast a stream text) before after ending does live = does.limit
   going_end (Close a keep outcome) before after ending does live = absurd (not_true live)
   going_end (Ended outcome attempts) before after ending does live = absurd (not_true live)
+
+-- a turn that moved raised the work, as long as no number stands at its last value
+work_grows : (old turn now : Work) → 0 < total_work turn → now ≡ added_work old turn → total_work now < last_count
+    → total_work old < total_work now
+work_grows old turn now some is fits = grind (arith, ap (λ (w : Work). w.used) is, ap (λ (w : Work). w.moved) is,
+    ap (λ (w : Work). w.ended) is)
+
+-- a turn that moved did not end the request
+moved_or_ended : step.Moved ≡ step.Ended → ⊥
+moved_or_ended is = cc
+
+-- the same, in each phase
+pub progress : {L C : Type 0} (phase : Phase L C) (did : RunStep) (old turn now : Work) → WorksIn phase did turn
+    → now ≡ added_work old turn → did ≡ step.Moved → total_work now < last_count → total_work old < total_work now
+progress ReadHead did old turn now works is moved fits =
+    work_grows old turn now (subst (λ (d : RunStep). DoesWork d turn) moved works) is fits
+progress (Refuse answer error) did old turn now works is moved fits =
+    work_grows old turn now (subst (λ (d : RunStep). DoesWork d turn) moved works) is fits
+progress (Connect context request text) did old turn now works is moved fits =
+    work_grows old turn now (subst (λ (d : RunStep). DoesWork d turn) moved works) is fits
+progress (SendHead a text) did old turn now works is moved fits =
+    work_grows old turn now (subst (λ (d : RunStep). DoesWork d turn) moved works) is fits
+progress (ReadResponse a) did old turn now works is moved fits =
+    work_grows old turn now (subst (λ (d : RunStep). DoesWork d turn) moved works) is fits
+progress (WriteHead a reply text left) did old turn now works is moved fits =
+    work_grows old turn now (subst (λ (d : RunStep). DoesWork d turn) moved works) is fits
+progress (RelayBody a reply left) did old turn now works is moved fits =
+    work_grows old turn now (subst (λ (d : RunStep). DoesWork d turn) moved works) is fits
+progress (WriteChunks a stream text) did old turn now works is moved fits =
+    work_grows old turn now (subst (λ (d : RunStep). DoesWork d turn) moved works) is fits
+progress (ReadChunks a stream) did old turn now works is moved fits =
+    work_grows old turn now (subst (λ (d : RunStep). DoesWork d turn) moved works) is fits
+progress (WriteLast a stream text) did old turn now works is moved fits =
+    work_grows old turn now (subst (λ (d : RunStep). DoesWork d turn) moved works) is fits
+progress (Close a keep outcome) did old turn now works is moved fits =
+    absurd (moved_or_ended (sym moved ∙ works.1))
+progress (Ended outcome attempts) did old turn now works is moved fits =
+    absurd (moved_or_ended (sym moved ∙ works.1))
 
 -- a request that has ended answers so
 pub rests_end : {L C : Type 0} (w x : World) (phase next : Phase L C) (did : RunStep)

@@ -25,7 +25,7 @@ use Rattle.relay_h1.proofs.BodyLemmas.{Chunked-total}
 use Rattle.relay_h1.proofs.BodyReaderLemmas.{SoFar-more, SoFar-reads}
 use Rattle.relay_h1.proofs.HeadEndLemmas.{head_end-within}
 use Rattle.relay_h1.proofs.VerdictLemmas.{HasResponse-append}
-use Rattle.relay_proxy.specs.Built.{IsBuiltStream, IsStreamed, streamed_head, is_until_close, IsStreamReusable, IsClientReusable}
+use Rattle.relay_proxy.specs.Built.{IsBuiltStream, IsStreamed, HasRoom, streamed_head, is_until_close, IsStreamReusable, IsClientReusable}
 use Rattle.relay_proxy.specs.Passed.{World, Start, Passed, Waited, TellsClient}
 use Rattle.relay_proxy.specs.Endings as endings
 use Rattle.relay_proxy.specs.Endings.{IsPrefixOf, IsInOrder, EndsBody, AreFrontOf, IsWholeBody, stream_so_far, stream_whole, fault_error, cut_off}
@@ -143,6 +143,7 @@ streaming_got s p ahead more request again st asks h = record {
   answered = record {
     has = HasResponse-append h.head.method false p.got more h.given st.framing h.len h.answered.has;
     built = h.answered.built;
+    room = h.answered.room;
   };
   within = omega (arith, h.within, length-append p.got more);
   reply = h.reply;
@@ -158,7 +159,7 @@ streaming_wrote s p ahead now more request st same h = record {
   sent = h.sent;
   given = h.given;
   len = h.len;
-  answered = record { has = h.answered.has; built = h.answered.built };
+  answered = record { has = h.answered.has; built = h.answered.built; room = h.answered.room };
   within = h.within;
   reply = h.reply;
 }
@@ -237,12 +238,12 @@ module _ {L C : Type 0} (state : L → LinkState) (start_at : L → LinkStart) w
       → b.connection.link ≡ a.connection.link → b.peer ≡ a.peer → b.reused ≡ a.reused → b.request ≡ a.request
       → b.connection.ahead ≡ drop len a.connection.ahead
       → HasResponse a.request.method false a.connection.ahead given framing len
-      → IsBuiltStream given framing → reply ≡ streamed_head framing given
+      → IsBuiltStream given framing → HasRoom framing given → reply ≡ streamed_head framing given
       → ((ahead : List ℕ) → SoFar framing ahead [] at ahead) → text.output ≡ response_text reply
       → RunSoFar {C = C} state start_at s p v w [] (ReadResponse a)
       → Advances {C = C} state start_at s p v w (ReadResponse a)
       (WriteChunks b (record { head = reply; framing = framing; reader = at }) text) step.Moved
-  stream_accepted s p v w a b given reply framing len at text link peer reused asks held has built is starts whole run = record {
+  stream_accepted s p v w a b given reply framing len at text link peer reused asks held has built room is starts whole run = record {
     passed = p;
     waited = v;
     run = record {
@@ -270,6 +271,7 @@ module _ {L C : Type 0} (state : L → LinkState) (start_at : L → LinkStart) w
                 has = answers_to run.holds.1.head.method a.request.method p.got a.connection.ahead given framing len
                     (ap (λ (h : RequestHead). h.method) run.holds.1.is) run.holds.1.all_held has;
                 built = built;
+                room = room;
               };
               within = omega (arith, ends_within.1, ap length run.holds.1.all_held);
               reply = is;
@@ -307,12 +309,10 @@ module _ {L C : Type 0} (state : L → LinkState) (start_at : L → LinkStart) w
           why = inl (endings.IsUnfit.has_full_head (record {
             head = given;
             len = len;
-            answered = subst (λ (f : Framing). endings.IsAnsweredByStream run.holds.1.head.method p given f len) close
-                (record {
-                  has = answers_to run.holds.1.head.method a.request.method p.got a.connection.ahead given framing len
-                      (ap (λ (h : RequestHead). h.method) run.holds.1.is) run.holds.1.all_held has;
-                  built = built;
-                });
+            has = subst (λ (f : Framing). HasResponse run.holds.1.head.method false p.got given f len) close
+                (answers_to run.holds.1.head.method a.request.method p.got a.connection.ahead given framing len
+                (ap (λ (h : RequestHead). h.method) run.holds.1.is) run.holds.1.all_held has);
+            built = subst (λ (f : Framing). IsBuiltStream given f) close built;
             full = full;
             error = refl;
             written = run.holds.1.written;

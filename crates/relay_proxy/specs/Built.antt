@@ -2,7 +2,7 @@
 -- by one final head and its body (RFC 9110, sections 9 and 15; RFC 9112, section 6).
 use Rattle.std.specs.Prelude.{◌≡◌, ◌≤◌, ◌⊎◌, ℕ, Bool, true, false, List, [], codes, slice_get, Some}
 use Rattle.http.specs.declared.version.TheConstants.Version.{HTTP_11}
-use Rattle.http_header.specs.HeaderMap.{ContainsKey}
+use Rattle.http_header.specs.HeaderMap.{ContainsKey, RefusesInsert}
 use Rattle.relay_tasks.specs.Head.{RequestHead, ResponseHead}
 use Rattle.relay_h1.specs.ClientHead.{chunked_head}
 use Rattle.relay_h1.specs.Options.{closes}
@@ -50,6 +50,11 @@ IsStreamed Tunnel = ⊥
 pub record IsBuiltStream (head : ResponseHead) (framing : Framing) : Type 0 where
   pub final : 200 ≤ head.status
   pub streamed : IsStreamed framing
+
+-- where the head lacks the field that says chunked, it has room for it
+abbrev pub HasRoom : Framing → ResponseHead → Type 0
+HasRoom framing head =
+    framing ≡ UntilClose → ¬ (RefusesInsert head.fields (codes "transfer-encoding"))
 
 -- the head of such a response as the client gets it: what ends with the connection is chunked now
 abbrev pub streamed_head : Framing → ResponseHead → ResponseHead

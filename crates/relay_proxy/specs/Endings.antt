@@ -23,7 +23,7 @@ use Rattle.relay_h1.specs.declared.Framing.{Framing}
 use Rattle.relay_h1.specs.Body.{BodyText, broken, open_text, ended_text, Body}
 use Rattle.relay_h1.specs.BodyWire.{pieces_text, end_text}
 use Rattle.relay_h1.specs.declared.Framing.TheVariants.{Empty, Length, Chunked, UntilClose, Tunnel}
-use Rattle.relay_proxy.specs.Built.{IsConnect, IsBuiltRequest, IsBuiltResponse, IsBuiltStream, streamed_head, IsLinkReusable, IsStreamReusable, IsClientReusable}
+use Rattle.relay_proxy.specs.Built.{IsConnect, IsBuiltRequest, IsBuiltResponse, IsBuiltStream, HasRoom, streamed_head, IsLinkReusable, IsStreamReusable, IsClientReusable}
 use Rattle.relay_proxy.specs.Passed.{World, Start, Passed, Waited, asked, TellsClient, TellsLink, IsUnsent}
 use Rattle.relay_proxy.specs.declared.outcome.Outcome.{Outcome}
 use Rattle.relay_proxy.specs.declared.outcome.Outcome.TheVariants.{NoRequest, Refused, Served, TurnLimit, OutOfMemory}
@@ -53,6 +53,7 @@ pub record IsAnsweredByStream
     : Type 0 where
   pub has : HasResponse method false p.got head framing len
   pub built : IsBuiltStream head framing
+  pub room : HasRoom framing head
 
 -- the body ended with its first n bytes: by its text, or with the link
 pub data IsWholeBody (framing : Framing) (link : LinkState) (bytes body : List ℕ) (n : ℕ)
@@ -371,7 +372,8 @@ pub record IsCutInStream (method : List ℕ) (p : Passed) (link : LinkState) (e 
 pub record IsFullHead (method : List ℕ) (p : Passed) (e : Error) : Type 0 where
   pub head : ResponseHead
   pub len : ℕ
-  pub answered : IsAnsweredByStream method p head UntilClose len
+  pub has : HasResponse method false p.got head UntilClose len
+  pub built : IsBuiltStream head UntilClose
   pub full : RefusesInsert head.fields (codes "transfer-encoding")
   pub error : e ≡ refused_from Internal HeadTooLong
   pub written : p.written ≡ []

@@ -1,6 +1,5 @@
 -- Causes the other way round: where a cause stands, the request has that outcome.
-use Rattle.std.specs.Prelude.{◌≡◌, ℕ, ◌+◌, ◌≤◌, ◌⊎◌, Bool, true, false, List, [], ◌∷◌, ◌++◌, length, drop, Option, Some, None, codes}
-use Rattle.http_header.specs.HeaderMap.{RefusesInsert}
+use Rattle.std.specs.Prelude.{◌≡◌, ℕ, ◌+◌, ◌≤◌, ◌⊎◌, Bool, true, false, List, [], ◌∷◌, ◌++◌, length, drop, Option, Some, None}
 use Rattle.relay_tasks.specs.Head.{RequestHead, ResponseHead}
 use Rattle.relay_tasks.specs.declared.Error.{Error}
 use Rattle.relay_links.specs.Count.{Rose}
@@ -10,7 +9,7 @@ use Rattle.relay_h1.specs.Verdict.{HasRequest, HasResponse}
 use Rattle.relay_h1.specs.declared.Framing.{Framing}
 use Rattle.relay_h1.specs.Body.{ended_text, Body}
 use Rattle.relay_h1.specs.declared.Framing.TheVariants.{Empty, Chunked, UntilClose}
-use Rattle.relay_proxy.specs.Built.{IsBuiltRequest, IsBuiltResponse}
+use Rattle.relay_proxy.specs.Built.{IsBuiltRequest, IsBuiltResponse, HasRoom}
 use Rattle.relay_proxy.specs.Passed.{World, Start, Passed, asked}
 use Rattle.relay_proxy.specs.Endings.{IsTurnedDown, IsLeftAlone, IsSentWhole, IsUnfit, HasBrokenBody}
 use Rattle.relay_proxy.specs.declared.outcome.Outcome.{Outcome}
@@ -30,27 +29,24 @@ pub record AsksFor (s : Start) (p : Passed) (w : World) (text : List ℕ) : Type
   pub built : IsBuiltRequest head Empty
   pub ended : w.client.ended ≡ true → rest ≡ []
 
--- the text begins with a response to that method that is relayed, whole; `closed` is whether it is
--- followed by the end of the link
-pub data IsResponse (method text : List ℕ) (closed : Bool) : Type 0 where
+-- the text begins with a response to that method that is relayed, whole, as far as its text says
+pub data IsResponse (method text : List ℕ) : Type 0 where
   has_length : (head : ResponseHead) (framing : Framing) (len n : ℕ)
       → HasResponse method false text head framing len → IsBuiltResponse head framing n
-      → len + n ≤ length text → IsResponse method text closed
+      → len + n ≤ length text → IsResponse method text
   is_chunked : (head : ResponseHead) (len n : ℕ) (body : List ℕ)
       → HasResponse method false text head Chunked len → 200 ≤ head.status
-      → Body Chunked (drop len text) (ended_text body n) → IsResponse method text closed
+      → Body Chunked (drop len text) (ended_text body n) → IsResponse method text
   ends_with_link : (head : ResponseHead) (len : ℕ)
       → HasResponse method false text head UntilClose len → 200 ≤ head.status
-      → ¬ (RefusesInsert head.fields (codes "transfer-encoding"))
-      → closed ≡ true → IsResponse method text closed
+      → HasRoom UntilClose head → IsResponse method text
 
 -- a link gives this text and no more, and it is such a response
 pub record AnswersWith (method : List ℕ) (p : Passed) (link : LinkState) (text : List ℕ)
     : Type 0 where
   pub rest : List ℕ
   pub joined : p.got ++ rest ≡ text
-  pub closed : Bool
-  pub response : IsResponse method text closed
+  pub response : IsResponse method text
   pub ended : link.ended ≡ true → rest ≡ []
 
 -- the client was given a generated answer for its bytes

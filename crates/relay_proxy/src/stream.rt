@@ -8,7 +8,7 @@ ghost use Rattle.relay_h1.specs.Body.{open_text, Body};
 ghost use Rattle.relay_h1.specs.BodyWire.{chunk_text, end_text};
 ghost use Rattle.relay_h1.specs.Verdict.{HasResponse};
 ghost use Rattle.relay_h1.specs.Wire.{response_text};
-ghost use Rattle.relay_proxy.specs.Built.{IsBuiltStream, streamed_head};
+ghost use Rattle.relay_proxy.specs.Built.{IsBuiltStream, HasRoom, streamed_head};
 ghost use Rattle.relay_proxy.specs.Endings.{IsWholeBody};
 ghost use Rattle.relay_proxy.specs.Passed.{World, Start, Passed, Waited};
 ghost use Rattle.relay_proxy.specs.Phases.{RunSoFar};
@@ -70,6 +70,7 @@ fn make_stream_head(framing: Framing, head: &mut ResponseHeader) -> Result<()>
     ensures ok { OnOk result (head.new ≡ streamed_head framing head.old) }
     ensures full { IsErrOf result (Fail.Error (refused Context.HeadTooLong))
         → (framing ≡ UntilClose) × RefusesInsert head.old.fields (codes "transfer-encoding") }
+    ensures room { OnOk result (HasRoom framing head.old) }
     ensures causes { IfErr result (IsMemoryOr (refused Context.HeadTooLong)) }
 {
     match framing {
@@ -90,7 +91,7 @@ fn begin_stream<L: ByteLink, C: Drop>(
     ensures run { (s : Start) (p : Passed) (v : Waited) (w : World) (given : ResponseHead)
         → RunSoFar {C = C} L.state L.start s p v w [] (Phase.ReadResponse attempt)
         → HasResponse attempt.request.method false attempt.connection.ahead given framing len
-        → IsBuiltStream given framing → head ≡ streamed_head framing given
+        → IsBuiltStream given framing → HasRoom framing given → head ≡ streamed_head framing given
         → Advances L.state L.start s p v w (Phase.ReadResponse attempt)
         result.phase result.step }
     ensures work { DoesWork result.step result.work }

@@ -10,7 +10,8 @@ use Rattle.relay_proxy.proofs.stream.accept_stream.Goals as goal
 
 pub returns-in-Ok-clause-run : goal.returns-in-Ok-clause-run
 returns-in-Ok-clause-run g c = λ s p v w run has built.
-    c.begin_stream.ensures.run s p v w c.args.read.head run has built c.in-Ok.ensures.ok
+    c.begin_stream.ensures.run s p v w c.args.read.head run has built c.in-Ok.ensures.room
+    c.in-Ok.ensures.ok
 
 pub returns-in-Err-Error-clause-run : goal.returns-in-Err-Error-clause-run
 returns-in-Err-Error-clause-run g c = λ s p v w run has built.

@@ -1,5 +1,5 @@
 -- The turn and its settling are a step.
-use Rattle.relay_proxy.proofs.StepLemmas.{step_on, counts_turn, rests_end}
+use Rattle.relay_proxy.proofs.StepLemmas.{step_on, counts_turn, rests_end, progress}
 use Rattle.relay_proxy.proofs.proxy.HttpProxy.step.Goals as goal
 
 pub returns-clause-steps : goal.returns-clause-steps
@@ -24,3 +24,9 @@ pub returns-clause-rests : goal.returns-clause-rests
 returns-clause-rests g c = λ over.
     rests_end _ _ c.args.machine.now.machine.phase c.take_turn-next.result.phase _
     (rw c.replace-phase.ensures.value at c.take_turn-next.ensures.rests) over
+
+pub returns-clause-progress : goal.returns-clause-progress
+returns-clause-progress g c = λ moved fits.
+    progress c.args.machine.now.machine.phase c.take_turn-next.result.step c.args.machine.now.machine.work
+    c.take_turn-next.result.work c.plus-machine.result
+    (rw c.replace-phase.ensures.value at c.take_turn-next.ensures.work) c.plus-machine.ensures moved fits
