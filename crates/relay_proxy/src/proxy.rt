@@ -4,7 +4,7 @@ ghost use Rattle.relay_links.specs.Count.{Rose, up};
 ghost use Rattle.relay_proxy.specs.Passed.{Start, Passed, Waited, start_of, nothing, unwaited};
 ghost use Rattle.relay_proxy.specs.Request.{is_stop, Counts, IsRunning, StepsOn, ComesToEnd, Processes};
 ghost use Rattle.relay_proxy.specs.Turn.{world_of, links_held, is_over, is_end};
-ghost use Rattle.relay_proxy.specs.Work.{total_work};
+ghost use Rattle.relay_proxy.specs.Work.{total_work, Grows};
 
 use crate::finish::{finish, settle};
 use crate::hooks::ProxyHttp;
@@ -129,6 +129,8 @@ impl<SV: ProxyHttp, K: Connector, P: Purger> HttpProxy<SV, K, P> {
         // A step that moved did some work.
         ensures progress { result ≡ RunStep.Moved
             → Rose (total_work machine.old.machine.work) (total_work machine.new.machine.work) }
+        // What was counted stays counted.
+        ensures grows { Grows machine.old.machine.work machine.new.machine.work }
         // The answer says whether the request has ended.
         ensures ended { is_over machine.new.machine.phase ≡ is_end result }
         // A request that has ended stays so.
@@ -222,6 +224,7 @@ impl<SV: ProxyHttp, K: Connector, P: Purger> HttpProxy<SV, K, P> {
             (start_of (world_of D.state client.old (K.fault_count self.old.connector)))
             (world_of D.state client.new (K.fault_count self.new.connector))
             (K.returned self.old.connector) (K.returned self.new.connector) turns result }
+        ensures within { result.history.turns_taken ≤ turns }
         ensures out { K.out self.new.connector ≡ K.out self.old.connector }
         ensures kept { client.new.kept ≡ None }
         // No hook is called yet.

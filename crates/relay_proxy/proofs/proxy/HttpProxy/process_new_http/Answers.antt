@@ -1,11 +1,23 @@
 -- The steps add up to the whole request.
-use Rattle.std.proofs.Common.{◌≡◌, ◌∙◌, ◌+◌, ◌≤◌, arith, refl, ap, sym}
+use Rattle.std.proofs.Common.{◌≡◌, ℕ, ◌∙◌, ◌+◌, ◌≤◌, arith, refl, ap, sym, inl, inr}
 use Rattle.relay_links.specs.Count.{last_count}
+use Rattle.relay_links.specs.declared.Pause.TheVariants.{NotReady, Silent}
 use Rattle.relay_proxy.specs.Passed.{start_of}
+use Rattle.relay_proxy.specs.Request.{Counts}
 use Rattle.relay_proxy.specs.Turn.{world_of}
+use Rattle.relay_proxy.specs.declared.machine.RunStep.{RunStep}
+use Rattle.relay_proxy.specs.declared.machine.RunStep.TheVariants as did
 use Rattle.relay_proxy.specs.declared.proxy.HttpProxy.{HttpProxy}
 use Rattle.relay_proxy.proofs.UnderWay.{begun, goes_on, all_taken, stopped, one_more, no_end, stops_at}
 use Rattle.relay_proxy.proofs.proxy.HttpProxy.process_new_http.Goals as goal
+
+-- a step is counted as one turn at most
+one_at_most : (before after : ℕ) (step : RunStep) → Counts before after step → after ≤ before + 1
+one_at_most before after did.Moved counts = omega (arith, counts)
+one_at_most before after (did.Waited NotReady) counts = omega (arith, counts)
+one_at_most before after (did.Waited Silent) counts = omega (arith, counts)
+one_at_most before after did.Ended (inl one) = omega (arith, one)
+one_at_most before after did.Ended (inr none) = omega (arith, none)
 
 pub loop-turn-init : goal.loop-turn-init
 loop-turn-init g c =
@@ -63,6 +75,17 @@ returns-clause-processes g c =
     let ends = c.close-2.ensures.ends s under.passed under.waited under.own under.running in
     let all : c.args.turns ≡ c.loop-turn._turn = omega (arith, c.loop-turn-test.false, c.loop-turn.auto._turn-end) in
     all_taken state start s _ _ _ _ _ c.loop-turn.machine.machine _ _ c.close-2.result under all ends c.close-2.ensures.turns
+
+-- no more turns were taken than were given
+pub returns-then-is_stop-clause-within : goal.returns-then-is_stop-clause-within
+returns-then-is_stop-clause-within g c =
+    omega (arith, c.close.ensures.turns, c.loop-turn.invariant.0.counted, c.loop-turn-test.true,
+    one_at_most _ _ c.step-step.result c.step-step.ensures.counted)
+
+pub returns-clause-within : goal.returns-clause-within
+returns-clause-within g c =
+    omega (arith, c.close-2.ensures.turns, c.loop-turn.invariant.0.counted,
+    c.loop-turn.auto._turn-end)
 
 -- the proxy is as before, but for its connector
 pub returns-then-is_stop-clause-same : goal.returns-then-is_stop-clause-same
