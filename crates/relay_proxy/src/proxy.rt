@@ -1,5 +1,5 @@
 //! The proxy: requests are begun, stepped and ended, or processed in one call.
-ghost use Rattle.std.specs.Prelude.{◌≡◌, ◌+◌, ◌≤◌, ℕ, [], List, None, true, false};
+ghost use Rattle.std.specs.Prelude.{◌≡◌, ◌⊎◌, ◌+◌, ◌≤◌, ℕ, [], List, None, true, false};
 ghost use Rattle.relay_links.specs.Count.{Rose, up};
 ghost use Rattle.relay_proxy.specs.Passed.{Start, Passed, Waited, start_of, nothing, unwaited};
 ghost use Rattle.relay_proxy.specs.Request.{is_stop, Counts, IsRunning, StepsOn, ComesToEnd, Processes};
@@ -131,6 +131,13 @@ impl<SV: ProxyHttp, K: Connector, P: Purger> HttpProxy<SV, K, P> {
             → Rose (total_work machine.old.machine.work) (total_work machine.new.machine.work) }
         // What was counted stays counted.
         ensures grows { Grows machine.old.machine.work machine.new.machine.work }
+        // Silence is no work, and a request that has ended does none.
+        ensures idle { (result ≡ RunStep.Waited Pause.Silent)
+            ⊎ (is_over machine.old.machine.phase ≡ true)
+            → machine.new.machine.work ≡ machine.old.machine.work }
+        // Each turn that was counted did some work.
+        ensures worked { machine.old.machine.turns ≤ total_work machine.old.machine.work
+            → machine.new.machine.turns ≤ total_work machine.new.machine.work }
         // The answer says whether the request has ended.
         ensures ended { is_over machine.new.machine.phase ≡ is_end result }
         // A request that has ended stays so.
@@ -225,6 +232,9 @@ impl<SV: ProxyHttp, K: Connector, P: Purger> HttpProxy<SV, K, P> {
             (world_of D.state client.new (K.fault_count self.new.connector))
             (K.returned self.old.connector) (K.returned self.new.connector) turns result }
         ensures within { result.history.turns_taken ≤ turns }
+        // Each turn that was counted did some work.
+        ensures worked { result.history.turns_taken ≤ result.history.items_used
+            + result.history.tasks_moved + result.history.sides_ended }
         ensures out { K.out self.new.connector ≡ K.out self.old.connector }
         ensures kept { client.new.kept ≡ None }
         // No hook is called yet.
@@ -258,6 +268,9 @@ impl<SV: ProxyHttp, K: Connector, P: Purger> HttpProxy<SV, K, P> {
             (K.returned self.old.connector) (K.returned self.new.connector)
             machine.machine result }
         ensures turns { result.history.turns_taken ≡ machine.machine.turns }
+        ensures moved { result.history.tasks_moved ≡ machine.machine.work.moved }
+        ensures used { result.history.items_used ≡ machine.machine.work.used }
+        ensures sides { result.history.sides_ended ≡ machine.machine.work.ended }
         ensures faults { K.fault_count self.new.connector ≡ K.fault_count self.old.connector }
         ensures out { K.out self.new.connector
             + links_held K.Byte.state K.Byte.start machine.machine.phase

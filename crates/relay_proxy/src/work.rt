@@ -59,6 +59,7 @@ impl Work {
     pub(crate) fn plus(self, turn: Work) -> Work
         ensures sum { result ≡ added_work self turn }
         ensures grows { Grows self result }
+        ensures idle { total_work turn ≡ 0 → result ≡ self }
     {
         Work {
             used: self.used.saturating_add(turn.used),

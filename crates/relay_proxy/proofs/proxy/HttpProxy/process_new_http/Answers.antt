@@ -29,6 +29,7 @@ loop-turn-init g c =
       ap (λ k. k.kept) (c.begin-machine.ensures.client ∙ c.take_kept-kept.ensures.after),
       c.begin-machine.ensures.going,
       refl,
+      omega (arith, c.begin-machine.ensures.no_turns),
     )
 
 pub returns-then-is_stop-clause-processes : goal.returns-then-is_stop-clause-processes
@@ -64,6 +65,7 @@ loop-turn-preserved g c =
       c.step-step.ensures.ended ∙ no_end c.step-step.result goes,
       c.step-step.ensures.same
           ∙ ap (λ (k : HttpProxy g.row.SV.Denot g.row.K.Denot g.row.P.Denot). record k { connector = c.step-step.new.self.connector }) c.loop-turn.invariant.4,
+      c.step-step.ensures.worked c.loop-turn.invariant.5,
     )
 
 pub returns-clause-processes : goal.returns-clause-processes
@@ -79,13 +81,45 @@ returns-clause-processes g c =
 -- no more turns were taken than were given
 pub returns-then-is_stop-clause-within : goal.returns-then-is_stop-clause-within
 returns-then-is_stop-clause-within g c =
-    omega (arith, c.close.ensures.turns, c.loop-turn.invariant.0.counted, c.loop-turn-test.true,
-    one_at_most _ _ c.step-step.result c.step-step.ensures.counted)
+    omega (
+      arith,
+      c.close.ensures.turns,
+      c.loop-turn.invariant.0.counted,
+      c.loop-turn-test.true,
+      one_at_most _ _ c.step-step.result c.step-step.ensures.counted,
+    )
 
 pub returns-clause-within : goal.returns-clause-within
 returns-clause-within g c =
-    omega (arith, c.close-2.ensures.turns, c.loop-turn.invariant.0.counted,
-    c.loop-turn.auto._turn-end)
+    omega (
+      arith,
+      c.close-2.ensures.turns,
+      c.loop-turn.invariant.0.counted,
+      c.loop-turn.auto._turn-end,
+    )
+
+-- each turn that was counted did some work
+pub returns-then-is_stop-clause-worked : goal.returns-then-is_stop-clause-worked
+returns-then-is_stop-clause-worked g c =
+    omega (
+      arith,
+      c.close.ensures.turns,
+      c.close.ensures.used,
+      c.close.ensures.moved,
+      c.close.ensures.sides,
+      c.step-step.ensures.worked c.loop-turn.invariant.5,
+    )
+
+pub returns-clause-worked : goal.returns-clause-worked
+returns-clause-worked g c =
+    omega (
+      arith,
+      c.close-2.ensures.turns,
+      c.close-2.ensures.used,
+      c.close-2.ensures.moved,
+      c.close-2.ensures.sides,
+      c.loop-turn.invariant.5,
+    )
 
 -- the proxy is as before, but for its connector
 pub returns-then-is_stop-clause-same : goal.returns-then-is_stop-clause-same
