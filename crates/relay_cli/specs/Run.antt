@@ -6,7 +6,7 @@ use Rattle.relay_links.specs.Source.{SourceState}
 use Rattle.relay_cli.specs.Exchange.{IsRun}
 use Rattle.relay_cli.specs.Report.{RequestSpec, report_of}
 use Rattle.relay_cli.specs.Script.{ScriptSpec, reads_script}
-use Rattle.relay_cli.specs.Transfer.{GivesAll, GivesTooMany, FailsToGive, Takes, input_limit}
+use Rattle.relay_cli.specs.Transfer.{GivesAll, GivesTooMany, GivesSome, FailsToGive, Takes, FailsToTake, StopsTaking, input_limit}
 use Rattle.relay_cli.specs.Words.{command_of, usage_text}
 use Rattle.relay_cli.specs.declared.run.Status.{Status}
 use Rattle.relay_cli.specs.declared.run.Status.TheVariants as status
@@ -64,6 +64,38 @@ pub record RefusesScript (source source' : SourceState) (sink sink' : SinkState)
   pub cause : GivesNoScript source source' ⊎ GivesTooMany source source'
   pub written : Takes sink sink' refused_text
 
+-- the text is what is to be written for these bytes: the report of a run of the script that they
+-- spell, or the line that says that they spell none
+abbrev pub IsTextFor : List ℕ → List ℕ → Type 0
+IsTextFor bytes text = IsReportOf bytes text ⊎ ((reads_script bytes ≡ None) × (text ≡ refused_text))
+
+-- the source has ended, and the text is what is to be written for its bytes
+pub record AsksForText (before after : SourceState) (text : List ℕ) : Type 0 where
+  pub bytes : List ℕ
+  pub gives : GivesAll before after bytes
+  pub due : IsTextFor bytes text
+
+-- the text is what is to be written for what the source gave
+abbrev pub IsTextOf : SourceState → SourceState → List ℕ → Type 0
+IsTextOf before after text =
+    AsksForText before after text ⊎ (GivesTooMany before after × (text ≡ refused_text))
+
+-- a write of what is due failed
+pub record FailsToWrite (IsDue : List ℕ → Type 0) (sink sink' : SinkState) : Type 0 where
+  pub text : List ℕ
+  pub due : IsDue text
+  pub fails : FailsToTake sink sink' text
+
+-- the sink took the first bytes of what is due, and then memory ran out
+pub record StopsWriting (IsDue : List ℕ → Type 0) (sink sink' : SinkState) : Type 0 where
+  pub text : List ℕ
+  pub due : IsDue text
+  pub stops : StopsTaking sink sink' text
+
+-- memory ran out: nothing was written, or the first bytes of what is due
+abbrev pub RunsShort : (List ℕ → Type 0) → SinkState → SinkState → Type 0
+RunsShort IsDue sink sink' = (sink' ≡ sink) ⊎ StopsWriting IsDue sink sink'
+
 -- the sink took the usage, and the source was left alone
 pub record RefusesWords (source source' : SourceState) (sink sink' : SinkState) : Type 0 where
   pub source_same : source' ≡ source
@@ -78,33 +110,42 @@ status_after output.OutOfMemory done = status.OutOfMemory
 -- why the bytes of a source end with a status
 abbrev pub EndsBytes : List ℕ → SinkState → SinkState → Status → Type 0
 EndsBytes bytes sink sink' status.Reported = TakesReport bytes sink sink'
-EndsBytes bytes sink sink' status.ScriptRefused = (reads_script bytes ≡ None) × Takes sink sink' refused_text
+EndsBytes bytes sink sink' status.ScriptRefused =
+    (reads_script bytes ≡ None) × Takes sink sink' refused_text
 EndsBytes bytes sink sink' status.SourceFailed = ⊥
-EndsBytes bytes sink sink' status.SinkFailed = Rose sink.faults sink'.faults
-EndsBytes bytes sink sink' status.OutOfMemory = Unit {0}
+EndsBytes bytes sink sink' status.SinkFailed = FailsToWrite (IsTextFor bytes) sink sink'
+EndsBytes bytes sink sink' status.OutOfMemory = RunsShort (IsTextFor bytes) sink sink'
 EndsBytes bytes sink sink' status.WordsRefused = ⊥
 
 -- why a run of a script ends with a status
 abbrev pub EndsScript : SourceState → SourceState → SinkState → SinkState → Status → Type 0
 EndsScript source source' sink sink' status.Reported = Reports source source' sink sink'
 EndsScript source source' sink sink' status.ScriptRefused = RefusesScript source source' sink sink'
-EndsScript source source' sink sink' status.SourceFailed = FailsToGive source source' × (sink' ≡ sink)
-EndsScript source source' sink sink' status.SinkFailed = Rose sink.faults sink'.faults
-EndsScript source source' sink sink' status.OutOfMemory = Unit {0}
+EndsScript source source' sink sink' status.SourceFailed =
+    FailsToGive source source' × (sink' ≡ sink)
+EndsScript source source' sink sink' status.SinkFailed =
+    FailsToWrite (IsTextOf source source') sink sink'
+EndsScript source source' sink sink' status.OutOfMemory =
+    GivesSome source source' × RunsShort (IsTextOf source source') sink sink'
 EndsScript source source' sink sink' status.WordsRefused = ⊥
 
 -- why refused words end with a status
 abbrev pub EndsUsage : SourceState → SourceState → SinkState → SinkState → Status → Type 0
 EndsUsage source source' sink sink' status.WordsRefused = RefusesWords source source' sink sink'
-EndsUsage source source' sink sink' status.SinkFailed = (source' ≡ source) × Rose sink.faults sink'.faults
-EndsUsage source source' sink sink' status.OutOfMemory = source' ≡ source
+EndsUsage source source' sink sink' status.SinkFailed =
+    (source' ≡ source) × FailsToTake sink sink' usage_text
+EndsUsage source source' sink sink' status.OutOfMemory =
+    (source' ≡ source) × StopsTaking sink sink' usage_text
 EndsUsage source source' sink sink' status.Reported = ⊥
 EndsUsage source source' sink sink' status.ScriptRefused = ⊥
 EndsUsage source source' sink sink' status.SourceFailed = ⊥
 
 -- why the words end with a status
-abbrev pub EndsCommand : List (List ℕ) → SourceState → SourceState → SinkState → SinkState → Status → Type 0
-EndsCommand words source source' sink sink' status = MatchOption (command_of words) (EndsUsage source source' sink sink' status) (λ _. EndsScript source source' sink sink' status)
+abbrev pub EndsCommand :
+    List (List ℕ) → SourceState → SourceState → SinkState → SinkState → Status → Type 0
+EndsCommand words source source' sink sink' status =
+    MatchOption (command_of words) (EndsUsage source source' sink sink' status)
+    (λ _. EndsScript source source' sink sink' status)
 
 -- a source that tells its bytes has ended, and they spell no script
 pub record TellsNoScript (before after : SourceState) : Type 0 where

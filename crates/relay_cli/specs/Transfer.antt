@@ -39,12 +39,17 @@ pub record FailsToGive (before after : SourceState) : Type 0 where
   pub faults : Rose before.faults after.faults
   pub not_ended : after.ended ≡ false
 
+-- a source gave some bytes or none, and no read failed
+pub record GivesSome (before after : SourceState) : Type 0 where
+  pub bytes : List ℕ
+  pub gives : Gives before after bytes
+
 -- what reading a source comes to
 abbrev pub ReadsIn : SourceState → SourceState → Input → Type 0
 ReadsIn before after (input.Whole text) = GivesAll before after text.items
 ReadsIn before after input.TooLong = GivesTooMany before after
 ReadsIn before after input.Failed = FailsToGive before after
-ReadsIn before after input.OutOfMemory = Unit {0}
+ReadsIn before after input.OutOfMemory = GivesSome before after
 
 -- a source ended at this read: nothing was left
 pub record GivesEnd (before after : SourceState) : Type 0 where
@@ -64,7 +69,7 @@ abbrev pub PullsIn : SourceState → SourceState → List ℕ → List ℕ → P
 PullsIn before after old new pulled.More = AddsSome before after old new
 PullsIn before after old new pulled.End = GivesEnd before after × (new ≡ old)
 PullsIn before after old new pulled.Failed = FailsToGive before after
-PullsIn before after old new pulled.OutOfMemory = Unit {0}
+PullsIn before after old new pulled.OutOfMemory = GivesSome before after
 
 -- a sink took these bytes, and no write failed
 pub record Takes (before after : SinkState) (bytes : List ℕ) : Type 0 where
@@ -77,8 +82,13 @@ pub record FailsToTake (before after : SinkState) (text : List ℕ) : Type 0 whe
   pub taken : after.taken ≡ more before.taken (take count text)
   pub faults : Rose before.faults after.faults
 
+-- a sink took the first bytes of the text, and no write failed
+pub record StopsTaking (before after : SinkState) (text : List ℕ) : Type 0 where
+  pub count : ℕ
+  pub takes : Takes before after (take count text)
+
 -- what writing a text to a sink comes to
 abbrev pub WritesOut : SinkState → SinkState → List ℕ → Output → Type 0
 WritesOut before after text output.Done = Takes before after text
 WritesOut before after text output.Failed = FailsToTake before after text
-WritesOut before after text output.OutOfMemory = Unit {0}
+WritesOut before after text output.OutOfMemory = StopsTaking before after text

@@ -1,5 +1,5 @@
 -- How much work a turn was, and how it adds up.
-use Rattle.std.specs.Prelude.{ℕ, ◌+◌, min, if◌then◌else◌, nat_lt}
+use Rattle.std.specs.Prelude.{ℕ, ◌+◌, ◌≤◌, min, if◌then◌else◌, nat_lt}
 use Rattle.relay_links.specs.Count.{last_count, up}
 use Rattle.relay_proxy.specs.declared.work.Work.{Work}
 
@@ -14,6 +14,12 @@ added_work work turn = record {
   moved = min (work.moved + turn.moved) last_count;
   ended = min (work.ended + turn.ended) last_count;
 }
+
+-- no number of the work fell
+pub record Grows (before after : Work) : Type 0 where
+  pub used : before.used ≤ after.used
+  pub moved : before.moved ≤ after.moved
+  pub ended : before.ended ≤ after.ended
 
 -- the turns so far and one more, where that did some work
 abbrev pub turns_after : ℕ → Work → ℕ

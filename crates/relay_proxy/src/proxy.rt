@@ -1,10 +1,10 @@
 //! The proxy: requests are begun, stepped and ended, or processed in one call.
-ghost use Rattle.std.specs.Prelude.{◌≡◌, ◌+◌, ◌≤◌, ℕ, [], List, None, true, false};
+ghost use Rattle.std.specs.Prelude.{◌≡◌, ◌⊎◌, ◌+◌, ◌≤◌, ℕ, [], List, None, true, false};
 ghost use Rattle.relay_links.specs.Count.{Rose, up};
 ghost use Rattle.relay_proxy.specs.Passed.{Start, Passed, Waited, start_of, nothing, unwaited};
 ghost use Rattle.relay_proxy.specs.Request.{is_stop, Counts, IsRunning, StepsOn, ComesToEnd, Processes};
 ghost use Rattle.relay_proxy.specs.Turn.{world_of, links_held, is_over, is_end};
-ghost use Rattle.relay_proxy.specs.Work.{total_work};
+ghost use Rattle.relay_proxy.specs.Work.{total_work, Grows};
 
 use crate::finish::{finish, settle};
 use crate::hooks::ProxyHttp;
@@ -129,6 +129,15 @@ impl<SV: ProxyHttp, K: Connector, P: Purger> HttpProxy<SV, K, P> {
         // A step that moved did some work.
         ensures progress { result ≡ RunStep.Moved
             → Rose (total_work machine.old.machine.work) (total_work machine.new.machine.work) }
+        // What was counted stays counted.
+        ensures grows { Grows machine.old.machine.work machine.new.machine.work }
+        // Silence is no work, and a request that has ended does none.
+        ensures idle { (result ≡ RunStep.Waited Pause.Silent)
+            ⊎ (is_over machine.old.machine.phase ≡ true)
+            → machine.new.machine.work ≡ machine.old.machine.work }
+        // Each turn that was counted did some work.
+        ensures worked { machine.old.machine.turns ≤ total_work machine.old.machine.work
+            → machine.new.machine.turns ≤ total_work machine.new.machine.work }
         // The answer says whether the request has ended.
         ensures ended { is_over machine.new.machine.phase ≡ is_end result }
         // A request that has ended stays so.
@@ -222,6 +231,10 @@ impl<SV: ProxyHttp, K: Connector, P: Purger> HttpProxy<SV, K, P> {
             (start_of (world_of D.state client.old (K.fault_count self.old.connector)))
             (world_of D.state client.new (K.fault_count self.new.connector))
             (K.returned self.old.connector) (K.returned self.new.connector) turns result }
+        ensures within { result.history.turns_taken ≤ turns }
+        // Each turn that was counted did some work.
+        ensures worked { result.history.turns_taken ≤ result.history.items_used
+            + result.history.tasks_moved + result.history.sides_ended }
         ensures out { K.out self.new.connector ≡ K.out self.old.connector }
         ensures kept { client.new.kept ≡ None }
         // No hook is called yet.
@@ -255,6 +268,9 @@ impl<SV: ProxyHttp, K: Connector, P: Purger> HttpProxy<SV, K, P> {
             (K.returned self.old.connector) (K.returned self.new.connector)
             machine.machine result }
         ensures turns { result.history.turns_taken ≡ machine.machine.turns }
+        ensures moved { result.history.tasks_moved ≡ machine.machine.work.moved }
+        ensures used { result.history.items_used ≡ machine.machine.work.used }
+        ensures sides { result.history.sides_ended ≡ machine.machine.work.ended }
         ensures faults { K.fault_count self.new.connector ≡ K.fault_count self.old.connector }
         ensures out { K.out self.new.connector
             + links_held K.Byte.state K.Byte.start machine.machine.phase

@@ -46,7 +46,7 @@ impl Work {
 }
 
 impl Work {
-    ghost use Rattle.relay_proxy.specs.Work.{total_work, added_work};
+    ghost use Rattle.relay_proxy.specs.Work.{total_work, added_work, Grows};
 
     /// Whether a turn did any work.
     fn is_some(&self) -> bool
@@ -57,7 +57,9 @@ impl Work {
 
     /// The work so far and that of one more turn. Each number stands still at its last value.
     pub(crate) fn plus(self, turn: Work) -> Work
-        ensures { result ≡ added_work self turn }
+        ensures sum { result ≡ added_work self turn }
+        ensures grows { Grows self result }
+        ensures idle { total_work turn ≡ 0 → result ≡ self }
     {
         Work {
             used: self.used.saturating_add(turn.used),

@@ -1,11 +1,23 @@
 -- The steps add up to the whole request.
-use Rattle.std.proofs.Common.{◌≡◌, ◌∙◌, ◌+◌, ◌≤◌, arith, refl, ap, sym}
+use Rattle.std.proofs.Common.{◌≡◌, ℕ, ◌∙◌, ◌+◌, ◌≤◌, arith, refl, ap, sym, inl, inr}
 use Rattle.relay_links.specs.Count.{last_count}
+use Rattle.relay_links.specs.declared.Pause.TheVariants.{NotReady, Silent}
 use Rattle.relay_proxy.specs.Passed.{start_of}
+use Rattle.relay_proxy.specs.Request.{Counts}
 use Rattle.relay_proxy.specs.Turn.{world_of}
+use Rattle.relay_proxy.specs.declared.machine.RunStep.{RunStep}
+use Rattle.relay_proxy.specs.declared.machine.RunStep.TheVariants as did
 use Rattle.relay_proxy.specs.declared.proxy.HttpProxy.{HttpProxy}
 use Rattle.relay_proxy.proofs.UnderWay.{begun, goes_on, all_taken, stopped, one_more, no_end, stops_at}
 use Rattle.relay_proxy.proofs.proxy.HttpProxy.process_new_http.Goals as goal
+
+-- a step is counted as one turn at most
+one_at_most : (before after : ℕ) (step : RunStep) → Counts before after step → after ≤ before + 1
+one_at_most before after did.Moved counts = omega (arith, counts)
+one_at_most before after (did.Waited NotReady) counts = omega (arith, counts)
+one_at_most before after (did.Waited Silent) counts = omega (arith, counts)
+one_at_most before after did.Ended (inl one) = omega (arith, one)
+one_at_most before after did.Ended (inr none) = omega (arith, none)
 
 pub loop-turn-init : goal.loop-turn-init
 loop-turn-init g c =
@@ -17,6 +29,7 @@ loop-turn-init g c =
       ap (λ k. k.kept) (c.begin-machine.ensures.client ∙ c.take_kept-kept.ensures.after),
       c.begin-machine.ensures.going,
       refl,
+      omega (arith, c.begin-machine.ensures.no_turns),
     )
 
 pub returns-then-is_stop-clause-processes : goal.returns-then-is_stop-clause-processes
@@ -52,6 +65,7 @@ loop-turn-preserved g c =
       c.step-step.ensures.ended ∙ no_end c.step-step.result goes,
       c.step-step.ensures.same
           ∙ ap (λ (k : HttpProxy g.row.SV.Denot g.row.K.Denot g.row.P.Denot). record k { connector = c.step-step.new.self.connector }) c.loop-turn.invariant.4,
+      c.step-step.ensures.worked c.loop-turn.invariant.5,
     )
 
 pub returns-clause-processes : goal.returns-clause-processes
@@ -63,6 +77,49 @@ returns-clause-processes g c =
     let ends = c.close-2.ensures.ends s under.passed under.waited under.own under.running in
     let all : c.args.turns ≡ c.loop-turn._turn = omega (arith, c.loop-turn-test.false, c.loop-turn.auto._turn-end) in
     all_taken state start s _ _ _ _ _ c.loop-turn.machine.machine _ _ c.close-2.result under all ends c.close-2.ensures.turns
+
+-- no more turns were taken than were given
+pub returns-then-is_stop-clause-within : goal.returns-then-is_stop-clause-within
+returns-then-is_stop-clause-within g c =
+    omega (
+      arith,
+      c.close.ensures.turns,
+      c.loop-turn.invariant.0.counted,
+      c.loop-turn-test.true,
+      one_at_most _ _ c.step-step.result c.step-step.ensures.counted,
+    )
+
+pub returns-clause-within : goal.returns-clause-within
+returns-clause-within g c =
+    omega (
+      arith,
+      c.close-2.ensures.turns,
+      c.loop-turn.invariant.0.counted,
+      c.loop-turn.auto._turn-end,
+    )
+
+-- each turn that was counted did some work
+pub returns-then-is_stop-clause-worked : goal.returns-then-is_stop-clause-worked
+returns-then-is_stop-clause-worked g c =
+    omega (
+      arith,
+      c.close.ensures.turns,
+      c.close.ensures.used,
+      c.close.ensures.moved,
+      c.close.ensures.sides,
+      c.step-step.ensures.worked c.loop-turn.invariant.5,
+    )
+
+pub returns-clause-worked : goal.returns-clause-worked
+returns-clause-worked g c =
+    omega (
+      arith,
+      c.close-2.ensures.turns,
+      c.close-2.ensures.used,
+      c.close-2.ensures.moved,
+      c.close-2.ensures.sides,
+      c.loop-turn.invariant.5,
+    )
 
 -- the proxy is as before, but for its connector
 pub returns-then-is_stop-clause-same : goal.returns-then-is_stop-clause-same

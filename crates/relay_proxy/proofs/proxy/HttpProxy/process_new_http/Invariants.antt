@@ -1,6 +1,7 @@
-use Rattle.std.proofs.Common.{◌≡◌, ◌+◌, None, false}
+use Rattle.std.proofs.Common.{◌≡◌, ◌+◌, ◌≤◌, None, false}
 use Rattle.relay_proxy.specs.Passed.{start_of}
 use Rattle.relay_proxy.specs.Turn.{world_of, links_held, is_over}
+use Rattle.relay_proxy.specs.Work.{total_work}
 use Rattle.relay_proxy.proofs.UnderWay.{IsUnderWay}
 use Rattle.relay_proxy.proofs.proxy.HttpProxy.process_new_http.Given as goal
 
@@ -17,3 +18,4 @@ invariant-loop-turn g l =
     × (l.client.kept ≡ None)
     × (is_over l.machine.machine.phase ≡ false)
     × (l.self ≡ record l.fn.self { connector = l.self.connector })
+    × (l.machine.machine.turns ≤ total_work l.machine.machine.work)
