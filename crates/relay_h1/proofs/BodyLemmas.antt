@@ -1,12 +1,16 @@
 -- What a text says of a body: one thing, and always something.
-use Rattle.std.proofs.Common.{◌≡◌, ℕ, List, [], take, drop, refl, sym, ◌∙◌, ap, subst, arith}
+use Rattle.std.proofs.Common.{◌≡◌, ℕ, zero, suc, ◌+◌, ◌<◌, ◌≤◌, List, [], length, take, drop, refl, sym, ◌∙◌, ap, subst, arith, Option, Some, None, inl, inr}
+use Rattle.std.specs.Prelude.{◌⊎◌}
+use Rattle.std.proofs.lemmas.Bool.{cases_Bool, cases_lt}
+use Rattle.std.proofs.lemmas.List.{length-drop}
 use Rattle.httparse.specs.Grammar.{chunk_size}
 use Rattle.httparse.proofs.ChunkLemmas.{chunk_line_unique}
 use Rattle.relay_h1.specs.declared.framing.Framing.{Framing}
 use Rattle.relay_h1.specs.declared.framing.Framing.TheVariants as framing
-use Rattle.relay_h1.specs.Body.{BodyText, BodyMark, open_text, ended_text, broken_text, behind, line_end, most_line, IsLineOf, StartsWithLine, IsLineOpen, IsLineBroken, begins_with_crlf, trailer_end, IsTrailerOpen, IsTrailerTooLong, EndsTrailer, ChunkedPlace, Chunked, Body}
+use Rattle.relay_h1.specs.Body.{BodyText, BodyMark, open_text, ended_text, broken_text, behind, line_end, most_line, most_trailer, IsLineOf, StartsWithLine, IsLineOpen, IsLineBroken, begins_with_crlf, trailer_end, IsTrailerOpen, IsTrailerTooLong, EndsTrailer, ChunkedPlace, at_line, in_chunk, behind_chunk, in_trailer, Chunked, Body}
 use Rattle.relay_h1.specs.Body as body
-use Rattle.relay_h1.proofs.CrlfLemmas.{crlf_is_long}
+use Rattle.relay_h1.proofs.ChunkLineLemmas.{tell_line}
+use Rattle.relay_h1.proofs.CrlfLemmas.{crlf_is_long, line_end-within}
 
 -- a text is a line of one size
 pub IsLineOf-unique : (text : List ℕ) (a b : ℕ) → IsLineOf text a → IsLineOf text b → a ≡ b
@@ -186,3 +190,130 @@ Body-unique framing.Chunked bytes a b x y =
     Chunked-unique body.ChunkedPlace.at_line bytes a b x y
 Body-unique framing.UntilClose bytes a b x y = x ∙ sym y
 Body-unique framing.Tunnel bytes a b x y = x ∙ sym y
+
+-- ---- every text says something
+
+-- the line at the front is open, broken, or a chunk line
+data LineSays (bytes : List ℕ) : Type 0 where
+  says_nothing : IsLineOpen bytes → LineSays bytes
+  says_wrong : IsLineBroken bytes → LineSays bytes
+  says_size : (len size : ℕ) → StartsWithLine bytes len size → LineSays bytes
+
+-- a place stands somewhere or nowhere
+some_place : (place : Option ℕ) → (place ≡ None) ⊎ ((len : ℕ) × (place ≡ Some len))
+some_place None = inl refl
+some_place (Some len) = inr (len, refl)
+
+line_says : (bytes : List ℕ) → LineSays bytes
+line_says bytes =
+    elim (some_place (line_end bytes)) [
+      | inl none ↦
+          elim (cases_lt (length bytes) most_line) [
+            | inl few ↦ says_nothing (record { no_end = none; may_end = few })
+            | inr many ↦ says_wrong (body.IsLineBroken.too_long none (omega arith))
+          ]
+      | inr end ↦
+          elim (tell_line (take end.0 bytes)) [
+            | inl line ↦
+                says_size end.0 line.0 (record { ends = end.1; is_line = line.1 })
+            | inr wrong ↦ says_wrong (body.IsLineBroken.no_line end.0 end.1 wrong)
+          ]
+    ]
+
+-- a text that the bytes say from a place on
+abbrev Said : ChunkedPlace → List ℕ → Type 0
+Said place bytes = (text : BodyText) × Chunked place bytes text
+
+trailer_said : (bytes : List ℕ) → Said in_trailer bytes
+trailer_said bytes =
+    elim (some_place (trailer_end bytes)) [
+      | inl none ↦
+          elim (cases_lt (length bytes) (most_trailer + 2)) [
+            | inl few ↦
+                (_, body.Chunked.trailer_open bytes (record { no_end = none; may_end = few }))
+            | inr many ↦ (
+              _,
+              body.Chunked.trailer_broken bytes
+                  (body.IsTrailerTooLong.never_ends none (omega arith)),
+            )
+          ]
+      | inr end ↦
+          elim (cases_lt (most_trailer + 2) end.0) [
+            | inl late ↦ (
+              _,
+              body.Chunked.trailer_broken bytes
+                  (body.IsTrailerTooLong.ends_late end.0 end.1 late),
+            )
+            | inr soon ↦ (
+              _,
+              body.Chunked.trailer_ended bytes end.0
+                  (record { ends = end.1; short = omega arith }),
+            )
+          ]
+    ]
+
+-- behind a chunk, where all that is shorter is said before a line
+crlf_said : (bytes : List ℕ)
+    → ((rest : List ℕ) → length rest ≤ length bytes → Said at_line rest) → Said behind_chunk bytes
+crlf_said bytes lines =
+    elim (cases_lt (length bytes) 2) [
+      | inl few ↦ (_, body.Chunked.crlf_open bytes few)
+      | inr enough ↦
+          elim (cases_Bool (begins_with_crlf bytes)) [
+            | inl begins ↦
+                let rest = lines (drop 2 bytes) (omega (arith, length-drop 2 bytes)) in
+                (_, body.Chunked.crlf_whole bytes rest.0 begins rest.1)
+            | inr other ↦ (_, body.Chunked.crlf_broken bytes (omega arith) other)
+          ]
+    ]
+
+-- inside a chunk
+chunk_said : (bytes : List ℕ) (left : ℕ)
+    → ((rest : List ℕ) → length rest ≤ length bytes → Said at_line rest)
+    → Said (in_chunk left) bytes
+chunk_said bytes left lines =
+    elim (cases_lt (length bytes) left) [
+      | inl few ↦ (_, body.Chunked.chunk_open bytes left few)
+      | inr enough ↦
+          let size = length-drop left bytes in
+          let rest = crlf_said (drop left bytes) (λ r less. lines r (omega arith)) in
+          (_, body.Chunked.chunk_whole bytes left rest.0 (omega arith) rest.1)
+    ]
+
+-- before a line, where all that is shorter is said there
+line_said : (bytes : List ℕ) → LineSays bytes
+    → ((rest : List ℕ) → length rest < length bytes → Said at_line rest) → Said at_line bytes
+line_said bytes (says_nothing still) lines = (_, body.Chunked.line_open bytes still)
+line_said bytes (says_wrong wrong) lines = (_, body.Chunked.line_broken bytes wrong)
+line_said bytes (says_size len zero starts) lines =
+    let rest = trailer_said (drop len bytes) in
+    (_, body.Chunked.last_chunk bytes len rest.0 starts rest.1)
+line_said bytes (says_size len (suc size) starts) lines =
+    let within = line_end-within bytes len starts.ends in
+    let gone = length-drop len bytes in
+    let rest = chunk_said (drop len bytes) (suc size) (λ r less. lines r (omega arith)) in
+    (_, body.Chunked.chunk bytes len (suc size) rest.0 starts (omega arith) rest.1)
+
+lines_said : (n : ℕ) (bytes : List ℕ) → length bytes < n → Said at_line bytes
+lines_said zero bytes few = absurd (omega arith)
+lines_said (suc n) bytes few =
+    line_said bytes (line_says bytes) (λ rest less. lines_said n rest (omega arith))
+
+-- bytes say something from every place on
+pub Chunked-total : (place : ChunkedPlace) (bytes : List ℕ)
+    → (text : BodyText) × Chunked place bytes text
+Chunked-total body.ChunkedPlace.at_line bytes =
+    lines_said (length bytes + 1) bytes (omega arith)
+Chunked-total (body.ChunkedPlace.in_chunk left) bytes =
+    chunk_said bytes left (λ rest less. lines_said (length rest + 1) rest (omega arith))
+Chunked-total body.ChunkedPlace.behind_chunk bytes =
+    crlf_said bytes (λ rest less. lines_said (length rest + 1) rest (omega arith))
+Chunked-total body.ChunkedPlace.in_trailer bytes = trailer_said bytes
+
+-- every text says something of its body
+pub Body-total : (framing : Framing) (bytes : List ℕ) → (text : BodyText) × Body framing bytes text
+Body-total framing.Empty bytes = (_, refl)
+Body-total (framing.Length n) bytes = (_, refl)
+Body-total framing.Chunked bytes = Chunked-total body.ChunkedPlace.at_line bytes
+Body-total framing.UntilClose bytes = (_, refl)
+Body-total framing.Tunnel bytes = (_, refl)

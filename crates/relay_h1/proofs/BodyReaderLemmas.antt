@@ -7,7 +7,10 @@ use Rattle.bytes.proofs.Ranges.{take-append_past}
 use Rattle.httparse.specs.Grammar.{ChunkLine, print_chunk_line}
 use Rattle.httparse.specs.Spans.{IsChunkLineAt}
 use Rattle.httparse.proofs.ChunkLemmas.{chunk_line_unique}
+use Rattle.relay_tasks.specs.declared.context.Context.TheVariants.{BadFraming}
+use Rattle.relay_tasks.specs.declared.error.Error.{Error}
 use Rattle.relay_tasks.specs.declared.error.Fail.TheVariants as fail
+use Rattle.relay_tasks.specs.Error.{refused}
 use Rattle.relay_h1.specs.declared.framing.Framing.{Framing}
 use Rattle.relay_h1.specs.declared.framing.Framing.TheVariants as framing
 use Rattle.relay_h1.specs.declared.body_reader.Cut.{Cut}
@@ -19,7 +22,8 @@ use Rattle.relay_h1.specs.declared.body_reader.State.{State}
 use Rattle.relay_h1.specs.declared.body_reader.State.TheVariants as state
 use Rattle.relay_h1.specs.Body.{BodyText, BodyMark, open_text, ended_text, broken_text, behind, counted_from, begins_with_crlf, line_end, IsLineOf, StartsWithLine, IsLineOpen, IsLineBroken, EndsTrailer, trailer_end, at_line, in_chunk, behind_chunk, in_trailer, Chunked, of_length, Body}
 use Rattle.relay_h1.specs.Body as body
-use Rattle.relay_h1.specs.BodyReader.{Reads, first_state, is_done, is_of, GoesOver, Takes, TakesRun, Answers, piece_of, SoFar, Tells, run, IsInRun, run_front, after_run, Stands, Passes}
+use Rattle.relay_h1.specs.BodyReader.{Reads, first_state, is_done, is_of, GoesOver, Takes, TakesRun, Answers, IsExact, piece_of, SoFar, Tells, run, IsInRun, run_front, after_run, Stands, Passes}
+use Rattle.relay_h1.proofs.BodyLemmas.{Chunked-unique, Chunked-total}
 use Rattle.relay_h1.proofs.CrlfLemmas.{crlf_is_long, crlf-front, line_end-within, line_end-front, trailer_end-within, trailer_end-front}
 
 -- a mark counted from no byte earlier
@@ -549,3 +553,178 @@ SoFar-tells framing given body ahead rest old new (cut.Failed fail.OutOfMemory) 
 SoFar-tells framing given body ahead rest old new (cut.Failed (fail.Error error)) answers takes
     so_far =
     SoFar-reads framing given body ahead old broken_text so_far answers.1
+
+-- ---- what is told from a place is one thing
+
+-- one text
+Reads-unique : (at : State) (bytes : List ℕ) (a b : BodyText) → Reads at bytes a → Reads at bytes b
+    → a ≡ b
+Reads-unique state.ChunkLine bytes a b x y = Chunked-unique at_line bytes a b x y
+Reads-unique (state.Chunk left) bytes a b x y = Chunked-unique (in_chunk left) bytes a b x y
+Reads-unique state.ChunkEnd bytes a b x y = Chunked-unique behind_chunk bytes a b x y
+Reads-unique state.Trailer bytes a b x y = Chunked-unique in_trailer bytes a b x y
+Reads-unique (state.Length left) bytes a b x y = x ∙ sym y
+Reads-unique state.UntilClose bytes a b x y = x ∙ sym y
+Reads-unique state.Tunnel bytes a b x y = x ∙ sym y
+Reads-unique state.Done bytes a b x y = x ∙ sym y
+
+-- and always some text
+Reads-total : (at : State) (bytes : List ℕ) → (text : BodyText) × Reads at bytes text
+Reads-total state.ChunkLine bytes = Chunked-total at_line bytes
+Reads-total (state.Chunk left) bytes = Chunked-total (in_chunk left) bytes
+Reads-total state.ChunkEnd bytes = Chunked-total behind_chunk bytes
+Reads-total state.Trailer bytes = Chunked-total in_trailer bytes
+Reads-total (state.Length left) bytes = (_, refl)
+Reads-total state.UntilClose bytes = (_, refl)
+Reads-total state.Tunnel bytes = (_, refl)
+Reads-total state.Done bytes = (_, refl)
+
+-- where a piece was taken, the text has bytes
+holds_bytes : (old new : State) (ahead piece rest : List ℕ) (text : BodyText)
+    → Takes old ahead piece new rest → 0 < length piece → Reads old ahead text
+    → 0 < length text.bytes
+holds_bytes old new ahead piece rest text takes some reads =
+    let behind_it = Reads-total new rest in
+    let there = Takes-reads old new ahead piece rest behind_it.0 takes behind_it.1 in
+    let same = Reads-unique old ahead text _ reads there in
+    let size = ap (λ (t : BodyText). length t.bytes) same in
+    omega (arith, some, size, length-append piece behind_it.0.bytes)
+
+-- the texts without a byte of the body are three kinds
+open_or_ended : (n : ℕ) → ¬ (open_text [] ≡ ended_text [] n)
+open_or_ended n same = let marks = ap (λ (t : BodyText). t.mark) same in cc
+
+open_or_broken : ¬ (open_text [] ≡ broken_text)
+open_or_broken same = let marks = ap (λ (t : BodyText). t.mark) same in cc
+
+ended_or_broken : (n : ℕ) → ¬ (ended_text [] n ≡ broken_text)
+ended_or_broken n same = let marks = ap (λ (t : BodyText). t.mark) same in cc
+
+-- where the text says nothing yet, so does the answer
+only_more : (old new : State) (ahead rest : List ℕ) (given : Cut)
+    → Answers old ahead new rest given → Takes old ahead (piece_of given) new rest
+    → Reads old ahead (open_text []) → given ≡ cut.More
+only_more old new ahead rest (cut.Piece piece end) answers takes reads =
+    absurd (omega (arith, holds_bytes old new ahead piece rest (open_text []) takes answers.some reads))
+only_more old new ahead rest cut.End answers takes reads =
+    absurd (open_or_ended answers.0 (Reads-unique old ahead _ _ reads answers.1))
+only_more old new ahead rest cut.More answers takes reads = refl
+only_more old new ahead rest (cut.Failed fail.OutOfMemory) answers takes reads =
+    absurd
+    (omega (
+      arith,
+      holds_bytes old answers.new ahead answers.piece answers.rest (open_text []) answers.takes
+          answers.some reads,
+    ))
+only_more old new ahead rest (cut.Failed (fail.Error error)) answers takes reads =
+    absurd (open_or_broken (Reads-unique old ahead _ _ reads answers.1))
+
+-- where the text ends, so does the answer
+only_end : (old new : State) (ahead rest : List ℕ) (given : Cut) (n : ℕ)
+    → Answers old ahead new rest given → Takes old ahead (piece_of given) new rest
+    → Reads old ahead (ended_text [] n) → given ≡ cut.End
+only_end old new ahead rest (cut.Piece piece end) n answers takes reads =
+    absurd
+    (omega (arith, holds_bytes old new ahead piece rest (ended_text [] n) takes answers.some reads))
+only_end old new ahead rest cut.End n answers takes reads = refl
+only_end old new ahead rest cut.More n answers takes reads =
+    absurd (open_or_ended n (Reads-unique old ahead _ _ answers reads))
+only_end old new ahead rest (cut.Failed fail.OutOfMemory) n answers takes reads =
+    absurd
+    (omega (
+      arith,
+      holds_bytes old answers.new ahead answers.piece answers.rest (ended_text [] n) answers.takes
+          answers.some reads,
+    ))
+only_end old new ahead rest (cut.Failed (fail.Error error)) n answers takes reads =
+    absurd (ended_or_broken n (Reads-unique old ahead _ _ reads answers.1))
+
+-- where the text is broken, so is the answer
+only_broken : (old new : State) (ahead rest : List ℕ) (given : Cut)
+    → Answers old ahead new rest given → Takes old ahead (piece_of given) new rest
+    → Reads old ahead broken_text → given ≡ cut.Failed (fail.Error (refused BadFraming))
+only_broken old new ahead rest (cut.Piece piece end) answers takes reads =
+    absurd (omega (arith, holds_bytes old new ahead piece rest broken_text takes answers.some reads))
+only_broken old new ahead rest cut.End answers takes reads =
+    absurd (ended_or_broken answers.0 (Reads-unique old ahead _ _ answers.1 reads))
+only_broken old new ahead rest cut.More answers takes reads =
+    absurd (open_or_broken (Reads-unique old ahead _ _ answers reads))
+only_broken old new ahead rest (cut.Failed fail.OutOfMemory) answers takes reads =
+    absurd
+    (omega (
+      arith,
+      holds_bytes old answers.new ahead answers.piece answers.rest broken_text answers.takes
+          answers.some reads,
+    ))
+only_broken old new ahead rest (cut.Failed (fail.Error error)) answers takes reads =
+    ap (λ e. cut.Failed (fail.Error e)) answers.0
+
+-- the answers are exact
+pub answers_exactly : (old new : State) (ahead rest : List ℕ) (given : Cut)
+    → Answers old ahead new rest given → Takes old ahead (piece_of given) new rest
+    → IsExact old ahead given
+answers_exactly old new ahead rest given answers takes = record {
+  more = (
+    λ is. subst (λ (g : Cut). Answers old ahead new rest g) is answers,
+    only_more old new ahead rest given answers takes,
+  );
+  end = (
+    λ is.
+        let ends = subst (λ (g : Cut). Answers old ahead new rest g) is answers in
+        (ends.0, ends.1),
+    λ ends. only_end old new ahead rest given ends.0 answers takes ends.1,
+  );
+  broken_there = (
+    λ is. (subst (λ (g : Cut). Answers old ahead new rest g) is answers).1,
+    only_broken old new ahead rest given answers takes,
+  );
+}
+
+-- ---- all that a call owes
+
+-- what the clauses of a call say
+pub record Meets (old : State) (ahead : List ℕ) (new : State) (rest : List ℕ) (given : Cut)
+    : Type 0 where
+  pub answer : Answers old ahead new rest given
+  pub takes : Takes old ahead (piece_of given) new rest
+
+-- a run
+pub meets_run : (old new : State) (ahead mid rest : List ℕ) (passed : Passed) (given : Cut)
+    → Passes old ahead passed mid → passed.front ≡ front.Run
+    → TakesRun passed.state mid new rest given → Meets old ahead new rest given
+meets_run old new ahead mid rest passed given passes is takes = record {
+  answer = answers_run old new ahead mid rest passed given passes is takes;
+  takes = takes_run old new ahead mid rest passed given passes takes;
+}
+
+-- the end
+pub meets_end : (old : State) (ahead rest : List ℕ) (passed : Passed)
+    → Passes old ahead passed rest → passed.front ≡ front.End
+    → Meets old ahead passed.state rest cut.End
+meets_end old ahead rest passed passes is = record {
+  answer = answers_end old ahead rest passed passes is;
+  takes = passes.takes;
+}
+
+-- nothing yet
+pub meets_more : (old : State) (ahead rest : List ℕ) (passed : Passed)
+    → Passes old ahead passed rest → passed.front ≡ front.More
+    → Meets old ahead passed.state rest cut.More
+meets_more old ahead rest passed passes is = record {
+  answer =
+      Takes-reads old passed.state ahead [] rest (open_text []) passes.takes
+      (rw is at passes.stands);
+  takes = passes.takes;
+}
+
+-- what is broken
+pub meets_broken : (old : State) (ahead rest : List ℕ) (passed : Passed) (error : Error)
+    → Passes old ahead passed rest → passed.front ≡ front.Broken → error ≡ refused BadFraming
+    → Meets old ahead passed.state rest (cut.Failed (fail.Error error))
+meets_broken old ahead rest passed error passes is refusal = record {
+  answer = (
+    refusal,
+    Takes-reads old passed.state ahead [] rest broken_text passes.takes (rw is at passes.stands),
+  );
+  takes = passes.takes;
+}

@@ -1,6 +1,7 @@
 pub mod AheadLemmas
 pub mod BodyLemmas
 pub mod BodyReaderLemmas
+pub mod ChunkLineLemmas
 pub mod CrlfLemmas
 pub mod HeadEndLemmas
 pub mod HeadLemmas

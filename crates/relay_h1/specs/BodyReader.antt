@@ -1,5 +1,5 @@
 -- How a body is read: what is told from where the reader is, and how each call goes on.
-use Rattle.std.specs.Prelude.{◌≡◌, ℕ, ◌+◌, ◌-◌, ◌<◌, Bool, true, false, List, [], ◌++◌, length, take, drop, ◌==◌, if◌then◌else◌, Result, Ok, Err, ⊤}
+use Rattle.std.specs.Prelude.{◌≡◌, ◌↔◌, ℕ, ◌+◌, ◌-◌, ◌<◌, Bool, true, false, List, [], ◌++◌, length, take, drop, ◌==◌, if◌then◌else◌, Result, Ok, Err, ⊤}
 use Rattle.relay_tasks.specs.declared.context.Context.TheVariants.{BadFraming}
 use Rattle.relay_tasks.specs.declared.error.Error.{Error}
 use Rattle.relay_tasks.specs.declared.error.ErrorSource.TheVariants.{Unset}
@@ -203,6 +203,13 @@ Answers old ahead new rest cut.More = Reads old ahead (open_text [])
 Answers old ahead new rest (cut.Failed fail.OutOfMemory) = HoldsPiece old ahead
 Answers old ahead new rest (cut.Failed (fail.Error error)) =
     (error ≡ refused BadFraming) × Reads old ahead broken_text
+
+-- each answer but a piece and want of memory comes exactly where the bytes ahead say so
+pub record IsExact (old : State) (ahead : List ℕ) (answer : Cut) : Type 0 where
+  pub more : (answer ≡ cut.More) ↔ Reads old ahead (open_text [])
+  pub end : (answer ≡ cut.End) ↔ ((n : ℕ) × Reads old ahead (ended_text [] n))
+  pub broken_there :
+      (answer ≡ cut.Failed (fail.Error (refused BadFraming))) ↔ Reads old ahead broken_text
 
 -- of the bytes that were given so far, those before the ones ahead said these bytes of the body:
 -- whatever follows, the body is these bytes and then what is read from where the reader is

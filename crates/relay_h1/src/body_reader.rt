@@ -2,7 +2,7 @@
 ghost use Rattle.std.specs.Prelude.{◌≡◌, ℕ, ◌+◌, ◌≤◌, true, ◌||◌, List, [], ◌++◌, length, drop, IfSome, IfNone, OnOk, OnErr};
 ghost use Rattle.relay_tasks.specs.Error.{refused};
 ghost use Rattle.relay_h1.specs.Body.{begins_with_crlf, crlf_end, trailer_end, IsLineOf};
-ghost use Rattle.relay_h1.specs.BodyReader.{first_state, is_done, is_of, Takes, Passes, run, run_front, after_run, IsInRun, IsLine, TakesRun, Answers, piece_of, SoFar, Tells, may_end, EndsThere};
+ghost use Rattle.relay_h1.specs.BodyReader.{first_state, is_done, is_of, Takes, Passes, run, run_front, after_run, IsInRun, IsLine, TakesRun, Answers, IsExact, piece_of, SoFar, Tells, may_end, EndsThere};
 
 use crate::ahead::Ahead;
 use crate::connection::front;
@@ -118,6 +118,7 @@ impl BodyReader {
     /// ahead, and what stands before them may be passed already.
     pub fn take(&mut self, alloc: Global, ahead: &mut Ahead) -> Cut
         ensures answer { Answers self.old ahead.old self.new ahead.new result }
+        ensures exact { IsExact self.old ahead.old result }
         ensures takes { Takes self.old ahead.old (piece_of result) self.new ahead.new }
         ensures keeps { (framing : Framing) (given body : List ℕ)
             → SoFar framing given body self.old ahead.old
@@ -354,7 +355,7 @@ fn find_line(bytes: &[u8]) -> Line
     ensures { IsLine bytes.now result }
 {
     match crlf_end(front(bytes, MAX_LINE as u64)) {
-        Some(len) => match line_size(&bytes[..len]) {
+        Some(len) => match line_size(front(bytes, len as u64)) {
             Some(size) => Line::Chunk(len, size),
             None => Line::Broken,
         },

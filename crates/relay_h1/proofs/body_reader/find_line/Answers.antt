@@ -1,25 +1,16 @@
 -- The line that ends first, within the limit, is the line at the front.
-use Rattle.std.proofs.Common.{◌≡◌, ◌∙◌, sym, ap, arith, length-take-le, Some}
+use Rattle.std.proofs.Common.{◌∙◌, sym, ap, arith}
 use Rattle.relay_h1.specs.Body.{crlf_end, line_end}
 use Rattle.relay_h1.specs.Body as body
-use Rattle.relay_h1.proofs.CrlfLemmas.{line_end-within}
 use Rattle.relay_h1.proofs.body_reader.find_line.Goals as goal
 
-pub slice_bounds-line_size-end : goal.slice_bounds-line_size-end
-slice_bounds-line_size-end c =
-    let bytes = c.args.bytes.now in
-    let len = c.in-Some.len in
-    let ends : line_end bytes ≡ Some len =
-    ap crlf_end (sym c.front.ensures) ∙ sym c.in-Some.ensures in
-    sym (length-take-le len bytes (line_end-within bytes len ends).1)
-
 pub returns-in-Some-line_size : goal.returns-in-Some-line_size
-returns-in-Some-line_size c = record { ends = ap crlf_end (sym c.front.ensures) ∙ sym c.in-Some.ensures; is_line = c.in-Some-line_size.ensures.size }
+returns-in-Some-line_size c = record { ends = ap crlf_end (sym c.front.ensures) ∙ sym c.in-Some.ensures; is_line = rw c.front-in-Some.ensures at c.in-Some-line_size.ensures.size }
 
 pub returns-in-None-line_size : goal.returns-in-None-line_size
 returns-in-None-line_size c =
     body.IsLineBroken.no_line c.in-Some.len (ap crlf_end (sym c.front.ensures) ∙ sym c.in-Some.ensures)
-    c.in-None-line_size.ensures.none
+    (rw c.front-in-Some.ensures at c.in-None-line_size.ensures.none)
 
 pub returns-in-None : goal.returns-in-None
 returns-in-None c = record { no_end = ap crlf_end (sym c.front.ensures) ∙ sym c.in-None.ensures; may_end = omega arith }
