@@ -1,5 +1,6 @@
 -- What a text says of a body: one thing, and always something.
 use Rattle.std.proofs.Common.{◌≡◌, ℕ, zero, suc, ◌+◌, ◌<◌, ◌≤◌, Bool, true, false, List, [], length, take, drop, refl, sym, ◌∙◌, ap, subst, arith, Option, Some, None, inl, inr}
+use Rattle.std.proofs.Common.{◌≡◌, ℕ, zero, suc, ◌+◌, ◌<◌, ◌≤◌, List, [], length, take, drop, refl, sym, ◌∙◌, ap, subst, arith, Option, Some, None, inl, inr}
 use Rattle.std.specs.Prelude.{◌⊎◌}
 use Rattle.std.proofs.lemmas.Bool.{cases_Bool, cases_lt}
 use Rattle.std.proofs.lemmas.List.{length-drop}
@@ -25,7 +26,8 @@ StartsWithLine-unique bytes n m a b x y =
     let ends_x = x.ends in
     let ends_y = y.ends in
     let same : n ≡ m = cc in
-    (same, IsLineOf-unique (take m bytes) a b (subst (λ k. IsLineOf (take k bytes) a) same x.is_line) y.is_line)
+    let there = subst (λ k. IsLineOf (take k bytes) a) same x.is_line in
+    (same, IsLineOf-unique (take m bytes) a b there y.is_line)
 
 -- a line that has ended is not open
 line_or_open : (bytes : List ℕ) (len size : ℕ) → StartsWithLine bytes len size
@@ -37,7 +39,8 @@ line_or_open bytes len size starts still =
 
 -- a line that is broken is not open
 broken_or_open : (bytes : List ℕ) → IsLineBroken bytes → ¬ (IsLineOpen bytes)
-broken_or_open bytes (body.IsLineBroken.too_long none long) still = omega (arith, long, still.may_end)
+broken_or_open bytes (body.IsLineBroken.too_long none long) still =
+    omega (arith, long, still.may_end)
 broken_or_open bytes (body.IsLineBroken.no_line len ends wrong) still =
     let none = still.no_end in
     cc
@@ -152,7 +155,8 @@ Chunked-unique _ _ _ _ (body.Chunked.crlf_open bytes x) (body.Chunked.crlf_whole
     absurd (omega (arith, crlf_is_long bytes y))
 Chunked-unique _ _ _ _ (body.Chunked.crlf_broken bytes x none) (body.Chunked.crlf_open _ y) =
     absurd (omega arith)
-Chunked-unique _ _ _ _ (body.Chunked.crlf_broken bytes x none) (body.Chunked.crlf_broken _ y _) = refl
+Chunked-unique _ _ _ _ (body.Chunked.crlf_broken bytes x none) (body.Chunked.crlf_broken _ y _) =
+    refl
 Chunked-unique _ _ _ _ (body.Chunked.crlf_broken bytes x none) (body.Chunked.crlf_whole _ t y d) =
     absurd (cc)
 Chunked-unique _ _ _ _ (body.Chunked.crlf_whole bytes s x c) (body.Chunked.crlf_open _ y) =
@@ -243,6 +247,21 @@ trailer_said bytes =
             | inr soon ↦
                 (_, body.Chunked.trailer_ended bytes end.0
                     (record { ends = end.1; short = omega arith }))
+            | inr many ↦ (
+              _,
+              body.Chunked.trailer_broken bytes
+                  (body.IsTrailerTooLong.never_ends none (omega arith)),
+            )
+            | inl late ↦ (
+              _,
+              body.Chunked.trailer_broken bytes
+                  (body.IsTrailerTooLong.ends_late end.0 end.1 late),
+            )
+            | inr soon ↦ (
+              _,
+              body.Chunked.trailer_ended bytes end.0
+                  (record { ends = end.1; short = omega arith }),
+            )
           ]
     ]
 

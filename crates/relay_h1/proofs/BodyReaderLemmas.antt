@@ -115,7 +115,8 @@ goes_on old mid ahead rest n new over passes = record {
 }
 
 -- what follows the first n bytes of a list is what is behind them
-drop-front : (bytes later : List ℕ) (n : ℕ) → n ≤ length bytes → drop n (take n bytes ++ later) ≡ later
+drop-front : (bytes later : List ℕ) (n : ℕ) → n ≤ length bytes
+    → drop n (take n bytes ++ later) ≡ later
 drop-front bytes later n inside =
     let size = length-take-le n bytes inside in
     drop-append-le n (take n bytes) later (omega arith)
@@ -210,7 +211,8 @@ drop-append_past : (part later : List ℕ) (k left : ℕ) → left ≡ length pa
     → drop left (part ++ later) ≡ drop k later
 drop-append_past [] later k left sum = let same : left ≡ k = omega arith in rw same refl
 drop-append_past (b ∷ part) later k zero sum = absurd (omega arith)
-drop-append_past (b ∷ part) later k (suc left) sum = drop-append_past part later k left (omega arith)
+drop-append_past (b ∷ part) later k (suc left) sum =
+    drop-append_past part later k left (omega arith)
 
 -- all of them, and nothing behind them
 whole_split : (bytes : List ℕ) → bytes ≡ bytes ++ drop (length bytes) bytes
@@ -254,11 +256,13 @@ length_parts part later left k sum =
     elim (cases_lt (length later) k) [
       | inl few ↦
           let open_here : nat_le k (length later) ≡ false = grind (arith, nat_tests) in
-          let open_there : nat_le left (length (part ++ later)) ≡ false = grind (arith, nat_tests) in
+          let open_there : nat_le left (length (part ++ later)) ≡ false =
+          grind (arith, nat_tests) in
           rw (open_here, open_there, cut) refl
       | inr enough ↦
           let whole_here : nat_le k (length later) ≡ true = grind (arith, nat_tests) in
-          let whole_there : nat_le left (length (part ++ later)) ≡ true = grind (arith, nat_tests) in
+          let whole_there : nat_le left (length (part ++ later)) ≡ true =
+          grind (arith, nat_tests) in
           rw (whole_here, whole_there, cut, ← sum) refl
     ]
 
@@ -330,11 +334,13 @@ longer_than_line text len given line at other size whole =
     other (omega (arith, at.len_is, is, none, parts))
 
 -- the first of some bytes are some
-some_taken : (bytes : List ℕ) (left : ℕ) → 0 < left → 0 < length bytes → 0 < length (take left bytes)
+some_taken : (bytes : List ℕ) (left : ℕ) → 0 < left → 0 < length bytes
+    → 0 < length (take left bytes)
 some_taken bytes left some there = omega (arith, length-take left bytes)
 
 -- inside a run, some bytes are bytes of the body
-run_is_some : (at : State) (bytes : List ℕ) → IsInRun at → 0 < length bytes → 0 < length (run at bytes)
+run_is_some : (at : State) (bytes : List ℕ) → IsInRun at → 0 < length bytes
+    → 0 < length (run at bytes)
 run_is_some state.ChunkLine bytes inside some = absurd inside
 run_is_some (state.Chunk left) bytes inside some = some_taken bytes left inside some
 run_is_some state.ChunkEnd bytes inside some = absurd inside
@@ -368,7 +374,8 @@ stays_in_run at (b ∷ ahead) inside =
     (stays at (b ∷ ahead) front.Run (run_is_some at (b ∷ ahead) inside (omega arith)))
 
 -- a body that has ended has nothing more, whatever bytes come
-pub done_reads : (at : State) (bytes : List ℕ) → is_done at ≡ true → Reads at bytes (ended_text [] 0)
+pub done_reads : (at : State) (bytes : List ℕ) → is_done at ≡ true
+    → Reads at bytes (ended_text [] 0)
 done_reads state.ChunkLine bytes done = absurd (cc)
 done_reads (state.Chunk left) bytes done = absurd (cc)
 done_reads state.ChunkEnd bytes done = absurd (cc)
@@ -428,17 +435,7 @@ answers_run old new ahead mid rest passed (cut.Piece piece end) passes is takes 
 answers_run old new ahead mid rest passed cut.End passes is takes = absurd takes
 answers_run old new ahead mid rest passed cut.More passes is takes = absurd takes
 answers_run old new ahead mid rest passed (cut.Failed fail.OutOfMemory) passes is takes =
-    let at = passed.state in
-    let n = length (run at mid) in
-    record {
-      piece = run at mid;
-      new = after_run at n;
-      rest = drop n mid;
-      some = rw is at passes.stands;
-      takes =
-          Takes-append old at (after_run at n) ahead mid (drop n mid) [] (run at mid) passes.takes
-          (Takes-run at mid);
-    }
+    rw (takes.0, takes.1) (rw is at passes.stands)
 answers_run old new ahead mid rest passed (cut.Failed (fail.Error error)) passes is takes =
     absurd takes
 
@@ -579,6 +576,15 @@ Reads-total state.UntilClose bytes = (_, refl)
 Reads-total state.Tunnel bytes = (_, refl)
 Reads-total state.Done bytes = (_, refl)
 
+-- what the old place tells is the piece and then what the new place tells, and nothing else
+pub GoesOver-back : (old new : State) (bytes piece later : List ℕ) (text : BodyText)
+    → GoesOver old bytes piece new → Reads old (bytes ++ later) text
+    → (rest : BodyText) × Reads new later rest × (text ≡ behind (length bytes) piece rest)
+GoesOver-back old new bytes piece later text over reads =
+    let rest = Reads-total new later in
+    let there = over.says later rest.0 rest.1 in
+    (rest.0, rest.1, Reads-unique old (bytes ++ later) text _ reads there)
+
 -- where a piece was taken, the text has bytes
 holds_bytes : (old new : State) (ahead piece rest : List ℕ) (text : BodyText)
     → Takes old ahead piece new rest → 0 < length piece → Reads old ahead text
@@ -589,6 +595,17 @@ holds_bytes old new ahead piece rest text takes some reads =
     let same = Reads-unique old ahead text _ reads there in
     let size = ap (λ (t : BodyText). length t.bytes) same in
     omega (arith, some, size, length-append piece behind_it.0.bytes)
+
+-- nor where memory is wanted for one
+holds_run : (old new : State) (ahead rest : List ℕ) (text : BodyText)
+    → Takes old ahead [] new rest → 0 < length (run new rest) → Reads old ahead text
+    → 0 < length text.bytes
+holds_run old new ahead rest text takes some reads =
+    let n = length (run new rest) in
+    let all =
+    Takes-append old new (after_run new n) ahead rest (drop n rest) [] (run new rest) takes
+    (Takes-run new rest) in
+    holds_bytes old (after_run new n) ahead (run new rest) (drop n rest) text all some reads
 
 -- the texts without a byte of the body are three kinds
 open_or_ended : (n : ℕ) → ¬ (open_text [] ≡ ended_text [] n)
@@ -606,6 +623,8 @@ only_more : (old new : State) (ahead rest : List ℕ) (given : Cut)
     → Reads old ahead (open_text []) → given ≡ cut.More
 only_more old new ahead rest (cut.Piece piece end) answers takes reads =
     absurd (omega (arith, holds_bytes old new ahead piece rest (open_text []) takes answers.some reads))
+    let some = holds_bytes old new ahead piece rest (open_text []) takes answers.some reads in
+    absurd (omega arith)
 only_more old new ahead rest cut.End answers takes reads =
     absurd (open_or_ended answers.0 (Reads-unique old ahead _ _ reads answers.1))
 only_more old new ahead rest cut.More answers takes reads = refl
@@ -615,6 +634,8 @@ only_more old new ahead rest (cut.Failed fail.OutOfMemory) answers takes reads =
     (arith,
     holds_bytes old answers.new ahead answers.piece answers.rest (open_text []) answers.takes
     answers.some reads))
+    let some = holds_run old new ahead rest (open_text []) takes answers reads in
+    absurd (omega arith)
 only_more old new ahead rest (cut.Failed (fail.Error error)) answers takes reads =
     absurd (open_or_broken (Reads-unique old ahead _ _ reads answers.1))
 
@@ -625,6 +646,8 @@ only_end : (old new : State) (ahead rest : List ℕ) (given : Cut) (n : ℕ)
 only_end old new ahead rest (cut.Piece piece end) n answers takes reads =
     absurd
     (omega (arith, holds_bytes old new ahead piece rest (ended_text [] n) takes answers.some reads))
+    let some = holds_bytes old new ahead piece rest (ended_text [] n) takes answers.some reads in
+    absurd (omega arith)
 only_end old new ahead rest cut.End n answers takes reads = refl
 only_end old new ahead rest cut.More n answers takes reads =
     absurd (open_or_ended n (Reads-unique old ahead _ _ answers reads))
@@ -634,6 +657,8 @@ only_end old new ahead rest (cut.Failed fail.OutOfMemory) n answers takes reads 
     (arith,
     holds_bytes old answers.new ahead answers.piece answers.rest (ended_text [] n) answers.takes
     answers.some reads))
+    let some = holds_run old new ahead rest (ended_text [] n) takes answers reads in
+    absurd (omega arith)
 only_end old new ahead rest (cut.Failed (fail.Error error)) n answers takes reads =
     absurd (ended_or_broken n (Reads-unique old ahead _ _ reads answers.1))
 
@@ -643,6 +668,8 @@ only_broken : (old new : State) (ahead rest : List ℕ) (given : Cut)
     → Reads old ahead broken_text → given ≡ cut.Failed (fail.Error (refused BadFraming))
 only_broken old new ahead rest (cut.Piece piece end) answers takes reads =
     absurd (omega (arith, holds_bytes old new ahead piece rest broken_text takes answers.some reads))
+    let some = holds_bytes old new ahead piece rest broken_text takes answers.some reads in
+    absurd (omega arith)
 only_broken old new ahead rest cut.End answers takes reads =
     absurd (ended_or_broken answers.0 (Reads-unique old ahead _ _ answers.1 reads))
 only_broken old new ahead rest cut.More answers takes reads =
@@ -653,6 +680,8 @@ only_broken old new ahead rest (cut.Failed fail.OutOfMemory) answers takes reads
     (arith,
     holds_bytes old answers.new ahead answers.piece answers.rest broken_text answers.takes
     answers.some reads))
+    let some = holds_run old new ahead rest broken_text takes answers reads in
+    absurd (omega arith)
 only_broken old new ahead rest (cut.Failed (fail.Error error)) answers takes reads =
     ap (λ e. cut.Failed (fail.Error e)) answers.0
 
@@ -669,6 +698,8 @@ answers_exactly old new ahead rest given answers takes = record {
     λ is.
     let ends = subst (λ (g : Cut). Answers old ahead new rest g) is answers in
     (ends.0, ends.1),
+        let ends = subst (λ (g : Cut). Answers old ahead new rest g) is answers in
+        (ends.0, ends.1),
     λ ends. only_end old new ahead rest given ends.0 answers takes ends.1,
   );
   broken_there = (
@@ -725,3 +756,58 @@ meets_broken old ahead rest passed error passes is refusal = record {
   );
   takes = passes.takes;
 }
+
+-- the answer comes exactly where the text says so
+pub meets_exactly : {old new : State} {ahead rest : List ℕ} {given : Cut}
+    → Meets old ahead new rest given → IsExact old ahead given
+meets_exactly {old} {new} {ahead} {rest} {given} meets =
+    answers_exactly old new ahead rest given meets.answer meets.takes
+
+-- the body so far goes on
+pub meets_so_far : {old new : State} {ahead rest : List ℕ} {given : Cut}
+    → Meets old ahead new rest given → (framing : Framing) (all body : List ℕ)
+    → SoFar framing all body old ahead → SoFar framing all (body ++ piece_of given) new rest
+meets_so_far {old} {new} {ahead} {rest} {given} meets framing all body =
+    SoFar-take framing all body (piece_of given) ahead rest old new meets.takes
+
+-- and the answer tells it
+pub meets_tells : {old new : State} {ahead rest : List ℕ} {given : Cut}
+    → Meets old ahead new rest given → (framing : Framing) (all body : List ℕ)
+    → SoFar framing all body old ahead
+    → Tells framing all (body ++ piece_of given) (length rest) given
+meets_tells {old} {new} {ahead} {rest} {given} meets framing all body =
+    SoFar-tells framing all body ahead rest old new given meets.answer meets.takes
+
+-- ---- the end of a body
+
+-- where nothing more is to come, the body has ended
+pub nothing_more : (at : State) → Reads at [] (ended_text [] 0) → is_done at ≡ true
+nothing_more state.ChunkLine reads =
+    let still : Chunked at_line [] (open_text []) =
+    body.Chunked.line_open [] (record { no_end = refl; may_end = omega arith }) in
+    absurd (open_or_ended 0 (Reads-unique state.ChunkLine [] _ _ still reads))
+nothing_more (state.Chunk zero) reads =
+    let still : Chunked (in_chunk 0) [] (open_text []) =
+    body.Chunked.chunk_whole [] 0 (open_text []) (omega arith)
+    (body.Chunked.crlf_open [] (omega arith)) in
+    absurd (open_or_ended 0 (Reads-unique (state.Chunk 0) [] _ _ still reads))
+nothing_more (state.Chunk (suc left)) reads =
+    let still : Chunked (in_chunk (suc left)) [] (open_text []) =
+    body.Chunked.chunk_open [] (suc left) (omega arith) in
+    absurd (open_or_ended 0 (Reads-unique (state.Chunk (suc left)) [] _ _ still reads))
+nothing_more state.ChunkEnd reads =
+    let still : Chunked behind_chunk [] (open_text []) =
+    body.Chunked.crlf_open [] (omega arith) in
+    absurd (open_or_ended 0 (Reads-unique state.ChunkEnd [] _ _ still reads))
+nothing_more state.Trailer reads =
+    let still : Chunked in_trailer [] (open_text []) =
+    body.Chunked.trailer_open [] (record { no_end = refl; may_end = omega arith }) in
+    absurd (open_or_ended 0 (Reads-unique state.Trailer [] _ _ still reads))
+nothing_more (state.Length zero) reads = refl
+nothing_more (state.Length (suc left)) reads =
+    let none : nat_le (suc left) 0 ≡ false = grind (arith, nat_tests) in
+    let still : of_length (suc left) [] ≡ open_text [] = rw none refl in
+    absurd (open_or_ended 0 (sym still ∙ sym reads))
+nothing_more state.UntilClose reads = absurd (open_or_ended 0 (sym reads))
+nothing_more state.Tunnel reads = absurd (open_or_ended 0 (sym reads))
+nothing_more state.Done reads = refl

@@ -9,6 +9,11 @@ use Rattle.std.specs.Char.{is_ascii_hexdigit}
 use Rattle.httparse.specs.Grammar.{is_ows, is_extension_byte, AllPass, crlf, print_end, print_extension, ChunkLine, ReadsChunkLine, chunk_size}
 use Rattle.httparse.specs.Pieces.{Piece, Begins, Then, Stops, Run, HexDigits, Extension, Chunk}
 use Rattle.httparse.proofs.ChunkLemmas.{Run_deterministic, HexDigits_deterministic, Chunk_deterministic, chunk_line, chunk_pieces, chunk_from_pieces}
+use Rattle.std.proofs.Common.{◌≡◌, ◌≢◌, ℕ, Bool, true, List, [], ◌∷◌, ◌++◌, length, refl, sym, ◌∙◌, ap, subst, arith, Option, Some, None, inl, inr, append-nil, bytes_eq}
+use Rattle.std.proofs.lemmas.List.Elements.{All-nil, All-cons, All-tail}
+use Rattle.httparse.specs.Grammar.{is_ows, is_extension_byte, crlf, print_end, chunk_size}
+use Rattle.httparse.specs.Pieces.{Piece, Begins, Then, Run, HexDigits, Extension}
+use Rattle.httparse.proofs.ChunkLemmas.{Run_deterministic, HexDigits_deterministic, chunk_line, chunk_pieces, chunk_from_pieces}
 use Rattle.httparse.proofs.PieceLemmas.{IsDeterministic}
 use Rattle.relay_h1.specs.Body.{IsLineOf}
 
@@ -182,6 +187,7 @@ tell_line text =
       | inl found ↦
           inl
           (
+          inl (
             chunk_size (chunk_line found.0),
             record {
               line = chunk_line found.0;

@@ -49,7 +49,7 @@ is_done state.UntilClose = false
 is_done state.Tunnel = false
 is_done state.Done = true
 
--- the framing is that one
+-- the body comes in chunks
 abbrev pub is_chunked : Framing → Bool
 is_chunked framing.Empty = false
 is_chunked (framing.Length n) = false
@@ -57,6 +57,7 @@ is_chunked framing.Chunked = true
 is_chunked framing.UntilClose = false
 is_chunked framing.Tunnel = false
 
+-- the body has a length
 abbrev pub has_length : Framing → Bool
 has_length framing.Empty = false
 has_length (framing.Length n) = true
@@ -64,6 +65,7 @@ has_length framing.Chunked = false
 has_length framing.UntilClose = false
 has_length framing.Tunnel = false
 
+-- the body ends with the stream
 abbrev pub is_until_close : Framing → Bool
 is_until_close framing.Empty = false
 is_until_close (framing.Length n) = false
@@ -71,6 +73,7 @@ is_until_close framing.Chunked = false
 is_until_close framing.UntilClose = true
 is_until_close framing.Tunnel = false
 
+-- there is no message any more
 abbrev pub is_tunnel : Framing → Bool
 is_tunnel framing.Empty = false
 is_tunnel (framing.Length n) = false
@@ -179,14 +182,6 @@ pub record TakesPiece
   pub moved : behind_framing ≡ piece ++ rest
   pub is_end : end ≡ is_done new
 
--- some byte of the body stands in the bytes ahead
-pub record HoldsPiece (old : State) (ahead : List ℕ) : Type 0 where
-  pub piece : List ℕ
-  pub new : State
-  pub rest : List ℕ
-  pub some : 0 < length piece
-  pub takes : Takes old ahead piece new rest
-
 -- the bytes of the body that a call took
 abbrev pub piece_of : Cut → List ℕ
 piece_of (cut.Piece piece end) = piece
@@ -194,13 +189,14 @@ piece_of cut.End = []
 piece_of cut.More = []
 piece_of (cut.Failed fail) = []
 
--- the answer of a call, by what the bytes ahead say
+-- the answer of a call, by what the bytes ahead say; where memory is wanted, bytes of the body
+-- stand at the front, and the framing before them was passed
 abbrev pub Answers : State → List ℕ → State → List ℕ → Cut → Type 0
 Answers old ahead new rest (cut.Piece piece end) = TakesPiece old ahead piece end new rest
 Answers old ahead new rest cut.End = (n : ℕ) × Reads old ahead (ended_text [] n)
     × (n + length rest ≡ length ahead) × (is_done new ≡ true)
 Answers old ahead new rest cut.More = Reads old ahead (open_text [])
-Answers old ahead new rest (cut.Failed fail.OutOfMemory) = HoldsPiece old ahead
+Answers old ahead new rest (cut.Failed fail.OutOfMemory) = 0 < length (run new rest)
 Answers old ahead new rest (cut.Failed (fail.Error error)) =
     (error ≡ refused BadFraming) × Reads old ahead broken_text
 

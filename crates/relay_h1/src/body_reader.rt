@@ -1,8 +1,10 @@
 //! Reads the body behind a head, piece by piece (RFC 9112, sections 6.3 and 7.1).
-ghost use Rattle.std.specs.Prelude.{◌≡◌, ℕ, ◌+◌, ◌≤◌, true, ◌||◌, List, [], ◌++◌, length, drop, IfSome, IfNone, OnOk, OnErr};
+ghost use Rattle.std.specs.Prelude.{◌≡◌, ◌↔◌, ℕ, ◌+◌, ◌≤◌, true, ◌||◌, List, [], ◌++◌, length, drop, IfSome, IfNone, OnOk, OnErr};
 ghost use Rattle.relay_tasks.specs.Error.{refused};
 ghost use Rattle.relay_h1.specs.Body.{begins_with_crlf, crlf_end, trailer_end, IsLineOf};
 ghost use Rattle.relay_h1.specs.BodyReader.{first_state, is_done, is_of, Takes, Passes, run, run_front, after_run, IsInRun, IsLine, TakesRun, Answers, IsExact, piece_of, SoFar, Tells, may_end, EndsThere};
+ghost use Rattle.relay_h1.specs.Body.{ended_text, begins_with_crlf, crlf_end, trailer_end, IsLineOf};
+ghost use Rattle.relay_h1.specs.BodyReader.{Reads, first_state, is_done, is_of, Takes, Passes, run, run_front, after_run, IsInRun, IsLine, TakesRun, Answers, IsExact, piece_of, SoFar, Tells, may_end, EndsThere};
 
 use crate::ahead::Ahead;
 use crate::connection::front;
@@ -111,7 +113,8 @@ impl BodyReader {
 
     /// Takes the longest run of body bytes at the front of the bytes ahead, of one chunk at most.
     /// What stands before it, as the line of its chunk, is passed. A piece that completes a body
-    /// with a length says that the body ends with it.
+    /// with a length says that the body ends with it. Where the body has ended, `End` comes at each
+    /// call, and nothing is taken any more.
     ///
     /// `InvalidHTTPHeader`, about `BadFraming`: the body is broken, and no byte of it stands before
     /// that place. The caller sets the side. Where memory is wanted for a piece, its bytes stay
@@ -177,7 +180,8 @@ impl BodyReader {
 
     /// Whether the body has ended.
     pub fn is_done(&self) -> bool
-        ensures { result ≡ is_done self.now }
+        ensures place { result ≡ is_done self.now }
+        ensures told { (result ≡ true) ↔ Reads self.now [] (ended_text [] 0) }
     {
         is_done(self.state)
     }

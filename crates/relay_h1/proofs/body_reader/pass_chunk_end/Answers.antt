@@ -16,14 +16,17 @@ returns-then-len-lt2 c =
 pub returns-then-not-begins_with_crlf : goal.returns-then-not-begins_with_crlf
 returns-then-not-begins_with_crlf c =
     let ahead = c.args.ahead.now in
+    let none =
+    ap begins_with_crlf (sym c.bytes.ensures) ∙ sym c.if-not-begins_with_crlf.ensures in
     rw c.stay-then-not-begins_with_crlf.ensures
-    (stays state.ChunkEnd ahead front.Broken (body.Chunked.crlf_broken ahead (omega arith) (ap begins_with_crlf (sym c.bytes.ensures)
-    ∙ sym c.if-not-begins_with_crlf.ensures)))
+    (stays state.ChunkEnd ahead front.Broken
+    (body.Chunked.crlf_broken ahead (omega arith) none))
 
 pub returns : goal.returns
 returns c =
     let ahead = c.args.ahead.now in
+    let begins =
+    ap begins_with_crlf (sym c.bytes.ensures) ∙ sym c.if-not-begins_with_crlf.ensures in
     goes_on state.ChunkEnd state.ChunkLine ahead c.pass_line.new.ahead 2 c.pass_line.result
-    (GoesOver-crlf ahead (ap begins_with_crlf (sym c.bytes.ensures)
-    ∙ sym c.if-not-begins_with_crlf.ensures))
+    (GoesOver-crlf ahead begins)
     (rw c.consume.ensures at c.pass_line.ensures)

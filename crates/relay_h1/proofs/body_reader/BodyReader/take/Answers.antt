@@ -6,6 +6,9 @@ use Rattle.relay_h1.proofs.body_reader.BodyReader.take.Goals as goal
 
 run_meets : (c : goal.After-take_run)
     → Meets c.self.inside.state c.args.ahead.now c.take_run.new.self c.take_run.new.ahead c.take_run.result
+use Rattle.relay_h1.proofs.BodyReaderLemmas.{Meets, meets_run, meets_end, meets_more, meets_broken, meets_exactly, meets_so_far, meets_tells}
+    → Meets c.self.inside.state c.args.ahead.now c.take_run.new.self c.take_run.new.ahead
+    c.take_run.result
 run_meets c =
     meets_run c.self.inside.state c.take_run.new.self c.args.ahead.now
     c.pass_framing-passed.new.ahead c.take_run.new.ahead c.pass_framing-passed.result
@@ -37,6 +40,11 @@ returns-in-Run-clause-tells c = λ framing given body.
 
 end_meets : (c : goal.In-End)
     → Meets c.self.inside.state c.args.ahead.now c.pass_framing-passed.result.state c.pass_framing-passed.new.ahead cut.End
+returns-in-Run-clause-exact c = rw (← c.self.view_is) (meets_exactly (run_meets c))
+    rw (← c.self.view_is) (meets_so_far (run_meets c) framing given body)
+    rw (← c.self.view_is) (meets_tells (run_meets c) framing given body)
+    → Meets c.self.inside.state c.args.ahead.now c.pass_framing-passed.result.state
+    c.pass_framing-passed.new.ahead cut.End
 end_meets c =
     meets_end c.self.inside.state c.args.ahead.now c.pass_framing-passed.new.ahead
     c.pass_framing-passed.result c.pass_framing-passed.ensures c.in-End.is
@@ -67,6 +75,11 @@ returns-in-End-clause-tells c = λ framing given body.
 
 more_meets : (c : goal.In-More)
     → Meets c.self.inside.state c.args.ahead.now c.pass_framing-passed.result.state c.pass_framing-passed.new.ahead cut.More
+returns-in-End-clause-exact c = rw (← c.self.view_is) (meets_exactly (end_meets c))
+    rw (← c.self.view_is) (meets_so_far (end_meets c) framing given body)
+    rw (← c.self.view_is) (meets_tells (end_meets c) framing given body)
+    → Meets c.self.inside.state c.args.ahead.now c.pass_framing-passed.result.state
+    c.pass_framing-passed.new.ahead cut.More
 more_meets c =
     meets_more c.self.inside.state c.args.ahead.now c.pass_framing-passed.new.ahead
     c.pass_framing-passed.result c.pass_framing-passed.ensures c.in-More.is
@@ -97,6 +110,11 @@ returns-in-More-clause-tells c = λ framing given body.
 
 broken_meets : (c : goal.After-broken)
     → Meets c.self.inside.state c.args.ahead.now c.pass_framing-passed.result.state c.pass_framing-passed.new.ahead (cut.Failed (fail.Error c.broken.result))
+returns-in-More-clause-exact c = rw (← c.self.view_is) (meets_exactly (more_meets c))
+    rw (← c.self.view_is) (meets_so_far (more_meets c) framing given body)
+    rw (← c.self.view_is) (meets_tells (more_meets c) framing given body)
+    → Meets c.self.inside.state c.args.ahead.now c.pass_framing-passed.result.state
+    c.pass_framing-passed.new.ahead (cut.Failed (fail.Error c.broken.result))
 broken_meets c =
     meets_broken c.self.inside.state c.args.ahead.now c.pass_framing-passed.new.ahead
     c.pass_framing-passed.result c.broken.result c.pass_framing-passed.ensures c.in-Broken.is
@@ -125,3 +143,6 @@ returns-in-Broken-clause-tells c = λ framing given body.
     rw (← c.self.view_is)
     (SoFar-tells framing given body c.args.ahead.now c.pass_framing-passed.new.ahead c.self.inside.state
     c.pass_framing-passed.result.state (cut.Failed (fail.Error c.broken.result)) (broken_meets c).answer (broken_meets c).takes)
+returns-in-Broken-clause-exact c = rw (← c.self.view_is) (meets_exactly (broken_meets c))
+    rw (← c.self.view_is) (meets_so_far (broken_meets c) framing given body)
+    rw (← c.self.view_is) (meets_tells (broken_meets c) framing given body)
