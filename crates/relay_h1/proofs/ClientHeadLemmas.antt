@@ -1,10 +1,10 @@
 -- By the rule for responses a client finds the framing of its head in that head.
-use Rattle.std.proofs.Common.{◌≡◌, ℕ, Bool, true, false, List, [], length, codes, refl, sym, ◌∙◌, ap, eqb-true, Option, Some, None, if◌then◌else◌, inl, inr, arith, not, ◌&&◌, is_none, ◌∷◌, slice_get, ◌||◌, ◌==◌, bytes_eq}
+use Rattle.std.proofs.Common.{◌≡◌, ℕ, Bool, true, false, List, [], length, codes, refl, sym, ◌∙◌, ap, eqb-true, Option, Some, if◌then◌else◌, inl, inr, arith, not, ◌&&◌, is_none, ◌∷◌, slice_get, ◌||◌, ◌==◌, bytes_eq}
 use Rattle.std.proofs.lemmas.Bool.{cases_Bool}
 use Rattle.http_header.specs.FieldValue.{FieldValue, plain_value}
-use Rattle.http_header.specs.HeaderMap.{get, get_all, remove, IsUnique}
+use Rattle.http_header.specs.HeaderMap.{get, get_all, IsUnique}
 use Rattle.http_header.proofs.HeaderMapLemmas.{get_all-remove_same, get_all-remove_other, get_all-insert_same, get_all-insert_other}
-use Rattle.relay_tasks.specs.Head.{Fields, ResponseHead}
+use Rattle.relay_tasks.specs.Head.{ResponseHead}
 use Rattle.relay_h1.specs.declared.framing.Framing.{Framing}
 use Rattle.relay_h1.specs.declared.framing.Framing.TheVariants as framing
 use Rattle.relay_h1.specs.declared.framing.LengthField.{LengthField}

@@ -1,9 +1,11 @@
 pub mod AheadLemmas
 pub mod BodyLemmas
+pub mod BodyWireLemmas
 pub mod ClientHeadLemmas
 pub mod HeadEndLemmas
 pub mod HeadLemmas
 pub mod JudgeLemmas
 pub mod SizeLemmas
+pub mod SizeLineLemmas
 pub mod VerdictLemmas
 pub mod WireLemmas
