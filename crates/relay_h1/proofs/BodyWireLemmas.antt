@@ -215,7 +215,10 @@ empty_rest (piece ∷ pieces) = empty_rest pieces
 -- bytes that have ended after n bytes of text, or are open
 abbrev body_said : List ℕ → Bool → ℕ → BodyText
 body_said bytes at_end n =
-    record { bytes = bytes; mark = if at_end then body.BodyMark.ended n else body.BodyMark.still_open }
+    record {
+      bytes = bytes;
+      mark = if at_end then body.BodyMark.ended n else body.BodyMark.still_open;
+    }
 
 -- a text that has its length says that it has ended
 length_is_whole : (n : ℕ) (bytes : List ℕ) → n ≤ length bytes
@@ -300,7 +303,8 @@ reads_back_whole framing.Chunked pieces text rest w whole =
     )
     (simp append-nil at says)
 reads_back_whole framing.UntilClose pieces text rest w whole =
-    rw (w.is_text ∙ close_text pieces, w.is_rest ∙ close_rest pieces, append-nil (concat pieces)) refl
+    rw (w.is_text ∙ close_text pieces, w.is_rest ∙ close_rest pieces, append-nil (concat pieces))
+    refl
 reads_back_whole framing.Tunnel pieces text rest w whole =
     rw (w.is_text ∙ tunnel_text pieces, w.is_rest ∙ tunnel_rest pieces, append-nil (concat pieces))
     refl

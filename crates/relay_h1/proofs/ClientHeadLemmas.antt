@@ -98,7 +98,8 @@ status_of false framing.Tunnel head = refl
 -- the two names differ
 names_differ : length_name ≡ coding_name → ⊥
 unfolding length_name coding_name
-names_differ same = let sizes : length length_name ≡ length coding_name = ap length same in omega (arith, sizes)
+names_differ same =
+    let sizes : length length_name ≡ length coding_name = ap length same in omega (arith, sizes)
 
 -- settling a head leaves its codings
 coding_settled : (given : Framing) (head : ResponseHead) → IsUnique head.fields
@@ -160,7 +161,11 @@ pub finds_framing : (method : List ℕ) (asked old : Bool) (head : ResponseHead)
     → response_framing method asked (head_for old given head) ≡ Some (framing_for old given)
 unfolding response_framing length_name coding_name by_rule
 finds_framing method asked old head given is unique still =
-    rw (status_of old given head, length_of old given head unique still, coding_of old given head unique still)
+    rw (
+      status_of old given head,
+      length_of old given head unique still,
+      coding_of old given head unique still,
+    )
     (rule_for old (opens_tunnel asked head.status) (has_no_body method head.status) _ _ given is)
 
 -- a field that stands nowhere has no values

@@ -30,12 +30,14 @@ onto_digits zero n acc all = all
 onto_digits (suc k) n acc all =
     let glyph = digit_glyph true (n % 16) in
     let more : AllPass is_ascii_hexdigit (glyph ∷ acc) =
-    All-cons (λ c. is_ascii_hexdigit c ≡ true) glyph acc (glyph_is_digit (n % 16) (omega arith)) all in
+    All-cons (λ c. is_ascii_hexdigit c ≡ true) glyph acc (glyph_is_digit (n % 16) (omega arith)) all
+    in
     let rest = onto_digits k (n / 16) (glyph ∷ acc) more in
     by (eqb (n / 16) 0) more rest
   where
     by : (b : Bool) → AllPass is_ascii_hexdigit (digit_glyph true (n % 16) ∷ acc)
-        → AllPass is_ascii_hexdigit (digits_onto k 16 true (n / 16) (digit_glyph true (n % 16) ∷ acc))
+        → AllPass is_ascii_hexdigit
+        (digits_onto k 16 true (n / 16) (digit_glyph true (n % 16) ∷ acc))
         → AllPass is_ascii_hexdigit
         (cond b (digit_glyph true (n % 16) ∷ acc)
         (digits_onto k 16 true (n / 16) (digit_glyph true (n % 16) ∷ acc)))

@@ -88,6 +88,11 @@ pieces_text rest [] = []
 pieces_text rest (piece ∷ pieces) =
     piece_text rest piece ++ pieces_text (after_piece rest piece) pieces
 
+-- the text of a whole body that came in these pieces
+abbrev pub body_text : Framing → List (List ℕ) → List ℕ
+body_text framing pieces =
+    pieces_text framing pieces ++ end_text (after_pieces framing pieces)
+
 -- bytes of the body's length are missing at its end
 abbrev pub short_body : Error
 short_body = explained PrematureBodyEnd BodyShort

@@ -1,7 +1,7 @@
 //! The text that a body is sent as, in its framing (RFC 9112, sections 6 and 7).
 ghost use Rattle.std.specs.Prelude.{◌≡◌, ℕ, ◌+◌, ◌≤◌, ◌↔◌, List, [], ◌∷◌, ◌++◌, length, vec_len, vec_capacity, IfOk, IfErr, OnOk, OnErr, IsOkUnless, IsErrOf, IsNone, IsTrue};
 ghost use Rattle.relay_tasks.specs.Error.{explained, IsMemoryOr};
-ghost use Rattle.relay_h1.specs.BodyWire.{body_part, piece_text, after_piece, chunk_text, end_text, is_full, is_short, count_of, short_body, HasWritten, ReadsBackOpen, ReadsBackWhole};
+ghost use Rattle.relay_h1.specs.BodyWire.{body_part, piece_text, after_piece, chunk_text, end_text, body_text, is_full, is_short, count_of, short_body, HasWritten, ReadsBackOpen, ReadsBackWhole};
 ghost use Rattle.relay_h1.specs.declared.framing.Framing.{Framing};
 
 use crate::framing::Framing;
@@ -77,6 +77,9 @@ impl BodyWriter {
     pub fn finish(&mut self, out: &mut Vec<u8>) -> Result<()>
         ensures text { OnOk result (out.new.items ≡ out.old.items ++ end_text self.old) }
         ensures rest { OnOk result (self.new ≡ Framing.Empty) }
+        ensures whole { OnOk result ((framing : Framing) (pieces : List (List ℕ)) (text : List ℕ)
+            → HasWritten framing pieces text self.old
+            → text ++ end_text self.old ≡ body_text framing pieces) }
         ensures reads_back { OnOk result ((framing : Framing) (pieces : List (List ℕ))
             (text : List ℕ) → HasWritten framing pieces text self.old
             → ReadsBackWhole framing pieces (text ++ end_text self.old)) }
@@ -105,7 +108,8 @@ impl BodyWriter {
 
     /// The bytes that follow are raw: an upgrade was accepted.
     pub fn upgrade(&mut self)
-        ensures { self.new ≡ Framing.Tunnel }
+        ensures rest { self.new ≡ Framing.Tunnel }
+        ensures starts { HasWritten Framing.Tunnel [] [] self.new }
     {
         self.rest = Framing::Tunnel;
     }

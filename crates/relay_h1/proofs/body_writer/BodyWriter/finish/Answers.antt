@@ -1,7 +1,10 @@
-use Rattle.std.proofs.Common.{◌≡◌, false, sym, ap, ◌∙◌}
+use Rattle.std.proofs.Common.{◌≡◌, false, refl, sym, ap, ◌∙◌}
 use Rattle.relay_h1.specs.BodyWire.{is_short}
 use Rattle.relay_h1.proofs.BodyWireLemmas.{reads_back_whole}
 use Rattle.relay_h1.proofs.body_writer.BodyWriter.finish.Goals as goal
+
+pub returns-clause-whole : goal.returns-clause-whole
+returns-clause-whole c = λ given pieces text w. rw (w.is_text, w.is_rest) refl
 
 pub returns-clause-reads_back : goal.returns-clause-reads_back
 returns-clause-reads_back c = λ given pieces text w.
