@@ -1,10 +1,10 @@
 -- By the rule for responses a client finds the framing of its head in that head.
-use Rattle.std.proofs.Common.{◌≡◌, ℕ, Bool, true, false, List, [], length, codes, refl, sym, ◌∙◌, ap, eqb-true, Option, Some, None, if◌then◌else◌, inl, inr, arith, not, ◌&&◌, is_none, ◌∷◌, slice_get, ◌||◌, ◌==◌, bytes_eq}
+use Rattle.std.proofs.Common.{◌≡◌, ℕ, Bool, true, false, List, [], length, codes, refl, sym, ◌∙◌, ap, eqb-true, Option, Some, if◌then◌else◌, inl, inr, arith, not, ◌&&◌, is_none, ◌∷◌, slice_get, ◌||◌, ◌==◌, bytes_eq}
 use Rattle.std.proofs.lemmas.Bool.{cases_Bool}
 use Rattle.http_header.specs.FieldValue.{FieldValue, plain_value}
-use Rattle.http_header.specs.HeaderMap.{get, get_all, remove, IsUnique}
+use Rattle.http_header.specs.HeaderMap.{get, get_all, IsUnique}
 use Rattle.http_header.proofs.HeaderMapLemmas.{get_all-remove_same, get_all-remove_other, get_all-insert_same, get_all-insert_other}
-use Rattle.relay_tasks.specs.Head.{Fields, ResponseHead}
+use Rattle.relay_tasks.specs.Head.{ResponseHead}
 use Rattle.relay_h1.specs.declared.framing.Framing.{Framing}
 use Rattle.relay_h1.specs.declared.framing.Framing.TheVariants as framing
 use Rattle.relay_h1.specs.declared.framing.LengthField.{LengthField}
@@ -98,7 +98,8 @@ status_of false framing.Tunnel head = refl
 -- the two names differ
 names_differ : length_name ≡ coding_name → ⊥
 unfolding length_name coding_name
-names_differ same = let sizes : length length_name ≡ length coding_name = ap length same in omega (arith, sizes)
+names_differ same =
+    let sizes : length length_name ≡ length coding_name = ap length same in omega (arith, sizes)
 
 -- settling a head leaves its codings
 coding_settled : (given : Framing) (head : ResponseHead) → IsUnique head.fields
@@ -160,7 +161,11 @@ pub finds_framing : (method : List ℕ) (asked old : Bool) (head : ResponseHead)
     → response_framing method asked (head_for old given head) ≡ Some (framing_for old given)
 unfolding response_framing length_name coding_name by_rule
 finds_framing method asked old head given is unique still =
-    rw (status_of old given head, length_of old given head unique still, coding_of old given head unique still)
+    rw (
+      status_of old given head,
+      length_of old given head unique still,
+      coding_of old given head unique still,
+    )
     (rule_for old (opens_tunnel asked head.status) (has_no_body method head.status) _ _ given is)
 
 -- a field that stands nowhere has no values

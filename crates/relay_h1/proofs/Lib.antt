@@ -4,10 +4,12 @@ pub mod BodyReaderLemmas
 pub mod BodyStays
 pub mod ChunkLineLemmas
 pub mod CrlfLemmas
+pub mod BodyWireLemmas
 pub mod ClientHeadLemmas
 pub mod HeadEndLemmas
 pub mod HeadLemmas
 pub mod JudgeLemmas
 pub mod SizeLemmas
+pub mod SizeLineLemmas
 pub mod VerdictLemmas
 pub mod WireLemmas

@@ -1,7 +1,7 @@
 -- How the size of a chunk is written, digit after digit from its end.
 use Rattle.std.proofs.Common.{◌≡◌, ℕ, zero, suc, ◌+◌, ◌-◌, ◌*◌, ◌^◌, ◌/◌, ◌%◌, ◌<◌, ◌≤◌, Bool, true, false, cond, eqb, List, [], ◌∷◌, ◌++◌, length, drop, set, refl, sym, ◌∙◌, ap, arith, add-one}
 use Rattle.std.proofs.Math.Nat.{pow-suc}
-use Rattle.std.proofs.lemmas.Bool.{eq-eqb, ne_eqb, cases_Bool}
+use Rattle.std.proofs.lemmas.Bool.{eq-eqb, ne_eqb}
 use Rattle.std.proofs.lemmas.List.{drop-set}
 use Rattle.std.specs.Fmt.{digits, digits_onto, digit_glyph}
 use Rattle.relay_h1.specs.Wire.{line_end}
@@ -60,7 +60,8 @@ fits_before n place fits some =
 pub written_more : (bytes : List ℕ) (start left glyph : ℕ) (line : List ℕ)
     → start < length bytes → 0 < start → 16 ≤ left → glyph ≡ digit_glyph true (left % 16)
     → digits_onto (start + 49) 16 true left (drop (start + 1) bytes) ≡ line
-    → digits_onto (start - 1 + 49) 16 true (left / 16) (drop (start - 1 + 1) (set bytes start glyph))
+    → digits_onto (start - 1 + 49) 16 true (left / 16)
+    (drop (start - 1 + 1) (set bytes start glyph))
     ≡ line
 written_more bytes start left glyph line inside some more is so_far =
     let fuel : start + 49 ≡ suc (start - 1 + 49) = omega arith in

@@ -1,11 +1,14 @@
 -- The text that a body is sent as (RFC 9112, sections 6 and 7).
-use Rattle.std.specs.Prelude.{◌≡◌, ℕ, ◌-◌, ◌==◌, Bool, true, false, not, List, [], ◌∷◌, ◌++◌, length, take, codes, Option, Some, None, if◌then◌else◌}
+use Rattle.std.specs.Prelude.{◌≡◌, ℕ, ◌-◌, ◌^◌, ◌<◌, ◌==◌, All, Bool, true, false, not, List, [], ◌∷◌, ◌++◌, length, take, codes, Option, Some, None, if◌then◌else◌}
 use Rattle.std.specs.Fmt.{digits}
+use Rattle.std.specs.List.{concat}
 use Rattle.relay_tasks.specs.declared.context.Context.TheVariants.{BodyShort}
 use Rattle.relay_tasks.specs.declared.error.Error.{Error}
 use Rattle.relay_tasks.specs.declared.error.ErrorType.TheVariants.{PrematureBodyEnd}
 use Rattle.relay_tasks.specs.Error.{explained}
 use Rattle.relay_h1.specs.Wire.{line_end}
+use Rattle.relay_h1.specs.Body.{BodyText, Body}
+use Rattle.relay_h1.specs.Body.BodyMark.{ended, still_open}
 use Rattle.relay_h1.specs.declared.framing.Framing.{Framing}
 use Rattle.relay_h1.specs.declared.framing.Framing.TheVariants.{Empty, Length, Chunked, UntilClose, Tunnel}
 
@@ -85,11 +88,6 @@ pieces_text rest [] = []
 pieces_text rest (piece ∷ pieces) =
     piece_text rest piece ++ pieces_text (after_piece rest piece) pieces
 
--- the bytes of these pieces that belong to the body
-abbrev pub body_of : Framing → List (List ℕ) → List ℕ
-body_of rest [] = []
-body_of rest (piece ∷ pieces) = body_part rest piece ++ body_of (after_piece rest piece) pieces
-
 -- the text of a whole body that came in these pieces
 abbrev pub body_text : Framing → List (List ℕ) → List ℕ
 body_text framing pieces =
@@ -98,3 +96,38 @@ body_text framing pieces =
 -- bytes of the body's length are missing at its end
 abbrev pub short_body : Error
 short_body = explained PrematureBodyEnd BodyShort
+
+-- ---- what was written since a body began
+
+-- these pieces were written as this text, and what is left of the body is framed so
+pub record HasWritten
+    (framing : Framing) (pieces : List (List ℕ)) (text : List ℕ) (rest : Framing) : Type 0 where
+  pub fit : All (λ piece. length piece < 2 ^ 64) pieces
+  pub is_text : text ≡ pieces_text framing pieces
+  pub is_rest : rest ≡ after_pieces framing pieces
+
+-- the text of a body says where it ends; else the close of the connection does
+abbrev pub says_end : Framing → Bool
+says_end Empty = true
+says_end (Length left) = true
+says_end Chunked = true
+says_end UntilClose = false
+says_end Tunnel = false
+
+-- what these pieces are as a body: their bytes, ended with the text or still open
+abbrev pub body_so_far : Framing → List (List ℕ) → Bool → List ℕ → BodyText
+body_so_far framing pieces at_end text =
+    record {
+      bytes = body_part framing (concat pieces);
+      mark = if at_end then ended (length text) else still_open;
+    }
+
+-- read back, the text of a body so far is that of its pieces: it has ended where none is left
+abbrev pub ReadsBackOpen : Framing → List (List ℕ) → List ℕ → Framing → Type 0
+ReadsBackOpen framing pieces text rest =
+    Body framing text (body_so_far framing pieces (is_full rest) text)
+
+-- read back, the text of a whole body is that of its pieces: it has ended where the text says so
+abbrev pub ReadsBackWhole : Framing → List (List ℕ) → List ℕ → Type 0
+ReadsBackWhole framing pieces text =
+    Body framing text (body_so_far framing pieces (says_end framing) text)

@@ -1,6 +1,6 @@
 -- The head of a response as its client gets it, and how the body behind it is framed
 -- (RFC 9112, sections 6.1 and 6.3; RFC 9110, section 15.2).
-use Rattle.std.specs.Prelude.{ℕ, Bool, true, false, not, ◌&&◌, List, nat_le, nat_lt, ◌==◌, if◌then◌else◌, codes, Option, Some, None, option_map, unwrap_or, is_none}
+use Rattle.std.specs.Prelude.{ℕ, Bool, not, ◌&&◌, List, nat_le, nat_lt, ◌==◌, if◌then◌else◌, codes, Option, option_map, unwrap_or, is_none}
 use Rattle.http.specs.declared.Version.{Version}
 use Rattle.http.specs.declared.version.TheConstants.Version.{HTTP_11}
 use Rattle.http_header.specs.FieldValue.{plain_value}

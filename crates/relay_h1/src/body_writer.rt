@@ -1,7 +1,8 @@
 //! The text that a body is sent as, in its framing (RFC 9112, sections 6 and 7).
-ghost use Rattle.std.specs.Prelude.{◌≡◌, ◌+◌, ◌≤◌, ◌↔◌, ◌++◌, ◌-◌, length, vec_len, vec_capacity, IfOk, IfErr, OnOk, OnErr, IsOkUnless, IsErrOf, IsNone, IsTrue};
+ghost use Rattle.std.specs.Prelude.{◌≡◌, ℕ, ◌+◌, ◌≤◌, ◌↔◌, List, [], ◌∷◌, ◌++◌, length, vec_len, vec_capacity, IfOk, IfErr, OnOk, OnErr, IsOkUnless, IsErrOf, IsNone, IsTrue};
 ghost use Rattle.relay_tasks.specs.Error.{explained, IsMemoryOr};
-ghost use Rattle.relay_h1.specs.BodyWire.{body_part, piece_text, after_piece, chunk_text, end_text, is_full, is_short, count_of, short_body};
+ghost use Rattle.relay_h1.specs.BodyWire.{body_part, piece_text, after_piece, chunk_text, end_text, body_text, is_full, is_short, count_of, short_body, HasWritten, ReadsBackOpen, ReadsBackWhole};
+ghost use Rattle.relay_h1.specs.declared.framing.Framing.{Framing};
 
 use crate::framing::Framing;
 use crate::size_line::SizeLine;
@@ -32,7 +33,8 @@ impl Model for BodyWriter {
 impl BodyWriter {
     /// A writer for a body that is framed so.
     pub fn new(framing: Framing) -> BodyWriter
-        ensures { result ≡ framing }
+        ensures rest { result ≡ framing }
+        ensures starts { HasWritten framing [] [] result }
     {
         BodyWriter { rest: framing }
     }
@@ -47,6 +49,13 @@ impl BodyWriter {
             (out.new.items ≡ out.old.items ++ piece_text self.old piece.now) }
         ensures counted { IfOk result (λ count. count ≡ count_of self.old piece.now) }
         ensures rest { OnOk result (self.new ≡ after_piece self.old piece.now) }
+        ensures so_far { OnOk result ((framing : Framing) (pieces : List (List ℕ)) (text : List ℕ)
+            → HasWritten framing pieces text self.old
+            → HasWritten framing (pieces ++ piece.now ∷ []) (text ++ piece_text self.old piece.now)
+            self.new) }
+        ensures reads_back { OnOk result ((framing : Framing) (pieces : List (List ℕ))
+            (text : List ℕ) → HasWritten framing pieces text self.new
+            → ReadsBackOpen framing pieces text self.new) }
         ensures err { OnErr result (out.new.items ≡ out.old.items) }
         ensures kept { OnErr result (self.new ≡ self.old) }
         ensures memory { IsOkUnless result Fail.OutOfMemory }
@@ -68,6 +77,12 @@ impl BodyWriter {
     pub fn finish(&mut self, out: &mut Vec<u8>) -> Result<()>
         ensures text { OnOk result (out.new.items ≡ out.old.items ++ end_text self.old) }
         ensures rest { OnOk result (self.new ≡ Framing.Empty) }
+        ensures whole { OnOk result ((framing : Framing) (pieces : List (List ℕ)) (text : List ℕ)
+            → HasWritten framing pieces text self.old
+            → text ++ end_text self.old ≡ body_text framing pieces) }
+        ensures reads_back { OnOk result ((framing : Framing) (pieces : List (List ℕ))
+            (text : List ℕ) → HasWritten framing pieces text self.old
+            → ReadsBackWhole framing pieces (text ++ end_text self.old)) }
         ensures short { IsErrOf result (Fail.Error short_body) ↔ IsTrue (is_short self.old) }
         ensures causes { IfErr result (IsMemoryOr short_body) }
         ensures err { OnErr result (out.new.items ≡ out.old.items) }
@@ -93,7 +108,8 @@ impl BodyWriter {
 
     /// The bytes that follow are raw: an upgrade was accepted.
     pub fn upgrade(&mut self)
-        ensures { self.new ≡ Framing.Tunnel }
+        ensures rest { self.new ≡ Framing.Tunnel }
+        ensures starts { HasWritten Framing.Tunnel [] [] self.new }
     {
         self.rest = Framing::Tunnel;
     }

@@ -1,7 +1,7 @@
-use Rattle.std.proofs.Common.{◌≡◌, Bool, true, sym, ◌∙◌, ap, subst, codes, [], IsTrue, Some}
+use Rattle.std.proofs.Common.{◌≡◌, true, ◌∙◌, ap, codes}
 use Rattle.http_header.specs.HeaderMap.{get_all}
 use Rattle.relay_tasks.specs.Head.{ResponseHead}
-use Rattle.relay_h1.specs.Framing.{is_http_10, response_framing}
+use Rattle.relay_h1.specs.Framing.{is_http_10}
 use Rattle.relay_h1.specs.ClientHead.{framing_for, head_for}
 use Rattle.relay_h1.proofs.JudgeLemmas.{framed_is}
 use Rattle.relay_h1.proofs.ClientHeadLemmas.{finds_framing, uncoded_has_none}

@@ -1,4 +1,4 @@
-use Rattle.std.proofs.Common.{◌≡◌, ◌<◌, length, arith, refl, ◌∙◌}
+use Rattle.std.proofs.Common.{◌<◌, length, arith, refl, ◌∙◌}
 use Rattle.std.proofs.lemmas.List.{length-set}
 use Rattle.relay_h1.proofs.SizeLemmas.{has_digit_before, fits_before, written_more, written_first, onto_line}
 use Rattle.relay_h1.proofs.size_line.SizeLine.new.Goals as goal

@@ -1,4 +1,4 @@
-use Rattle.std.proofs.Common.{◌+◌, ◌^◌, ◌≡◌, ◌<◌, ◌≤◌, true, length, drop}
+use Rattle.std.proofs.Common.{◌+◌, ◌^◌, ◌≡◌, ◌<◌, true, length, drop}
 use Rattle.std.specs.Fmt.{digits_onto}
 use Rattle.relay_h1.specs.BodyWire.{size_line}
 use Rattle.relay_h1.proofs.size_line.SizeLine.new.Given as goal
