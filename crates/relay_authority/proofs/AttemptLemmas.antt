@@ -7,7 +7,8 @@ use Rattle.relay_tasks.specs.declared.ErrorSource.{ErrorSource}
 use Rattle.relay_tasks.specs.declared.ErrorSource.TheVariants as side
 use Rattle.relay_tasks.specs.declared.Fail.{Fail}
 use Rattle.relay_tasks.specs.declared.Fail.TheVariants as fail
-use Rattle.relay_authority.specs.Attempt.{Step, Then, FailsToGive, Finishes, FailsToFinish, ReadiesH1, sided}
+use Rattle.relay_authority.specs.Attempt.{Then, Finishes, FailsToFinish, ReadiesH1}
+use Rattle.relay_authority.specs.Stage.{Step, FailsToMake, OnSide, sided}
 use Rattle.http.specs.declared.version.TheConstants.Version.{HTTP_11, HTTP_2}
 use Rattle.relay_authority.specs.Sent.{AddsHost}
 use Rattle.relay_authority.specs.Table.{Outcome, Settles, FailsAs}
@@ -35,7 +36,7 @@ settled_finishes T old new (Err (fail.Error error)) h = h
 
 -- a step that failed gives no head, and the failure is put on a side
 pub fails_to_give : (blame : ErrorSource) (step : Step) (old new : RequestHead) (failure given : Fail)
-    → FailsToFinish (step old) new failure → given ≡ sided blame failure → FailsToGive blame step old given
+    → FailsToFinish (step old) new failure → given ≡ sided blame failure → FailsToMake (OnSide blame step old) given
 fails_to_give blame step old new fail.OutOfMemory given h is = rw is tt
 fails_to_give blame step old new (fail.Error error) given h is =
     rw is (h.0, new, ap (λ (e : Error). record e { esource = blame }) h.1, h.2)
@@ -43,7 +44,7 @@ fails_to_give blame step old new (fail.Error error) given h is =
 -- a Host that could not be put is no head
 pub readies_nothing : (custom : Bool) (head ready new : RequestHead) (failure given : Fail) → IsTrue custom × (head.version ≡ HTTP_2)
     → ready ≡ record head { version = HTTP_11 } → FailsAs (AddsHost ready) ready new failure → given ≡ sided side.Downstream failure
-    → FailsToGive side.Downstream (ReadiesH1 custom) head given
+    → FailsToMake (OnSide side.Downstream (ReadiesH1 custom) head) given
 readies_nothing custom head ready new fail.OutOfMemory given was same h is = rw is tt
 readies_nothing custom head ready new (fail.Error error) given was same h is =
     let put : AddsHost (record head { version = HTTP_11 }) (record { refusal = Some h.0; head = new }) = rw same at h.2 in

@@ -2,7 +2,8 @@
 //! that may change it, and after (RFC 9112, section 3.2; RFC 9110, section 7.6).
 ghost use Rattle.std.specs.Prelude.{◌≡◌, ◌↔◌, IsTrue, IsUtf8, None, IfOk, IsErrOf, IsOkUnless};
 ghost use Rattle.http_header.specs.HeaderMap.{remove};
-ghost use Rattle.relay_authority.specs.Attempt.{Finishes, Gives, ReadiesH1, ReadiesH2, SetsHostWhere, SettlesH1, SettlesH2, Then, StripsWhere, Validates, blamed, sided, without_connection};
+ghost use Rattle.relay_authority.specs.Attempt.{Finishes, IsBelowH2, ReadiesH1, ReadiesH2, SetsHostWhere, SettlesH1, SettlesH2, StripsWhere, Then, Validates, without_connection};
+ghost use Rattle.relay_authority.specs.Stage.{Gives, blamed, sided};
 ghost use Rattle.relay_authority.specs.Table.{Settles};
 
 use crate::entry::validate_request_authority;
@@ -128,9 +129,15 @@ fn drop_field(head: &mut RequestHeader, name: HeaderName)
 fn strip_where(head: &mut RequestHeader, custom: bool)
     ensures { StripsWhere custom head.old head.new }
 {
-    if custom || head.version() != Version::HTTP_2 {
+    if custom || is_below_h2(head) {
         strip(head);
     }
+}
+
+fn is_below_h2(head: &RequestHeader) -> bool
+    ensures { IsTrue result ↔ IsBelowH2 head.now.version }
+{
+    head.version() != Version::HTTP_2 && head.version() != Version::HTTP_3
 }
 
 /// Makes a filtered head for an HTTP/2 upstream say one authority, for a client that is not
@@ -152,7 +159,8 @@ fn settle_h2(alloc: Global, head: &mut RequestHeader) -> Result<()>
     validate(head)
 }
 
-fn of_side(fail: Fail, side: ErrorSource) -> Fail
+// The failure, with its error on that side.
+pub fn of_side(fail: Fail, side: ErrorSource) -> Fail
     ensures { result ≡ sided side fail }
 {
     match fail {
