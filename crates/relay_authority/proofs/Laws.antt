@@ -235,7 +235,7 @@ by_uri head new host (inl bad) = absurd (done head new _ bad.1)
 by_uri head new host (inr (utf8, inl same)) =
     let left : new ≡ head = ap (λ (o : Outcome). o.head) same.1 in rw left (stated head host same.0)
 by_uri head new host (inr (utf8, inr (differ, inl bad))) = absurd (done head new _ bad.1)
-by_uri head new host (inr (utf8, inr (differ, inr (valid, (moved, is_moved, set))))) =
+by_uri head new host (inr (utf8, inr (differ, inr (valid, (moved, is_moved, text, set))))) =
     let left : new ≡ record head { target = target_of moved; uri = Some moved } = ap (λ (o : Outcome). o.head) set in
     rw left (stated (record head { target = target_of moved; uri = Some moved }) host is_moved.2.1)
 
@@ -270,9 +270,9 @@ abbrev Left : RequestHead → Outcome
 Left head = record { refusal = None; head = head }
 
 -- with the URI at Host, nothing is left to follow
-rests_by_uri : (head : RequestHead) (host : List ℕ) → uri_authority_of head ≡ Some host → IsUtf8 head.target
-    → ReconcilesWith head host (Left head)
-rests_by_uri head host some utf8 = rw some (inr ((λ no. no utf8), inl (refl, refl)))
+rests_by_uri : (head : RequestHead) (host : List ℕ) → uri_authority_of head ≡ Some host
+    → ¬ (¬ (IsUtf8 head.target)) → ReconcilesWith head host (Left head)
+rests_by_uri head host some utf8 = rw some (inr (utf8, inl (refl, refl)))
 
 -- nor with the target at Host
 rests_by_target : (head : RequestHead) (host : List ℕ) → uri_authority_of head ≡ None
@@ -320,42 +320,50 @@ raw_rests head new host none table = by (absolute_parts head.target) refl table
     by None absent t = same_rests head new host (ap (λ (o : Outcome). o.head) t) (rw (none, absent) refl)
     by (Some parts) absolute t = parts_rest head new host parts none absolute t
 
-uri_rests : (head new : RequestHead) (host : List ℕ) → IsUtf8 new.target → ReconcilesUri head host (Left new) → Rests head new host
-uri_rests head new host utf8 (inl bad) = absurd (done head new _ bad.1)
-uri_rests head new host utf8 (inr (was, inl same)) =
+uri_rests : (head new : RequestHead) (host : List ℕ) → ReconcilesUri head host (Left new)
+    → Rests head new host
+uri_rests head new host (inl bad) = absurd (done head new _ bad.1)
+uri_rests head new host (inr (was, inl same)) =
     let left : new ≡ head = ap (λ (o : Outcome). o.head) same.1 in
-    let kept : IsUtf8 head.target = rw left at utf8 in
-    same_rests head new host left (rests_by_uri head host same.0 kept)
-uri_rests head new host utf8 (inr (was, inr (differ, inl bad))) = absurd (done head new _ bad.1)
-uri_rests head new host utf8 (inr (was, inr (differ, inr (valid, (moved, is_moved, set))))) =
-    let left : new ≡ record head { target = target_of moved; uri = Some moved } = ap (λ (o : Outcome). o.head) set in
-    let kept : IsUtf8 (target_of moved) = rw left at utf8 in
+    same_rests head new host left (rests_by_uri head host same.0 was)
+uri_rests head new host (inr (was, inr (differ, inl bad))) = absurd (done head new _ bad.1)
+uri_rests head new host (inr (was, inr (differ, inr (valid, (moved, is_moved, text, set))))) =
+    let left : new ≡ record head { target = target_of moved; uri = Some moved } =
+    ap (λ (o : Outcome). o.head) set in
     rw left record {
       fields = refl;
-      with_host = rests_by_uri (record head { target = target_of moved; uri = Some moved }) host is_moved.2.1 kept;
+      with_host =
+          rests_by_uri (record head { target = target_of moved; uri = Some moved }) host
+          is_moved.2.1 (λ no. no text);
     }
 
-with_rests : (head new : RequestHead) (host : List ℕ) → IsUtf8 new.target → ReconcilesWith head host (Left new) → Rests head new host
-with_rests head new host utf8 table = by (uri_authority_of head) refl table
+with_rests : (head new : RequestHead) (host : List ℕ) → ReconcilesWith head host (Left new)
+    → Rests head new host
+with_rests head new host table = by (uri_authority_of head) refl table
   where
     by : (authority : Option (List ℕ)) → uri_authority_of head ≡ authority
-        → MatchOption authority (ReconcilesRaw head host (Left new)) (λ _. ReconcilesUri head host (Left new)) → Rests head new host
+        → MatchOption authority (ReconcilesRaw head host (Left new))
+        (λ _. ReconcilesUri head host (Left new))
+        → Rests head new host
     by None none t = raw_rests head new host none t
-    by (Some authority) some t = uri_rests head new host utf8 t
+    by (Some authority) some t = uri_rests head new host t
 
 -- an accepted head stays as it is when it is reconciled once more
-pub rests : (head new : RequestHead) (result : Result (Unit {0}) Fail) → Settles (Reconciles head) head new result
-    → OnOk result (IsUtf8 new.target → Reconciles new (record { refusal = None; head = new }))
+pub rests : (head new : RequestHead) (result : Result (Unit {0}) Fail)
+    → Settles (Reconciles head) head new result
+    → OnOk result (Reconciles new (record { refusal = None; head = new }))
 rests head new (Err fail) table = tt
-rests head new (Ok ended) table = λ utf8. by utf8 (first_host head) refl table
+rests head new (Ok ended) table = by (first_host head) refl table
   where
-    by : IsUtf8 new.target → (found : Option (List ℕ)) → first_host head ≡ found
-        → MatchOption found (Leaves head (Left new)) (λ host. FollowsHost head host (Left new)) → Reconciles new (Left new)
-    by utf8 None absent t =
+    by : (found : Option (List ℕ)) → first_host head ≡ found
+        → MatchOption found (Leaves head (Left new)) (λ host. FollowsHost head host (Left new))
+        → Reconciles new (Left new)
+    by None absent t =
         let left : new ≡ head = ap (λ (o : Outcome). o.head) t in
         rw left (rw absent refl)
-    by utf8 (Some host) there (inl bad) = absurd (done head new _ bad.1)
-    by utf8 (Some host) there (inr (bare, t)) =
-        let again = with_rests head new host utf8 t in
-        let kept : first_host new ≡ Some host = ap (λ (fields : Fields). slice_get (hosts fields) 0) again.fields ∙ there in
+    by (Some host) there (inl bad) = absurd (done head new _ bad.1)
+    by (Some host) there (inr (bare, t)) =
+        let again = with_rests head new host t in
+        let kept : first_host new ≡ Some host =
+        ap (λ (fields : Fields). slice_get (hosts fields) 0) again.fields ∙ there in
         rw kept (inr (bare, again.with_host))

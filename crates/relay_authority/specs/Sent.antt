@@ -58,10 +58,11 @@ AddsHost head outcome = MatchOption (first_host head) (AddsUriHost head outcome)
 abbrev pub IsMoved : RequestHead → List ℕ → Uri → Type 0
 IsMoved head host moved = (uri : Uri) × (head.uri ≡ Some uri) × HasParts moved (uri_scheme uri) (Some host) (uri_data uri)
 
--- the head takes that URI
+-- the head takes that URI, which is sent as text
 abbrev pub MovesUri : RequestHead → List ℕ → Outcome → Type 0
 MovesUri head host outcome =
-    (moved : Uri) × IsMoved head host moved × Leaves (record head { target = target_of moved; uri = Some moved }) outcome
+    (moved : Uri) × IsMoved head host moved × IsUtf8 (target_of moved)
+    × Leaves (record head { target = target_of moved; uri = Some moved }) outcome
 
 -- a URI with an authority follows Host
 abbrev pub ReconcilesUri : RequestHead → List ℕ → Outcome → Type 0

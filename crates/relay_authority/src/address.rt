@@ -4,14 +4,14 @@ ghost use Rattle.std.specs.Prelude.{◌≡◌, ◌↔◌, Some, None, IfOk, IsTr
 ghost use Rattle.relay_authority.specs.Address.{Addresses, LacksAuthority, MovesHost, NamesHost, raw_host, target_authority, without_host};
 ghost use Rattle.relay_authority.specs.Stage.{Makes};
 
-use crate::attempt::of_side;
+use crate::attempt::of_relay;
 use crate::edit::{owned, refusal};
 use crate::heads::{first_host, has_no_host, uri_authority};
 use crate::http2::{h2_path_and_query, update_h2_scheme_authority};
 use crate::raw::raw_target_authority;
 use http_header::HOST;
 use http_uri::PathAndQuery;
-use relay_tasks::{Context, ErrorSource, RequestHeader, Result};
+use relay_tasks::{Context, RequestHeader, Result};
 use std::alloc::Global;
 
 /// Moves whom a filtered head is for from Host into its URI, for an HTTP/2 upstream. The raw host
@@ -29,12 +29,11 @@ pub fn address_h2_head(
     ensures { Makes (Addresses custom tls head) result }
 {
     if lacks_authority(&head, custom) {
-        let lacking = refusal(Context::NoAuthorityH2);
-        return Err(of_side(lacking, ErrorSource::Internal));
+        return Err(of_relay(refusal(Context::NoAuthorityH2)));
     }
     match h2_path_and_query(alloc, &head) {
         Ok(path) => move_host(alloc, head, custom, tls, path),
-        Err(fail) => Err(of_side(fail, ErrorSource::Internal)),
+        Err(fail) => Err(of_relay(fail)),
     }
 }
 

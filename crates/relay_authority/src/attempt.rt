@@ -29,7 +29,7 @@ pub fn ready_h1_head(alloc: Global, head: RequestHeader, custom: bool) -> Result
     }
     match set_h1_host_from_authority_if_absent(alloc, &mut ready) {
         Ok(()) => Ok(ready),
-        Err(fail) => Err(of_side(fail, ErrorSource::Downstream)),
+        Err(fail) => Err(of_client(fail)),
     }
 }
 
@@ -53,7 +53,7 @@ pub fn settle_h1_head(
     let mut settled = head;
     match settle_h1(alloc, &mut settled, client_had_host) {
         Ok(()) => Ok(settled),
-        Err(fail) => Err(of_side(fail, ErrorSource::Internal)),
+        Err(fail) => Err(of_relay(fail)),
     }
 }
 
@@ -148,7 +148,7 @@ pub fn settle_h2_head(alloc: Global, head: RequestHeader) -> Result<RequestHeade
     let mut settled = head;
     match settle_h2(alloc, &mut settled) {
         Ok(()) => Ok(settled),
-        Err(fail) => Err(of_side(fail, ErrorSource::Internal)),
+        Err(fail) => Err(of_relay(fail)),
     }
 }
 
@@ -159,8 +159,21 @@ fn settle_h2(alloc: Global, head: &mut RequestHeader) -> Result<()>
     validate(head)
 }
 
-// The failure, with its error on that side.
-pub fn of_side(fail: Fail, side: ErrorSource) -> Fail
+// The failure, on the client's side.
+fn of_client(fail: Fail) -> Fail
+    ensures { result ≡ sided ErrorSource.Downstream fail }
+{
+    of_side(fail, ErrorSource::Downstream)
+}
+
+/// The failure, on the relay's own side.
+pub fn of_relay(fail: Fail) -> Fail
+    ensures { result ≡ sided ErrorSource.Internal fail }
+{
+    of_side(fail, ErrorSource::Internal)
+}
+
+fn of_side(fail: Fail, side: ErrorSource) -> Fail
     ensures { result ≡ sided side fail }
 {
     match fail {

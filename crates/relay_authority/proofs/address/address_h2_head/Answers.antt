@@ -15,4 +15,4 @@ returns-in-Ok c =
 pub returns-in-Err : goal.returns-in-Err
 returns-in-Err c =
     let named : ¬ (LacksAuthority c.args.custom c.args.head) = refuted _ c.lacks_authority.ensures c.if-lacks_authority.false in
-    path_fails c.args.custom c.args.tls c.args.head _ _ named c.in-Err.ensures c.of_side-in-Err.ensures
+    path_fails c.args.custom c.args.tls c.args.head _ _ named c.in-Err.ensures c.of_relay-in-Err.ensures

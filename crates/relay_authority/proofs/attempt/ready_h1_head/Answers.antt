@@ -11,4 +11,4 @@ returns-in-Ok c =
 pub returns-in-Err : goal.returns-in-Err
 returns-in-Err c =
     readies_nothing c.args.custom c.args.head c.set_version.new.self c.set_h1_host_from_authority_if_absent.new.head _ _
-    (c.spoke_h2-lacks_host.ensures.0 c.if-not-lacks_host.false) c.set_version.ensures c.in-Err.ensures c.of_side.ensures
+    (c.spoke_h2-lacks_host.ensures.0 c.if-not-lacks_host.false) c.set_version.ensures c.in-Err.ensures c.of_client.ensures

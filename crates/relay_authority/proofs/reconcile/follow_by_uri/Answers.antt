@@ -28,4 +28,4 @@ returns c =
     let valid = done_not_refused _ _ _ c.in_ok-authority.ensures.invalid in
     let moved : IsMoved c.args.head.now c.args.host.now c.in_ok-moved.moved = rw (← c.in_ok-authority.ensures.ok) c.in_ok-moved.ensures.ok in
     done_as (ReconcilesUri c.args.head.now c.args.host.now) _ _ _ _ c.set_uri.ensures.ok c.set_uri.ensures.memory c.set_uri.ensures.err
-    (inr ((λ no. no utf8), inr (differ, inr (valid, (c.in_ok-moved.moved, moved, refl)))))
+    (inr ((λ no. no utf8), inr (differ, inr (valid, (c.in_ok-moved.moved, moved, c.in_ok-moved.ensures.utf8, refl)))))
