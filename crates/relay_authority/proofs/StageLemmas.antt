@@ -19,14 +19,21 @@ makes_wider (Err fail.OutOfMemory) wider h = h
 makes_wider (Err (fail.Error error)) wider h = wider _ h
 
 -- a failed edit is a refusal on no side
-pub fails_on_no_side : (step : Step) (old new : RequestHead) (failure : Fail) → FailsAs (step old) old new failure
+pub fails_on_no_side : (step : Step) (old new : RequestHead) (failure : Fail)
+    → FailsAs (step old) old new failure
     → FailsToMake (OnSide side.Unset step old) failure
 fails_on_no_side step old new fail.OutOfMemory h = tt
 fails_on_no_side step old new (fail.Error error) h = (h.0, new, h.1, h.2)
 
 -- a path that is lacking is a refusal on the relay's own side
-pub path_fails : (custom tls : Bool) (head : RequestHead) (failure given : Fail) → ¬ (LacksAuthority custom head)
-    → FailsTo (PathFor head.target) failure → given ≡ sided side.Internal failure → FailsToMake (Addresses custom tls head) given
+pub path_fails : (custom tls : Bool) (head : RequestHead) (failure given : Fail)
+    → ¬ (LacksAuthority custom head)
+    → FailsTo (PathFor head.target) failure → given ≡ sided side.Internal failure
+    → FailsToMake (Addresses custom tls head) given
 path_fails custom tls head fail.OutOfMemory given there h is = rw is tt
 path_fails custom tls head (fail.Error error) given there h is =
-    rw is (inr (there, inl (h.0, h.2, ap (λ (e : Error). Err (record e { esource = side.Internal })) h.1)))
+    rw is (inr (
+      there,
+      inl
+          (h.0, h.2, ap (λ (e : Error). Err (record e { esource = side.Internal })) h.1),
+    ))

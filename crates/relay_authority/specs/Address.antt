@@ -19,7 +19,8 @@ target_authority custom head =
 -- nothing in the head says whom it is for: no Host, no URI with an authority, no such target
 abbrev pub LacksAuthority : Bool → RequestHead → Type 0
 LacksAuthority custom head =
-    (hosts head.fields ≡ []) × (uri_authority_of head ≡ None) × (target_authority custom head ≡ None)
+    (hosts head.fields ≡ []) × (uri_authority_of head ≡ None)
+    × (target_authority custom head ≡ None)
 
 -- the head without its Host
 abbrev pub without_host : RequestHead → RequestHead
@@ -29,19 +30,22 @@ without_host head = record head { fields = remove head.fields host_name }
 abbrev pub raw_host : Bool → RequestHead → Option (List ℕ)
 raw_host custom head = or_else (first_host head) (target_authority custom head)
 
--- the URI is made of the raw host and the path, on neither side, and stays where there is none
+-- where there is a raw host the URI is made of it and the path; a refusal is on no side
 abbrev pub NamesHost : Bool → List ℕ → Option (List ℕ) → Stage
 NamesHost tls path host head answer =
-    MatchOption host (answer ≡ Ok head) (λ text. OnSide side.Unset (λ old. SetsAuthority old text tls path) head answer)
+    MatchOption host (answer ≡ Ok head)
+    (λ text. OnSide side.Unset (λ old. SetsAuthority old text tls path) head answer)
 
 -- the target gives no path
 abbrev pub LacksPath : Stage
-LacksPath head answer = (why : Context) × PathFor head.target (Some why) [] × (answer ≡ Err (blamed side.Internal why))
+LacksPath head answer = (why : Context) × PathFor head.target (Some why) []
+    × (answer ≡ Err (blamed side.Internal why))
 
 -- the raw host moves from Host into the URI, beside the path of the target
 abbrev pub MovesHost : Bool → Bool → Stage
 MovesHost custom tls head answer =
-    (path : List ℕ) × PathFor head.target None path × NamesHost tls path (raw_host custom head) (without_host head) answer
+    (path : List ℕ) × PathFor head.target None path
+    × NamesHost tls path (raw_host custom head) (without_host head) answer
 
 -- whom the head is for stands in its URI, and in no Host
 abbrev pub Addresses : Bool → Bool → Stage

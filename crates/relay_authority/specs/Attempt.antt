@@ -1,4 +1,5 @@
--- The head that an attempt sends: which edits, in which order (RFC 9112, section 3.2; RFC 9110, section 7.6).
+-- The head that an attempt sends: which edits, in which order (RFC 9112, section 3.2; RFC 9110,
+-- section 7.6).
 use Rattle.std.specs.Prelude.{◌≡◌, ◌⊎◌, Bool, codes, IsTrue, IsSome, IsUtf8, Some, None, Result, MatchResult}
 use Rattle.http.specs.declared.Version.{Version}
 use Rattle.http.specs.declared.version.TheConstants.Version.{HTTP_11, HTTP_2, HTTP_3}
@@ -19,7 +20,8 @@ use Rattle.relay_authority.specs.Table.{Leaves, Line, Outcome, Refuses}
 abbrev pub Then : Step → Step → Step
 Then first second head outcome =
     (IsSome outcome.refusal × first head outcome)
-    ⊎ ((middle : RequestHead) × first head (record { refusal = None; head = middle }) × second middle outcome)
+    ⊎ ((middle : RequestHead) × first head (record { refusal = None; head = middle })
+    × second middle outcome)
 
 -- a step that only judges leaves the head
 abbrev pub Validates : Step
@@ -28,12 +30,14 @@ Validates head outcome = Validated head outcome.refusal × (outcome.head ≡ hea
 -- Host is made to say the authority, where the client had a Host or there is an authority
 abbrev pub SetsHostWhere : Bool → Step
 SetsHostWhere had_host head outcome =
-    Line (IsTrue had_host ⊎ IsSome (head_authority head)) (SetsHost head outcome) (Leaves head outcome)
+    Line (IsTrue had_host ⊎ IsSome (head_authority head)) (SetsHost head outcome)
+    (Leaves head outcome)
 
 -- the head speaks HTTP/1.1; one of a custom client that spoke HTTP/2 gets a Host
 abbrev pub ReadiesH1 : Bool → Step
 ReadiesH1 custom head outcome =
-    Line (IsTrue custom × (head.version ≡ HTTP_2)) (AddsHost (record head { version = HTTP_11 }) outcome)
+    Line (IsTrue custom × (head.version ≡ HTTP_2))
+    (AddsHost (record head { version = HTTP_11 }) outcome)
     (Leaves (record head { version = HTTP_11 }) outcome)
 
 -- Host, URI and target are made to say one authority
@@ -44,7 +48,8 @@ SettlesH1 had_host = Then Reconciles (Then (SetsHostWhere had_host) Validates)
 abbrev pub without_connection : Fields → Fields
 without_connection fields =
     remove (remove (remove (remove (remove fields
-    (codes "transfer-encoding")) (codes "connection")) (codes "upgrade")) (codes "keep-alive")) (codes "proxy-connection")
+    (codes "transfer-encoding")) (codes "connection")) (codes "upgrade")) (codes "keep-alive"))
+    (codes "proxy-connection")
 
 -- a version below HTTP/2
 abbrev pub IsBelowH2 : Version → Type 0
@@ -60,7 +65,8 @@ StripsWhere custom head stripped =
 abbrev pub ReadiesH2 : Bool → Step
 ReadiesH2 custom head outcome =
     Line (¬ (IsUtf8 head.target)) (Refuses head about.NonUtf8H2 outcome)
-    ((stripped : RequestHead) × StripsWhere custom head stripped × Leaves (record stripped { version = HTTP_2 }) outcome)
+    ((stripped : RequestHead) × StripsWhere custom head stripped
+    × Leaves (record stripped { version = HTTP_2 }) outcome)
 
 -- URI or target follow Host, and all say one authority
 abbrev pub SettlesH2 : Step
@@ -74,4 +80,6 @@ FailsToFinish table new (fail.Error error) =
 
 -- a step over a head that is edited in place: the head is spoilt where memory is wanting
 abbrev pub Finishes : (Outcome → Type 0) → RequestHead → Result (Unit {0}) Fail → Type 0
-Finishes table new result = MatchResult result (λ _. table (record { refusal = None; head = new })) (FailsToFinish table new)
+Finishes table new result =
+    MatchResult result (λ _. table (record { refusal = None; head = new }))
+    (FailsToFinish table new)

@@ -29,12 +29,14 @@ sided side (fail.Error error) = fail.Error (record error { esource = side })
 -- a step that refuses a head, with its error on that side
 abbrev pub RefusesOn : ErrorSource → Step → RequestHead → Error → Type 0
 RefusesOn side step head error =
-    (why : Context) × (left : RequestHead) × (error ≡ blamed side why) × step head (record { refusal = Some why; head = left })
+    (why : Context) × (left : RequestHead) × (error ≡ blamed side why)
+    × step head (record { refusal = Some why; head = left })
 
 -- a step whose refusals are all on that side
 abbrev pub OnSide : ErrorSource → Step → Stage
 OnSide side step head answer =
-    MatchResult answer (λ made. step head (record { refusal = None; head = made })) (RefusesOn side step head)
+    MatchResult answer (λ made. step head (record { refusal = None; head = made }))
+    (RefusesOn side step head)
 
 -- one stage and then another: the first refusal ends both
 abbrev pub AndThen : Stage → Stage → Stage

@@ -1,4 +1,5 @@
--- The head that an attempt sends, by its upstream and its client (RFC 9112, section 3.2; RFC 9113, section 8.3.1).
+-- The head that an attempt sends, by its upstream and its client (RFC 9112, section 3.2; RFC 9113,
+-- section 8.3.1).
 use Rattle.std.specs.Prelude.{Bool, is_some}
 use Rattle.relay_tasks.specs.Head.{RequestHead}
 use Rattle.relay_tasks.specs.declared.ErrorSource.TheVariants as side
@@ -29,7 +30,8 @@ SentH1 client had_host =
 
 -- over HTTP/2: they say one authority, which then stands in the URI
 abbrev pub SentH2 : Client → Bool → Stage
-SentH2 client tls = AndThen (Unless client.custom (OnSide side.Internal SettlesH2)) (Addresses client.custom tls)
+SentH2 client tls = AndThen (Unless client.custom (OnSide side.Internal SettlesH2))
+    (Addresses client.custom tls)
 
 -- the filtered head, as it is sent: `asked` is the client's own head
 abbrev pub SentHead : Upstream → Client → RequestHead → Stage

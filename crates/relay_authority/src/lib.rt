@@ -1,4 +1,5 @@
-//! Host, target, path and framing of requests: whom a request is for, and how the sent head says so.
+//! Host, target, path and framing of requests: whom a request is for, and how the sent head says
+//! so.
 #![tactic(auto)]
 
 mod address;

@@ -91,7 +91,8 @@ fn moved_uri(head: &RequestHeader, authority: Authority) -> Result<Uri>
 
 fn with_authority(uri: &Uri, authority: Authority) -> std::result::Result<Uri, AllocError>
     requires { IsSome (uri_authority uri.now) }
-    ensures parts { IfOk result (λ moved. HasParts moved (uri_scheme uri.now) (Some authority) (uri_data uri.now)) }
+    ensures parts { IfOk result (λ moved.
+        HasParts moved (uri_scheme uri.now) (Some authority) (uri_data uri.now)) }
     ensures utf8 { IfOk result (λ moved. IsUtf8 (target_of moved)) }
 {
     let mut parts = uri.clone()?.into_parts();
@@ -143,7 +144,8 @@ struct Cut<'a> {
 fn move_target(alloc: Global, head: &mut RequestHeader, cut: Cut<'_>, host: &[u8]) -> Result<()>
     requires cut { absolute_parts head.old.target ≡ Some (parts_of cut) }
     requires sendable { IsSendable head.old.target }
-    ensures { Settles (ReconcilesTarget head.old (parts_of cut.entry) host.now) head.old head.new result }
+    ensures { Settles (ReconcilesTarget head.old (parts_of cut.entry) host.now)
+        head.old head.new result }
 {
     if host == cut.authority {
         return Ok(());

@@ -10,5 +10,6 @@ returns-in-Ok c = rw c.as_slice.ensures.value at c.in-Ok.ensures
 -- the host cannot be named
 pub returns : goal.returns
 returns c =
-    fails_on_no_side (λ (old : RequestHead). SetsAuthority old c.args.host.items c.args.tls c.args.path) c.args.head _ _
+    fails_on_no_side (λ (old : RequestHead).
+    SetsAuthority old c.args.host.items c.args.tls c.args.path) c.args.head _ _
     (rw c.as_slice.ensures.value at c.in-Err.ensures)
