@@ -7,12 +7,16 @@ use Rattle.http_uri.proofs.AuthorityLemmas.{Tracks}
 use Rattle.http_uri.specs.Grammar.{IsAuthority, MayFollow}
 
 -- a text that is not empty has a byte
-pub filled : (text : List ℕ) (test : Bool) → test ≡ (length text == 0) → test ≡ false → 0 < length text
+pub filled : (text : List ℕ) (test : Bool) → test ≡ (length text == 0) → test ≡ false
+    → 0 < length text
 filled text test is fails = grind (arith, nat_tests)
 
--- with matched brackets, and no colons or percents too many behind them, only an `@` at the end is amiss
-pub decided : (text : List ℕ) (colons : ℕ) (opened closed percent : Bool) → Tracks text colons opened closed percent
-    → ((k : ℕ) → k < length text → MayFollow (take k text) (get_or text k 0)) → opened ≡ closed → colons ≤ 1 → percent ≡ false
+-- with matched brackets, and no colons or percents too many behind them, only an `@` at the end is
+-- amiss
+pub decided : (text : List ℕ) (colons : ℕ) (opened closed percent : Bool)
+    → Tracks text colons opened closed percent
+    → ((k : ℕ) → k < length text → MayFollow (take k text) (get_or text k 0)) → opened ≡ closed
+    → colons ≤ 1 → percent ≡ false
     → 0 < length text → IsTrue (not (get_or text (length text - 1) 0 == 64)) ↔ IsAuthority text
 decided text colons opened closed percent t follows matched few bare full = (
   λ other. record {

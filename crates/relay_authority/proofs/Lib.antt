@@ -5,3 +5,4 @@ pub mod Laws
 pub mod MovedTarget
 pub mod PathLemmas
 pub mod Settling
+pub mod StageLemmas

@@ -20,7 +20,8 @@ record VisibleParts (parts : Parts) : Type 0 where
   scheme : All IsVisible parts.scheme
   rest : All IsVisible parts.rest
 
-parts_visible : (target : List ℕ) (parts : Parts) → absolute_parts target ≡ Some parts → All IsVisible target → VisibleParts parts
+parts_visible : (target : List ℕ) (parts : Parts) → absolute_parts target ≡ Some parts
+    → All IsVisible target → VisibleParts parts
 parts_visible target parts absolute visible = by (is_absolute target) absolute
   where
     scheme_visible : All IsVisible (scheme_of target)
@@ -29,11 +30,17 @@ parts_visible target parts absolute visible = by (is_absolute target) absolute
     rest_visible : All IsVisible (rest_of target)
     rest_visible =
         All-drop IsVisible (authority_len (behind_slashes target)) (behind_slashes target)
-        (All-drop IsVisible 3 (behind_scheme target) (All-drop IsVisible (scheme_len target) target visible))
+        (All-drop IsVisible 3 (behind_scheme target)
+        (All-drop IsVisible (scheme_len target) target visible))
 
     by : (test : Bool)
         → (if test
-        then Some (record { scheme = scheme_of target; authority = authority_of target; rest = rest_of target })
+        then Some (record {
+          scheme = scheme_of target;
+          authority = authority_of target;
+          rest =
+              rest_of target;
+        })
         else None) ≡ Some parts
         → VisibleParts parts
     by true same =
@@ -43,43 +50,53 @@ parts_visible target parts absolute visible = by (is_absolute target) absolute
     by false same = absurd cc
 
 -- a target that moved is one that can be set, if it is short enough
-pub moved_is_raw : (target host : List ℕ) (parts : Parts) → absolute_parts target ≡ Some parts → IsSendable target → IsAuthority host
+pub moved_is_raw : (target host : List ℕ) (parts : Parts) → absolute_parts target ≡ Some parts
+    → IsSendable target → IsAuthority host
     → length (moved_target parts host) ≤ 65534 → IsRawTarget (moved_target parts host)
 moved_is_raw target host parts absolute sendable authority short =
     let visible = parts_visible target parts absolute sendable.visible in
     let named : All IsVisible host = visible_text host (IsAuthority_visible host authority) in
     let marked : All IsVisible (58 ∷ 47 ∷ 47 ∷ []) =
-    All-cons IsVisible 58 (47 ∷ 47 ∷ []) refl (All-cons IsVisible 47 (47 ∷ []) refl (All-cons IsVisible 47 [] refl (All-nil IsVisible))) in
+    All-cons IsVisible 58 (47 ∷ 47 ∷ []) refl
+    (All-cons IsVisible 47 (47 ∷ []) refl (All-cons IsVisible 47 [] refl (All-nil IsVisible))) in
     record {
       filled = omega (arith, length-append parts.scheme (58 ∷ 47 ∷ 47 ∷ (host ++ parts.rest)));
       fits = short;
       visible =
           All-append IsVisible parts.scheme (58 ∷ 47 ∷ 47 ∷ (host ++ parts.rest)) visible.scheme
-          (All-append IsVisible (58 ∷ 47 ∷ 47 ∷ []) (host ++ parts.rest) marked (All-append IsVisible host parts.rest named visible.rest));
+          (All-append IsVisible (58 ∷ 47 ∷ 47 ∷ []) (host ++ parts.rest) marked
+          (All-append IsVisible host parts.rest named visible.rest));
     }
 
 -- setting the moved target settles the table
-pub moves_target : (head new : RequestHead) (host : List ℕ) (parts : Parts) (result : Result (Unit {0}) Fail)
-    → absolute_parts head.target ≡ Some parts → IsSendable head.target → ¬ (host ≡ parts.authority) → IsAuthority host
+pub moves_target : (head new : RequestHead) (host : List ℕ) (parts : Parts)
+    (result : Result (Unit {0}) Fail)
+    → absolute_parts head.target ≡ Some parts → IsSendable head.target → ¬ (host ≡ parts.authority)
+    → IsAuthority host
     → OnOk result (new ≡ record head { target = moved_target parts host; uri = None })
-    → (IsErrOf result (fail.Error (refused about.HeadGrammar)) ↔ ¬ (IsRawTarget (moved_target parts host)))
+    → (IsErrOf result (fail.Error (refused about.HeadGrammar))
+    ↔ ¬ (IsRawTarget (moved_target parts host)))
     → IfErr result (IsMemoryOr (refused about.HeadGrammar)) → OnErr result (new ≡ head)
     → Settles (ReconcilesTarget head parts host) head new result
 moves_target head new host parts (Ok done) absolute sendable differ authority ok exact causes err =
     let short : ¬ (65534 < length (moved_target parts host)) = λ long.
     let refusal = exact.1 (λ raw. let fits = raw.fits in omega arith) in absurd cc in
     rw ok (inr (differ, inr ((λ no. no authority), inr (short, refl))))
-moves_target head new host parts (Err fail.OutOfMemory) absolute sendable differ authority ok exact causes err = err
-moves_target head new host parts (Err (fail.Error error)) absolute sendable differ authority ok exact causes err =
+moves_target head new host parts
+    (Err fail.OutOfMemory) absolute sendable differ authority ok exact causes err = err
+moves_target head new host parts
+    (Err (fail.Error error)) absolute sendable differ authority ok exact causes err =
     let bad = exact.0 (ap (λ e. Err (fail.Error e)) causes) in
     let long : 65534 < length (moved_target parts host) =
     elim (cases_lt 65534 (length (moved_target parts host))) [
       | inl long ↦ long
-      | inr short ↦ absurd (bad (moved_is_raw head.target host parts absolute sendable authority short))
+      | inr short ↦ absurd (bad
+          (moved_is_raw head.target host parts absolute sendable authority short))
     ] in
     rw err (about.HeadGrammar, causes, inr (differ, inr ((λ no. no authority), inl (long, refl))))
 
 -- the table of an absolute target is that of the head
-pub by_target : (head : RequestHead) (host : List ℕ) (parts : Parts) → absolute_parts head.target ≡ Some parts → (outcome : Outcome)
+pub by_target : (head : RequestHead) (host : List ℕ) (parts : Parts)
+    → absolute_parts head.target ≡ Some parts → (outcome : Outcome)
     → ReconcilesTarget head parts host outcome → ReconcilesRaw head host outcome
 by_target head host parts absolute outcome table = rw absolute table

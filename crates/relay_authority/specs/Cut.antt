@@ -4,4 +4,5 @@ use Rattle.relay_authority.specs.declared.reconcile.Cut.{Cut}
 
 -- what the parts are
 abbrev pub parts_of : Cut → Parts
-parts_of cut = record { scheme = cut.scheme.now; authority = cut.authority.now; rest = cut.rest.now }
+parts_of cut = record
+    { scheme = cut.scheme.now; authority = cut.authority.now; rest = cut.rest.now }

@@ -1,4 +1,5 @@
--- Which request heads are refused for their authority (RFC 9112, section 3.2; RFC 9110, section 4.2.4).
+-- Which request heads are refused for their authority (RFC 9112, section 3.2; RFC 9110, section
+-- 4.2.4).
 use Rattle.std.specs.Prelude.{◌≡◌, ℕ, ◌<◌, List, [], length, IsTrue, IsSomeAnd, Option, Some, None}
 use Rattle.http.specs.declared.version.TheConstants.Version.{HTTP_11}
 use Rattle.http_uri.specs.Grammar.{IsAuthority}
@@ -19,7 +20,8 @@ HostHasUserinfo head = IsSomeAnd (first_host head) HasUserinfo
 
 -- Host is not empty, and no authority
 abbrev pub HostIsNoAuthority : RequestHead → Type 0
-HostIsNoAuthority head = IsSomeAnd (first_host head) (λ host. (0 < length host) × ¬ (IsAuthority host))
+HostIsNoAuthority head =
+    IsSomeAnd (first_host head) (λ host. (0 < length host) × ¬ (IsAuthority host))
 
 -- the head's authority has userinfo
 abbrev pub AuthorityHasUserinfo : RequestHead → Type 0
@@ -27,7 +29,8 @@ AuthorityHasUserinfo head = IsSomeAnd (head_authority head) HasUserinfo
 
 -- there is a Host that is not that authority, whatever their case
 abbrev pub HostDisagreesWith : RequestHead → List ℕ → Type 0
-HostDisagreesWith head authority = IsSomeAnd (first_host head) (λ host. ¬ (lower authority ≡ lower host))
+HostDisagreesWith head authority =
+    IsSomeAnd (first_host head) (λ host. ¬ (lower authority ≡ lower host))
 
 -- the head's authority and Host are both there, and are not equal, whatever their case
 abbrev pub HostDisagrees : RequestHead → Type 0

@@ -1,4 +1,5 @@
--- Framing and upgrade of a request that is sent over HTTP/1 (RFC 9112, section 6; RFC 9110, section 7.8).
+-- Framing and upgrade of a request that is sent over HTTP/1 (RFC 9112, section 6; RFC 9110, section
+-- 7.8).
 use Rattle.std.specs.Prelude.{◌≡◌, ◌⊎◌, ℕ, Bool, List, codes, IsTrue}
 use Rattle.http.specs.declared.version.TheConstants.Version.{HTTP_11}
 use Rattle.http_header.specs.FieldValue.{plain_value}
@@ -21,7 +22,8 @@ IsFramed head = ContainsKey head.fields content_length ⊎ ContainsKey head.fiel
 -- a body without framing is sent in chunks
 abbrev pub Frames : RequestHead → Bool → Outcome → Type 0
 Frames head has_body outcome =
-    Line (IsTrue has_body × ¬ (IsFramed head)) (PutsField head transfer_encoding (plain_value (codes "chunked")) outcome)
+    Line (IsTrue has_body × ¬ (IsFramed head))
+    (PutsField head transfer_encoding (plain_value (codes "chunked")) outcome)
     (Leaves head outcome)
 
 -- the request asks to leave HTTP

@@ -29,7 +29,9 @@ or_else None second = second
 
 -- the head's authority: that of its URI, else that of an absolute raw target
 abbrev pub head_authority : RequestHead → Option (List ℕ)
-head_authority head = or_else (uri_authority_of head) (option_map (λ parts. parts.authority) (absolute_parts head.target))
+head_authority head =
+    or_else (uri_authority_of head)
+    (option_map (λ parts. parts.authority) (absolute_parts head.target))
 
 -- there is an `@` in it, so it has userinfo
 abbrev pub HasUserinfo : List ℕ → Type 0

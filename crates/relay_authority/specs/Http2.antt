@@ -25,7 +25,8 @@ path_of_rest rest =
 -- the path as `http_uri` takes it, without a fragment
 abbrev pub TakenAs : List ℕ → Option Context → List ℕ → Type 0
 TakenAs text refusal path =
-    Line (¬ (IsPathInput text)) (refusal ≡ Some about.PathInvalid) ((refusal ≡ None) × (path ≡ without_fragment text))
+    Line (¬ (IsPathInput text)) (refusal ≡ Some about.PathInvalid)
+    ((refusal ≡ None) × (path ≡ without_fragment text))
 
 -- the path and query of a target that is sent over HTTP/2
 abbrev pub PathFor : List ℕ → Option Context → List ℕ → Type 0

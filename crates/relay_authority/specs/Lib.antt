@@ -1,3 +1,4 @@
+pub mod Address
 pub mod Attempt
 pub mod Cut
 pub mod Entry
@@ -5,5 +6,7 @@ pub mod Framing
 pub mod Heads
 pub mod Http2
 pub mod Sent
+pub mod Stage
 pub mod Table
 pub mod Target
+pub mod Upstream

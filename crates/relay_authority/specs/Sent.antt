@@ -1,4 +1,5 @@
--- Host and target of a head that is sent to an upstream (RFC 9112, section 3.2; RFC 9110, section 7.2).
+-- Host and target of a head that is sent to an upstream (RFC 9112, section 3.2; RFC 9110, section
+-- 7.2).
 use Rattle.std.specs.Prelude.{◌≡◌, ℕ, ◌<◌, List, [], ◌∷◌, ◌++◌, length, codes, IsUtf8, Some, None, MatchOption}
 use Rattle.http_header.specs.FieldValue.{FieldValue, IsFieldValue, plain_value}
 use Rattle.http_header.specs.HeaderMap.{RefusesInsert, insert}
@@ -32,11 +33,14 @@ TakesHost head authority outcome =
 -- a Host is left, and without one the empty Host is put
 abbrev pub KeepsHost : RequestHead → Outcome → Type 0
 KeepsHost head outcome =
-    MatchOption (first_host head) (PutsField head host_name (plain_value []) outcome) (λ _. Leaves head outcome)
+    MatchOption (first_host head) (PutsField head host_name (plain_value []) outcome)
+    (λ _. Leaves head outcome)
 
 -- Host is made to say the head's authority
 abbrev pub SetsHost : RequestHead → Outcome → Type 0
-SetsHost head outcome = MatchOption (head_authority head) (KeepsHost head outcome) (λ authority. TakesHost head authority outcome)
+SetsHost head outcome =
+    MatchOption (head_authority head) (KeepsHost head outcome)
+    (λ authority. TakesHost head authority outcome)
 
 -- Host is put, where it can say the authority
 abbrev pub AddsValue : RequestHead → List ℕ → Outcome → Type 0
@@ -47,21 +51,25 @@ AddsValue head authority outcome =
 -- the URI's authority is put, or the empty value
 abbrev pub AddsUriHost : RequestHead → Outcome → Type 0
 AddsUriHost head outcome =
-    MatchOption (uri_authority_of head) (PutsField head host_name (plain_value []) outcome) (λ authority.
+    MatchOption (uri_authority_of head) (PutsField head host_name (plain_value []) outcome)
+    (λ authority.
     AddsValue head authority outcome)
 
 -- without a Host, the URI's authority is put
 abbrev pub AddsHost : RequestHead → Outcome → Type 0
-AddsHost head outcome = MatchOption (first_host head) (AddsUriHost head outcome) (λ _. Leaves head outcome)
+AddsHost head outcome =
+    MatchOption (first_host head) (AddsUriHost head outcome) (λ _. Leaves head outcome)
 
 -- the URI gets another authority; scheme and path stay
 abbrev pub IsMoved : RequestHead → List ℕ → Uri → Type 0
-IsMoved head host moved = (uri : Uri) × (head.uri ≡ Some uri) × HasParts moved (uri_scheme uri) (Some host) (uri_data uri)
+IsMoved head host moved = (uri : Uri) × (head.uri ≡ Some uri)
+    × HasParts moved (uri_scheme uri) (Some host) (uri_data uri)
 
--- the head takes that URI
+-- the head takes that URI, which is sent as text
 abbrev pub MovesUri : RequestHead → List ℕ → Outcome → Type 0
 MovesUri head host outcome =
-    (moved : Uri) × IsMoved head host moved × Leaves (record head { target = target_of moved; uri = Some moved }) outcome
+    (moved : Uri) × IsMoved head host moved × IsUtf8 (target_of moved)
+    × Leaves (record head { target = target_of moved; uri = Some moved }) outcome
 
 -- a URI with an authority follows Host
 abbrev pub ReconcilesUri : RequestHead → List ℕ → Outcome → Type 0
@@ -86,18 +94,22 @@ ReconcilesTarget head parts host outcome =
 -- a head whose URI has no authority: its absolute target follows Host, and another stays
 abbrev pub ReconcilesRaw : RequestHead → List ℕ → Outcome → Type 0
 ReconcilesRaw head host outcome =
-    MatchOption (absolute_parts head.target) (Leaves head outcome) (λ parts. ReconcilesTarget head parts host outcome)
+    MatchOption (absolute_parts head.target) (Leaves head outcome)
+    (λ parts. ReconcilesTarget head parts host outcome)
 
 -- the URI follows Host where it has an authority, else the target
 abbrev pub ReconcilesWith : RequestHead → List ℕ → Outcome → Type 0
 ReconcilesWith head host outcome =
-    MatchOption (uri_authority_of head) (ReconcilesRaw head host outcome) (λ _. ReconcilesUri head host outcome)
+    MatchOption (uri_authority_of head) (ReconcilesRaw head host outcome)
+    (λ _. ReconcilesUri head host outcome)
 
 -- a Host with userinfo is followed by nothing
 abbrev pub FollowsHost : RequestHead → List ℕ → Outcome → Type 0
 FollowsHost head host outcome =
-    Line (HasUserinfo host) (Refuses head about.UserinfoHost outcome) (ReconcilesWith head host outcome)
+    Line (HasUserinfo host) (Refuses head about.UserinfoHost outcome)
+    (ReconcilesWith head host outcome)
 
 -- URI and target are made to say what Host says
 abbrev pub Reconciles : RequestHead → Outcome → Type 0
-Reconciles head outcome = MatchOption (first_host head) (Leaves head outcome) (λ host. FollowsHost head host outcome)
+Reconciles head outcome =
+    MatchOption (first_host head) (Leaves head outcome) (λ host. FollowsHost head host outcome)

@@ -19,7 +19,8 @@ judged (Some why) = Err (refused why)
 -- the answer of a call that only judges is what its table says: no context where it accepts
 abbrev pub Judges : (Option Context → Type 0) → Result (Unit {0}) Error → Type 0
 Judges table result =
-    MatchResult result (λ _. table None) (λ error. (why : Context) × (error ≡ refused why) × table (Some why))
+    MatchResult result (λ _. table None)
+    (λ error. (why : Context) × (error ≡ refused why) × table (Some why))
 
 -- what an edit of a head comes to: the context of its refusal, if it is refused, and the head
 pub record Outcome : Type 0 where
@@ -41,6 +42,7 @@ FailsAs table old new (fail.Error error) =
     (why : Context) × (error ≡ refused why) × table (record { refusal = Some why; head = new })
 
 -- the answer of an edit and the head that it leaves are what its table says
-abbrev pub Settles : (Outcome → Type 0) → RequestHead → RequestHead → Result (Unit {0}) Fail → Type 0
+abbrev pub Settles : (Outcome → Type 0) → RequestHead → RequestHead → Result (Unit {0}) Fail
+    → Type 0
 Settles table old new result =
     MatchResult result (λ _. table (record { refusal = None; head = new })) (FailsAs table old new)

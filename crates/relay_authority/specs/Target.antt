@@ -27,7 +27,8 @@ behind_scheme target = drop (scheme_len target) target
 
 -- the target starts with a scheme and `:`. One that starts with `/`, or is `*`, does not
 abbrev pub has_scheme : List ℕ → Bool
-has_scheme target = is_ascii_alphabetic (slice_index target 0) && (slice_index (behind_scheme target) 0 == 58)
+has_scheme target = is_ascii_alphabetic (slice_index target 0) &&
+    (slice_index (behind_scheme target) 0 == 58)
 
 -- behind the scheme comes `://`
 abbrev pub has_slashes : List ℕ → Bool
@@ -68,7 +69,8 @@ is_absolute target = has_scheme target && has_slashes target && is_plain (author
 -- readers would disagree on the authority, or on whether there is one
 abbrev pub is_ambiguous : List ℕ → Bool
 is_ambiguous target =
-    has_scheme target && (if has_slashes target then not (is_plain (authority_of target)) else is_web (scheme_of target))
+    has_scheme target && (if has_slashes target then not
+    (is_plain (authority_of target)) else is_web (scheme_of target))
 
 -- the parts of the absolute form
 pub record Parts : Type 0 where
@@ -80,7 +82,12 @@ pub record Parts : Type 0 where
 abbrev pub absolute_parts : List ℕ → Option Parts
 absolute_parts target =
     if is_absolute target
-    then Some (record { scheme = scheme_of target; authority = authority_of target; rest = rest_of target })
+    then Some (record {
+      scheme = scheme_of target;
+      authority = authority_of target;
+      rest =
+          rest_of target;
+    })
     else None
 
 -- what was answered is what the target says
@@ -88,7 +95,8 @@ abbrev pub Tells : List ℕ → RawTargetAuthority → Type 0
 Tells target raw.None = (absolute_parts target ≡ None) × (is_ambiguous target ≡ false)
 Tells target raw.AmbiguousAuthority = (absolute_parts target ≡ None) × (is_ambiguous target ≡ true)
 Tells target (raw.Absolute scheme authority rest) =
-    (absolute_parts target ≡ Some (record { scheme = scheme.now; authority = authority.now; rest = rest.now }))
+    (absolute_parts target ≡ Some
+    (record { scheme = scheme.now; authority = authority.now; rest = rest.now }))
     × (is_ambiguous target ≡ false)
 
 -- the authority that was answered, if one was

@@ -2,7 +2,8 @@
 //! that may change it, and after (RFC 9112, section 3.2; RFC 9110, section 7.6).
 ghost use Rattle.std.specs.Prelude.{◌≡◌, ◌↔◌, IsTrue, IsUtf8, None, IfOk, IsErrOf, IsOkUnless};
 ghost use Rattle.http_header.specs.HeaderMap.{remove};
-ghost use Rattle.relay_authority.specs.Attempt.{Finishes, Gives, ReadiesH1, ReadiesH2, SetsHostWhere, SettlesH1, SettlesH2, Then, StripsWhere, Validates, blamed, sided, without_connection};
+ghost use Rattle.relay_authority.specs.Attempt.{Finishes, IsBelowH2, ReadiesH1, ReadiesH2, SetsHostWhere, SettlesH1, SettlesH2, StripsWhere, Then, Validates, without_connection};
+ghost use Rattle.relay_authority.specs.Stage.{Gives, blamed, sided};
 ghost use Rattle.relay_authority.specs.Table.{Settles};
 
 use crate::entry::validate_request_authority;
@@ -28,7 +29,7 @@ pub fn ready_h1_head(alloc: Global, head: RequestHeader, custom: bool) -> Result
     }
     match set_h1_host_from_authority_if_absent(alloc, &mut ready) {
         Ok(()) => Ok(ready),
-        Err(fail) => Err(of_side(fail, ErrorSource::Downstream)),
+        Err(fail) => Err(of_client(fail)),
     }
 }
 
@@ -52,7 +53,7 @@ pub fn settle_h1_head(
     let mut settled = head;
     match settle_h1(alloc, &mut settled, client_had_host) {
         Ok(()) => Ok(settled),
-        Err(fail) => Err(of_side(fail, ErrorSource::Internal)),
+        Err(fail) => Err(of_relay(fail)),
     }
 }
 
@@ -128,9 +129,15 @@ fn drop_field(head: &mut RequestHeader, name: HeaderName)
 fn strip_where(head: &mut RequestHeader, custom: bool)
     ensures { StripsWhere custom head.old head.new }
 {
-    if custom || head.version() != Version::HTTP_2 {
+    if custom || is_below_h2(head) {
         strip(head);
     }
+}
+
+fn is_below_h2(head: &RequestHeader) -> bool
+    ensures { IsTrue result ↔ IsBelowH2 head.now.version }
+{
+    head.version() != Version::HTTP_2 && head.version() != Version::HTTP_3
 }
 
 /// Makes a filtered head for an HTTP/2 upstream say one authority, for a client that is not
@@ -141,7 +148,7 @@ pub fn settle_h2_head(alloc: Global, head: RequestHeader) -> Result<RequestHeade
     let mut settled = head;
     match settle_h2(alloc, &mut settled) {
         Ok(()) => Ok(settled),
-        Err(fail) => Err(of_side(fail, ErrorSource::Internal)),
+        Err(fail) => Err(of_relay(fail)),
     }
 }
 
@@ -150,6 +157,20 @@ fn settle_h2(alloc: Global, head: &mut RequestHeader) -> Result<()>
 {
     reconcile_upstream_authority(alloc, head)?;
     validate(head)
+}
+
+// The failure, on the client's side.
+fn of_client(fail: Fail) -> Fail
+    ensures { result ≡ sided ErrorSource.Downstream fail }
+{
+    of_side(fail, ErrorSource::Downstream)
+}
+
+/// The failure, on the relay's own side.
+pub fn of_relay(fail: Fail) -> Fail
+    ensures { result ≡ sided ErrorSource.Internal fail }
+{
+    of_side(fail, ErrorSource::Internal)
 }
 
 fn of_side(fail: Fail, side: ErrorSource) -> Fail

@@ -1,5 +1,5 @@
 //! What a request head says of its authority (RFC 9110, section 7.2; RFC 9112, section 3.2).
-ghost use Rattle.std.specs.Prelude.{◌≡◌, ◌↔◌, ◌<◌, ◌∷◌, [], length, nat_lt, IsTrue, option_copied};
+ghost use Rattle.std.specs.Prelude.{◌≡◌, ◌↔◌, ◌<◌, ◌∷◌, [], length, nat_lt, is_some, IsTrue, option_copied};
 ghost use Rattle.http_header.specs.HeaderMap.{get_all};
 ghost use Rattle.relay_authority.specs.Heads.{host_name, hosts, first_host, uri_authority_of, head_authority};
 
@@ -20,6 +20,16 @@ fn host_count(head: &RequestHeader) -> usize
     ensures { result ≡ length (get_all head.now.fields host_name) }
 {
     head.headers().get_all("host").iter().count()
+}
+
+/// Whether there is a Host field.
+pub fn has_host(head: &RequestHeader) -> bool
+    ensures { result ≡ is_some (first_host head.now) }
+{
+    match first_host(head) {
+        Some(_) => true,
+        None => false,
+    }
 }
 
 /// Whether there is no Host field.

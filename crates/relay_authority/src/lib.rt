@@ -1,6 +1,8 @@
-//! Host, target, path and framing of requests: whom a request is for, and how the sent head says so.
+//! Host, target, path and framing of requests: whom a request is for, and how the sent head says
+//! so.
 #![tactic(auto)]
 
+mod address;
 mod attempt;
 mod authority;
 mod edit;
@@ -14,7 +16,9 @@ mod sent;
 mod target;
 #[cfg(test)]
 mod tests;
+mod upstream;
 
+pub use address::address_h2_head;
 pub use attempt::{ready_h1_head, ready_h2_head, settle_h1_head, settle_h2_head};
 pub use entry::{check_entry, validate_request_authority};
 pub use framing::{finalize_h1_upstream_request_framing, is_h1_upgrade_req};
@@ -23,3 +27,4 @@ pub use raw::raw_target_authority;
 pub use reconcile::reconcile_upstream_authority;
 pub use sent::{set_h1_host_from_authority, set_h1_host_from_authority_if_absent};
 pub use target::{AuthorityPolicy, RawTargetAuthority};
+pub use upstream::{Client, Upstream, ready_head, sent_head};

@@ -2,7 +2,7 @@
 ghost use Rattle.std.specs.Prelude.{◌≡◌, ◌↔◌, IsTrue, IsSome, Some, IfOk, IfSome, IsOkUnless, OnOk, IsUtf8, None};
 ghost use Rattle.http_uri.specs.Grammar.{IsAuthority};
 ghost use Rattle.http_uri.specs.Uri.{HasParts, uri_authority, uri_data, uri_scheme};
-ghost use Rattle.relay_tasks.specs.Head.{IsSendable};
+ghost use Rattle.relay_tasks.specs.Head.{IsSendable, target_of};
 ghost use Rattle.relay_authority.specs.Cut.{parts_of};
 ghost use Rattle.relay_authority.specs.Heads.{first_host, head_authority, uri_authority_of};
 ghost use Rattle.relay_authority.specs.Sent.{FollowsHost, IsMoved, Reconciles, ReconcilesRaw, ReconcilesTarget, ReconcilesUri, ReconcilesWith, moved_target};
@@ -29,8 +29,7 @@ pub fn reconcile_upstream_authority(alloc: Global, head: &mut RequestHeader) -> 
     ensures table { Settles (Reconciles head.old) head.old head.new result }
     ensures agrees { OnOk result (IfSome (first_host head.old) (λ host.
         IfSome (head_authority head.old) (λ _. head_authority head.new ≡ Some host))) }
-    ensures rests { OnOk result (IsUtf8 head.new.target
-        → Reconciles head.new (record { refusal = None; head = head.new })) }
+    ensures rests { OnOk result (Reconciles head.new (record { refusal = None; head = head.new })) }
 {
     reconcile(alloc, head)
 }
@@ -83,6 +82,7 @@ fn follow_by_uri(alloc: Global, head: &mut RequestHeader, host: &[u8]) -> Result
 fn moved_uri(head: &RequestHeader, authority: Authority) -> Result<Uri>
     requires { IsSome (uri_authority_of head.now) }
     ensures ok { IfOk result (IsMoved head.now authority) }
+    ensures utf8 { IfOk result (λ moved. IsUtf8 (target_of moved)) }
     ensures memory { IsOkUnless result Fail.OutOfMemory }
 {
     let uri = head.uri().unwrap();
@@ -91,11 +91,22 @@ fn moved_uri(head: &RequestHeader, authority: Authority) -> Result<Uri>
 
 fn with_authority(uri: &Uri, authority: Authority) -> std::result::Result<Uri, AllocError>
     requires { IsSome (uri_authority uri.now) }
-    ensures { IfOk result (λ moved. HasParts moved (uri_scheme uri.now) (Some authority) (uri_data uri.now)) }
+    ensures parts { IfOk result (λ moved.
+        HasParts moved (uri_scheme uri.now) (Some authority) (uri_data uri.now)) }
+    ensures utf8 { IfOk result (λ moved. IsUtf8 (target_of moved)) }
 {
     let mut parts = uri.clone()?.into_parts();
     parts.authority = Some(authority);
-    Ok(Uri::from_parts(parts).unwrap())
+    let moved = Uri::from_parts(parts).unwrap();
+    sent_as_text(&moved);
+    Ok(moved)
+}
+
+// What a URI is sent as is UTF-8, since its path and query are.
+fn sent_as_text(uri: &Uri)
+    ensures { IsUtf8 (target_of uri.now) }
+{
+    let _path = uri.path();
 }
 
 fn follow_by_target(alloc: Global, head: &mut RequestHeader, host: &[u8]) -> Result<()>
@@ -133,7 +144,8 @@ struct Cut<'a> {
 fn move_target(alloc: Global, head: &mut RequestHeader, cut: Cut<'_>, host: &[u8]) -> Result<()>
     requires cut { absolute_parts head.old.target ≡ Some (parts_of cut) }
     requires sendable { IsSendable head.old.target }
-    ensures { Settles (ReconcilesTarget head.old (parts_of cut.entry) host.now) head.old head.new result }
+    ensures { Settles (ReconcilesTarget head.old (parts_of cut.entry) host.now)
+        head.old head.new result }
 {
     if host == cut.authority {
         return Ok(());

@@ -1,5 +1,10 @@
 //! Vectors from outside: what each call makes of a head, with ample memory.
 
+mod enumeration;
+mod lengths;
+mod plain;
+mod sending;
+
 use crate::*;
 use http::{Method, Version};
 use http_header::{HOST, HeaderValue, UPGRADE};

@@ -6,4 +6,6 @@ use Rattle.relay_authority.proofs.attempt.settle_h1_head.Goals as goal
 -- the failure is put on the relay's own side
 pub returns-in-Err : goal.returns-in-Err
 returns-in-Err c =
-    fails_to_give side.Internal (SettlesH1 c.args.client_had_host) c.args.head c.settle_h1.new.head _ _ c.in-Err.ensures c.of_side.ensures
+    fails_to_give side.Internal
+    (SettlesH1 c.args.client_had_host) c.args.head c.settle_h1.new.head _ _ c.in-Err.ensures
+    c.of_relay.ensures

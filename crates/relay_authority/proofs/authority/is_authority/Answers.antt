@@ -12,7 +12,8 @@ loop-byte-preserved c =
     let within = c.loop-byte-test.true in
     let tracks = c.loop-byte.invariant.tracks in
     let byte = sym c.is_authority_byte.ensures ∙ c.if-not-is_authority_byte.false in
-    let step : Step text at within _ _ _ _ tracks byte c.match-byte.colons c.match-byte.opened c.match-byte.closed c.match-byte.percent =
+    let step : Step text at within _ _ _ _ tracks byte c.match-byte.colons c.match-byte.opened
+    c.match-byte.closed c.match-byte.percent =
     elim c.match-byte.branch [
       | in-58+else-colons-eq-MAX_COLONS w ↦
           rw (w.colons-is, w.opened-is, w.closed-is, w.percent-is)
@@ -22,16 +23,19 @@ loop-byte-preserved c =
           (step_percent text at within _ _ _ _ tracks byte (omega arith))
       | in-91+else-opened+else-percent w ↦
           rw (w.colons-is, w.opened-is, w.closed-is, w.percent-is)
-          (step_opening text at within _ _ _ _ tracks byte (omega arith) w.if-percent.false w.if-opened.false)
+          (step_opening text at within _ _ _ _ tracks byte
+          (omega arith) w.if-percent.false w.if-opened.false)
       | in-93+else-closed+else-not-opened w ↦
           rw (w.colons-is, w.opened-is, w.closed-is, w.percent-is)
-          (step_closing text at within _ _ _ _ tracks byte (omega arith) w.if-not-opened.false w.if-closed.false)
+          (step_closing text at within _ _ _ _ tracks byte
+          (omega arith) w.if-not-opened.false w.if-closed.false)
       | in-64 w ↦
           rw (w.colons-is, w.opened-is, w.closed-is, w.percent-is)
           (step_at text at within _ _ _ _ tracks byte (omega arith))
       | in_default w ↦
           rw (w.colons-is, w.opened-is, w.closed-is, w.percent-is)
-          (step_other text at within _ _ _ _ tracks byte (omega arith) (omega arith) (omega arith) (omega arith) (omega arith))
+          (step_other text at within _ _ _ _ tracks byte (omega arith) (omega arith) (omega arith)
+          (omega arith) (omega arith))
     ] in
     record { follows = below_more _ _ c.loop-byte.invariant.follows step.0; tracks = step.1 }
 
@@ -39,8 +43,10 @@ loop-byte-preserved c =
 pub returns-then-not-is_empty : goal.returns-then-not-is_empty
 returns-then-not-is_empty c =
     let text = c.args.text.now in
-    let whole : take c.loop-byte.byte-index text ≡ text = take_all c.loop-byte.byte-index text (omega arith) in
+    let whole : take c.loop-byte.byte-index text ≡ text =
+    take_all c.loop-byte.byte-index text (omega arith) in
     let tracks = rw whole at c.loop-byte.invariant.tracks in
     decided text c.loop-byte.colons c.loop-byte.opened c.loop-byte.closed c.loop-byte.percent tracks
-    (λ k within. c.loop-byte.invariant.follows k (omega arith)) (matched _ _ c.if-opened-closed.false) (omega arith) c.if-percent-2.false
+    (λ k within. c.loop-byte.invariant.follows k (omega arith))
+    (matched _ _ c.if-opened-closed.false) (omega arith) c.if-percent-2.false
     (filled text c.is_empty.result c.is_empty.ensures c.if-not-is_empty.true)

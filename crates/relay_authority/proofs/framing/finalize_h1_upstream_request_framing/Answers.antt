@@ -6,6 +6,8 @@ use Rattle.relay_authority.proofs.framing.finalize_h1_upstream_request_framing.G
 -- the body has no framing, so the field is put
 pub returns : goal.returns
 returns c =
-    let unframed : ¬ (IsFramed c.args.head.now) = refuted _ c.is_framed.ensures c.if-is_framed.false in
+    let unframed : ¬ (IsFramed c.args.head.now) =
+    refuted _ c.is_framed.ensures c.if-is_framed.false in
     settles_wider {U = Frames c.args.head.now c.args.downstream_has_body} _ _ _
-    (λ outcome put. inl ((c.if-not-downstream_has_body.false, unframed), put)) (rw c.from_static.ensures at c.put_field.ensures)
+    (λ outcome put. inl ((c.if-not-downstream_has_body.false, unframed), put))
+    (rw c.from_static.ensures at c.put_field.ensures)

@@ -16,14 +16,16 @@ pub returns-then-is_origin : goal.returns-then-is_origin
 returns-then-is_origin c =
     let utf8 : IsUtf8 c.args.target.now = c.is_utf8.ensures.0 c.if-not-is_utf8.false in
     answers_wider {U = PathFor c.args.target.now} _
-    (of_origin c.args.target.now utf8 (sym c.is_origin.ensures ∙ c.if-is_origin.true)) c.taken_path.ensures
+    (of_origin c.args.target.now utf8 (sym c.is_origin.ensures ∙ c.if-is_origin.true))
+    c.taken_path.ensures
 
 -- no authority
 pub returns-in-None : goal.returns-in-None
 returns-in-None c =
     let utf8 : IsUtf8 c.args.target.now = c.is_utf8.ensures.0 c.if-not-is_utf8.false in
     answers_wider {U = PathFor c.args.target.now} _
-    (of_none c.args.target.now utf8 (sym c.is_origin.ensures ∙ c.if-is_origin.false) c.in-None.ensures.1 c.in-None.ensures.0)
+    (of_none c.args.target.now utf8
+    (sym c.is_origin.ensures ∙ c.if-is_origin.false) c.in-None.ensures.1 c.in-None.ensures.0)
     c.taken_path-in-None.ensures
 
 -- an ambiguous target
@@ -31,12 +33,15 @@ pub returns-in-AmbiguousAuthority : goal.returns-in-AmbiguousAuthority
 returns-in-AmbiguousAuthority c =
     let utf8 : IsUtf8 c.args.target.now = c.is_utf8.ensures.0 c.if-not-is_utf8.false in
     answers_refusal (PathFor c.args.target.now) _ _ c.refusal-in-AmbiguousAuthority.ensures
-    (of_ambiguous c.args.target.now utf8 (sym c.is_origin.ensures ∙ c.if-is_origin.false) c.in-AmbiguousAuthority.ensures.1)
+    (of_ambiguous c.args.target.now utf8
+    (sym c.is_origin.ensures ∙ c.if-is_origin.false) c.in-AmbiguousAuthority.ensures.1)
 
 -- the absolute form
 pub returns-in-Absolute : goal.returns-in-Absolute
 returns-in-Absolute c =
     let utf8 : IsUtf8 c.args.target.now = c.is_utf8.ensures.0 c.if-not-is_utf8.false in
     answers_wider {U = PathFor c.args.target.now} _
-    (of_absolute c.args.target.now utf8 _ (sym c.is_origin.ensures ∙ c.if-is_origin.false) c.in-Absolute.ensures.1 c.in-Absolute.ensures.0)
+    (of_absolute c.args.target.now utf8 _
+    (sym c.is_origin.ensures ∙ c.if-is_origin.false) c.in-Absolute.ensures.1
+    c.in-Absolute.ensures.0)
     c.path_of_rest.ensures

@@ -17,7 +17,8 @@ returns-in_err-authority c =
     let differ = refuted _ c.is_uri_authority.ensures c.if-is_uri_authority.false in
     let failure = err_from_is_err_and c.from_residual.result c.from_residual.ensures.1 in
     rw (failure.1, failure.2)
-    (failed_by (ReconcilesUri c.args.head.now c.args.host.now) _ _ _ _ _ c.in_err-authority.ensures.causes c.in_err-authority.ensures.invalid
+    (failed_by (ReconcilesUri c.args.head.now c.args.host.now) _ _ _ _ _
+    c.in_err-authority.ensures.causes c.in_err-authority.ensures.invalid
     (λ bad. inr ((λ no. no utf8), inr (differ, inl (bad, refl)))))
 
 -- the URI moved
@@ -26,6 +27,12 @@ returns c =
     let utf8 = c.raw_path_is_utf8.ensures.0 c.if-not-raw_path_is_utf8.false in
     let differ = refuted _ c.is_uri_authority.ensures c.if-is_uri_authority.false in
     let valid = done_not_refused _ _ _ c.in_ok-authority.ensures.invalid in
-    let moved : IsMoved c.args.head.now c.args.host.now c.in_ok-moved.moved = rw (← c.in_ok-authority.ensures.ok) c.in_ok-moved.ensures.ok in
-    done_as (ReconcilesUri c.args.head.now c.args.host.now) _ _ _ _ c.set_uri.ensures.ok c.set_uri.ensures.memory c.set_uri.ensures.err
-    (inr ((λ no. no utf8), inr (differ, inr (valid, (c.in_ok-moved.moved, moved, refl)))))
+    let moved : IsMoved c.args.head.now c.args.host.now c.in_ok-moved.moved =
+    rw (← c.in_ok-authority.ensures.ok) c.in_ok-moved.ensures.ok in
+    done_as (ReconcilesUri c.args.head.now c.args.host.now) _ _ _ _ c.set_uri.ensures.ok
+    c.set_uri.ensures.memory c.set_uri.ensures.err
+    (inr (
+      (λ no. no utf8),
+      inr
+          (differ, inr (valid, (c.in_ok-moved.moved, moved, c.in_ok-moved.ensures.utf8, refl))),
+    ))

@@ -5,5 +5,6 @@ use Rattle.relay_authority.proofs.reconcile.moved_uri.Goals as goal
 -- it is the head's URI that was moved
 pub returns-clause-ok : goal.returns-clause-ok
 returns-clause-ok c =
-    let same : c.args.head.now.uri ≡ Some c.unwrap-uri.result.now = sym c.uri.ensures ∙ ap option_copied c.unwrap-uri.ensures in
-    (c.unwrap-uri.result.now, same, c.in_ok-with_authority.ensures)
+    let same : c.args.head.now.uri ≡ Some c.unwrap-uri.result.now = sym c.uri.ensures
+    ∙ ap option_copied c.unwrap-uri.ensures in
+    (c.unwrap-uri.result.now, same, c.in_ok-with_authority.ensures.parts)

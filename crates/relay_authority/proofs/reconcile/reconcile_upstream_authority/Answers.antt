@@ -3,8 +3,10 @@ use Rattle.relay_authority.proofs.reconcile.reconcile_upstream_authority.Goals a
 
 -- the table leaves Host as the authority
 pub returns-clause-agrees : goal.returns-clause-agrees
-returns-clause-agrees c = agrees c.args.head.now c.reconcile.new.head c.reconcile.result c.reconcile.ensures
+returns-clause-agrees c =
+    agrees c.args.head.now c.reconcile.new.head c.reconcile.result c.reconcile.ensures
 
 -- and leaves nothing to reconcile
 pub returns-clause-rests : goal.returns-clause-rests
-returns-clause-rests c = rests c.args.head.now c.reconcile.new.head c.reconcile.result c.reconcile.ensures
+returns-clause-rests c =
+    rests c.args.head.now c.reconcile.new.head c.reconcile.result c.reconcile.ensures
