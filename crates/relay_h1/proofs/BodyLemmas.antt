@@ -1,5 +1,4 @@
 -- What a text says of a body: one thing, and always something.
-use Rattle.std.proofs.Common.{◌≡◌, ℕ, zero, suc, ◌+◌, ◌<◌, ◌≤◌, Bool, true, false, List, [], length, take, drop, refl, sym, ◌∙◌, ap, subst, arith, Option, Some, None, inl, inr}
 use Rattle.std.proofs.Common.{◌≡◌, ℕ, zero, suc, ◌+◌, ◌<◌, ◌≤◌, List, [], length, take, drop, refl, sym, ◌∙◌, ap, subst, arith, Option, Some, None, inl, inr}
 use Rattle.std.specs.Prelude.{◌⊎◌}
 use Rattle.std.proofs.lemmas.Bool.{cases_Bool, cases_lt}
@@ -235,23 +234,14 @@ trailer_said bytes =
           elim (cases_lt (length bytes) (most_trailer + 2)) [
             | inl few ↦
                 (_, body.Chunked.trailer_open bytes (record { no_end = none; may_end = few }))
-            | inr many ↦
-                (_, body.Chunked.trailer_broken bytes
-                    (body.IsTrailerTooLong.never_ends none (omega arith)))
-          ]
-      | inr end ↦
-          elim (cases_lt (most_trailer + 2) end.0) [
-            | inl late ↦
-                (_, body.Chunked.trailer_broken bytes
-                    (body.IsTrailerTooLong.ends_late end.0 end.1 late))
-            | inr soon ↦
-                (_, body.Chunked.trailer_ended bytes end.0
-                    (record { ends = end.1; short = omega arith }))
             | inr many ↦ (
               _,
               body.Chunked.trailer_broken bytes
                   (body.IsTrailerTooLong.never_ends none (omega arith)),
             )
+          ]
+      | inr end ↦
+          elim (cases_lt (most_trailer + 2) end.0) [
             | inl late ↦ (
               _,
               body.Chunked.trailer_broken bytes

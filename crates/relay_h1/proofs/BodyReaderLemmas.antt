@@ -622,18 +622,12 @@ only_more : (old new : State) (ahead rest : List ℕ) (given : Cut)
     → Answers old ahead new rest given → Takes old ahead (piece_of given) new rest
     → Reads old ahead (open_text []) → given ≡ cut.More
 only_more old new ahead rest (cut.Piece piece end) answers takes reads =
-    absurd (omega (arith, holds_bytes old new ahead piece rest (open_text []) takes answers.some reads))
     let some = holds_bytes old new ahead piece rest (open_text []) takes answers.some reads in
     absurd (omega arith)
 only_more old new ahead rest cut.End answers takes reads =
     absurd (open_or_ended answers.0 (Reads-unique old ahead _ _ reads answers.1))
 only_more old new ahead rest cut.More answers takes reads = refl
 only_more old new ahead rest (cut.Failed fail.OutOfMemory) answers takes reads =
-    absurd
-    (omega
-    (arith,
-    holds_bytes old answers.new ahead answers.piece answers.rest (open_text []) answers.takes
-    answers.some reads))
     let some = holds_run old new ahead rest (open_text []) takes answers reads in
     absurd (omega arith)
 only_more old new ahead rest (cut.Failed (fail.Error error)) answers takes reads =
@@ -644,19 +638,12 @@ only_end : (old new : State) (ahead rest : List ℕ) (given : Cut) (n : ℕ)
     → Answers old ahead new rest given → Takes old ahead (piece_of given) new rest
     → Reads old ahead (ended_text [] n) → given ≡ cut.End
 only_end old new ahead rest (cut.Piece piece end) n answers takes reads =
-    absurd
-    (omega (arith, holds_bytes old new ahead piece rest (ended_text [] n) takes answers.some reads))
     let some = holds_bytes old new ahead piece rest (ended_text [] n) takes answers.some reads in
     absurd (omega arith)
 only_end old new ahead rest cut.End n answers takes reads = refl
 only_end old new ahead rest cut.More n answers takes reads =
     absurd (open_or_ended n (Reads-unique old ahead _ _ answers reads))
 only_end old new ahead rest (cut.Failed fail.OutOfMemory) n answers takes reads =
-    absurd
-    (omega
-    (arith,
-    holds_bytes old answers.new ahead answers.piece answers.rest (ended_text [] n) answers.takes
-    answers.some reads))
     let some = holds_run old new ahead rest (ended_text [] n) takes answers reads in
     absurd (omega arith)
 only_end old new ahead rest (cut.Failed (fail.Error error)) n answers takes reads =
@@ -667,7 +654,6 @@ only_broken : (old new : State) (ahead rest : List ℕ) (given : Cut)
     → Answers old ahead new rest given → Takes old ahead (piece_of given) new rest
     → Reads old ahead broken_text → given ≡ cut.Failed (fail.Error (refused BadFraming))
 only_broken old new ahead rest (cut.Piece piece end) answers takes reads =
-    absurd (omega (arith, holds_bytes old new ahead piece rest broken_text takes answers.some reads))
     let some = holds_bytes old new ahead piece rest broken_text takes answers.some reads in
     absurd (omega arith)
 only_broken old new ahead rest cut.End answers takes reads =
@@ -675,11 +661,6 @@ only_broken old new ahead rest cut.End answers takes reads =
 only_broken old new ahead rest cut.More answers takes reads =
     absurd (open_or_broken (Reads-unique old ahead _ _ answers reads))
 only_broken old new ahead rest (cut.Failed fail.OutOfMemory) answers takes reads =
-    absurd
-    (omega
-    (arith,
-    holds_bytes old answers.new ahead answers.piece answers.rest broken_text answers.takes
-    answers.some reads))
     let some = holds_run old new ahead rest broken_text takes answers reads in
     absurd (omega arith)
 only_broken old new ahead rest (cut.Failed (fail.Error error)) answers takes reads =
@@ -696,8 +677,6 @@ answers_exactly old new ahead rest given answers takes = record {
   );
   end = (
     λ is.
-    let ends = subst (λ (g : Cut). Answers old ahead new rest g) is answers in
-    (ends.0, ends.1),
         let ends = subst (λ (g : Cut). Answers old ahead new rest g) is answers in
         (ends.0, ends.1),
     λ ends. only_end old new ahead rest given ends.0 answers takes ends.1,

@@ -1,16 +1,11 @@
 -- Whether a text is a chunk line can be told.
-use Rattle.std.proofs.Common.{◌≡◌, ◌≢◌, ℕ, ◌<◌, ◌≤◌, Bool, true, false, List, [], ◌∷◌, ◌++◌, length, refl, sym, ◌∙◌, ap, subst, arith, Option, Some, None, inl, inr, IsTrue, append_assoc, append-nil, bytes_eq}
+use Rattle.std.proofs.Common.{◌≡◌, ◌≢◌, ℕ, Bool, true, List, [], ◌∷◌, ◌++◌, length, refl, sym, ◌∙◌, ap, subst, arith, Option, Some, None, inl, inr, append-nil, bytes_eq}
 use Rattle.std.specs.Prelude.{◌⊎◌}
 use Rattle.std.proofs.lemmas.Bool.{cases_Bool, cases_eq, cases_lt}
 use Rattle.std.proofs.lemmas.Bool.Decides.{not_from_Decides}
-use Rattle.std.proofs.lemmas.List.Elements.{All-nil, All-cons, All-head, All-tail}
+use Rattle.std.proofs.lemmas.List.Elements.{All-nil, All-cons, All-tail}
 use Rattle.std.proofs.lemmas.Slice.Eq.{bytes_eq-Decides}
 use Rattle.std.specs.Char.{is_ascii_hexdigit}
-use Rattle.httparse.specs.Grammar.{is_ows, is_extension_byte, AllPass, crlf, print_end, print_extension, ChunkLine, ReadsChunkLine, chunk_size}
-use Rattle.httparse.specs.Pieces.{Piece, Begins, Then, Stops, Run, HexDigits, Extension, Chunk}
-use Rattle.httparse.proofs.ChunkLemmas.{Run_deterministic, HexDigits_deterministic, Chunk_deterministic, chunk_line, chunk_pieces, chunk_from_pieces}
-use Rattle.std.proofs.Common.{◌≡◌, ◌≢◌, ℕ, Bool, true, List, [], ◌∷◌, ◌++◌, length, refl, sym, ◌∙◌, ap, subst, arith, Option, Some, None, inl, inr, append-nil, bytes_eq}
-use Rattle.std.proofs.lemmas.List.Elements.{All-nil, All-cons, All-tail}
 use Rattle.httparse.specs.Grammar.{is_ows, is_extension_byte, crlf, print_end, chunk_size}
 use Rattle.httparse.specs.Pieces.{Piece, Begins, Then, Run, HexDigits, Extension}
 use Rattle.httparse.proofs.ChunkLemmas.{Run_deterministic, HexDigits_deterministic, chunk_line, chunk_pieces, chunk_from_pieces}
@@ -185,8 +180,6 @@ tell_line text =
     (λ middle. tell_then (Run is_ows) Extension (Run_deterministic is_ows) middle
     (tell_run is_ows middle) tell_extension)) [
       | inl found ↦
-          inl
-          (
           inl (
             chunk_size (chunk_line found.0),
             record {

@@ -1,8 +1,6 @@
 //! Reads the body behind a head, piece by piece (RFC 9112, sections 6.3 and 7.1).
 ghost use Rattle.std.specs.Prelude.{◌≡◌, ◌↔◌, ℕ, ◌+◌, ◌≤◌, true, ◌||◌, List, [], ◌++◌, length, drop, IfSome, IfNone, OnOk, OnErr};
 ghost use Rattle.relay_tasks.specs.Error.{refused};
-ghost use Rattle.relay_h1.specs.Body.{begins_with_crlf, crlf_end, trailer_end, IsLineOf};
-ghost use Rattle.relay_h1.specs.BodyReader.{first_state, is_done, is_of, Takes, Passes, run, run_front, after_run, IsInRun, IsLine, TakesRun, Answers, IsExact, piece_of, SoFar, Tells, may_end, EndsThere};
 ghost use Rattle.relay_h1.specs.Body.{ended_text, begins_with_crlf, crlf_end, trailer_end, IsLineOf};
 ghost use Rattle.relay_h1.specs.BodyReader.{Reads, first_state, is_done, is_of, Takes, Passes, run, run_front, after_run, IsInRun, IsLine, TakesRun, Answers, IsExact, piece_of, SoFar, Tells, may_end, EndsThere};
 

@@ -6,4 +6,5 @@ mod client_head;
 mod connection;
 mod framing;
 mod head;
+mod options;
 mod wire;

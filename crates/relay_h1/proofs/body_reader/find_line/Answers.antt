@@ -5,15 +5,13 @@ use Rattle.relay_h1.specs.Body as body
 use Rattle.relay_h1.proofs.body_reader.find_line.Goals as goal
 
 pub returns-in-Some-line_size : goal.returns-in-Some-line_size
-returns-in-Some-line_size c = record { ends = ap crlf_end (sym c.front.ensures) ∙ sym c.in-Some.ensures; is_line = rw c.front-in-Some.ensures at c.in-Some-line_size.ensures.size }
-
-pub returns-in-None-line_size : goal.returns-in-None-line_size
-returns-in-None-line_size c =
-    body.IsLineBroken.no_line c.in-Some.len (ap crlf_end (sym c.front.ensures) ∙ sym c.in-Some.ensures)
 returns-in-Some-line_size c = record {
   ends = ap crlf_end (sym c.front.ensures) ∙ sym c.in-Some.ensures;
   is_line = rw c.front-in-Some.ensures at c.in-Some-line_size.ensures.size;
 }
+
+pub returns-in-None-line_size : goal.returns-in-None-line_size
+returns-in-None-line_size c =
     body.IsLineBroken.no_line c.in-Some.len
     (ap crlf_end (sym c.front.ensures) ∙ sym c.in-Some.ensures)
     (rw c.front-in-Some.ensures at c.in-None-line_size.ensures.none)
