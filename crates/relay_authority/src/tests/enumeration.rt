@@ -1,6 +1,6 @@
 //! Every target and every Host of a few bytes: what each call answers, beside the plain program.
 
-use super::plain::{Blame, Named, OverH1, OverH2, Told};
+use super::plain::{Blame, OverH1, OverH2, Target};
 use super::{Checked, plain, refused};
 use crate::*;
 use http::Method;
@@ -35,15 +35,8 @@ fn text_of(alloc: Global, front: &str, number: usize) -> Result<Vec<u8>> {
     Ok(text)
 }
 
-// The Host of that number, and none past the last.
-fn host_of(alloc: Global, number: usize) -> Result<Option<Vec<u8>>> {
-    if number == UP_TO_TWO {
-        return Ok(None);
-    }
-    Ok(Some(text_of(alloc, "", number)?))
-}
-
-fn head_of(alloc: Global, target: &[u8], host: Option<&[u8]>) -> Result<RequestHeader> {
+/// A head with that target and that Host.
+pub fn head_with(alloc: Global, target: &[u8], host: Option<&[u8]>) -> Result<RequestHeader> {
     let mut head = RequestHeader::build(alloc, &Method::GET, target)?;
     if let Some(host) = host {
         match HeaderValue::from_bytes(alloc, host) {
@@ -54,26 +47,63 @@ fn head_of(alloc: Global, target: &[u8], host: Option<&[u8]>) -> Result<RequestH
     Ok(head)
 }
 
-fn is_refusal(fail: &Fail, why: Context) -> bool {
-    refused(why) == Some(*fail)
+fn is_refusal(fail: Option<Fail>, why: Context) -> bool {
+    fail == refused(why)
 }
 
-fn has_parts(target: &[u8], plain: Named<'_>) -> bool {
-    match raw_target_authority(target) {
-        RawTargetAuthority::None => matches!(plain, Named::Nothing),
-        RawTargetAuthority::AmbiguousAuthority => matches!(plain, Named::Unclear),
-        RawTargetAuthority::Absolute {
+// Whether the target is spelled so.
+fn is_spelled(target: &[u8], plain: Target<'_>) -> bool {
+    match plain {
+        Target::Whole { text, unclear: _ } => target == text,
+        Target::Parts {
             scheme,
             authority,
-            path_and_query,
-        } => match plain {
-            Named::Nothing | Named::Unclear => false,
-            Named::Parts {
-                scheme: name,
-                authority: other,
-                rest,
-            } => scheme == name && authority == other && path_and_query == rest,
-        },
+            rest,
+        } => {
+            let (name, behind) = target.split_at(scheme.len().min(target.len()));
+            let (mark, text) = behind.split_at(behind.len().min(3));
+            let (named, tail) = text.split_at(authority.len().min(text.len()));
+            name == scheme && mark == b"://".as_slice() && named == authority && tail == rest
+        }
+    }
+}
+
+fn same_parts(target: &[u8]) -> bool {
+    let plain = plain::cut(target);
+    is_spelled(target, plain)
+        && match raw_target_authority(target) {
+            RawTargetAuthority::None => is_whole(plain, false),
+            RawTargetAuthority::AmbiguousAuthority => is_whole(plain, true),
+            RawTargetAuthority::Absolute {
+                scheme,
+                authority,
+                path_and_query: rest,
+            } => is_cut(plain, scheme, authority, rest),
+        }
+}
+
+fn is_whole(plain: Target<'_>, ambiguous: bool) -> bool {
+    match plain {
+        Target::Whole { text: _, unclear } => unclear == ambiguous,
+        Target::Parts {
+            scheme: _,
+            authority: _,
+            rest: _,
+        } => false,
+    }
+}
+
+fn is_cut(plain: Target<'_>, name: &[u8], named: &[u8], tail: &[u8]) -> bool {
+    match plain {
+        Target::Whole {
+            text: _,
+            unclear: _,
+        } => false,
+        Target::Parts {
+            scheme,
+            authority,
+            rest,
+        } => scheme == name && authority == named && rest == tail,
     }
 }
 
@@ -82,23 +112,26 @@ fn cuts_targets_as_the_plain_program(rt: HostRuntime) -> Checked {
     for front in FRONTS {
         for number in 0..UP_TO_FOUR {
             let target = text_of(rt.alloc(), front, number)?;
-            assert!(rt;
-                has_parts(target.as_slice(), plain::names_of(target.as_slice())),
-                "{front} {number}"
-            );
+            assert!(rt; same_parts(target.as_slice()), "{front} {number}");
         }
     }
     Ok(())
 }
 
+// Whether the path is that behind its first byte.
+fn is_path(path: &[u8], plain: &[u8]) -> bool {
+    match path.first() {
+        Some(_) => path.split_at(1).1 == plain,
+        None => false,
+    }
+}
+
 fn same_path(alloc: Global, target: &[u8]) -> Result<bool> {
-    let head = head_of(alloc, target, None)?;
-    let told = plain::path(alloc, target)?;
-    Ok(match (h2_path_and_query(alloc, &head), told) {
-        (Ok(path), Ok(text)) => path.as_str().as_bytes() == text.as_slice(),
-        (Err(fail), Err(why)) => is_refusal(&fail, why),
-        (Ok(_), Err(_)) => false,
-        (Err(_), Ok(_)) => false,
+    let head = head_with(alloc, target, None)?;
+    let told = plain::path(plain::cut(target));
+    Ok(match h2_path_and_query(alloc, &head) {
+        Ok(path) => told.is_ok_and(|plain| is_path(path.as_str().as_bytes(), plain)),
+        Err(fail) => told.is_err_and(|why| is_refusal(Some(fail), why)),
     })
 }
 
@@ -120,27 +153,22 @@ fn same_authority(alloc: Global, text: &[u8]) -> bool {
         && plain == Authority::from_bytes(alloc, text).is_ok()
 }
 
-fn named_host(head: &RequestHeader, host: &[u8]) -> bool {
-    match head.uri() {
-        Some(uri) => match uri.authority() {
-            Some(authority) => authority.as_str().as_bytes() == host,
-            None => false,
-        },
+fn is_named(head: &RequestHeader, host: &[u8]) -> bool {
+    match crate::heads::uri_authority(head) {
+        Some(authority) => authority == host,
         None => false,
     }
 }
 
 fn same_raw_host(alloc: Global, host: &[u8]) -> Result<bool> {
-    let mut head = head_of(alloc, b"/", None)?;
+    let mut head = head_with(alloc, b"/", None)?;
     let Ok(path) = PathAndQuery::from_static("/0") else {
         return Ok(false);
     };
-    let done = update_h2_scheme_authority(alloc, &mut head, host, false, path);
-    Ok(match (done, plain::raw_host_fault(host)) {
-        (Ok(()), None) => named_host(&head, host) && head.raw_path() == b"/0".as_slice(),
-        (Err(fail), Some(why)) => is_refusal(&fail, why) && head.uri().is_none(),
-        (Ok(()), Some(_)) => false,
-        (Err(_), None) => false,
+    let fail = update_h2_scheme_authority(alloc, &mut head, host, false, path).err();
+    Ok(match plain::raw_host_fault(host) {
+        Some(why) => is_refusal(fail, why) && head.uri().is_none(),
+        None => fail.is_none() && is_named(&head, host) && head.raw_path() == b"/0".as_slice(),
     })
 }
 
@@ -148,28 +176,28 @@ fn same_raw_host(alloc: Global, host: &[u8]) -> Result<bool> {
 fn takes_raw_hosts_as_the_plain_program(rt: HostRuntime) -> Checked {
     for number in 0..UP_TO_FOUR {
         let host = text_of(rt.alloc(), "", number)?;
-        let same = same_authority(rt.alloc(), host.as_slice())
-            && same_raw_host(rt.alloc(), host.as_slice())?;
-        assert!(rt; same, "{number}");
+        assert!(rt; same_authority(rt.alloc(), host.as_slice()), "{number}");
+        assert!(rt; same_raw_host(rt.alloc(), host.as_slice())?, "{number}");
     }
     Ok(())
 }
 
-fn is_verdict(answer: &std::result::Result<(), Error>, plain: Option<Context>) -> bool {
+fn is_verdict(answer: std::result::Result<(), Error>, plain: Option<Context>) -> bool {
     match plain {
-        Some(why) => *answer == Err(Error::explain(ErrorType::InvalidHTTPHeader, why)),
+        Some(why) => answer == Err(Error::explain(ErrorType::InvalidHTTPHeader, why)),
         None => answer.is_ok(),
     }
 }
 
 fn same_verdict(head: &RequestHeader, host: Option<&[u8]>) -> bool {
-    let plain = plain::validated(head.raw_path(), host);
-    let entry = if host.is_none() {
-        Some(Context::HostCount)
-    } else {
-        plain
-    };
-    is_verdict(&validate_request_authority(head), plain) && is_verdict(&check_entry(head), entry)
+    let plain = plain::validated(plain::cut(head.raw_path()), host);
+    if !is_verdict(validate_request_authority(head), plain) {
+        return false;
+    }
+    match host {
+        Some(_) => is_verdict(check_entry(head), plain),
+        None => is_verdict(check_entry(head), Some(Context::HostCount)),
+    }
 }
 
 fn has_host(head: &RequestHeader, host: &[u8]) -> bool {
@@ -179,70 +207,50 @@ fn has_host(head: &RequestHeader, host: &[u8]) -> bool {
     }
 }
 
-fn is_told_host(done: Result<()>, head: &RequestHeader, told: Told) -> bool {
-    match (done, told) {
-        (Ok(()), Ok(host)) => has_host(head, host.as_slice()),
-        (Err(fail), Err(why)) => is_refusal(&fail, why),
-        (Ok(()), Err(_)) => false,
-        (Err(_), Ok(_)) => false,
-    }
-}
-
 fn same_host(alloc: Global, head: &RequestHeader, host: Option<&[u8]>) -> Result<bool> {
-    let told = plain::host_set(alloc, head.raw_path(), host)?;
     let mut sent = head.copy()?;
-    let done = set_h1_host_from_authority(alloc, &mut sent);
-    if !is_told_host(done, &sent, told) {
-        return Ok(false);
-    }
-    let mut sent = head.copy()?;
-    let done = set_h1_host_from_authority_if_absent(alloc, &mut sent);
-    Ok(done.is_ok() && has_host(&sent, host.unwrap_or(b"")))
+    let fail = set_h1_host_from_authority(alloc, &mut sent).err();
+    Ok(match plain::host_set(plain::cut(head.raw_path()), host) {
+        Ok(host) => fail.is_none() && has_host(&sent, host),
+        Err(why) => is_refusal(fail, why),
+    })
 }
 
-fn is_told_target(done: Result<()>, head: &RequestHeader, told: Told) -> bool {
-    match (done, told) {
-        (Ok(()), Ok(target)) => head.raw_path() == target.as_slice(),
-        (Err(fail), Err(why)) => is_refusal(&fail, why),
-        (Ok(()), Err(_)) => false,
-        (Err(_), Ok(_)) => false,
-    }
-}
-
-fn same_target(alloc: Global, head: &RequestHeader, host: Option<&[u8]>) -> Result<bool> {
-    let told = plain::reconciled(alloc, head.raw_path(), host)?;
+fn keeps_host(alloc: Global, head: &RequestHeader, host: Option<&[u8]>) -> Result<bool> {
     let mut sent = head.copy()?;
-    let done = reconcile_upstream_authority(alloc, &mut sent);
-    Ok(is_told_target(done, &sent, told))
+    set_h1_host_from_authority_if_absent(alloc, &mut sent)?;
+    Ok(has_host(&sent, host.unwrap_or(b"")))
 }
 
-fn is_over_h1(head: &RequestHeader, plain: OverH1) -> bool {
-    let host = match &plain.host {
-        Some(host) => has_host(head, host.as_slice()),
+fn same_target(alloc: Global, head: &RequestHeader, host: &[u8]) -> Result<bool> {
+    let mut sent = head.copy()?;
+    let fail = reconcile_upstream_authority(alloc, &mut sent).err();
+    Ok(match plain::reconciled(plain::cut(head.raw_path()), host) {
+        Ok(target) => fail.is_none() && is_spelled(sent.raw_path(), target),
+        Err(why) => is_refusal(fail, why) && sent.raw_path() == head.raw_path(),
+    })
+}
+
+fn is_over_h1(head: &RequestHeader, plain: OverH1<'_>) -> bool {
+    let said = match plain.host {
+        Some(host) => has_host(head, host),
         None => head.headers().is_empty(),
     };
-    host && head.raw_path() == plain.target.as_slice()
+    said && is_spelled(head.raw_path(), plain.target)
 }
 
-fn is_over_h2(head: &RequestHeader, plain: OverH2) -> bool {
-    let path = match h2_path_of(head) {
-        Some(path) => path == plain.path.as_slice(),
-        None => false,
-    };
-    path && named_host(head, plain.authority.as_slice()) && head.headers().is_empty()
+fn is_over_h2(head: &RequestHeader, plain: OverH2<'_>) -> bool {
+    is_named(head, plain.authority)
+        && is_path(head.raw_path(), plain.path)
+        && head.headers().is_empty()
 }
 
-fn h2_path_of(head: &RequestHeader) -> Option<&[u8]> {
-    let path = head.uri()?.path_and_query()?;
-    Some(path.as_str().as_bytes())
-}
-
-fn is_blamed(fail: &Fail, blame: Blame) -> bool {
-    *fail
-        == Fail::Error(Error {
-            esource: blame.side,
-            ..Error::explain(ErrorType::InvalidHTTPHeader, blame.why)
-        })
+fn is_blamed(fail: Fail, blame: Blame) -> bool {
+    let error = Error::explain(ErrorType::InvalidHTTPHeader, blame.why);
+    fail == Fail::Error(Error {
+        esource: blame.side,
+        ..error
+    })
 }
 
 fn same_over_h1(alloc: Global, head: &RequestHeader, host: Option<&[u8]>) -> Result<bool> {
@@ -250,81 +258,88 @@ fn same_over_h1(alloc: Global, head: &RequestHeader, host: Option<&[u8]>) -> Res
         custom: false,
         has_body: false,
     };
-    let told = plain::over_h1(alloc, head.raw_path(), host)?;
-    let sent = sent_head(alloc, head, head.copy()?, Upstream::H1, client);
-    Ok(match (sent, told) {
-        (Ok(sent), Ok(plain)) => is_over_h1(&sent, plain),
-        (Err(fail), Err(why)) => is_blamed(
-            &fail,
-            Blame {
-                why,
-                side: ErrorSource::Internal,
-            },
-        ),
-        (Ok(_), Err(_)) => false,
-        (Err(_), Ok(_)) => false,
-    })
+    let told = plain::over_h1(plain::cut(head.raw_path()), host);
+    let side = ErrorSource::Internal;
+    Ok(
+        match sent_head(alloc, head, head.copy()?, Upstream::H1, client) {
+            Ok(sent) => told.is_ok_and(|plain| is_over_h1(&sent, plain)),
+            Err(fail) => told.is_err_and(|why| is_blamed(fail, Blame { why, side })),
+        },
+    )
 }
 
-fn same_over_h2(
+fn same_over_h2(alloc: Global, head: &RequestHeader, host: Option<&[u8]>) -> Result<bool> {
+    Ok(
+        is_sent_over_h2(
+            alloc,
+            head,
+            false,
+            plain::over_h2(plain::cut(head.raw_path()), host),
+        )? && is_sent_over_h2(
+            alloc,
+            head,
+            true,
+            plain::addressed(plain::cut(head.raw_path()), host),
+        )?,
+    )
+}
+
+fn is_sent_over_h2(
     alloc: Global,
     head: &RequestHeader,
-    host: Option<&[u8]>,
     custom: bool,
+    told: std::result::Result<OverH2<'_>, Blame>,
 ) -> Result<bool> {
     let client = Client {
         custom,
         has_body: false,
     };
-    let told = plain::over_h2(alloc, head.raw_path(), host, custom)?;
     let over = Upstream::H2 { tls: custom };
+    Ok(match sent_head(alloc, head, head.copy()?, over, client) {
+        Ok(sent) => told.is_ok_and(|plain| is_over_h2(&sent, plain)),
+        Err(fail) => told.is_err_and(|blame| is_blamed(fail, blame)),
+    })
+}
+
+fn same_with_host(alloc: Global, target: &[u8], number: usize) -> Result<bool> {
+    let host = text_of(alloc, "", number)?;
+    let head = head_with(alloc, target, Some(host.as_slice()))?;
     Ok(
-        match (sent_head(alloc, head, head.copy()?, over, client), told) {
-            (Ok(sent), Ok(plain)) => is_over_h2(&sent, plain),
-            (Err(fail), Err(blame)) => is_blamed(&fail, blame),
-            (Ok(_), Err(_)) => false,
-            (Err(_), Ok(_)) => false,
-        },
+        same_target(alloc, &head, host.as_slice())?
+            && same_answers(alloc, &head, Some(host.as_slice()))?,
     )
 }
 
-fn same_sent(alloc: Global, head: &RequestHeader, host: Option<&[u8]>) -> Result<bool> {
+fn same_answers(alloc: Global, head: &RequestHeader, host: Option<&[u8]>) -> Result<bool> {
     Ok(
-        same_over_h1(alloc, head, host)?
-            && same_over_h2(alloc, head, host, false)?
-            && same_over_h2(alloc, head, host, true)?,
+        same_verdict(head, host)
+            && same_host(alloc, head, host)?
+            && keeps_host(alloc, head, host)?
+            && same_over_h1(alloc, head, host)?
+            && same_over_h2(alloc, head, host)?,
     )
 }
 
-fn same_answers(alloc: Global, target: &[u8], host: Option<&[u8]>) -> Result<bool> {
-    let head = head_of(alloc, target, host)?;
-    Ok(
-        same_verdict(&head, host)
-            && same_host(alloc, &head, host)?
-            && same_target(alloc, &head, host)?
-            && same_sent(alloc, &head, host)?,
-    )
-}
-
-fn same_for_all_hosts(rt: &HostRuntime, target: &[u8]) -> Result<Option<usize>> {
-    for number in 0..=UP_TO_TWO {
-        let host = host_of(rt.alloc(), number)?;
-        if !same_answers(
-            rt.alloc(),
-            target,
-            host.as_ref().map(|host| host.as_slice()),
-        )? {
+// The first Host of up to two bytes beside which an answer differs from the plain program's.
+fn differing_host(alloc: Global, target: &[u8]) -> Result<Option<usize>> {
+    for number in 0..UP_TO_TWO {
+        if !same_with_host(alloc, target, number)? {
             return Ok(Some(number));
         }
     }
     Ok(None)
 }
 
+fn same_without_host(alloc: Global, target: &[u8]) -> Result<bool> {
+    let head = head_with(alloc, target, None)?;
+    same_answers(alloc, &head, None)
+}
+
 #[test]
 fn treats_heads_as_the_plain_program(rt: HostRuntime) -> Checked {
     for number in 0..UP_TO_TWO {
         let target = text_of(rt.alloc(), "a://", number)?;
-        let differs = same_for_all_hosts(&rt, target.as_slice())?;
+        let differs = differing_host(rt.alloc(), target.as_slice())?;
         assert_eq!(rt; differs, None, "{number}");
     }
     Ok(())
@@ -335,8 +350,20 @@ fn treats_heads_without_authority_as_the_plain_program(rt: HostRuntime) -> Check
     for target in [
         "/", "*", "a", "a:", "a:/a", "http:", "http:/", "http://", "/#a", "a://a#?#",
     ] {
-        let differs = same_for_all_hosts(&rt, target.as_bytes())?;
+        let differs = differing_host(rt.alloc(), target.as_bytes())?;
         assert_eq!(rt; differs, None, "{target}");
+    }
+    Ok(())
+}
+
+#[test]
+fn treats_heads_without_host_as_the_plain_program(rt: HostRuntime) -> Checked {
+    for front in FRONTS {
+        for number in 0..UP_TO_FOUR {
+            let target = text_of(rt.alloc(), front, number)?;
+            let same = target.is_empty() || same_without_host(rt.alloc(), target.as_slice())?;
+            assert!(rt; same, "{front} {number}");
+        }
     }
     Ok(())
 }

@@ -1,24 +1,24 @@
-//! The authority tables once more, as a plain and slow program for texts of a few bytes: it cuts
-//! and counts anew for each question, and uses nothing of the crate's own code but its contexts.
+//! The authority tables once more, as a plain and slow program for texts of a few bytes in lower
+//! case: it cuts and counts anew for each question, and takes nothing of the crate's own code.
+//! What it answers is made of pieces of what it is asked.
 ghost use Rattle.std.specs.Prelude.{◌≤◌, length};
 
 use relay_tasks::{Context, ErrorSource};
-use std::alloc::{AllocError, Global};
 
-/// What a target says of its authority.
+/// A target: the parts of one that names an authority, else its bytes, and whether readers would
+/// disagree on it.
 #[derive(Clone, Copy)]
-pub enum Named<'a> {
-    Nothing,
-    Unclear,
+pub enum Target<'a> {
     Parts {
         scheme: &'a [u8],
         authority: &'a [u8],
         rest: &'a [u8],
     },
+    Whole {
+        text: &'a [u8],
+        unclear: bool,
+    },
 }
-
-/// What a call answers: a text, or a refusal.
-pub type Told = Result<Vec<u8>, Context>;
 
 /// Where the first byte of one of these two kinds stands, or the length.
 fn place_of(text: &[u8], one: u8, other: u8) -> usize
@@ -42,10 +42,9 @@ fn behind(text: &[u8], one: u8, other: u8) -> &[u8] {
 
 fn without_first(text: &[u8]) -> &[u8] {
     if text.is_empty() {
-        text
-    } else {
-        text.split_at(1).1
+        return text;
     }
+    text.split_at(1).1
 }
 
 fn is_scheme(text: &[u8]) -> bool {
@@ -58,23 +57,27 @@ fn is_scheme(text: &[u8]) -> bool {
     !text.is_empty()
 }
 
-/// What the target says of its authority, found from its first colon.
-pub fn names_of(target: &[u8]) -> Named<'_> {
+/// The target, cut at its first colon.
+pub fn cut(target: &[u8]) -> Target<'_> {
     let scheme = before(target, b':', b':');
-    if !is_scheme(scheme) || scheme.len() == target.len() {
-        return Named::Nothing;
-    }
     let behind_colon = without_first(behind(target, b':', b':'));
-    if !behind_colon.starts_with(b"//") {
-        let web = scheme == b"http".as_slice() || scheme == b"https".as_slice();
-        return if web { Named::Unclear } else { Named::Nothing };
+    if !is_scheme(scheme) || scheme.len() == target.len() {
+        return Target::Whole {
+            text: target,
+            unclear: false,
+        };
     }
     let text = without_first(without_first(behind_colon));
     let authority = before(text, b'/', b'?');
-    if authority.is_empty() || authority.contains(&b'\\') {
-        return Named::Unclear;
+    let clear = !authority.is_empty() && !authority.contains(&b'\\');
+    if !behind_colon.starts_with(b"//") || !clear {
+        let web = scheme == b"http".as_slice() || scheme == b"https".as_slice();
+        return Target::Whole {
+            text: target,
+            unclear: web || behind_colon.starts_with(b"//"),
+        };
     }
-    Named::Parts {
+    Target::Parts {
         scheme,
         authority,
         rest: behind(text, b'/', b'?'),
@@ -129,10 +132,7 @@ fn host_fault(host: &[u8]) -> Option<Context> {
     if has_at(host) {
         return Some(Context::UserinfoHost);
     }
-    if !host.is_empty() && !is_authority(host) {
-        return Some(Context::HostInvalid);
-    }
-    None
+    (!host.is_empty() && !is_authority(host)).then_some(Context::HostInvalid)
 }
 
 fn authority_fault(authority: &[u8], host: Option<&[u8]>) -> Option<Context> {
@@ -145,18 +145,10 @@ fn authority_fault(authority: &[u8], host: Option<&[u8]>) -> Option<Context> {
     }
 }
 
-/// Why a head of this target and this Host is refused, if it is. The texts have no upper case.
-pub fn validated(target: &[u8], host: Option<&[u8]>) -> Option<Context> {
-    if let Some(host) = host {
-        let fault = host_fault(host);
-        if fault.is_some() {
-            return fault;
-        }
-    }
-    match names_of(target) {
-        Named::Nothing => None,
-        Named::Unclear => Some(Context::Ambiguous),
-        Named::Parts {
+fn target_fault(target: Target<'_>, host: Option<&[u8]>) -> Option<Context> {
+    match target {
+        Target::Whole { text: _, unclear } => unclear.then_some(Context::Ambiguous),
+        Target::Parts {
             scheme: _,
             authority,
             rest: _,
@@ -164,67 +156,80 @@ pub fn validated(target: &[u8], host: Option<&[u8]>) -> Option<Context> {
     }
 }
 
+/// Why a head of this target and this Host is refused, if it is.
+pub fn validated(target: Target<'_>, host: Option<&[u8]>) -> Option<Context> {
+    let Some(text) = host else {
+        return target_fault(target, host);
+    };
+    match host_fault(text) {
+        Some(why) => Some(why),
+        None => target_fault(target, host),
+    }
+}
+
 /// The Host that a head of this target and this Host gets.
-pub fn host_set(alloc: Global, target: &[u8], host: Option<&[u8]>) -> Result<Told, AllocError> {
-    match names_of(target) {
-        Named::Parts {
+pub fn host_set<'a>(target: Target<'a>, host: Option<&'a [u8]>) -> Result<&'a [u8], Context> {
+    match target {
+        Target::Whole {
+            text: _,
+            unclear: _,
+        } => match host {
+            Some(host) => Ok(host),
+            None => Ok(b""),
+        },
+        Target::Parts {
             scheme: _,
             authority,
             rest: _,
         } => {
             if has_at(authority) {
-                return Ok(Err(Context::Userinfo));
+                return Err(Context::Userinfo);
             }
-            Ok(Ok(Vec::from_slice(alloc, authority)?))
+            Ok(authority)
         }
-        Named::Nothing | Named::Unclear => match host {
-            Some(host) => Ok(Ok(Vec::from_slice(alloc, host)?)),
-            None => Ok(Ok(Vec::new(alloc))),
-        },
     }
-}
-
-fn joined(alloc: Global, scheme: &[u8], host: &[u8], rest: &[u8]) -> Result<Vec<u8>, AllocError> {
-    let mut text = Vec::from_slice(alloc, scheme)?;
-    text.extend_from_slice(b"://")?;
-    text.extend_from_slice(host)?;
-    text.extend_from_slice(rest)?;
-    Ok(text)
 }
 
 /// The target once it says what Host says.
-pub fn reconciled(alloc: Global, target: &[u8], host: Option<&[u8]>) -> Result<Told, AllocError> {
-    let Some(host) = host else {
-        return Ok(Ok(Vec::from_slice(alloc, target)?));
-    };
+pub fn reconciled<'a>(target: Target<'a>, host: &'a [u8]) -> Result<Target<'a>, Context> {
     if has_at(host) {
-        return Ok(Err(Context::UserinfoHost));
+        return Err(Context::UserinfoHost);
     }
-    match names_of(target) {
-        Named::Nothing | Named::Unclear => Ok(Ok(Vec::from_slice(alloc, target)?)),
-        Named::Parts {
+    match target {
+        Target::Whole {
+            text: _,
+            unclear: _,
+        } => Ok(target),
+        Target::Parts {
             scheme,
             authority,
             rest,
         } => {
             if host != authority && !is_authority(host) {
-                return Ok(Err(Context::HostInvalid));
+                return Err(Context::HostInvalid);
             }
-            Ok(Ok(joined(alloc, scheme, host, rest)?))
+            Ok(Target::Parts {
+                scheme,
+                authority: host,
+                rest,
+            })
         }
     }
 }
 
-/// The path over HTTP/2, up to a fragment.
-pub fn path(alloc: Global, target: &[u8]) -> Result<Told, AllocError> {
-    if target.starts_with(b"/") || target == b"*".as_slice() {
-        return Ok(Ok(Vec::from_slice(alloc, before(target, b'#', b'#'))?));
-    }
-    let mut path = vec![in alloc; b'/']?;
-    match names_of(target) {
-        Named::Nothing => {}
-        Named::Unclear => return Ok(Err(Context::Ambiguous)),
-        Named::Parts {
+/// The path over HTTP/2 behind its first byte, up to a fragment; that byte is `/`, but in `*`.
+pub fn path(target: Target<'_>) -> Result<&[u8], Context> {
+    match target {
+        Target::Whole { text, unclear } => {
+            if unclear {
+                return Err(Context::Ambiguous);
+            }
+            if text.starts_with(b"/") {
+                return Ok(before(without_first(text), b'#', b'#'));
+            }
+            Ok(b"")
+        }
+        Target::Parts {
             scheme: _,
             authority: _,
             rest,
@@ -234,10 +239,9 @@ pub fn path(alloc: Global, target: &[u8]) -> Result<Told, AllocError> {
             } else {
                 rest
             };
-            path.extend_from_slice(before(text, b'#', b'#'))?;
+            Ok(before(text, b'#', b'#'))
         }
     }
-    Ok(Ok(path))
 }
 
 /// Why the raw host cannot stand in a URI, if it cannot.
@@ -249,40 +253,48 @@ pub fn raw_host_fault(host: &[u8]) -> Option<Context> {
 }
 
 /// What is sent over HTTP/1 in place of target and Host.
-#[derive(Drop)]
-pub struct OverH1 {
-    pub target: Vec<u8>,
-    pub host: Option<Vec<u8>>,
+#[derive(Clone, Copy)]
+pub struct OverH1<'a> {
+    pub target: Target<'a>,
+    pub host: Option<&'a [u8]>,
+}
+
+fn authority_of<'a>(target: Target<'a>) -> Option<&'a [u8]> {
+    match target {
+        Target::Whole {
+            text: _,
+            unclear: _,
+        } => None,
+        Target::Parts {
+            scheme: _,
+            authority,
+            rest: _,
+        } => Some(authority),
+    }
+}
+
+fn followed<'a>(target: Target<'a>, host: Option<&'a [u8]>) -> Result<Target<'a>, Context> {
+    match host {
+        Some(host) => reconciled(target, host),
+        None => Ok(target),
+    }
+}
+
+fn judged<'a>(target: Target<'a>, host: Option<&'a [u8]>) -> Result<OverH1<'a>, Context> {
+    match validated(target, host) {
+        Some(why) => Err(why),
+        None => Ok(OverH1 { target, host }),
+    }
 }
 
 /// The target and the Host that are sent over HTTP/1 for a client that is not custom.
-pub fn over_h1(
-    alloc: Global,
-    target: &[u8],
-    host: Option<&[u8]>,
-) -> Result<Result<OverH1, Context>, AllocError> {
-    let target = match reconciled(alloc, target, host)? {
-        Ok(target) => target,
-        Err(why) => return Ok(Err(why)),
-    };
-    let nameless = !matches!(names_of(target.as_slice()), Named::Parts { .. });
-    if host.is_none() && nameless {
-        return Ok(match validated(target.as_slice(), None) {
-            Some(why) => Err(why),
-            None => Ok(OverH1 { target, host: None }),
-        });
+pub fn over_h1<'a>(target: Target<'a>, host: Option<&'a [u8]>) -> Result<OverH1<'a>, Context> {
+    let target = followed(target, host)?;
+    if host.is_none() && authority_of(target).is_none() {
+        return judged(target, None);
     }
-    let host = match host_set(alloc, target.as_slice(), host)? {
-        Ok(host) => host,
-        Err(why) => return Ok(Err(why)),
-    };
-    Ok(match validated(target.as_slice(), Some(host.as_slice())) {
-        Some(why) => Err(why),
-        None => Ok(OverH1 {
-            target,
-            host: Some(host),
-        }),
-    })
+    let host = host_set(target, host)?;
+    judged(target, Some(host))
 }
 
 /// A refusal and its side.
@@ -292,67 +304,49 @@ pub struct Blame {
     pub side: ErrorSource,
 }
 
-/// What is sent over HTTP/2 in place of target and Host.
-#[derive(Drop)]
-pub struct OverH2 {
-    pub authority: Vec<u8>,
-    pub path: Vec<u8>,
-}
-
-fn inside<T>(why: Context) -> Result<Result<T, Blame>, AllocError> {
-    Ok(Err(Blame {
+fn inside(why: Context) -> Blame {
+    Blame {
         why,
         side: ErrorSource::Internal,
-    }))
-}
-
-/// The authority and the path that are sent over HTTP/2.
-pub fn over_h2(
-    alloc: Global,
-    target: &[u8],
-    host: Option<&[u8]>,
-    custom: bool,
-) -> Result<Result<OverH2, Blame>, AllocError> {
-    if custom {
-        return addressed(alloc, target, host);
-    }
-    let target = match reconciled(alloc, target, host)? {
-        Ok(target) => target,
-        Err(why) => return inside(why),
-    };
-    if let Some(why) = validated(target.as_slice(), host) {
-        return inside(why);
-    }
-    match names_of(target.as_slice()) {
-        Named::Parts {
-            scheme: _,
-            authority,
-            rest: _,
-        } => addressed(alloc, target.as_slice(), Some(host.unwrap_or(authority))),
-        Named::Nothing | Named::Unclear => addressed(alloc, target.as_slice(), host),
     }
 }
 
-fn addressed(
-    alloc: Global,
-    target: &[u8],
-    raw_host: Option<&[u8]>,
-) -> Result<Result<OverH2, Blame>, AllocError> {
-    let Some(host) = raw_host else {
-        return inside(Context::NoAuthorityH2);
+/// What is sent over HTTP/2 in place of target and Host; the path is behind its first byte.
+#[derive(Clone, Copy)]
+pub struct OverH2<'a> {
+    pub authority: &'a [u8],
+    pub path: &'a [u8],
+}
+
+/// The authority and the path that are sent over HTTP/2 for a custom client.
+pub fn addressed<'a>(target: Target<'a>, host: Option<&'a [u8]>) -> Result<OverH2<'a>, Blame> {
+    let Some(authority) = host else {
+        return Err(inside(Context::NoAuthorityH2));
     };
-    let path = match path(alloc, target)? {
+    let path = match path(target) {
         Ok(path) => path,
-        Err(why) => return inside(why),
+        Err(why) => return Err(inside(why)),
     };
-    Ok(match raw_host_fault(host) {
+    match raw_host_fault(authority) {
         Some(why) => Err(Blame {
             why,
             side: ErrorSource::Unset,
         }),
-        None => Ok(OverH2 {
-            authority: Vec::from_slice(alloc, host)?,
-            path,
-        }),
-    })
+        None => Ok(OverH2 { authority, path }),
+    }
+}
+
+fn settled<'a>(target: Target<'a>, host: Option<&'a [u8]>) -> Result<OverH1<'a>, Context> {
+    judged(followed(target, host)?, host)
+}
+
+/// The authority and the path that are sent over HTTP/2 for a client that is not custom.
+pub fn over_h2<'a>(target: Target<'a>, host: Option<&'a [u8]>) -> Result<OverH2<'a>, Blame> {
+    match settled(target, host) {
+        Err(why) => Err(inside(why)),
+        Ok(head) => match head.host {
+            Some(host) => addressed(head.target, Some(host)),
+            None => addressed(head.target, authority_of(head.target)),
+        },
+    }
 }

@@ -1,9 +1,9 @@
 //! What an attempt sends of a head, over each upstream.
 
+use super::enumeration::head_with;
 use super::{Checked, head_at, head_of, host_is};
 use crate::*;
 use http::Version;
-use http_header::{HOST, HeaderValue};
 use relay_tasks::{Context, Error, ErrorSource, ErrorType, Fail, RequestHeader, Result};
 use std::alloc::Global;
 
@@ -26,10 +26,8 @@ fn blamed(why: Context, side: ErrorSource) -> Option<Fail> {
     }))
 }
 
-fn with_host(head: RequestHeader, host: &'static str) -> Result<RequestHeader> {
-    let mut named = head;
-    named.insert_header(HOST, HeaderValue::from_static(host))?;
-    Ok(named)
+fn hosted(alloc: Global, target: &[u8], host: &str) -> Result<RequestHeader> {
+    head_with(alloc, target, Some(host.as_bytes()))
 }
 
 // The head that goes out where no hook changes what was made ready.
@@ -58,7 +56,7 @@ fn goes_to(head: &RequestHeader, scheme: &str, authority: &str, path: &[u8]) -> 
 
 #[test]
 fn sends_host_as_authority_over_http2(rt: HostRuntime) -> Checked {
-    let head = with_host(head_of(rt.alloc(), b"/c")?, "h.example")?;
+    let head = hosted(rt.alloc(), b"/c", "h.example")?;
     let plain = sent(rt.alloc(), head.copy()?, PLAIN_H2, BROWSER)?;
     assert!(rt; goes_to(&plain, "http", "h.example", b"/c"));
     let secret = sent(rt.alloc(), head, Upstream::H2 { tls: true }, GATEWAY)?;
@@ -121,7 +119,7 @@ fn blames_each_refusal_over_http2(rt: HostRuntime) -> Checked {
         ),
     ];
     for (target, host, why, side) in table {
-        let head = with_host(head_of(rt.alloc(), target)?, host)?;
+        let head = hosted(rt.alloc(), target, host)?;
         assert_eq!(rt;
             sent(rt.alloc(), head, PLAIN_H2, GATEWAY).err(),
             blamed(why, side),
@@ -133,7 +131,7 @@ fn blames_each_refusal_over_http2(rt: HostRuntime) -> Checked {
 
 #[test]
 fn holds_a_standard_client_to_its_host_over_http2(rt: HostRuntime) -> Checked {
-    let head = with_host(head_of(rt.alloc(), b"/")?, "u@h.example")?;
+    let head = hosted(rt.alloc(), b"/", "u@h.example")?;
     assert_eq!(rt;
         sent(rt.alloc(), head, PLAIN_H2, BROWSER).err(),
         blamed(Context::UserinfoHost, ErrorSource::Internal)
@@ -143,7 +141,7 @@ fn holds_a_standard_client_to_its_host_over_http2(rt: HostRuntime) -> Checked {
 
 #[test]
 fn frames_a_body_over_http1(rt: HostRuntime) -> Checked {
-    let head = with_host(head_of(rt.alloc(), b"/c")?, "h.example")?;
+    let head = hosted(rt.alloc(), b"/c", "h.example")?;
     let client = Client {
         custom: false,
         has_body: true,
@@ -156,7 +154,7 @@ fn frames_a_body_over_http1(rt: HostRuntime) -> Checked {
 
 #[test]
 fn leaves_a_head_for_a_custom_link(rt: HostRuntime) -> Checked {
-    let head = with_host(head_of(rt.alloc(), b"http:/a")?, "u@h.example")?;
+    let head = hosted(rt.alloc(), b"http:/a", "u@h.example")?;
     let same = sent(rt.alloc(), head, Upstream::Custom, BROWSER)?;
     assert!(rt; host_is(&same, "u@h.example"));
     assert!(rt; same.raw_path() == b"http:/a".as_slice());
