@@ -283,7 +283,38 @@ fn tells_why_a_response_was_not_relayed(rt: HostRuntime) -> Result<(), AllocErro
         "hi",
         unbuilt,
     )?;
-    assert_served(&rt, rt.alloc(), &get, &["HTTP/1.1 200 OK"], "hi", unbuilt)
+    let chunked = ["HTTP/1.1 200 OK", "Transfer-Encoding: chunked"];
+    let bad_chunk = "error InvalidHTTPHeader Upstream false\nreuse no\n";
+    assert_served(&rt, rt.alloc(), &get, &chunked, "x\\r\\n", bad_chunk)?;
+    assert_served(&rt, rt.alloc(), &get, &chunked, "3\\r\\nhi", closed)
+}
+
+#[test]
+fn sends_a_body_without_a_length_in_chunks(rt: HostRuntime) -> Result<(), AllocError> {
+    let get = ["GET /a HTTP/1.1", HOST];
+    let until_close = "error -\nreuse yes\nwritten HTTP/1.1 200 OK\\r\\n\
+        transfer-encoding: chunked\\r\\n\\r\\n2\\r\\nhi\\r\\n0\\r\\n\\r\\n\n\
+        attempt 1 a reused no kept no error -";
+    assert_served(
+        &rt,
+        rt.alloc(),
+        &get,
+        &["HTTP/1.1 200 OK"],
+        "hi",
+        until_close,
+    )?;
+    let both = [
+        "HTTP/1.1 200 OK",
+        "Content-Length: 9",
+        "Transfer-Encoding: Chunked",
+    ];
+    let chunks = "error -\nreuse yes\nwritten HTTP/1.1 200 OK\\r\\n\
+        transfer-encoding: Chunked\\r\\n\\r\\n2\\r\\nhi\\r\\nA\\r\\n0123456789\\r\\n\
+        0\\r\\n\\r\\n\nattempt 1 a reused no kept yes error -";
+    let body = "2;x=1\\r\\nhi\\r\\n0a\\r\\n0123456789\\r\\n0\\r\\nx-sum: 7\\r\\n\\r\\n";
+    assert_served(&rt, rt.alloc(), &get, &both, body, chunks)?;
+    let more = "2\\r\\nhi\\r\\n0\\r\\n\\r\\nx";
+    assert_served(&rt, rt.alloc(), &get, &both, more, "kept no error -")
 }
 
 #[test]

@@ -109,6 +109,53 @@ fn relays_the_same_whatever_the_cuts(rt: HostRuntime) -> Result<(), Fail> {
     Ok(())
 }
 
+/// What a client gets of a response whose body `hello` was cut at that place: one chunk or two.
+fn written_in_chunks(alloc: Global, cut: usize) -> Result<Vec<u8>, Fail> {
+    let mut text = Vec::new(alloc);
+    text.extend_from_slice(b"HTTP/1.1 200 OK\r\ntransfer-encoding: chunked\r\n\r\n")?;
+    let body: &[u8] = b"hello";
+    for piece in [&body[..cut], &body[cut..]] {
+        if !piece.is_empty() {
+            text.push(b'0' + piece.len() as u8)?;
+            text.extend_from_slice(b"\r\n")?;
+            text.extend_from_slice(piece)?;
+            text.extend_from_slice(b"\r\n")?;
+        }
+    }
+    text.extend_from_slice(b"0\r\n\r\n")?;
+    Ok(text)
+}
+
+#[test]
+fn relays_chunks_whatever_the_cuts(rt: HostRuntime) -> Result<(), Fail> {
+    let alloc = rt.alloc();
+    let response =
+        b"HTTP/1.1 200 OK\r\nTransfer-Encoding: chunked\r\n\r\n5;x=1\r\nhello\r\n0\r\ny: 2\r\n\r\n";
+    for cut in 1..response.len() {
+        let ran = exchange(
+            alloc,
+            ScriptLink::new(
+                alloc,
+                cut_in_two(alloc, REQUEST, REQUEST.len())?,
+                Vec::new(alloc),
+            ),
+            ScriptLink::new(alloc, cut_in_two(alloc, response, cut)?, Vec::new(alloc)),
+        )?;
+        let whole = Outcome::Served {
+            error: None,
+            reuse: true,
+        };
+        assert!(rt; ran.outcome == whole, "cut at {cut}");
+        let mut is_known = false;
+        for place in 0..5usize {
+            let text = written_in_chunks(alloc, place)?;
+            is_known = is_known || text.as_slice() == ran.written.as_slice();
+        }
+        assert!(rt; is_known, "cut at {cut}");
+    }
+    Ok(())
+}
+
 /// The calls of a link that fail in a test: none, or the read or the write of that number.
 #[derive(Clone, Copy, PartialEq, Eq)]
 enum Failing {
