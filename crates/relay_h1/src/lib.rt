@@ -1,4 +1,4 @@
-//! HTTP/1 on a link: heads, framing and wire form (RFC 9112, sections 2 to 6).
+//! HTTP/1 on a link: heads, framing, bodies and wire form (RFC 9112, sections 2 to 7).
 #![tactic(auto)]
 
 mod ahead;
