@@ -2,7 +2,7 @@
 use Rattle.std.proofs.Common.{◌≡◌, ℕ, zero, suc, ◌+◌, ◌-◌, ◌<◌, ◌≤◌, ◌⊎◌, List, [], ◌++◌, length, take, drop, ◌==◌, ◌↔◌, IsTrue, Bool, false, refl, sym, ap, subst, ◌∙◌, inl, inr, arith, length-append, append_assoc, append-nil, take-append-drop, length-take, length-drop}
 use Rattle.std.proofs.lemmas.Bool.{ne_eqb}
 use Rattle.std.proofs.lemmas.List.{drop-append-le, take-append-le, drop-drop, take-take}
-use Rattle.std.proofs.Math.Seq.{take-add, drop-length}
+use Rattle.std.proofs.Math.Seq.{take-add}
 use Rattle.relay_tasks.specs.declared.ErrorSource.TheVariants.{Upstream, Downstream}
 use Rattle.relay_tasks.specs.declared.Fault.{Fault}
 use Rattle.relay_links.specs.Link.{LinkState, LinkStart, GivesBytes, WaitsOnRead, EndsRead, FailsRead, TakesBytes, WaitsOnWrite, FailsWrite}

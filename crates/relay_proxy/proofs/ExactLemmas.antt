@@ -16,7 +16,7 @@ use Rattle.relay_h1.specs.Body.{BodyText, broken, open_text, ended_text, Body}
 use Rattle.relay_h1.proofs.BodyLemmas.{Body-unique}
 use Rattle.relay_h1.proofs.BodyStays.{Body-broken-append}
 use Rattle.relay_h1.proofs.HeadEndLemmas.{head_end-within}
-use Rattle.relay_proxy.specs.Built.{IsConnect, IsBuiltRequest, HasLength, IsBuiltResponse, IsStreamed, IsBuiltStream, HasRoom}
+use Rattle.relay_proxy.specs.Built.{IsConnect, IsBuiltRequest, HasLength, IsBuiltResponse, IsStreamed, IsBuiltStream}
 use Rattle.relay_proxy.specs.Passed.{World, Start, Passed, Waited, asked}
 use Rattle.relay_proxy.specs.Endings as endings
 use Rattle.relay_proxy.specs.Endings.{IsAccepted, IsAnswered, IsAnsweredByStream, IsWholeBody, IsSentWhole, IsUnfit, IsUnfitResponse, HasBrokenBody, IsBeingWritten, IsTurnedDown, IsLeftAlone, EndsUnlinked, EndsLinked, IsEnded, IsFailedAttempt}
@@ -91,8 +91,11 @@ whole_or_short : {method bytes : List ℕ} {a b : ResponseHead} {f g : Framing} 
     → n + j ≤ length bytes → length bytes < m + k → ⊥
 whole_or_short {method} {bytes} {a} {b} {f} {g} {n} {m} j k x has y needs whole short =
     let same = HasResponse-unique method false bytes a b f g n m x y in
-    omega (arith, same.2,
-    one_length g j k (subst (λ (e : Framing). HasLength e j) same.1 has) needs)
+    omega (
+      arith,
+      same.2,
+      one_length g j k (subst (λ (e : Framing). HasLength e j) same.1 has) needs,
+    )
 
 -- two heads that were accepted are one
 one_head : {s : Start} {p : Passed} {a b : RequestHead} {n m : ℕ} → IsAccepted s p a n → IsAccepted s p b m → a ≡ b
@@ -180,11 +183,11 @@ exact_refused s p w NoRequest ends answer error down whole = absurd (turns_down_
 exact_refused s p w (Refused told) ends answer error down whole =
     elim ends as (λ _. IsUnfinished (Refused told) ⊎ IsRefusal s p (Refused told)) [
       | inl answered ↦ inr (record {
-          answer = answered.answer;
-          error = told;
-          turned_down = answered.turned_down;
-          is = refl;
-        })
+        answer = answered.answer;
+        error = told;
+        turned_down = answered.turned_down;
+        is = refl;
+      })
       | inr other ↦ absurd (elim other as (λ _. ⊥) [
         | inl alone ↦ turned_down_or_left down alone.why
         | inr fault ↦ elim fault.place as (λ _. ⊥) [
@@ -312,10 +315,16 @@ sized_fit {method} {p} head len n answered (endings.IsUnfit.is_cut_in_head cut) 
     absurd (HasResponse-IsOpen method false p.got head answered.framing len answered.has cut.open_head)
 sized_fit {method} {p} head len n answered (endings.IsUnfit.is_cut_in_body cut) =
     let same = HasResponse-unique method false p.got head cut.body.head answered.framing cut.body.answered.framing len
-            cut.body.len answered.has cut.body.answered.has in
-    (cut.ended, omega (arith, cut.body.short, same.2,
-    one_length cut.body.answered.framing n cut.body.n
-    (subst (λ (f : Framing). HasLength f n) same.1 answered.built.length) cut.body.answered.built.length))
+    cut.body.len answered.has cut.body.answered.has in (
+      cut.ended,
+      omega (
+        arith,
+        cut.body.short,
+        same.2,
+        one_length cut.body.answered.framing n cut.body.n
+            (subst (λ (f : Framing). HasLength f n) same.1 answered.built.length) cut.body.answered.built.length,
+      ),
+    )
 sized_fit head len n answered (endings.IsUnfit.is_cut_in_stream cut) =
     absurd (sized_or_streamed n answered.has answered.built cut.stream.answered.has cut.stream.answered.built)
 
@@ -343,7 +352,7 @@ stream_fit head framing len answered (endings.IsUnfit.is_cut_in_body cut) =
     absurd (sized_or_streamed cut.body.n cut.body.answered.has cut.body.answered.built answered.has answered.built)
 stream_fit {method} {p} head framing len answered (endings.IsUnfit.is_cut_in_stream cut) =
     let same = HasResponse-unique method false p.got head cut.stream.head framing cut.stream.framing len cut.stream.len
-            answered.has cut.stream.answered.has in
+    answered.has cut.stream.answered.has in
     record {
       chunked = same.1 ∙ cut.chunked;
       ended = cut.ended;
@@ -399,7 +408,7 @@ same_breaks : {method : List ℕ} {p : Passed} {e : Error} (head : ResponseHead)
     → Body framing (drop len p.got) (record { bytes = breaks.body; mark = broken })
 same_breaks {method} {p} head framing len has breaks =
     let same = HasResponse-unique method false p.got head breaks.head framing breaks.framing len breaks.len has
-            breaks.answered.has in
+    breaks.answered.has in
     subst (λ (f : Framing). Body f (drop len p.got) (record { bytes = breaks.body; mark = broken })) (sym same.1)
     (subst (λ (k : ℕ). Body breaks.framing (drop k p.got) (record { bytes = breaks.body; mark = broken })) (sym same.2)
     breaks.breaks)
@@ -424,7 +433,7 @@ exact_unfit s p w link start keep (Served None reuse) ends sent e unfit =
     absurd (elim ends as (λ _. ⊥) [
       | inl whole ↦
           let cut = sized_fit whole.head whole.len whole.n whole.answered
-                  (subst (λ (h : RequestHead). IsUnfit h.method p link e) (one_head sent.accepted whole.accepted) unfit) in
+          (subst (λ (h : RequestHead). IsUnfit h.method p link e) (one_head sent.accepted whole.accepted) unfit) in
           absurd (omega (arith, cut.1, whole.body))
       | inr whole ↦ whole_or_cut whole.whole (stream_fit whole.head whole.framing whole.len whole.answered
           (subst (λ (h : RequestHead). IsUnfit h.method p link e) (one_head sent.accepted whole.accepted) unfit))
@@ -439,7 +448,7 @@ exact_unfit s p w link start keep (Served (Some told) reuse) ends sent e unfit =
             | inl head ↦ open_fit head.open_head head.ended unfit
             | inr within ↦
                 let there = subst (λ (h : RequestHead). IsUnfit h.method p link e)
-                        (one_head sent.accepted within.whole.accepted) unfit in
+                (one_head sent.accepted within.whole.accepted) unfit in
                 elim within.body as (λ _. ⊥) [
                   | inl sized ↦ not_both (sized_fit sized.head sized.len sized.n sized.answered there).0 within.ended
                   | inr stream ↦ not_both (stream_fit stream.head stream.framing stream.len stream.answered there).ended
@@ -480,7 +489,7 @@ exact_broken s p w link start keep (Served (Some told) reuse) ends sent e breaks
                 breaks.answered.has head.open_head
             | inr within ↦
                 let there = subst (λ (h : RequestHead). HasBrokenBody h.method p e)
-                        (one_head sent.accepted within.whole.accepted) breaks in
+                (one_head sent.accepted within.whole.accepted) breaks in
                 elim within.body as (λ _. ⊥) [
                   | inl sized ↦ sized_or_streamed sized.n sized.answered.has sized.answered.built there.answered.has
                       there.answered.built
@@ -504,7 +513,7 @@ asks_not_refused {s} {p} {w} {text} asks (endings.IsTurnedDown.has_bad_head why 
     (subst (λ (xs : List ℕ). IsRefusedRequest xs why) asks.joined (IsRefusedRequest-append (asked s p) asks.rest why refused))
 asks_not_refused {s} {p} {w} {text} asks (endings.IsTurnedDown.asks_to_connect head framing len has connect is told) =
     let all = subst (λ (xs : List ℕ). HasRequest xs head framing len) asks.joined
-            (HasRequest-append (asked s p) asks.rest head framing len has) in
+    (HasRequest-append (asked s p) asks.rest head framing len has) in
     asks.built.method (subst (λ (h : RequestHead). IsConnect h)
     (HasRequest-unique text head asks.head framing Empty len asks.len all asks.has).0 connect)
 

@@ -491,8 +491,12 @@ module _ {L C : Type 0} (state : L → LinkState) (start_at : L → LinkStart) w
 -- a turn that moved raised the work, as long as no number stands at its last value
 work_grows : (old turn now : Work) → 0 < total_work turn → now ≡ added_work old turn → total_work now < last_count
     → total_work old < total_work now
-work_grows old turn now some is fits = grind (arith, ap (λ (w : Work). w.used) is, ap (λ (w : Work). w.moved) is,
-    ap (λ (w : Work). w.ended) is)
+work_grows old turn now some is fits = grind (
+  arith,
+  ap (λ (w : Work). w.used) is,
+  ap (λ (w : Work). w.moved) is,
+  ap (λ (w : Work). w.ended) is,
+)
 
 -- a turn that moved did not end the request
 moved_or_ended : step.Moved ≡ step.Ended → ⊥

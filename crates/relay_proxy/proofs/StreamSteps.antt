@@ -1,11 +1,10 @@
 -- Turns of an attempt whose response is sent in chunks: its text is written as its body is cut.
-use Rattle.std.proofs.Common.{◌≡◌, ℕ, zero, suc, ◌+◌, ◌-◌, ◌<◌, ◌≤◌, ◌⊎◌, ◌↔◌, IsTrue, Bool, true, false, List, [], ◌∷◌, ◌++◌, length, take, drop, codes, refl, sym, ap, subst, ◌∙◌, inl, inr, arith, length-append, append_assoc, append-nil, length-drop}
+use Rattle.std.proofs.Common.{◌≡◌, ℕ, ◌+◌, ◌-◌, ◌<◌, ◌≤◌, ◌⊎◌, ◌↔◌, IsTrue, Bool, true, false, List, [], ◌∷◌, ◌++◌, length, take, drop, codes, refl, sym, ap, subst, ◌∙◌, inl, inr, arith, length-append, append_assoc, append-nil}
 use Rattle.std.specs.List.{concat}
 use Rattle.std.proofs.lemmas.List.{drop-append-le, drop-drop}
 use Rattle.std.proofs.lemmas.List.Folds.{concat-append}
 use Rattle.http_header.specs.HeaderMap.{RefusesInsert}
 use Rattle.relay_tasks.specs.declared.Context.TheVariants.{HeadTooLong, BadFraming}
-use Rattle.relay_tasks.specs.declared.Error.{Error}
 use Rattle.relay_tasks.specs.declared.ErrorSource.TheVariants.{Upstream, Downstream, Internal}
 use Rattle.relay_tasks.specs.declared.Fault.{Fault}
 use Rattle.relay_tasks.specs.Head.{RequestHead, ResponseHead}
@@ -14,7 +13,7 @@ use Rattle.relay_links.specs.declared.Pause.TheVariants.{NotReady, Silent}
 use Rattle.relay_h1.specs.Body.{BodyText, broken, open_text, ended_text, behind, Body}
 use Rattle.relay_h1.specs.Body as body
 use Rattle.relay_h1.specs.BodyReader.{Reads, SoFar}
-use Rattle.relay_h1.specs.BodyWire.{chunk_text, end_text, pieces_text}
+use Rattle.relay_h1.specs.BodyWire.{chunk_text, pieces_text}
 use Rattle.relay_h1.specs.Verdict.{HasResponse, refused_from}
 use Rattle.relay_h1.specs.Wire.{response_text}
 use Rattle.relay_h1.specs.declared.body_reader.State.{State}
@@ -29,21 +28,20 @@ use Rattle.relay_proxy.specs.Built.{IsBuiltStream, IsStreamed, HasRoom, streamed
 use Rattle.relay_proxy.specs.Passed.{World, Start, Passed, Waited, TellsClient}
 use Rattle.relay_proxy.specs.Endings as endings
 use Rattle.relay_proxy.specs.Endings.{IsPrefixOf, IsInOrder, EndsBody, AreFrontOf, IsWholeBody, stream_so_far, stream_whole, fault_error, cut_off}
-use Rattle.relay_proxy.specs.Phases.{IsStreaming, IsCutting, IsWritingChunks, IsReadingChunks, IsWritingLast, IsAttempt, RunSoFar, IsAsking, allowance}
+use Rattle.relay_proxy.specs.Phases.{IsStreaming, IsWritingChunks, IsWritingLast, IsAttempt, RunSoFar, IsAsking, allowance}
 use Rattle.relay_proxy.specs.Stream.{IsAwaitingChunks, EndsStream, IsStreamEnd}
 use Rattle.relay_proxy.specs.Turn.{Advances, failed}
 use Rattle.relay_proxy.specs.Offer.{TakesFront}
 use Rattle.relay_proxy.specs.declared.machine.Attempt.{Attempt}
 use Rattle.relay_proxy.specs.declared.machine.Next.{Next}
 use Rattle.relay_proxy.specs.declared.machine.Phase.{Phase}
-use Rattle.relay_proxy.specs.declared.machine.Phase.TheVariants.{ReadResponse, WriteChunks, ReadChunks, WriteLast, Close}
+use Rattle.relay_proxy.specs.declared.machine.Phase.TheVariants.{ReadResponse, WriteChunks, ReadChunks, WriteLast}
 use Rattle.relay_proxy.specs.declared.machine.RunStep.{RunStep}
 use Rattle.relay_proxy.specs.declared.machine.RunStep.TheVariants as step
 use Rattle.relay_proxy.specs.declared.machine.Stream.{Stream}
-use Rattle.relay_proxy.specs.declared.outcome.Outcome.TheVariants.{Served, OutOfMemory}
 use Rattle.relay_proxy.specs.declared.pending.Pending.{Pending}
-use Rattle.relay_proxy.proofs.Tells.{Rose-le, written_more, got_more, client_waited, link_waited, client_took, client_still, client_waits, client_same, link_gave, link_waits, link_still, take_some, take_whole, take_rest, not_true}
-use Rattle.relay_proxy.proofs.ExchangeSteps.{asking_as, answers_to, sent_whole_by, head_then_body, attempt_as, fails_with, attempt_ended, attempt_read_failed}
+use Rattle.relay_proxy.proofs.Tells.{Rose-le, written_more, got_more, client_waited, link_waited, client_took, client_still, client_waits, client_same, link_gave, link_waits, take_some, take_whole, take_rest, not_true}
+use Rattle.relay_proxy.proofs.ExchangeSteps.{asking_as, answers_to, sent_whole_by, attempt_as, fails_with, attempt_ended, attempt_read_failed}
 use Rattle.relay_proxy.proofs.BodySteps.{attempt_same}
 
 -- ---- texts in chunks
@@ -910,8 +908,11 @@ module _ {L C : Type 0} (state : L → LinkState) (start_at : L → LinkStart) w
           order = order_of_stream s q x.ahead a.request st streaming run.holds.1.pieces
               (front_of_whole st.framing (state a.connection.link) (drop streaming.len p.got) run.holds.1.pieces run.holds.1.n
               run.holds.1.whole)
-              (inr (ends_body st.framing (state a.connection.link) (drop streaming.len p.got) (concat run.holds.1.pieces)
-              run.holds.1.n streaming.answered.built.streamed run.holds.1.whole, all_of _ _ all));
+              (inr (
+                ends_body st.framing (state a.connection.link) (drop streaming.len p.got) (concat run.holds.1.pieces)
+                    run.holds.1.n streaming.answered.built.streamed run.holds.1.whole,
+                all_of _ _ all,
+              ));
           going = λ limit. cc;
           holds = (
             attempt_same state start_at p q v v a refl refl refl run.holds.0,
@@ -991,8 +992,11 @@ module _ {L C : Type 0} (state : L → LinkState) (start_at : L → LinkStart) w
       order = order_of_stream s (written_more p (take takes.n text.output)) x.ahead a.request st streaming run.holds.1.pieces
           (front_of_whole st.framing (state a.connection.link) (drop streaming.len p.got) run.holds.1.pieces run.holds.1.n
           run.holds.1.whole)
-          (inr (ends_body st.framing (state a.connection.link) (drop streaming.len p.got) (concat run.holds.1.pieces)
-          run.holds.1.n streaming.answered.built.streamed run.holds.1.whole, left_of _ left.output _ all));
+          (inr (
+            ends_body st.framing (state a.connection.link) (drop streaming.len p.got) (concat run.holds.1.pieces)
+                run.holds.1.n streaming.answered.built.streamed run.holds.1.whole,
+            left_of _ left.output _ all,
+          ));
       going = tt;
       holds = (
         attempt_same state start_at p (written_more p (take takes.n text.output)) v v a refl refl refl run.holds.0,

@@ -17,7 +17,7 @@ pub returns-in-Err-Error-clause-run : goal.returns-in-Err-Error-clause-run
 returns-in-Err-Error-clause-run g c = λ s p v w run has built.
     let cause = rw c.in-Err-Error.field-0-is at c.in-Err-Error.ensures.causes in
     let full = c.in-Err-Error.ensures.full
-            (ap (λ (x : Fail). Err x) (c.in-Err-Error.field-0-is ∙ ap (λ (x : Error). fail.Error x) cause)) in
+    (ap (λ (x : Fail). Err x) (c.in-Err-Error.field-0-is ∙ ap (λ (x : Error). fail.Error x) cause)) in
     stream_full g.L.ByteLink.state g.L.ByteLink.start s p v w c.args.attempt c.args.read.head
     c.args.read.framing c.args.read.len _ has built full.0 full.1
     (c.response_unfit.ensures

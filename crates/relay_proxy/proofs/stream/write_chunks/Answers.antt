@@ -1,6 +1,5 @@
 -- Each answer of the one write is a turn of what was cut.
 use Rattle.std.proofs.Common.{refl}
-use Rattle.relay_proxy.proofs.Tells.{sided}
 use Rattle.relay_proxy.proofs.StreamSteps.{chunks_wrote_all, chunks_wrote_part, chunks_wait, chunks_fail}
 use Rattle.relay_proxy.proofs.stream.write_chunks.Goals as goal
 

@@ -1,6 +1,5 @@
 -- Each answer of the one write is a turn of the end of the response.
 use Rattle.std.proofs.Common.{refl}
-use Rattle.relay_proxy.proofs.Tells.{sided}
 use Rattle.relay_proxy.proofs.StreamSteps.{last_wrote_all, last_wrote_part, last_waits, last_fails}
 use Rattle.relay_proxy.proofs.stream.write_last.Goals as goal
 
