@@ -114,6 +114,7 @@ fn written_in_chunks(alloc: Global, cut: usize) -> Result<Vec<u8>, Fail> {
     let mut text = Vec::new(alloc);
     text.extend_from_slice(b"HTTP/1.1 200 OK\r\ntransfer-encoding: chunked\r\n\r\n")?;
     let body: &[u8] = b"hello";
+    let cut = cut.min(body.len());
     for piece in [&body[..cut], &body[cut..]] {
         if !piece.is_empty() {
             text.push(b'0' + piece.len() as u8)?;
