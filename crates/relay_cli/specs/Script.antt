@@ -1,6 +1,8 @@
 -- Scripts: the JSON object that says what the client and the peer of a run give.
 use Rattle.std.specs.Prelude.{◌≡◌, ℕ, ◌+◌, ◌^◌, ◌==◌, nat_lt, List, [], ◌∷◌, true, false, if◌then◌else◌, Option, Some, None, option_map, is_some, unwrap_or, Result, Ok, Err, codes}
 use Rattle.std.specs.Str.{bytes_eq, is_utf8}
+use Rattle.hex.specs.Hex.{decode_of}
+use Rattle.hex.specs.declared.error.FromHexError.{FromHexError}
 use Rattle.serde_json.specs.Data.{Data, number, string, boolean, array, unsigned, Items, no_items, item}
 use Rattle.serde_json.specs.Events.{members_len}
 use Rattle.serde_json.specs.Find.{get, as_object}
@@ -49,16 +51,38 @@ abbrev pub where_there : {X : Type 0} → Option Data → (Data → Option X) �
 where_there None read other = other
 where_there (Some value) read other = read value
 
+-- bytes that the link gives, at least one
+abbrev pub bytes_item : List ℕ → Option ReadItem
+bytes_item [] = None
+bytes_item (b ∷ bs) = Some (give.Bytes (b ∷ bs))
+
 -- `{"text": t}`: the bytes of a text that is not empty
 abbrev pub text_item : Data → Option ReadItem
-text_item (string []) = None
-text_item (string (b ∷ bs)) = Some (give.Bytes (b ∷ bs))
+text_item (string text) = bytes_item text
 text_item _ = None
 
--- `{"wait": n}`: n answers that nothing came yet; n is whole and below 2^32
+-- the bytes that digits spell, where they spell any
+abbrev pub spelt : Result (List ℕ) FromHexError → Option (List ℕ)
+spelt (Ok bytes) = Some bytes
+spelt (Err e) = None
+
+-- `{"hex": h}`: bytes by two hexadecimal digits each, in either case; not empty
+abbrev pub hex_item : Data → Option ReadItem
+hex_item (string digits) = spelt (decode_of digits) >>= bytes_item
+hex_item _ = None
+
+-- a number: whole and below 2^32
+abbrev pub count_of : Data → Option ℕ
+count_of (number (unsigned n)) = if nat_lt n (2 ^ 32) then Some n else None
+count_of _ = None
+
+-- `{"wait": n}`: n answers that nothing came yet
 abbrev pub wait_item : Data → Option ReadItem
-wait_item (number (unsigned n)) = if nat_lt n (2 ^ 32) then Some (give.Wait n) else None
-wait_item _ = None
+wait_item value = option_map give.Wait (count_of value)
+
+-- `{"after": n}`: silent until the link took n bytes in all
+abbrev pub after_item : Data → Option ReadItem
+after_item value = option_map give.After (count_of value)
 
 -- `{"end": true}`: the link has given all
 abbrev pub end_item : Data → Option ReadItem
@@ -74,9 +98,11 @@ fault_item _ = None
 abbrev pub item_at_key : Data → Option ReadItem
 item_at_key value =
     where_there (get (codes "text") value) text_item
+    (where_there (get (codes "hex") value) hex_item
     (where_there (get (codes "wait") value) wait_item
+    (where_there (get (codes "after") value) after_item
     (where_there (get (codes "end") value) end_item
-    (where_there (get (codes "fault") value) fault_item None)))
+    (where_there (get (codes "fault") value) fault_item None)))))
 
 -- a read item: an object of exactly one key
 abbrev pub item_of : Data → Option ReadItem

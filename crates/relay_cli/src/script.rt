@@ -1,11 +1,13 @@
 //! Scripts: what the client and the peer of a run give, read from JSON. A reader for each kind of
 //! thing; a script is read whole before anything runs.
 ghost use Rattle.std.specs.Prelude.{◌≡◌, is_some, codes, if◌then◌else◌, option_map, Some};
+ghost use Rattle.hex.specs.Hex.{decode_of};
 ghost use Rattle.serde_json.specs.Find.{get};
 ghost use Rattle.serde_json.specs.View.{view, items_view};
-ghost use Rattle.relay_cli.specs.Script.{Reads, script_spec, reads_script, reads_value, script_of, one_peer_of, only_peer, peer_spec, peer_of, name_of, items_of, each_item, item_of, item_at_key, text_item, wait_item, end_item, fault_item, key_count, has};
+ghost use Rattle.relay_cli.specs.Script.{Reads, script_spec, reads_script, reads_value, script_of, one_peer_of, only_peer, peer_spec, peer_of, name_of, items_of, each_item, item_of, item_at_key, text_item, spelt, hex_item, count_of, wait_item, after_item, end_item, fault_item, key_count, has};
 
 use bytes::Bytes;
+use hex::FromHexError;
 use relay_links::ReadItem;
 use relay_tasks::{Fault, FaultKind, RetryType};
 use serde_json::Value;
@@ -173,8 +175,14 @@ fn item_by_key(alloc: Global, value: &Value) -> Result<ReadItem, ScriptError>
     if let Some(text) = value.get("text") {
         return given(alloc, text);
     }
-    if let Some(count) = value.get("wait") {
-        return wait(count);
+    if let Some(digits) = value.get("hex") {
+        return digits_given(alloc, digits);
+    }
+    if let Some(number) = value.get("wait") {
+        return Ok(ReadItem::Wait(count(number)?));
+    }
+    if let Some(number) = value.get("after") {
+        return Ok(ReadItem::After(count(number)?));
     }
     if let Some(ended) = value.get("end") {
         return end(ended);
@@ -199,12 +207,41 @@ fn given(alloc: Global, value: &Value) -> Result<ReadItem, ScriptError>
     Ok(ReadItem::Bytes(bytes))
 }
 
-/// So many answers that nothing came yet.
-fn wait(value: &Value) -> Result<ReadItem, ScriptError>
-    ensures { Reads (λ item. item) result (wait_item (view value.now)) }
+/// The bytes that digits spell, at least one.
+fn digits_given(alloc: Global, value: &Value) -> Result<ReadItem, ScriptError>
+    ensures { Reads (λ item. item) result (hex_item (view value.now)) }
+{
+    let Value::String(digits) = value else {
+        return Err(ScriptError::Refused);
+    };
+    let bytes = spelt(alloc, digits.as_str())?;
+    if bytes.is_empty() {
+        return Err(ScriptError::Refused);
+    }
+    Ok(ReadItem::Bytes(Bytes::from_vec(bytes)?))
+}
+
+/// The bytes that digits spell.
+fn spelt(alloc: Global, digits: &str) -> Result<Vec<u8>, ScriptError>
+    ensures { Reads (λ bytes. bytes.items) result (spelt (decode_of digits.now)) }
+{
+    match hex::decode(alloc, digits) {
+        Ok(bytes) => Ok(bytes),
+        Err(FromHexError::OutOfMemory) => Err(ScriptError::OutOfMemory),
+        Err(
+            FromHexError::InvalidHexCharacter { .. }
+            | FromHexError::OddLength
+            | FromHexError::InvalidStringLength,
+        ) => Err(ScriptError::Refused),
+    }
+}
+
+/// The number that a value is.
+fn count(value: &Value) -> Result<u32, ScriptError>
+    ensures { Reads (λ count. count) result (count_of (view value.now)) }
 {
     match value.as_u64() {
-        Some(count) if count <= u32::MAX as u64 => Ok(ReadItem::Wait(count as u32)),
+        Some(count) if count <= u32::MAX as u64 => Ok(count as u32),
         Some(_) | None => Err(ScriptError::Refused),
     }
 }

@@ -5,6 +5,7 @@ use std::alloc::{AllocError, Global};
 use std::process::Abort;
 
 mod exchange;
+mod items;
 
 /// What a run of the words over an input wrote, behind the number of its status and a space.
 fn answer(alloc: Global, words: &[&str], input: &[u8]) -> Result<String, AllocError> {

@@ -1,0 +1,64 @@
+//! Each item of a script once through a run, and the forms that are refused.
+use crate::tests::{ANSWER, GET, REPORT, answer, script};
+use std::alloc::{AllocError, Global};
+use std::process::Abort;
+
+const SILENT: &str = "0 request 1\noutcome TurnLimit\nerror -\nreuse no\nwritten \n\
+    attempt 1 a reused no kept no error -\n\
+    sent GET /a HTTP/1.1\\r\\nhost: h.example\\r\\n\\r\\n\n";
+
+/// What a run of a script writes, behind its status and a space.
+fn run(alloc: Global, client: &str, peer: &str) -> Result<String, AllocError> {
+    let input = script(alloc, client, peer)?;
+    answer(alloc, &["run"], input.as_bytes())
+}
+
+/// Checks that none of these is a read item.
+fn assert_no_items(rt: &impl Abort, alloc: Global, items: &[&str]) -> Result<(), AllocError> {
+    for item in items {
+        let found = run(alloc, item, ANSWER)?;
+        assert_eq!(rt; found.as_str(), "2 script refused\n", "at {item}");
+        let found = run(alloc, GET, item)?;
+        assert_eq!(rt; found.as_str(), "2 script refused\n", "at {item}");
+    }
+    Ok(())
+}
+
+#[test]
+fn gives_bytes_by_their_digits(rt: HostRuntime) -> Result<(), AllocError> {
+    let get = "{\"hex\":\"474554202f6120485454502f312e310d0a\"},\
+        {\"hex\":\"486F73743a20682E6578616D706c650D0A0d0a\"}";
+    assert_eq!(rt; run(rt.alloc(), get, ANSWER)?.as_str(), REPORT);
+    let refused = [
+        "{\"hex\":\"\"}",
+        "{\"hex\":\"0d0\"}",
+        "{\"hex\":\"0x\"}",
+        "{\"hex\":\" 0d0a\"}",
+        "{\"hex\":7}",
+        "{\"hex\":[\"0d0a\"]}",
+        "{\"hex\":\"0d0a\",\"text\":\"x\"}",
+        "{\"Hex\":\"0d0a\"}",
+    ];
+    assert_no_items(&rt, rt.alloc(), &refused)
+}
+
+#[test]
+fn is_silent_until_enough_was_taken(rt: HostRuntime) -> Result<(), AllocError> {
+    let sent = format!(in rt.alloc(); "{{\"after\":36}},{ANSWER}")?;
+    assert_eq!(rt; run(rt.alloc(), GET, sent.as_str())?.as_str(), REPORT);
+    let at_once = format!(in rt.alloc(); "{{\"after\":0}},{GET}")?;
+    assert_eq!(rt; run(rt.alloc(), at_once.as_str(), ANSWER)?.as_str(), REPORT);
+    let more = format!(in rt.alloc(); "{{\"after\":37}},{ANSWER}")?;
+    assert_eq!(rt; run(rt.alloc(), GET, more.as_str())?.as_str(), SILENT);
+    let refused = [
+        "{\"after\":4294967296}",
+        "{\"after\":-1}",
+        "{\"after\":-0}",
+        "{\"after\":1.0}",
+        "{\"after\":1e0}",
+        "{\"after\":\"1\"}",
+        "{\"after\":true}",
+        "{\"after\":1,\"wait\":1}",
+    ];
+    assert_no_items(&rt, rt.alloc(), &refused)
+}
