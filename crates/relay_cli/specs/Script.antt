@@ -7,7 +7,10 @@ use Rattle.serde_json.specs.Data.{Data, number, string, boolean, array, unsigned
 use Rattle.serde_json.specs.Events.{members_len}
 use Rattle.serde_json.specs.Find.{get, as_object}
 use Rattle.serde_json.specs.Read.{read as read_text}
-use Rattle.relay_tasks.specs.declared.error.RetryType.TheVariants.{Decided}
+use Rattle.relay_tasks.specs.declared.error.RetryType.{RetryType}
+use Rattle.relay_tasks.specs.declared.error.RetryType.TheVariants.{Decided, ReusedOnly}
+use Rattle.relay_tasks.specs.declared.fault.Fault.{Fault}
+use Rattle.relay_tasks.specs.declared.fault.FaultKind.{FaultKind}
 use Rattle.relay_tasks.specs.declared.fault.FaultKind.TheVariants as kind
 use Rattle.relay_cli.specs.declared.script.PeerEntry.{PeerEntry}
 use Rattle.relay_links.specs.declared.read_script.ReadItem.{ReadItem}
@@ -89,24 +92,49 @@ abbrev pub end_item : Data → Option ReadItem
 end_item (boolean true) = Some give.End
 end_item _ = None
 
--- `{"fault": "Read"}`: the read fails, and is not to be retried
-abbrev pub fault_item : Data → Option ReadItem
-fault_item (string name) = if bytes_eq name (codes "Read") then Some (give.Fault (record { kind = kind.Read; retry = Decided false })) else None
-fault_item _ = None
+-- what a read fails by
+abbrev pub read_kind : Data → Option FaultKind
+read_kind (string name) =
+    if bytes_eq name (codes "Read") then Some kind.Read
+    else if bytes_eq name (codes "ReadTimedout") then Some kind.ReadTimedout
+    else None
+read_kind _ = None
 
--- an item by its one key
+-- a retry mark: decided, or only where the link had been used before
+abbrev pub retry_of : Data → Option RetryType
+retry_of (boolean on) = Some (Decided on)
+retry_of (string word) = if bytes_eq word (codes "reused") then Some ReusedOnly else None
+retry_of _ = None
+
+-- the mark at `retry`; not to be retried where there is none
+abbrev pub mark_of : Data → Option RetryType
+mark_of value = where_there (get (codes "retry") value) retry_of (Some (Decided false))
+
+-- a fault of this kind: an object of its one key, and `retry` or none
+abbrev pub fault_of : Data → FaultKind → Option Fault
+fault_of value kind =
+    if key_count value == 1 + has (codes "retry") value
+    then option_map (λ retry. record { kind = kind; retry = retry }) (mark_of value)
+    else None
+
+-- `{"fault": k, "retry": r}`: the read fails by the kind k, with the mark r
+abbrev pub fault_item : Data → Data → Option ReadItem
+fault_item value name = option_map give.Fault (read_kind name >>= fault_of value)
+
+-- an item other than a fault, by its one key
 abbrev pub item_at_key : Data → Option ReadItem
 item_at_key value =
     where_there (get (codes "text") value) text_item
     (where_there (get (codes "hex") value) hex_item
     (where_there (get (codes "wait") value) wait_item
     (where_there (get (codes "after") value) after_item
-    (where_there (get (codes "end") value) end_item
-    (where_there (get (codes "fault") value) fault_item None)))))
+    (where_there (get (codes "end") value) end_item None))))
 
--- a read item: an object of exactly one key
+-- a read item: a fault, or an object of exactly one key
 abbrev pub item_of : Data → Option ReadItem
-item_of value = if key_count value == 1 then item_at_key value else None
+item_of value =
+    where_there (get (codes "fault") value) (fault_item value)
+    (if key_count value == 1 then item_at_key value else None)
 
 abbrev pub each_item : Items → Option (List ReadItem)
 each_item no_items = Some []

@@ -4,7 +4,7 @@ ghost use Rattle.std.specs.Prelude.{◌≡◌, is_some, codes, if◌then◌else�
 ghost use Rattle.hex.specs.Hex.{decode_of};
 ghost use Rattle.serde_json.specs.Find.{get};
 ghost use Rattle.serde_json.specs.View.{view, items_view};
-ghost use Rattle.relay_cli.specs.Script.{Reads, script_spec, reads_script, reads_value, script_of, one_peer_of, only_peer, peer_spec, peer_of, name_of, items_of, each_item, item_of, item_at_key, text_item, spelt, hex_item, count_of, wait_item, after_item, end_item, fault_item, key_count, has};
+ghost use Rattle.relay_cli.specs.Script.{Reads, script_spec, reads_script, reads_value, script_of, one_peer_of, only_peer, peer_spec, peer_of, name_of, items_of, each_item, item_of, item_at_key, text_item, spelt, hex_item, count_of, wait_item, after_item, end_item, read_kind, retry_of, mark_of, fault_of, key_count, has};
 
 use bytes::Bytes;
 use hex::FromHexError;
@@ -162,13 +162,17 @@ fn each_item(alloc: Global, values: &[Value]) -> Result<Vec<ReadItem>, ScriptErr
 fn item(alloc: Global, value: &Value) -> Result<ReadItem, ScriptError>
     ensures { Reads (λ item. item) result (item_of (view value.now)) }
 {
+    if let Some(name) = value.get("fault") {
+        let kind = read_kind(name)?;
+        return Ok(ReadItem::Fault(fault(value, kind)?));
+    }
     if key_count(value) != 1 {
         return Err(ScriptError::Refused);
     }
     item_by_key(alloc, value)
 }
 
-/// The read item, by its key.
+/// The read item other than a fault, by its key.
 fn item_by_key(alloc: Global, value: &Value) -> Result<ReadItem, ScriptError>
     ensures { Reads (λ item. item) result (item_at_key (view value.now)) }
 {
@@ -186,9 +190,6 @@ fn item_by_key(alloc: Global, value: &Value) -> Result<ReadItem, ScriptError>
     }
     if let Some(ended) = value.get("end") {
         return end(ended);
-    }
-    if let Some(kind) = value.get("fault") {
-        return fault(kind);
     }
     Err(ScriptError::Refused)
 }
@@ -256,15 +257,47 @@ fn end(value: &Value) -> Result<ReadItem, ScriptError>
     }
 }
 
-/// A read that fails, by the name of its kind.
-fn fault(value: &Value) -> Result<ReadItem, ScriptError>
-    ensures { Reads (λ item. item) result (fault_item (view value.now)) }
+/// The kind of a read's fault, by its name.
+fn read_kind(name: &Value) -> Result<FaultKind, ScriptError>
+    ensures { Reads (λ kind. kind) result (read_kind (view name.now)) }
 {
+    match name.as_str() {
+        Some("Read") => Ok(FaultKind::Read),
+        Some("ReadTimedout") => Ok(FaultKind::ReadTimedout),
+        Some(_) | None => Err(ScriptError::Refused),
+    }
+}
+
+/// The fault of this kind that a value is.
+fn fault(value: &Value, kind: FaultKind) -> Result<Fault, ScriptError>
+    ensures { Reads (λ fault. fault) result (fault_of (view value.now) kind) }
+{
+    if key_count(value) != 1 + has(value, "retry") {
+        return Err(ScriptError::Refused);
+    }
+    let retry = mark(value)?;
+    Ok(Fault { kind, retry })
+}
+
+/// The mark of a fault; not to be retried where it has none.
+fn mark(value: &Value) -> Result<RetryType, ScriptError>
+    ensures { Reads (λ mark. mark) result (mark_of (view value.now)) }
+{
+    match value.get("retry") {
+        Some(mark) => retry(mark),
+        None => Ok(RetryType::Decided(false)),
+    }
+}
+
+/// The mark that a value is.
+fn retry(value: &Value) -> Result<RetryType, ScriptError>
+    ensures { Reads (λ mark. mark) result (retry_of (view value.now)) }
+{
+    if let Some(on) = value.as_bool() {
+        return Ok(RetryType::Decided(on));
+    }
     match value.as_str() {
-        Some("Read") => Ok(ReadItem::Fault(Fault {
-            kind: FaultKind::Read,
-            retry: RetryType::Decided(false),
-        })),
+        Some("reused") => Ok(RetryType::ReusedOnly),
         Some(_) | None => Err(ScriptError::Refused),
     }
 }

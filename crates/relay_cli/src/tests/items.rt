@@ -62,3 +62,70 @@ fn is_silent_until_enough_was_taken(rt: HostRuntime) -> Result<(), AllocError> {
     ];
     assert_no_items(&rt, rt.alloc(), &refused)
 }
+
+/// Checks the line that tells the error of a fault.
+fn assert_error(
+    rt: &impl Abort,
+    alloc: Global,
+    client: &str,
+    peer: &str,
+    error: &str,
+) -> Result<(), AllocError> {
+    let found = run(alloc, client, peer)?;
+    let line = format!(in alloc; "\nerror {error}\n")?;
+    assert!(rt;
+        found.as_str().contains(line.as_str()),
+        "{found} has no {line}"
+    );
+    Ok(())
+}
+
+#[test]
+fn fails_a_read_by_its_kind_and_mark(rt: HostRuntime) -> Result<(), AllocError> {
+    for (fault, error) in [
+        ("{\"fault\":\"Read\"}", "ReadError Upstream false"),
+        (
+            "{\"fault\":\"ReadTimedout\"}",
+            "ReadTimedout Upstream false",
+        ),
+        (
+            "{\"fault\":\"Read\",\"retry\":false}",
+            "ReadError Upstream false",
+        ),
+        (
+            "{\"retry\":true,\"fault\":\"Read\"}",
+            "ReadError Upstream true",
+        ),
+        (
+            "{\"fault\":\"ReadTimedout\",\"retry\":\"reused\"}",
+            "ReadTimedout Upstream reused",
+        ),
+    ] {
+        assert_error(&rt, rt.alloc(), GET, fault, error)?;
+    }
+    let timed_out = "{\"fault\":\"ReadTimedout\"}";
+    assert_error(
+        &rt,
+        rt.alloc(),
+        timed_out,
+        ANSWER,
+        "ReadTimedout Downstream false",
+    )?;
+    let refused = [
+        "{\"fault\":\"Write\"}",
+        "{\"fault\":\"WriteTimedout\"}",
+        "{\"fault\":\"Connect\"}",
+        "{\"fault\":\"InvalidH2\"}",
+        "{\"fault\":\"read\"}",
+        "{\"fault\":\"\"}",
+        "{\"fault\":false}",
+        "{\"fault\":\"Read\",\"retry\":\"true\"}",
+        "{\"fault\":\"Read\",\"retry\":\"Reused\"}",
+        "{\"fault\":\"Read\",\"retry\":1}",
+        "{\"fault\":\"Read\",\"retry\":null}",
+        "{\"fault\":\"Read\",\"wait\":1}",
+        "{\"retry\":true}",
+        "{\"text\":\"x\",\"retry\":true}",
+    ];
+    assert_no_items(&rt, rt.alloc(), &refused)
+}
