@@ -8,6 +8,7 @@ use Rattle.relay_links.specs.ScriptEntries.{links_returned, gets_failed}
 use Rattle.relay_links.specs.Told.{Since, told_length, more}
 use Rattle.relay_links.specs.declared.connector.Returned.{Returned}
 use Rattle.relay_links.specs.declared.read_script.ReadItem.{ReadItem}
+use Rattle.relay_links.specs.declared.write_script.WriteItem.{WriteItem}
 use Rattle.relay_links.specs.declared.script_connector.ScriptConnector.{ScriptConnector}
 use Rattle.relay_links.specs.declared.script_link.ScriptLink.{ScriptLink}
 use Rattle.relay_proxy.specs.Endings.{EndsUnlinked, EndsWith}
@@ -38,8 +39,9 @@ since_start place told items zero_is since =
     let from : drop 0 told ≡ items = subst (λ (n : ℕ). drop n told ≡ items) zero_is since.1 in from
 
 -- what a fresh link took is nothing
-fresh_taken : (client : ScriptLink) (read : List ReadItem) → IsFresh client read [] → told_length (script_state client).taken ≡ 0
-fresh_taken client read fresh = ap (λ (s : LinkState). told_length s.taken) fresh.state
+fresh_taken : (client : ScriptLink) (read : List ReadItem) (write : List WriteItem) → IsFresh client read write
+    → told_length (script_state client).taken ≡ 0
+fresh_taken client read write fresh = ap (λ (s : LinkState). told_length s.taken) fresh.state
 
 -- a request that had no link sent nothing
 unlinked_sent : (s : Start) (p : Passed) (w : World) (outcome : Outcome) → EndsUnlinked s p w outcome → [] ≡ p.sent
@@ -92,7 +94,7 @@ runs_script made first last connector old peer first_ahead ahead faults after pr
 -- what is reported of a request over the links of a script is a run of the script
 pub is_run : (script : ScriptSpec) (made last : ScriptLink) (connector : ScriptConnector) (ahead : List ℕ) (faults : ℕ)
     (after : List (Returned ScriptLink)) (processed : Processed)
-    → IsFresh made script.client [] → IsConnectorOf script.peer connector
+    → IsFresh made script.client script.client_write → IsConnectorOf script.peer connector
     → Processes script_state script_start (start_of (first_world made connector)) (world_with (script_state last) ahead faults)
     (Some []) (Some after) turn_limit processed
     → processed.outcome ≢ ended.OutOfMemory
@@ -110,7 +112,7 @@ is_run script made last connector ahead faults after processed fresh offered run
       run = run;
       printable = printable;
       outcome = refl;
-      written = since_start _ (taken_of last) run.passed.written (fresh_taken made script.client fresh) run.ended.tells.written;
+      written = since_start _ (taken_of last) run.passed.written (fresh_taken made script.client script.client_write fresh) run.ended.tells.written;
       attempts = ap (λ sent. map (attempt_report script.peer.name sent) processed.history.attempts)
           (ap sent_of own ∙ sent_is _ run.passed run.waited _ run.own processed.history.attempts processed.outcome run.ended.ends);
     }

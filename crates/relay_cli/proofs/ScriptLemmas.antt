@@ -1,4 +1,4 @@
--- Read items read one after another.
+-- Items read one after another.
 use Rattle.std.proofs.Common.{◌≡◌, ℕ, suc, ◌+◌, ◌<◌, List, [], ◌∷◌, ◌++◌, length, get_or, drop, Option, Some, None, option_map, Bool, true, false, if◌then◌else◌, refl, sym, ap, ◌∙◌, arith, append_assoc, add-one, drop-cons}
 use Rattle.std.specs.Str.{IsUtf8, is_utf8}
 use Rattle.std.proofs.lemmas.Str.{IsUtf8-from_is_utf8, is_utf8-from_IsUtf8}
@@ -6,39 +6,40 @@ use Rattle.serde_json.specs.Data.{Data}
 use Rattle.serde_json.specs.Read.{read}
 use Rattle.serde_json.specs.View.{view, items_view}
 use Rattle.serde_json.specs.declared.value.Value.{Value}
-use Rattle.relay_cli.specs.Script.{item_of, each_item, only_peer, peer_of, reads_value}
-use Rattle.relay_links.specs.declared.read_script.ReadItem.{ReadItem}
+use Rattle.relay_cli.specs.Script.{each_of, only_peer, peer_of, reads_value}
 
 -- what was read before, and then what is read
-abbrev pub with_front : List ReadItem → Option (List ReadItem) → Option (List ReadItem)
+abbrev pub with_front : {X : Type 0} → List X → Option (List X) → Option (List X)
 with_front front read = option_map (λ rest. front ++ rest) read
 
 -- nothing was read before
-pub with_front-nil : (read : Option (List ReadItem)) → with_front [] read ≡ read
+pub with_front-nil : {X : Type 0} (read : Option (List X)) → with_front [] read ≡ read
 with_front-nil None = refl
 with_front-nil (Some items) = refl
 
 -- one more item at the front
-with_front-more : (front : List ReadItem) (x : ReadItem) (read : Option (List ReadItem))
+with_front-more : {X : Type 0} (front : List X) (x : X) (read : Option (List X))
     → with_front (front ++ x ∷ []) read ≡ with_front front (option_map (λ rest. x ∷ rest) read)
 with_front-more front x None = refl
 with_front-more front x (Some items) = ap Some (append_assoc front (x ∷ []) items)
 
 -- an item was read at a place: the rest follows it
-pub item_more : (values : List Value) (i : ℕ) (value : Value) (front : List ReadItem) (x : ReadItem)
-    → i < length values → value ≡ get_or values i value → item_of (view value) ≡ Some x
-    → with_front (front ++ x ∷ []) (each_item (items_view (drop (i + 1) values)))
-    ≡ with_front front (each_item (items_view (drop i values)))
-item_more values i value front x within is read =
+pub item_more : {X : Type 0} (reads : Data → Option X) (values : List Value) (i : ℕ) (value : Value)
+    (front : List X) (x : X)
+    → i < length values → value ≡ get_or values i value → reads (view value) ≡ Some x
+    → with_front (front ++ x ∷ []) (each_of reads (items_view (drop (i + 1) values)))
+    ≡ with_front front (each_of reads (items_view (drop i values)))
+item_more reads values i value front x within is read =
     let here : drop i values ≡ value ∷ drop (i + 1) values =
     rw add-one (drop-cons values i value within ∙ ap (λ v. v ∷ drop (suc i) values) (sym is)) in
     with_front-more front x _ ∙ rw (here, read)
 
 -- no item was read at a place: no list is read
-pub item_none : (values : List Value) (i : ℕ) (value : Value) (front : List ReadItem)
-    → i < length values → value ≡ get_or values i value → item_of (view value) ≡ None
-    → with_front front (each_item (items_view (drop i values))) ≡ None
-item_none values i value front within is read =
+pub item_none : {X : Type 0} (reads : Data → Option X) (values : List Value) (i : ℕ) (value : Value)
+    (front : List X)
+    → i < length values → value ≡ get_or values i value → reads (view value) ≡ None
+    → with_front front (each_of reads (items_view (drop i values))) ≡ None
+item_none reads values i value front within is read =
     let here : drop i values ≡ value ∷ drop (i + 1) values =
     rw add-one (drop-cons values i value within ∙ ap (λ v. v ∷ drop (suc i) values) (sym is)) in
     rw (here, read)

@@ -52,8 +52,8 @@ reported name processed client returned = record {
   attempts = map (attempt_report name (sent_of returned)) processed.history.attempts;
 }
 
--- the connector was not asked yet, and hands out one link: that of the peer, which gives its items
--- and takes everything
+-- the connector was not asked yet, and hands out one link: that of the peer, which gives and takes
+-- as its items say
 pub record IsConnectorOf (peer : PeerSpec) (connector : ScriptConnector) : Type 0 where
   pub returned : links_returned connector ≡ []
   pub out : links_out connector ≡ 0
@@ -61,7 +61,7 @@ pub record IsConnectorOf (peer : PeerSpec) (connector : ScriptConnector) : Type 
   pub entry : PeerScript
   pub entries : next_entries connector ≡ entry ∷ []
   pub name : entry.name ≡ peer.name
-  pub link : IsFresh entry.link peer.read []
+  pub link : IsFresh entry.link peer.read peer.write
   pub connects : entry.connect ≡ None
 
 -- the world at the begin of a script's request: its client's link, with nothing read ahead, and its
@@ -73,7 +73,7 @@ first_world client connector = record { client = script_state client; ahead = []
 pub record IsRun (script : ScriptSpec) (request : RequestSpec) : Type 0 where
   -- the client's link and the connector as the script makes them
   pub client : ScriptLink
-  pub fresh : IsFresh client script.client []
+  pub fresh : IsFresh client script.client script.client_write
   pub connector : ScriptConnector
   pub offered : IsConnectorOf script.peer connector
   -- the request over them, from its begin to its end

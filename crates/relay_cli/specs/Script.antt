@@ -15,25 +15,33 @@ use Rattle.relay_tasks.specs.declared.fault.FaultKind.TheVariants as kind
 use Rattle.relay_cli.specs.declared.script.PeerEntry.{PeerEntry}
 use Rattle.relay_links.specs.declared.read_script.ReadItem.{ReadItem}
 use Rattle.relay_links.specs.declared.read_script.ReadItem.TheVariants as give
+use Rattle.relay_links.specs.declared.write_script.WriteItem.{WriteItem}
+use Rattle.relay_links.specs.declared.write_script.WriteItem.TheVariants as take
 use Rattle.relay_cli.specs.declared.script.Script.{Script}
 use Rattle.relay_cli.specs.declared.script.ScriptError.{ScriptError}
 use Rattle.relay_cli.specs.declared.script.ScriptError.TheVariants as error
 
--- a peer without where it lies in memory: its name, and what its link gives
+-- a peer without where it lies in memory: its name, and what its link gives and takes
 pub record PeerSpec : Type 0 where
   pub name : List ℕ
   pub read : List ReadItem
+  pub write : List WriteItem
 
--- a script without where it lies in memory: what the client's link gives, and the peer
+-- a script without where it lies in memory: what the client's link gives and takes, and the peer
 pub record ScriptSpec : Type 0 where
   pub client : List ReadItem
+  pub client_write : List WriteItem
   pub peer : PeerSpec
 
 abbrev pub peer_spec : PeerEntry → PeerSpec
-peer_spec p = record { name = p.name; read = p.read.items }
+peer_spec p = record { name = p.name; read = p.read.items; write = p.write.items }
 
 abbrev pub script_spec : Script → ScriptSpec
-script_spec s = record { client = s.client.items; peer = peer_spec s.peer }
+script_spec s = record {
+  client = s.client.items;
+  client_write = s.client_write.items;
+  peer = peer_spec s.peer;
+}
 
 -- what is read, and then what is read of it
 infixl 10 ◌>>=◌
@@ -136,27 +144,83 @@ item_of value =
     where_there (get (codes "fault") value) (fault_item value)
     (if key_count value == 1 then item_at_key value else None)
 
-abbrev pub each_item : Items → Option (List ReadItem)
-each_item no_items = Some []
-each_item (item value values) = item_of value >>= (λ first. option_map (λ rest. first ∷ rest) (each_item values))
+-- what a write fails by
+abbrev pub write_kind : Data → Option FaultKind
+write_kind (string name) =
+    if bytes_eq name (codes "Write") then Some kind.Write
+    else if bytes_eq name (codes "WriteTimedout") then Some kind.WriteTimedout
+    else None
+write_kind _ = None
+
+-- what a write takes at most: at least 1
+abbrev pub take_of : ℕ → Option WriteItem
+take_of n = if n == 0 then None else Some (take.Take n)
+
+-- `{"take": n}`: one write takes at most n bytes
+abbrev pub take_item : Data → Option WriteItem
+take_item value = count_of value >>= take_of
+
+-- `{"wait": n}`: n writes are told to come again
+abbrev pub write_wait_item : Data → Option WriteItem
+write_wait_item value = option_map take.Wait (count_of value)
+
+-- `{"fault": k, "retry": r}`: the write fails by the kind k, with the mark r
+abbrev pub write_fault_item : Data → Data → Option WriteItem
+write_fault_item value name = option_map take.Fault (write_kind name >>= fault_of value)
+
+-- an item other than a fault, by its one key
+abbrev pub write_item_at_key : Data → Option WriteItem
+write_item_at_key value =
+    where_there (get (codes "take") value) take_item
+    (where_there (get (codes "wait") value) write_wait_item None)
+
+-- a write item: a fault, or an object of exactly one key
+abbrev pub write_item_of : Data → Option WriteItem
+write_item_of value =
+    where_there (get (codes "fault") value) (write_fault_item value)
+    (if key_count value == 1 then write_item_at_key value else None)
+
+-- what each of a list is, where each is something
+abbrev pub each_of : {X : Type 0} → (Data → Option X) → Items → Option (List X)
+each_of read no_items = Some []
+each_of read (item value values) =
+    read value >>= (λ first. option_map (λ rest. first ∷ rest) (each_of read values))
+
+-- a list of items
+abbrev pub list_of : {X : Type 0} → (Data → Option X) → Data → Option (List X)
+list_of read (array values) = each_of read values
+list_of read _ = None
 
 -- a list of read items
 abbrev pub items_of : Data → Option (List ReadItem)
-items_of (array values) = each_item values
-items_of _ = None
+items_of value = list_of item_of value
+
+-- a list of write items
+abbrev pub write_items_of : Data → Option (List WriteItem)
+write_items_of value = list_of write_item_of value
 
 -- a name: any text
 abbrev pub name_of : Data → Option (List ℕ)
 name_of (string name) = Some name
 name_of _ = None
 
--- a peer: an object with `name`, and `read` or none, which is the empty list
+-- the write items at a key; none where there is no such key
+abbrev pub writes_at : List ℕ → Data → Option (List WriteItem)
+writes_at key value = where_there (get key value) write_items_of (Some [])
+
+-- a peer of that name: its `read` and `write`, each of them empty where it is not there
+abbrev pub named_peer : Data → List ℕ → Option PeerSpec
+named_peer value name =
+    where_there (get (codes "read") value) items_of (Some []) >>= (λ read.
+    option_map (λ write. record { name = name; read = read; write = write })
+    (writes_at (codes "write") value))
+
+-- a peer: an object with `name`, and `read` and `write` or not
 abbrev pub peer_of : Data → Option PeerSpec
 peer_of value =
-    if key_count value == has (codes "name") value + has (codes "read") value
-    then where_there (get (codes "name") value) name_of None >>= (λ name.
-    option_map (λ items. record { name = name; read = items })
-    (where_there (get (codes "read") value) items_of (Some [])))
+    if key_count value
+    == has (codes "name") value + has (codes "read") value + has (codes "write") value
+    then where_there (get (codes "name") value) name_of None >>= named_peer value
     else None
 
 -- exactly one peer
@@ -169,13 +233,20 @@ abbrev pub one_peer_of : Data → Option PeerSpec
 one_peer_of (array values) = only_peer values
 one_peer_of _ = None
 
--- a script: an object with exactly `client` and `peers`
+-- a script with those items of the client: its `client_write`, empty where it is not there, and
+-- its `peers`
+abbrev pub client_script : Data → List ReadItem → Option ScriptSpec
+client_script value items =
+    writes_at (codes "client_write") value >>= (λ writes.
+    option_map (λ peer. record { client = items; client_write = writes; peer = peer })
+    (where_there (get (codes "peers") value) one_peer_of None))
+
+-- a script: an object with `client` and `peers`, and `client_write` or not
 abbrev pub script_of : Data → Option ScriptSpec
 script_of value =
-    if key_count value == has (codes "client") value + has (codes "peers") value
-    then where_there (get (codes "client") value) items_of None >>= (λ items.
-    option_map (λ peer. record { client = items; peer = peer })
-    (where_there (get (codes "peers") value) one_peer_of None))
+    if key_count value
+    == has (codes "client") value + has (codes "client_write") value + has (codes "peers") value
+    then where_there (get (codes "client") value) items_of None >>= client_script value
     else None
 
 -- the value that the bytes spell; bytes that are no UTF-8 or no JSON spell none

@@ -1,6 +1,5 @@
 //! One exchange over scripted links: the proxy between the client and the peer of a script.
 ghost use Rattle.std.specs.Prelude.{◌≡◌, ◌↔◌, List, [], map, IsTrue, IfOk};
-ghost use Rattle.relay_links.specs.ScriptLink.{IsFresh};
 ghost use Rattle.relay_cli.specs.Exchange.{attempt_report, taken_of, taken_since, StartsWithin, sent_of, FirstStartsWithin, IsConnectorOf, IsRun, reported};
 ghost use Rattle.relay_cli.specs.Report.{request_spec};
 ghost use Rattle.relay_cli.specs.Script.{peer_spec, script_spec};
@@ -10,8 +9,8 @@ use crate::script::{PeerEntry, Script};
 use bytes::Bytes;
 use relay_h1::Connection;
 use relay_links::{
-    CountDelay, ListSchedule, MemoryPurger, PeerScript, ReadItem, Returned, ScriptConnector,
-    ScriptLink, ShutdownAt,
+    CountDelay, ListSchedule, MemoryPurger, PeerScript, Returned, ScriptConnector, ScriptLink,
+    ShutdownAt,
 };
 use relay_proxy::{
     AttemptList, AttemptRecord, HttpProxy, Outcome, Outside, Processed, ProxyHttp, ServerConf,
@@ -41,10 +40,15 @@ impl ProxyHttp for NoHooks {
 pub fn run_exchange(alloc: Global, script: Script) -> Result<RequestReport, AllocError>
     ensures { IfOk result (λ request. IsRun (script_spec script) (request_spec request)) }
 {
-    let Script { client, peer } = script;
+    let Script {
+        client,
+        client_write,
+        peer,
+    } = script;
     let name = peer.name.clone()?;
     let connector = connector_of(alloc, peer)?;
-    let mut client = Connection::new(alloc, link_of(alloc, client));
+    let link = ScriptLink::new(alloc, client, client_write);
+    let mut client = Connection::new(alloc, link);
     let purger = MemoryPurger::new(alloc, Purged::NotFound);
     let mut proxy = HttpProxy::new(alloc, NoHooks, CONF, connector, purger);
     let mut outside = Outside {
@@ -78,20 +82,14 @@ fn wants_memory(outcome: Outcome) -> bool
     }
 }
 
-/// A link that gives these items and takes everything.
-fn link_of(alloc: Global, read: Vec<ReadItem>) -> ScriptLink
-    ensures { IsFresh result read.items [] }
-{
-    ScriptLink::new(alloc, read, Vec::new(alloc))
-}
-
 /// A connector to the peer of a script.
 fn connector_of(alloc: Global, peer: PeerEntry) -> Result<ScriptConnector, AllocError>
     ensures { IfOk result (IsConnectorOf (peer_spec peer)) }
 {
+    let link = ScriptLink::new(alloc, peer.read, peer.write);
     let entry = PeerScript {
         name: peer.name,
-        link: link_of(alloc, peer.read),
+        link,
         connect: None,
     };
     let mut entries = Vec::new(alloc);

@@ -4,26 +4,28 @@ ghost use Rattle.std.specs.Prelude.{◌≡◌, is_some, codes, if◌then◌else�
 ghost use Rattle.hex.specs.Hex.{decode_of};
 ghost use Rattle.serde_json.specs.Find.{get};
 ghost use Rattle.serde_json.specs.View.{view, items_view};
-ghost use Rattle.relay_cli.specs.Script.{Reads, script_spec, reads_script, reads_value, script_of, one_peer_of, only_peer, peer_spec, peer_of, name_of, items_of, each_item, item_of, item_at_key, text_item, spelt, hex_item, count_of, wait_item, after_item, end_item, read_kind, retry_of, mark_of, fault_of, key_count, has};
+ghost use Rattle.relay_cli.specs.Script.{Reads, script_spec, reads_script, reads_value, script_of, one_peer_of, only_peer, peer_spec, peer_of, named_peer, name_of, items_of, write_items_of, writes_at, each_of, item_of, write_item_of, item_at_key, write_item_at_key, client_script, take_item, text_item, spelt, hex_item, count_of, wait_item, after_item, end_item, read_kind, write_kind, retry_of, mark_of, fault_of, key_count, has};
 
 use bytes::Bytes;
 use hex::FromHexError;
-use relay_links::ReadItem;
+use relay_links::{ReadItem, WriteItem};
 use relay_tasks::{Fault, FaultKind, RetryType};
 use serde_json::Value;
 use std::alloc::{AllocError, AllocFailed, Global};
 
-/// The peer of a script: its name, and what its link gives.
+/// The peer of a script: its name, and what its link gives and takes.
 #[derive(Drop)]
 pub struct PeerEntry {
     pub name: Bytes,
     pub read: Vec<ReadItem>,
+    pub write: Vec<WriteItem>,
 }
 
-/// A script: what the client's link gives, and the peer.
+/// A script: what the client's link gives and takes, and the peer.
 #[derive(Drop)]
 pub struct Script {
     pub client: Vec<ReadItem>,
+    pub client_write: Vec<WriteItem>,
     pub peer: PeerEntry,
 }
 
@@ -83,12 +85,34 @@ fn parse(alloc: Global, bytes: &[u8]) -> Result<Value, ScriptError>
 fn script_in(alloc: Global, value: &Value) -> Result<Script, ScriptError>
     ensures { Reads script_spec result (script_of (view value.now)) }
 {
-    if key_count(value) != has(value, "client") + has(value, "peers") {
+    if key_count(value) != has(value, "client") + has(value, "client_write") + has(value, "peers") {
         return Err(ScriptError::Refused);
     }
     let client = items(alloc, required(value, "client")?)?;
+    client_script(alloc, value, client)
+}
+
+/// The script that a value is, with those items of the client.
+fn client_script(alloc: Global, value: &Value, client: Vec<ReadItem>) -> Result<Script, ScriptError>
+    ensures { Reads script_spec result (client_script (view value.now) client.items) }
+{
+    let client_write = writes_at(alloc, value, "client_write")?;
     let peer = one_peer(alloc, required(value, "peers")?)?;
-    Ok(Script { client, peer })
+    Ok(Script {
+        client,
+        client_write,
+        peer,
+    })
+}
+
+/// The write items at a key, and none where there is no such key.
+fn writes_at(alloc: Global, value: &Value, key: &str) -> Result<Vec<WriteItem>, ScriptError>
+    ensures { Reads (λ items. items.items) result (writes_at key.now (view value.now)) }
+{
+    match value.get(key) {
+        Some(list) => write_items(alloc, list),
+        None => Ok(Vec::new(alloc)),
+    }
 }
 
 /// The one peer of a list.
@@ -115,15 +139,23 @@ fn only_peer(alloc: Global, values: &[Value]) -> Result<PeerEntry, ScriptError>
 fn peer(alloc: Global, value: &Value) -> Result<PeerEntry, ScriptError>
     ensures { Reads peer_spec result (peer_of (view value.now)) }
 {
-    if key_count(value) != has(value, "name") + has(value, "read") {
+    if key_count(value) != has(value, "name") + has(value, "read") + has(value, "write") {
         return Err(ScriptError::Refused);
     }
     let name = name(alloc, required(value, "name")?)?;
+    named_peer(alloc, value, name)
+}
+
+/// The peer of that name that a value is.
+fn named_peer(alloc: Global, value: &Value, name: Bytes) -> Result<PeerEntry, ScriptError>
+    ensures { Reads peer_spec result (named_peer (view value.now) name) }
+{
     let read = match value.get("read") {
         Some(list) => items(alloc, list)?,
         None => Vec::new(alloc),
     };
-    Ok(PeerEntry { name, read })
+    let write = writes_at(alloc, value, "write")?;
+    Ok(PeerEntry { name, read, write })
 }
 
 /// The name that a value is.
@@ -148,7 +180,7 @@ fn items(alloc: Global, value: &Value) -> Result<Vec<ReadItem>, ScriptError>
 
 /// The read items that values are, in order.
 fn each_item(alloc: Global, values: &[Value]) -> Result<Vec<ReadItem>, ScriptError>
-    ensures { Reads (λ items. items.items) result (each_item (items_view values.now)) }
+    ensures { Reads (λ items. items.items) result (each_of item_of (items_view values.now)) }
 {
     let mut items = Vec::new(alloc);
     for value in values {
@@ -192,6 +224,66 @@ fn item_by_key(alloc: Global, value: &Value) -> Result<ReadItem, ScriptError>
         return end(ended);
     }
     Err(ScriptError::Refused)
+}
+
+/// The write items of a list.
+fn write_items(alloc: Global, value: &Value) -> Result<Vec<WriteItem>, ScriptError>
+    ensures { Reads (λ items. items.items) result (write_items_of (view value.now)) }
+{
+    match value.as_array() {
+        Some(values) => each_write_item(alloc, values),
+        None => Err(ScriptError::Refused),
+    }
+}
+
+/// The write items that values are, in order.
+fn each_write_item(alloc: Global, values: &[Value]) -> Result<Vec<WriteItem>, ScriptError>
+    ensures { Reads (λ items. items.items) result (each_of write_item_of (items_view values.now)) }
+{
+    let mut items = Vec::new(alloc);
+    for value in values {
+        let item = write_item(value)?;
+        items.push(item)?;
+    }
+    Ok(items)
+}
+
+/// The write item that a value is.
+fn write_item(value: &Value) -> Result<WriteItem, ScriptError>
+    ensures { Reads (λ item. item) result (write_item_of (view value.now)) }
+{
+    if let Some(name) = value.get("fault") {
+        let kind = write_kind(name)?;
+        return Ok(WriteItem::Fault(fault(value, kind)?));
+    }
+    if key_count(value) != 1 {
+        return Err(ScriptError::Refused);
+    }
+    write_item_by_key(value)
+}
+
+/// The write item other than a fault, by its key.
+fn write_item_by_key(value: &Value) -> Result<WriteItem, ScriptError>
+    ensures { Reads (λ item. item) result (write_item_at_key (view value.now)) }
+{
+    if let Some(number) = value.get("take") {
+        return take(number);
+    }
+    if let Some(number) = value.get("wait") {
+        return Ok(WriteItem::Wait(count(number)?));
+    }
+    Err(ScriptError::Refused)
+}
+
+/// One write takes at most so many bytes, at least 1.
+fn take(value: &Value) -> Result<WriteItem, ScriptError>
+    ensures { Reads (λ item. item) result (take_item (view value.now)) }
+{
+    let most = count(value)?;
+    if most == 0 {
+        return Err(ScriptError::Refused);
+    }
+    Ok(WriteItem::Take(most))
 }
 
 /// The bytes of a text that is not empty.
@@ -264,6 +356,17 @@ fn read_kind(name: &Value) -> Result<FaultKind, ScriptError>
     match name.as_str() {
         Some("Read") => Ok(FaultKind::Read),
         Some("ReadTimedout") => Ok(FaultKind::ReadTimedout),
+        Some(_) | None => Err(ScriptError::Refused),
+    }
+}
+
+/// The kind of a write's fault, by its name.
+fn write_kind(name: &Value) -> Result<FaultKind, ScriptError>
+    ensures { Reads (λ kind. kind) result (write_kind (view name.now)) }
+{
+    match name.as_str() {
+        Some("Write") => Ok(FaultKind::Write),
+        Some("WriteTimedout") => Ok(FaultKind::WriteTimedout),
         Some(_) | None => Err(ScriptError::Refused),
     }
 }

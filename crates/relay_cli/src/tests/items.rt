@@ -129,3 +129,110 @@ fn fails_a_read_by_its_kind_and_mark(rt: HostRuntime) -> Result<(), AllocError> 
     ];
     assert_no_items(&rt, rt.alloc(), &refused)
 }
+
+/// What a run writes of one GET whose client and peer have these write items.
+fn run_writing(alloc: Global, client: &str, peer: &str) -> Result<String, AllocError> {
+    let peers = format!(in alloc; "[{{\"name\":\"a\",\"read\":[{ANSWER}],\"write\":[{peer}]}}]")?;
+    let input = format!(in alloc;
+        "{{\"client\":[{GET}],\"client_write\":[{client}],\"peers\":{peers}}}"
+    )?;
+    answer(alloc, &["run"], input.as_bytes())
+}
+
+#[test]
+fn takes_as_its_write_items_say(rt: HostRuntime) -> Result<(), AllocError> {
+    for (client, peer) in [
+        ("", ""),
+        ("{\"take\":1},{\"take\":5}", ""),
+        ("{\"wait\":2},{\"take\":4294967295}", "{\"wait\":0}"),
+        ("", "{\"take\":3},{\"wait\":1},{\"take\":30}"),
+    ] {
+        let found = run_writing(rt.alloc(), client, peer)?;
+        assert_eq!(rt; found.as_str(), REPORT, "at {client} and {peer}");
+    }
+    Ok(())
+}
+
+/// Checks the error of a write's fault.
+fn assert_write_error(
+    rt: &impl Abort,
+    alloc: Global,
+    client: &str,
+    peer: &str,
+    error: &str,
+) -> Result<(), AllocError> {
+    let found = run_writing(alloc, client, peer)?;
+    let line = format!(in alloc; "\nerror {error}\n")?;
+    assert!(rt;
+        found.as_str().contains(line.as_str()),
+        "{found} has no {line}"
+    );
+    Ok(())
+}
+
+#[test]
+fn fails_a_write_by_its_kind_and_mark(rt: HostRuntime) -> Result<(), AllocError> {
+    for (fault, error) in [
+        ("{\"fault\":\"Write\"}", "WriteError Downstream false"),
+        (
+            "{\"take\":1},{\"fault\":\"WriteTimedout\"}",
+            "WriteTimedout Downstream false",
+        ),
+    ] {
+        assert_write_error(&rt, rt.alloc(), fault, "", error)?;
+    }
+    for (fault, error) in [
+        (
+            "{\"fault\":\"Write\",\"retry\":true}",
+            "WriteError Upstream true",
+        ),
+        (
+            "{\"fault\":\"WriteTimedout\",\"retry\":\"reused\"}",
+            "WriteTimedout Upstream reused",
+        ),
+    ] {
+        assert_write_error(&rt, rt.alloc(), "", fault, error)?;
+    }
+    Ok(())
+}
+
+#[test]
+fn refuses_what_is_no_write_item(rt: HostRuntime) -> Result<(), AllocError> {
+    for item in [
+        "{}",
+        "{\"take\":0}",
+        "{\"take\":-1}",
+        "{\"take\":1.0}",
+        "{\"take\":1e0}",
+        "{\"take\":4294967296}",
+        "{\"take\":\"1\"}",
+        "{\"take\":1,\"wait\":1}",
+        "{\"take\":1,\"retry\":true}",
+        "{\"wait\":4294967296}",
+        "{\"wait\":-1}",
+        "{\"after\":1}",
+        "{\"text\":\"x\"}",
+        "{\"end\":true}",
+        "{\"fault\":\"Read\"}",
+        "{\"fault\":\"ReadTimedout\"}",
+        "{\"fault\":\"H2Error\"}",
+        "{\"fault\":\"Write\",\"retry\":\"false\"}",
+        "7",
+    ] {
+        let found = run_writing(rt.alloc(), item, "")?;
+        assert_eq!(rt; found.as_str(), "2 script refused\n", "at {item}");
+        let found = run_writing(rt.alloc(), "", item)?;
+        assert_eq!(rt; found.as_str(), "2 script refused\n", "at {item}");
+    }
+    for script in [
+        "{\"client\":[],\"client_write\":{},\"peers\":[{\"name\":\"a\"}]}",
+        "{\"client\":[],\"client_write\":null,\"peers\":[{\"name\":\"a\"}]}",
+        "{\"client\":[],\"write\":[],\"peers\":[{\"name\":\"a\"}]}",
+        "{\"client\":[],\"peers\":[{\"name\":\"a\",\"write\":{\"take\":1}}]}",
+        "{\"client\":[],\"peers\":[{\"name\":\"a\",\"client_write\":[]}]}",
+    ] {
+        let found = answer(rt.alloc(), &["run"], script.as_bytes())?;
+        assert_eq!(rt; found.as_str(), "2 script refused\n", "at {script}");
+    }
+    Ok(())
+}

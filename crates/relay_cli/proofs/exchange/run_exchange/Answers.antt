@@ -18,13 +18,13 @@ returns c =
     let last = c.process_new_http-processed.new.client in
     let printable : processed.outcome ≢ OutOfMemory =
     λ is. true≢false (sym (c.wants_memory.ensures.1 is) ∙ c.if-wants_memory.false) in
-    let run = runs_script c.link_of.result c.new-client.result.link last.link
+    let run = runs_script c.new-link.result c.new-client.result.link last.link
     c.in_ok-connector.connector c.new-proxy.result.connector script.peer c.new-client.result.ahead last.ahead (gets_failed after)
     (links_returned after) processed c.in_ok-connector.ensures c.new-client.ensures.link c.new-client.ensures.ahead
     c.new-proxy.ensures.connector c.process_new_http-processed.ensures.processes in
     let is : IsRun script (reported script.peer.name processed last.link (links_returned after)) =
-    is_run script c.link_of.result last.link c.in_ok-connector.connector last.ahead (gets_failed after) (links_returned after) processed
-    c.link_of.ensures c.in_ok-connector.ensures run printable in
+    is_run script c.new-link.result last.link c.in_ok-connector.connector last.ahead (gets_failed after) (links_returned after) processed
+    c.new-link.ensures c.in_ok-connector.ensures run printable in
     let link : c.link.result.now ≡ last.link = c.link.ensures in
     let returned : c.returned.result.now ≡ links_returned after = c.returned.ensures ∙ ap links_returned c.connector.ensures in
     let name : c.in_ok-name.name ≡ script.peer.name = c.in_ok-name.ensures.cases in

@@ -1,11 +1,11 @@
 -- What was read, and then what the values that are left are, is what all are.
 use Rattle.std.proofs.Common.{◌≡◌, drop}
 use Rattle.serde_json.specs.View.{items_view}
-use Rattle.relay_cli.specs.Script.{each_item}
+use Rattle.relay_cli.specs.Script.{each_of, item_of}
 use Rattle.relay_cli.proofs.ScriptLemmas.{with_front}
 use Rattle.relay_cli.proofs.script.each_item.Given as goal
 
 abbrev pub invariant-loop-value : goal.invariant-loop-value
 invariant-loop-value l =
-    with_front l.items.items (each_item (items_view (drop l.value-index l.values)))
-    ≡ each_item (items_view l.values)
+    with_front l.items.items (each_of item_of (items_view (drop l.value-index l.values)))
+    ≡ each_of item_of (items_view l.values)
