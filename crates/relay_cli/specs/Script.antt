@@ -1,4 +1,4 @@
--- Scripts: the JSON object that says what the client and the peer of a run give and take.
+-- Scripts: the JSON object that says what the client and the peer of a run give.
 use Rattle.std.specs.Prelude.{◌≡◌, ℕ, ◌+◌, ◌^◌, ◌==◌, nat_lt, List, [], ◌∷◌, true, false, if◌then◌else◌, Option, Some, None, option_map, is_some, unwrap_or, Result, Ok, Err, codes}
 use Rattle.std.specs.Str.{bytes_eq, is_utf8}
 use Rattle.hex.specs.Hex.{decode_of}

@@ -1,5 +1,5 @@
 //! One exchange over scripted links: the proxy between the client and the peer of a script.
-ghost use Rattle.std.specs.Prelude.{◌≡◌, ◌↔◌, map, IsTrue, IfOk};
+ghost use Rattle.std.specs.Prelude.{◌≡◌, ◌↔◌, List, [], map, IsTrue, IfOk};
 ghost use Rattle.relay_cli.specs.Exchange.{attempt_report, taken_of, taken_since, StartsWithin, sent_of, FirstStartsWithin, IsConnectorOf, IsRun, reported};
 ghost use Rattle.relay_cli.specs.Report.{request_spec};
 ghost use Rattle.relay_cli.specs.Script.{peer_spec, script_spec};

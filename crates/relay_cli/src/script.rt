@@ -1,10 +1,10 @@
-//! Scripts: what the client and the peer of a run give and take, read from JSON. A reader for each
-//! kind of thing; a script is read whole before anything runs.
+//! Scripts: what the client and the peer of a run give, read from JSON. A reader for each kind of
+//! thing; a script is read whole before anything runs.
 ghost use Rattle.std.specs.Prelude.{◌≡◌, is_some, codes, if◌then◌else◌, option_map, Some};
 ghost use Rattle.hex.specs.Hex.{decode_of};
 ghost use Rattle.serde_json.specs.Find.{get};
 ghost use Rattle.serde_json.specs.View.{view, items_view};
-ghost use Rattle.relay_cli.specs.Script.{Reads, script_spec, reads_script, reads_value, script_of, one_peer_of, only_peer, peer_spec, peer_of, named_peer, name_of, items_of, write_items_of, writes_at, each_of, item_of, write_item_of, item_at_key, write_item_at_key, client_script, take_item, text_item, spelt, hex_item, count_of, end_item, read_kind, write_kind, retry_of, mark_of, fault_of, key_count, has};
+ghost use Rattle.relay_cli.specs.Script.{Reads, script_spec, reads_script, reads_value, script_of, one_peer_of, only_peer, peer_spec, peer_of, named_peer, name_of, items_of, write_items_of, writes_at, each_of, item_of, write_item_of, item_at_key, write_item_at_key, client_script, take_item, text_item, spelt, hex_item, count_of, wait_item, after_item, end_item, read_kind, write_kind, retry_of, mark_of, fault_of, key_count, has};
 
 use bytes::Bytes;
 use hex::FromHexError;
