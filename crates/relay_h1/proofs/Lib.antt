@@ -11,5 +11,6 @@ pub mod HeadLemmas
 pub mod JudgeLemmas
 pub mod SizeLemmas
 pub mod SizeLineLemmas
+pub mod TasksLemmas
 pub mod VerdictLemmas
 pub mod WireLemmas

@@ -11,3 +11,4 @@ pub mod Body
 pub mod BodyReader
 pub mod BodyWire
 pub mod ClientHead
+pub mod Tasks
