@@ -7,10 +7,9 @@ use Rattle.relay_tasks.specs.declared.ErrorSource.TheVariants.{Upstream, Downstr
 use Rattle.relay_tasks.specs.declared.Fault.{Fault}
 use Rattle.relay_links.specs.Link.{LinkState, LinkStart, GivesBytes, WaitsOnRead, EndsRead, FailsRead, TakesBytes, WaitsOnWrite, FailsWrite}
 use Rattle.relay_links.specs.declared.Pause.TheVariants.{NotReady}
-use Rattle.relay_h1.specs.Wire.{response_text}
 use Rattle.relay_tasks.specs.Head.{RequestHead, ResponseHead}
-use Rattle.relay_h1.proofs.HeadEndLemmas.{head_end-within}
-use Rattle.relay_proxy.specs.Built.{IsLinkReusable, IsClientReusable}
+use Rattle.relay_h1.proofs.TasksLemmas.{HasFinal-within}
+use Rattle.relay_proxy.specs.Built.{heads_text, IsLinkReusable, IsClientReusable}
 use Rattle.relay_proxy.specs.Passed.{World, Start, Passed, Waited, amount, TellsClient}
 use Rattle.relay_proxy.specs.Endings as endings
 use Rattle.relay_proxy.specs.Endings.{IsPrefixOf, IsInOrder, response_so_far, IsInBody, fault_error, cut_off}
@@ -50,7 +49,8 @@ in_body : (s : Start) (p : Passed) (ahead : List ℕ) (request : RequestHead) (l
     (held : List ℕ) (left : BodyLeft) → held ≡ []
     → (h : IsRelayingBody s p ahead request link reply held left.bytes) → IsInBody h.answering.head.method p
 in_body s p ahead request link reply held left none h = record {
-  head = reply;
+  informed = h.answering.informed;
+  head = h.answering.given;
   len = h.answering.len;
   n = h.answering.n;
   answered = h.answering.answered;
@@ -61,7 +61,7 @@ in_body s p ahead request link reply held left none h = record {
 some_came : (s : Start) (p : Passed) (ahead : List ℕ) (request : RequestHead) (link : LinkState) (reply : ResponseHead)
     → IsAnswering s p ahead request link reply → (length p.got == 0) ≡ false
 some_came s p ahead request link reply h =
-    let within = head_end-within p.got h.len h.answered.has.starts.ends in
+    let within = HasFinal-within h.head.method false p.got h.informed h.given h.answered.framing h.len h.answered.has in
     ne_eqb (length p.got) 0 (λ none. omega (arith, within.0, within.1))
 
 module _ {L C : Type 0} (state : L → LinkState) (start_at : L → LinkStart) where
@@ -81,7 +81,7 @@ module _ {L C : Type 0} (state : L → LinkState) (start_at : L → LinkStart) w
       (done left : ℕ) (next : Next L C)
       → TellsClient s q v x → IsAttempt state start_at q v a
       → answering.len + done ≤ length q.got
-      → q.written ≡ response_text reply ++ take done (drop answering.len q.got)
+      → q.written ≡ heads_text answering.head answering.informed reply ++ take done (drop answering.len q.got)
       → a.connection.ahead ≡ drop (answering.len + done) q.got → done + left ≡ answering.n
       → IsRest x.ahead a reply left next
       → allowance state start_at phase + amount p v < 3 + amount q v
@@ -131,11 +131,14 @@ module _ {L C : Type 0} (state : L → LinkState) (start_at : L → LinkStart) w
                     request_len = answering.asking.len;
                     accepted = answering.asking.accepted;
                     sent = answering.sent;
-                    head = reply;
+                    informed = answering.informed;
+                    head = answering.given;
                     len = answering.len;
                     n = answering.n;
                     answered = answering.answered;
                     body = omega arith;
+                    reply = reply;
+                    is_reply = answering.reply;
                     written = rw (← all none) written;
                     kept = subst (λ (n : ℕ). IsTrue end.0.0 ↔ IsLinkReusable answering.head reply (drop (answering.len + n) q.got))
                         (all none)
@@ -157,11 +160,11 @@ module _ {L C : Type 0} (state : L → LinkState) (start_at : L → LinkStart) w
       all : left ≡ 0 → done ≡ answering.n
       all none = omega arith
 
-      part : IsPrefixOf q.written (response_so_far q reply answering.len answering.n)
+      part : IsPrefixOf q.written (response_so_far q answering.head answering.informed reply answering.len answering.n)
       part = record {
         rest = drop done (take answering.n (drop answering.len q.got));
         joined = ap (λ (xs : List ℕ). xs ++ drop done (take answering.n (drop answering.len q.got))) written
-            ∙ body_part (response_text reply) (drop answering.len q.got) done answering.n (omega arith);
+            ∙ body_part (heads_text answering.head answering.informed reply) (drop answering.len q.got) done answering.n (omega arith);
       }
 
   -- the text of the response's head was written whole
@@ -181,7 +184,7 @@ module _ {L C : Type 0} (state : L → LinkState) (start_at : L → LinkStart) w
       (attempt_same p (written_more p (take takes.n text.output)) v v a refl refl refl run.holds.0)
       (omega (arith, run.holds.1.answering.within))
       (ap (λ (xs : List ℕ). p.written ++ xs) (take_whole text.output takes.n takes.left) ∙ run.holds.1.joined
-      ∙ sym (append-nil (response_text reply)))
+      ∙ sym (append-nil (heads_text run.holds.1.answering.head run.holds.1.answering.informed reply)))
       (run.holds.1.rest_held ∙ ap (λ (k : ℕ). drop k p.got) (plus_zero run.holds.1.answering.len))
       (omega (arith, run.holds.1.body))
       rest
@@ -208,7 +211,7 @@ module _ {L C : Type 0} (state : L → LinkState) (start_at : L → LinkStart) w
       order = order_of_answering s (written_more p (take takes.n text.output)) x.ahead a.request (state a.connection.link) reply answering
           (record {
             rest = left.output ++ take answering.n (drop answering.len p.got);
-            joined = head_then_body (p.written ++ take takes.n text.output) left.output (response_text reply)
+            joined = head_then_body (p.written ++ take takes.n text.output) left.output (heads_text run.holds.1.answering.head run.holds.1.answering.informed reply)
                 (take answering.n (drop answering.len p.got)) all;
           });
       going = tt;
@@ -234,7 +237,7 @@ module _ {L C : Type 0} (state : L → LinkState) (start_at : L → LinkStart) w
           (state a.connection.link) (state a.connection.link) reply ahead refl refl
           (answering_wrote s p w.ahead (take takes.n text.output) a.request (state a.connection.link) reply run.holds.1.answering)
 
-      all : (p.written ++ take takes.n text.output) ++ left.output ≡ response_text reply
+      all : (p.written ++ take takes.n text.output) ++ left.output ≡ heads_text run.holds.1.answering.head run.holds.1.answering.informed reply
       all = take_rest p.written text.output left.output takes.n takes.left ∙ run.holds.1.joined
 
   -- the client is not ready for the response's head
@@ -280,7 +283,8 @@ module _ {L C : Type 0} (state : L → LinkState) (start_at : L → LinkStart) w
           rose = λ below. omega (arith, tells.faults, fails.faults below);
           kind = fails.kind;
           whole = sent_whole_by s p w.ahead answering.head answering.asking answering.sent;
-          writing = endings.IsBeingWritten.has_length reply answering.len answering.n answering.answered answering.ended;
+          writing = endings.IsBeingWritten.has_length answering.informed answering.given answering.len answering.n
+              answering.answered answering.ended;
         }));
         not_kept = refl;
         stays = refl;
@@ -385,8 +389,8 @@ module _ {L C : Type 0} (state : L → LinkState) (start_at : L → LinkStart) w
       })
       (omega (arith, few.0, few.1))
       (ap (λ (xs : List ℕ). p.written ++ xs) piece ∙ ap (λ (xs : List ℕ). xs ++ take k (drop run.holds.1.done body)) run.holds.1.written
-      ∙ append_assoc (response_text reply) (take run.holds.1.done body) (take k (drop run.holds.1.done body))
-      ∙ ap (λ (xs : List ℕ). response_text reply ++ xs) (sym (take-add run.holds.1.done k body)))
+      ∙ append_assoc (heads_text run.holds.1.answering.head run.holds.1.answering.informed reply) (take run.holds.1.done body) (take k (drop run.holds.1.done body))
+      ∙ ap (λ (xs : List ℕ). heads_text run.holds.1.answering.head run.holds.1.answering.informed reply ++ xs) (sym (take-add run.holds.1.done k body)))
       (held ∙ ap (λ (xs : List ℕ). drop k xs) run.holds.1.rest_held
       ∙ drop-drop k (run.holds.1.answering.len + run.holds.1.done) p.got
       ∙ ap (λ (n : ℕ). drop n p.got) (regroup run.holds.1.answering.len run.holds.1.done k))
@@ -434,7 +438,7 @@ module _ {L C : Type 0} (state : L → LinkState) (start_at : L → LinkStart) w
           (record {
             rest = drop run.holds.1.done (take answering.n (drop answering.len (p.got ++ take n room)));
             joined = ap (λ (xs : List ℕ). xs ++ drop run.holds.1.done (take answering.n (drop answering.len (p.got ++ take n room)))) written
-                ∙ body_part (response_text reply) (drop answering.len (p.got ++ take n room)) run.holds.1.done
+                ∙ body_part (heads_text run.holds.1.answering.head run.holds.1.answering.informed reply) (drop answering.len (p.got ++ take n room)) run.holds.1.done
                 answering.n (omega (arith, run.holds.1.body));
           });
       going = tt;
@@ -467,8 +471,8 @@ module _ {L C : Type 0} (state : L → LinkState) (start_at : L → LinkStart) w
       enough : run.holds.1.done ≤ length (drop run.holds.1.answering.len p.got)
       enough = omega (arith, run.holds.1.within, length-drop run.holds.1.answering.len p.got)
 
-      written : p.written ≡ response_text reply ++ take run.holds.1.done (drop run.holds.1.answering.len (p.got ++ take n room))
-      written = run.holds.1.written ∙ ap (λ (xs : List ℕ). response_text reply ++ xs)
+      written : p.written ≡ heads_text run.holds.1.answering.head run.holds.1.answering.informed reply ++ take run.holds.1.done (drop run.holds.1.answering.len (p.got ++ take n room))
+      written = run.holds.1.written ∙ ap (λ (xs : List ℕ). heads_text run.holds.1.answering.head run.holds.1.answering.informed reply ++ xs)
           (sym (take-append-le run.holds.1.done (drop run.holds.1.answering.len p.got) (take n room) enough)
           ∙ ap (λ (xs : List ℕ). take run.holds.1.done xs) (sym longer))
 

@@ -1,22 +1,26 @@
 -- Each cause excludes the others, so that where one stands the outcome is its own.
-use Rattle.std.proofs.Common.{◌≡◌, ℕ, ◌+◌, ◌<◌, ◌≤◌, ◌⊎◌, Bool, true, false, List, [], ◌∷◌, ◌++◌, length, drop, codes, Option, Some, None, refl, sym, ap, subst, ◌∙◌, inl, inr, arith, lit<, append-nil}
+use Rattle.std.proofs.Common.{◌≡◌, ℕ, ◌+◌, ◌<◌, ◌≤◌, ◌⊎◌, Bool, true, false, List, [], ◌∷◌, ◌++◌, length, drop, codes, Option, Some, None, refl, sym, ap, subst, ◌∙◌, inl, inr, arith, lit<, append-nil, length-append, cond, flat_map}
 use Rattle.relay_tasks.specs.Head.{RequestHead, ResponseHead}
+use Rattle.relay_tasks.specs.declared.Context.{Context}
 use Rattle.relay_tasks.specs.declared.Error.{Error}
 use Rattle.relay_links.specs.Link.{LinkState, LinkStart}
 use Rattle.relay_links.specs.declared.Returned.{Returned}
-use Rattle.relay_h1.specs.Verdict.{IsOpen, HasRequest, IsRefusedRequest, HasResponse, IsRefusedResponse}
-use Rattle.relay_h1.specs.Wire.{request_text}
+use Rattle.relay_h1.specs.Framing.{is_http_10}
+use Rattle.relay_h1.specs.Tasks.{Informs, HasFinal, IsOpenBehind, IsRefusedBehind}
+use Rattle.relay_h1.specs.Verdict.{IsOpen, HasRequest, IsRefusedRequest}
+use Rattle.relay_h1.specs.Wire.{request_text, response_text}
 use Rattle.relay_h1.specs.declared.Framing.{Framing}
 use Rattle.relay_h1.specs.declared.Framing.TheVariants.{Empty, Length, Chunked, UntilClose, Tunnel}
-use Rattle.relay_h1.proofs.VerdictLemmas.{HasRequest-IsOpen, IsRefusedRequest-IsOpen, HasRequest-IsRefusedRequest, HasRequest-unique, HasRequest-append, IsRefusedRequest-append, HasResponse-IsOpen, IsRefusedResponse-IsOpen, HasResponse-IsRefusedResponse, HasResponse-unique, HasResponse-append, IsRefusedResponse-append}
+use Rattle.relay_h1.proofs.TasksLemmas.{Informs-front, Stops, Stops-refused, HasFinal-stops, HasFinal-within, HasFinal-append, HasFinal-unique, HasFinal-IsOpenBehind, HasFinal-IsRefusedBehind, IsRefusedBehind-IsOpenBehind, IsRefusedBehind-append}
+use Rattle.relay_h1.proofs.VerdictLemmas.{HasRequest-IsOpen, IsRefusedRequest-IsOpen, HasRequest-IsRefusedRequest, HasRequest-unique, HasRequest-append, IsRefusedRequest-append}
 use Rattle.http_header.specs.HeaderMap.{RefusesInsert}
+use Rattle.std.proofs.lemmas.Grind.{flat_map-append}
 use Rattle.std.proofs.lemmas.List.{drop-append-le}
 use Rattle.relay_h1.specs.Body as body
 use Rattle.relay_h1.specs.Body.{BodyText, broken, open_text, ended_text, Body}
 use Rattle.relay_h1.proofs.BodyLemmas.{Body-unique}
 use Rattle.relay_h1.proofs.BodyStays.{Body-broken-append}
-use Rattle.relay_h1.proofs.HeadEndLemmas.{head_end-within}
-use Rattle.relay_proxy.specs.Built.{IsConnect, IsBuiltRequest, HasLength, IsBuiltResponse, IsStreamed, IsBuiltStream}
+use Rattle.relay_proxy.specs.Built.{IsConnect, IsBuiltRequest, IsSwitch, HasLength, IsBuiltResponse, IsStreamed, IsBuiltStream, informed_text}
 use Rattle.relay_proxy.specs.Passed.{World, Start, Passed, Waited, asked}
 use Rattle.relay_proxy.specs.Endings as endings
 use Rattle.relay_proxy.specs.Endings.{IsAccepted, IsAnswered, IsAnsweredByStream, IsWholeBody, IsSentWhole, IsUnfit, IsUnfitResponse, HasBrokenBody, IsBeingWritten, IsTurnedDown, IsLeftAlone, EndsUnlinked, EndsLinked, IsEnded, IsFailedAttempt}
@@ -75,22 +79,52 @@ one_length Chunked n m a b = absurd a
 one_length UntilClose n m a b = absurd a
 one_length Tunnel n m a b = absurd a
 
--- a response that is relayed and one that is not
-answered_or_not : {method bytes : List ℕ} {a b : ResponseHead} {f g : Framing} {k n m : ℕ}
-    → HasResponse method false bytes a f n → IsBuiltResponse a f k
-    → HasResponse method false bytes b g m → ((j : ℕ) → ¬ (IsBuiltResponse b g j)) → ⊥
-answered_or_not {method} {bytes} {a} {b} {f} {g} {k} {n} {m} x built y unbuilt =
-    let same = HasResponse-unique method false bytes a b f g n m x y in
-    unbuilt k (subst (λ (h : ResponseHead). IsBuiltResponse h g k) same.0
-    (subst (λ (e : Framing). IsBuiltResponse a e k) same.1 built))
+-- behind heads that only inform stands this final head
+abbrev Stands : List ℕ → List ℕ → ResponseHead → Framing → ℕ → Type 0
+Stands method bytes head framing len =
+    (informed : List ResponseHead) × HasFinal method false bytes informed head framing len
+
+stands : {method bytes : List ℕ} {informed : List ResponseHead} {head : ResponseHead} {framing : Framing} {len : ℕ}
+    → HasFinal method false bytes informed head framing len → Stands method bytes head framing len
+stands {method} {bytes} {informed} has = (informed, has)
+
+-- one such head, and nothing else there
+Stands-unique : (method bytes : List ℕ) (a b : ResponseHead) (f g : Framing) (n m : ℕ)
+    → Stands method bytes a f n → Stands method bytes b g m → (a ≡ b) × (f ≡ g) × (n ≡ m)
+Stands-unique method bytes a b f g n m x y =
+    let same = HasFinal-unique method false bytes x.0 y.0 a b f g n m x.1 y.1 in
+    (same.head, same.framing, same.len)
+
+Stands-IsOpen : (method bytes : List ℕ) (head : ResponseHead) (framing : Framing) (len : ℕ) {informed : List ResponseHead}
+    → Stands method bytes head framing len → IsOpenBehind method false bytes informed → ⊥
+Stands-IsOpen method bytes head framing len {informed} x open_head =
+    HasFinal-IsOpenBehind method false bytes x.0 informed head framing len x.1 open_head
+
+Stands-IsRefused : (method bytes : List ℕ) (head : ResponseHead) (framing : Framing) (len : ℕ) (why : Context)
+    {informed : List ResponseHead}
+    → Stands method bytes head framing len → IsRefusedBehind method false bytes informed why → ⊥
+Stands-IsRefused method bytes head framing len why {informed} x refused =
+    HasFinal-IsRefusedBehind method false bytes x.0 informed head framing len why x.1 refused
+
+Stands-append : (method bytes more : List ℕ) (head : ResponseHead) (framing : Framing) (len : ℕ)
+    → Stands method bytes head framing len → Stands method (bytes ++ more) head framing len
+Stands-append method bytes more head framing len x =
+    (x.0, HasFinal-append method false bytes more x.0 head framing len x.1)
+
+-- a response that is relayed and one that switches protocols
+stays_or_switch : {method bytes : List ℕ} {a b : ResponseHead} {f g : Framing} {n m : ℕ}
+    → Stands method bytes a f n → ¬ (IsSwitch a) → Stands method bytes b g m → IsSwitch b → ⊥
+stays_or_switch {method} {bytes} {a} {b} {f} {g} {n} {m} x stays y switches =
+    let same = Stands-unique method bytes a b f g n m x y in
+    stays (subst (λ (h : ResponseHead). IsSwitch h) (sym same.0) switches)
 
 -- a body that has come whole and one that has not
 whole_or_short : {method bytes : List ℕ} {a b : ResponseHead} {f g : Framing} {n m : ℕ} (j k : ℕ)
-    → HasResponse method false bytes a f n → HasLength f j
-    → HasResponse method false bytes b g m → HasLength g k
+    → Stands method bytes a f n → HasLength f j
+    → Stands method bytes b g m → HasLength g k
     → n + j ≤ length bytes → length bytes < m + k → ⊥
 whole_or_short {method} {bytes} {a} {b} {f} {g} {n} {m} j k x has y needs whole short =
-    let same = HasResponse-unique method false bytes a b f g n m x y in
+    let same = Stands-unique method bytes a b f g n m x y in
     omega (
       arith,
       same.2,
@@ -249,27 +283,18 @@ one_kind Tunnel n sized streamed = sized
 
 -- a response with a length and one in chunks
 sized_or_streamed : {method bytes : List ℕ} {a b : ResponseHead} {f g : Framing} {n m : ℕ} (k : ℕ)
-    → HasResponse method false bytes a f n → IsBuiltResponse a f k
-    → HasResponse method false bytes b g m → IsBuiltStream b g → ⊥
+    → Stands method bytes a f n → IsBuiltResponse a f k
+    → Stands method bytes b g m → IsBuiltStream b g → ⊥
 sized_or_streamed {method} {bytes} {a} {b} {f} {g} {n} {m} k x built y stream =
-    let same = HasResponse-unique method false bytes a b f g n m x y in
+    let same = Stands-unique method bytes a b f g n m x y in
     one_kind g k (subst (λ (e : Framing). HasLength e k) same.1 built.length) stream.streamed
-
--- a response in chunks and one that is not relayed
-streamed_or_not : {method bytes : List ℕ} {a b : ResponseHead} {f g : Framing} {n m : ℕ}
-    → HasResponse method false bytes a f n → IsBuiltStream a f
-    → HasResponse method false bytes b g m → ¬ (IsBuiltStream b g) → ⊥
-streamed_or_not {method} {bytes} {a} {b} {f} {g} {n} {m} x built y unbuilt =
-    let same = HasResponse-unique method false bytes a b f g n m x y in
-    unbuilt (subst (λ (h : ResponseHead). IsBuiltStream h g) same.0
-    (subst (λ (e : Framing). IsBuiltStream a e) same.1 built))
 
 -- what two bodies behind one head say is one
 one_body : {method bytes : List ℕ} {a b : ResponseHead} {f g : Framing} {n m : ℕ} {x y : BodyText}
-    → HasResponse method false bytes a f n → HasResponse method false bytes b g m
+    → Stands method bytes a f n → Stands method bytes b g m
     → Body f (drop n bytes) x → Body g (drop m bytes) y → x ≡ y
 one_body {method} {bytes} {a} {b} {f} {g} {n} {m} {x} {y} one other says also =
-    let same = HasResponse-unique method false bytes a b f g n m one other in
+    let same = Stands-unique method bytes a b f g n m one other in
     Body-unique g (drop m bytes) x y
     (subst (λ (k : ℕ). Body g (drop k bytes) x) same.2
     (subst (λ (e : Framing). Body e (drop n bytes) x) same.1 says)) also
@@ -302,20 +327,21 @@ close_broken {f} bytes cut close says =
 -- ---- what is not unfit
 
 -- a response with a length, whose head was accepted, is unfit only where the link ended inside it
-sized_fit : {method : List ℕ} {p : Passed} {link : LinkState} {e : Error} (head : ResponseHead) (len n : ℕ)
-    → IsAnswered method p head len n → IsUnfit method p link e
+sized_fit : {request : RequestHead} {p : Passed} {link : LinkState} {e : Error} (informed : List ResponseHead)
+    (head : ResponseHead) (len n : ℕ)
+    → IsAnswered request.method p informed head len n → IsUnfit request p link e
     → (link.ended ≡ true) × (length p.got < len + n)
-sized_fit {method} {p} head len n answered (endings.IsUnfit.has_broken_head bad) =
-    absurd (HasResponse-IsRefusedResponse method false p.got head answered.framing len bad.why answered.has bad.refused)
-sized_fit head len n answered (endings.IsUnfit.has_unbuilt_head unbuilt) =
-    absurd (answered_or_not answered.has answered.built unbuilt.has unbuilt.unbuilt)
-sized_fit head len n answered (endings.IsUnfit.has_full_head full) =
-    absurd (sized_or_streamed n answered.has answered.built full.has full.built)
-sized_fit {method} {p} head len n answered (endings.IsUnfit.is_cut_in_head cut) =
-    absurd (HasResponse-IsOpen method false p.got head answered.framing len answered.has cut.open_head)
-sized_fit {method} {p} head len n answered (endings.IsUnfit.is_cut_in_body cut) =
-    let same = HasResponse-unique method false p.got head cut.body.head answered.framing cut.body.answered.framing len
-    cut.body.len answered.has cut.body.answered.has in (
+sized_fit {request} {p} informed head len n answered (endings.IsUnfit.has_broken_head bad) =
+    absurd (Stands-IsRefused request.method p.got head answered.framing len bad.why (stands answered.has) bad.refused)
+sized_fit informed head len n answered (endings.IsUnfit.has_switch_head switch) =
+    absurd (stays_or_switch (stands answered.has) answered.built.stays (stands switch.has) switch.switches)
+sized_fit informed head len n answered (endings.IsUnfit.has_full_head full) =
+    absurd (sized_or_streamed n (stands answered.has) answered.built (stands full.has) full.built)
+sized_fit {request} {p} informed head len n answered (endings.IsUnfit.is_cut_in_head cut) =
+    absurd (Stands-IsOpen request.method p.got head answered.framing len (stands answered.has) cut.open_head)
+sized_fit {request} {p} informed head len n answered (endings.IsUnfit.is_cut_in_body cut) =
+    let same = Stands-unique request.method p.got head cut.body.head answered.framing cut.body.answered.framing len
+    cut.body.len (stands answered.has) (stands cut.body.answered.has) in (
       cut.ended,
       omega (
         arith,
@@ -325,8 +351,9 @@ sized_fit {method} {p} head len n answered (endings.IsUnfit.is_cut_in_body cut) 
             (subst (λ (f : Framing). HasLength f n) same.1 answered.built.length) cut.body.answered.built.length,
       ),
     )
-sized_fit head len n answered (endings.IsUnfit.is_cut_in_stream cut) =
-    absurd (sized_or_streamed n answered.has answered.built cut.stream.answered.has cut.stream.answered.built)
+sized_fit informed head len n answered (endings.IsUnfit.is_cut_in_stream cut) =
+    absurd (sized_or_streamed n (stands answered.has) answered.built (stands cut.stream.answered.has)
+    cut.stream.answered.built)
 
 -- the link ended inside a body that comes in chunks
 record IsStreamCut (p : Passed) (link : LinkState) (framing : Framing) (len : ℕ) : Type 0 where
@@ -335,24 +362,28 @@ record IsStreamCut (p : Passed) (link : LinkState) (framing : Framing) (len : �
   cut : List ℕ
   still : Body framing (drop len p.got) (open_text cut)
 
--- a response in chunks, whose head was accepted, is unfit only where the link ended inside it
-stream_fit : {method : List ℕ} {p : Passed} {link : LinkState} {e : Error} (head : ResponseHead) (framing : Framing) (len : ℕ)
-    → IsAnsweredByStream method p head framing len → IsUnfit method p link e → IsStreamCut p link framing len
-stream_fit {method} {p} head framing len answered (endings.IsUnfit.has_broken_head bad) =
-    absurd (HasResponse-IsRefusedResponse method false p.got head framing len bad.why answered.has bad.refused)
-stream_fit head framing len answered (endings.IsUnfit.has_unbuilt_head unbuilt) =
-    absurd (streamed_or_not answered.has answered.built unbuilt.has unbuilt.unstreamed)
-stream_fit {method} {p} head framing len answered (endings.IsUnfit.has_full_head full) =
-    let same = HasResponse-unique method false p.got head full.head framing UntilClose len full.len answered.has full.has in
+-- a response piece by piece, whose head was accepted, is unfit only where the link ended inside it
+stream_fit : {request : RequestHead} {p : Passed} {link : LinkState} {e : Error} (informed : List ResponseHead)
+    (head : ResponseHead) (framing : Framing) (len : ℕ)
+    → IsAnsweredByStream request.method p informed head framing len → IsUnfit request p link e
+    → IsStreamCut p link framing len
+stream_fit {request} {p} informed head framing len answered (endings.IsUnfit.has_broken_head bad) =
+    absurd (Stands-IsRefused request.method p.got head framing len bad.why (stands answered.has) bad.refused)
+stream_fit informed head framing len answered (endings.IsUnfit.has_switch_head switch) =
+    absurd (stays_or_switch (stands answered.has) answered.built.stays (stands switch.has) switch.switches)
+stream_fit {request} {p} informed head framing len answered (endings.IsUnfit.has_full_head full) =
+    let same = Stands-unique request.method p.got head full.head framing UntilClose len full.len (stands answered.has)
+    (stands full.has) in
     absurd (answered.room same.1
     (subst (λ (h : ResponseHead). RefusesInsert h.fields (codes "transfer-encoding")) (sym same.0) full.full))
-stream_fit {method} {p} head framing len answered (endings.IsUnfit.is_cut_in_head cut) =
-    absurd (HasResponse-IsOpen method false p.got head framing len answered.has cut.open_head)
-stream_fit head framing len answered (endings.IsUnfit.is_cut_in_body cut) =
-    absurd (sized_or_streamed cut.body.n cut.body.answered.has cut.body.answered.built answered.has answered.built)
-stream_fit {method} {p} head framing len answered (endings.IsUnfit.is_cut_in_stream cut) =
-    let same = HasResponse-unique method false p.got head cut.stream.head framing cut.stream.framing len cut.stream.len
-    answered.has cut.stream.answered.has in
+stream_fit {request} {p} informed head framing len answered (endings.IsUnfit.is_cut_in_head cut) =
+    absurd (Stands-IsOpen request.method p.got head framing len (stands answered.has) cut.open_head)
+stream_fit informed head framing len answered (endings.IsUnfit.is_cut_in_body cut) =
+    absurd (sized_or_streamed cut.body.n (stands cut.body.answered.has) cut.body.answered.built (stands answered.has)
+    answered.built)
+stream_fit {request} {p} informed head framing len answered (endings.IsUnfit.is_cut_in_stream cut) =
+    let same = Stands-unique request.method p.got head cut.stream.head framing cut.stream.framing len cut.stream.len
+    (stands answered.has) (stands cut.stream.answered.has) in
     record {
       chunked = same.1 ∙ cut.chunked;
       ended = cut.ended;
@@ -362,26 +393,76 @@ stream_fit {method} {p} head framing len answered (endings.IsUnfit.is_cut_in_str
     }
 
 -- a head that is open on an open link is not unfit
-open_fit : {method : List ℕ} {p : Passed} {link : LinkState} {e : Error} → IsOpen p.got → link.ended ≡ false
-    → IsUnfit method p link e → ⊥
-open_fit {method} {p} open_head live (endings.IsUnfit.has_broken_head bad) =
-    IsRefusedResponse-IsOpen method false p.got bad.why bad.refused open_head
-open_fit {method} {p} open_head live (endings.IsUnfit.has_unbuilt_head unbuilt) =
-    HasResponse-IsOpen method false p.got unbuilt.head unbuilt.framing unbuilt.len unbuilt.has open_head
-open_fit {method} {p} open_head live (endings.IsUnfit.has_full_head full) =
-    HasResponse-IsOpen method false p.got full.head UntilClose full.len full.has open_head
-open_fit open_head live (endings.IsUnfit.is_cut_in_head cut) = not_both cut.ended live
-open_fit open_head live (endings.IsUnfit.is_cut_in_body cut) = not_both cut.ended live
-open_fit open_head live (endings.IsUnfit.is_cut_in_stream cut) = not_both cut.ended live
+open_fit : {request : RequestHead} {p : Passed} {link : LinkState} {e : Error} (informed : List ResponseHead)
+    → IsOpenBehind request.method false p.got informed → link.ended ≡ false → IsUnfit request p link e → ⊥
+open_fit {request} {p} informed open_head live (endings.IsUnfit.has_broken_head bad) =
+    IsRefusedBehind-IsOpenBehind request.method false p.got bad.informed informed bad.why bad.refused open_head
+open_fit {request} {p} informed open_head live (endings.IsUnfit.has_switch_head switch) =
+    Stands-IsOpen request.method p.got switch.head switch.framing switch.len (stands switch.has) open_head
+open_fit {request} {p} informed open_head live (endings.IsUnfit.has_full_head full) =
+    Stands-IsOpen request.method p.got full.head UntilClose full.len (stands full.has) open_head
+open_fit informed open_head live (endings.IsUnfit.is_cut_in_head cut) = not_both cut.ended live
+open_fit informed open_head live (endings.IsUnfit.is_cut_in_body cut) = not_both cut.ended live
+open_fit informed open_head live (endings.IsUnfit.is_cut_in_stream cut) = not_both cut.ended live
+
+-- the text of the front of some heads is no longer than that of all
+front_text : (request : RequestHead) (front rest : List ResponseHead)
+    → length (informed_text request front) ≤ length (informed_text request (front ++ rest))
+front_text request front rest = on (is_http_10 request.version)
+  where
+    on : (old : Bool) → length (cond old [] (flat_map response_text front))
+        ≤ length (cond old [] (flat_map response_text (front ++ rest)))
+    on true = omega arith
+    on false = omega (
+      arith,
+      ap length (flat_map-append response_text front rest),
+      length-append (flat_map response_text front) (flat_map response_text rest),
+    )
+
+-- heads that only inform were not written whole, where all of them were
+informed_fit : (request : RequestHead) (p : Passed) (informed all : List ResponseHead) (place last : ℕ)
+    → Informs request.method false p.got informed place
+    → length p.written < length (informed_text request informed)
+    → Informs request.method false p.got all last → Stops request.method false (drop last p.got)
+    → p.written ≡ informed_text request all → ⊥
+informed_fit request p informed all place last informs short follows stop whole =
+    let rest = Informs-front request.method false p.got informed all place last informs follows stop in
+    omega (
+      arith,
+      short,
+      ap length whole,
+      ap (λ (hs : List ResponseHead). length (informed_text request hs)) rest.1,
+      front_text request informed rest.0,
+    )
 
 -- a response that is being written is not unfit
-written_fit : {method : List ℕ} {p : Passed} {link : LinkState} {e : Error}
-    → IsBeingWritten method p link → IsUnfit method p link e → ⊥
-written_fit (endings.IsBeingWritten.has_length head len n answered live) unfit =
-    not_both (sized_fit head len n answered unfit).0 live
-written_fit (endings.IsBeingWritten.is_streamed head framing len answered live) unfit =
-    let cut = stream_fit head framing len answered unfit in
+written_fit : {request : RequestHead} {p : Passed} {link : LinkState} {e : Error}
+    → IsBeingWritten request p link → IsUnfit request p link e → ⊥
+written_fit (endings.IsBeingWritten.has_length informed head len n answered live) unfit =
+    not_both (sized_fit informed head len n answered unfit).0 live
+written_fit (endings.IsBeingWritten.is_streamed informed head framing len answered live) unfit =
+    let cut = stream_fit informed head framing len answered unfit in
     not_both cut.ended (live cut.chunked)
+written_fit {request} {p} (endings.IsBeingWritten.informs informed place informs short live)
+    (endings.IsUnfit.has_broken_head bad) =
+    informed_fit request p informed bad.informed place bad.refused.place informs short bad.refused.informs
+    (Stops-refused request.method false (drop bad.refused.place p.got) bad.why bad.refused.refused) bad.written
+written_fit {request} {p} (endings.IsBeingWritten.informs informed place informs short live)
+    (endings.IsUnfit.has_switch_head switch) =
+    informed_fit request p informed switch.informed place switch.has.place informs short switch.has.informs
+    (HasFinal-stops request.method false p.got switch.informed switch.head switch.framing switch.len switch.has)
+    switch.written
+written_fit {request} {p} (endings.IsBeingWritten.informs informed place informs short live)
+    (endings.IsUnfit.has_full_head full) =
+    informed_fit request p informed full.informed place full.has.place informs short full.has.informs
+    (HasFinal-stops request.method false p.got full.informed full.head UntilClose full.len full.has) full.written
+written_fit (endings.IsBeingWritten.informs informed place informs short live) (endings.IsUnfit.is_cut_in_head cut) =
+    not_both cut.ended live
+written_fit (endings.IsBeingWritten.informs informed place informs short live) (endings.IsUnfit.is_cut_in_body cut) =
+    not_both cut.ended live
+written_fit (endings.IsBeingWritten.informs informed place informs short live)
+    (endings.IsUnfit.is_cut_in_stream cut) =
+    not_both cut.ended live
 
 -- a body that has ended is not cut
 whole_or_cut : {p : Passed} {link : LinkState} {framing : Framing} {len n : ℕ} {whole : List ℕ}
@@ -404,60 +485,61 @@ whole_or_broken {bytes} {whole} cut (endings.IsWholeBody.ends_with_link close en
 
 -- the text of a body that is broken, behind the head that was accepted
 same_breaks : {method : List ℕ} {p : Passed} {e : Error} (head : ResponseHead) (framing : Framing) (len : ℕ)
-    → HasResponse method false p.got head framing len → (breaks : HasBrokenBody method p e)
+    → Stands method p.got head framing len → (breaks : HasBrokenBody method p e)
     → Body framing (drop len p.got) (record { bytes = breaks.body; mark = broken })
 same_breaks {method} {p} head framing len has breaks =
-    let same = HasResponse-unique method false p.got head breaks.head framing breaks.framing len breaks.len has
-    breaks.answered.has in
+    let same = Stands-unique method p.got head breaks.head framing breaks.framing len breaks.len has
+    (stands breaks.answered.has) in
     subst (λ (f : Framing). Body f (drop len p.got) (record { bytes = breaks.body; mark = broken })) (sym same.1)
     (subst (λ (k : ℕ). Body breaks.framing (drop k p.got) (record { bytes = breaks.body; mark = broken })) (sym same.2)
     breaks.breaks)
 
 -- a response that was unfit was missed
 missed : (s : Start) (p : Passed) (link : LinkState) (told : Error) (reuse : Bool) (sent : IsSentWhole s p)
-    → IsUnfitResponse s p link told → reuse ≡ false → IsMissed sent.request.method p link (Served (Some told) reuse)
+    → IsUnfitResponse s p link told → reuse ≡ false → IsMissed sent.request p link (Served (Some told) reuse)
 missed s p link told reuse sent bad stays = record {
   e = told;
-  why = subst (λ (h : RequestHead). IsUnfit h.method p link told ⊎ HasBrokenBody h.method p told)
+  why = subst (λ (h : RequestHead). IsUnfit h p link told ⊎ HasBrokenBody h.method p told)
       (one_head bad.whole.accepted sent.accepted) bad.why;
   is = ap (λ (b : Bool). Served (Some told) b) stays;
 }
 
 exact_unfit : (s : Start) (p : Passed) (w : World) (link : LinkState) (start : LinkStart) (keep : Bool) (outcome : Outcome)
     → EndsLinked s p w link start keep outcome → (sent : IsSentWhole s p) (e : Error)
-    → IsUnfit sent.request.method p link e
-    → IsUnfinished outcome ⊎ IsMissed sent.request.method p link outcome
+    → IsUnfit sent.request p link e
+    → IsUnfinished outcome ⊎ IsMissed sent.request p link outcome
 exact_unfit s p w link start keep NoRequest ends sent e unfit = absurd ends
 exact_unfit s p w link start keep (Refused error) ends sent e unfit = absurd ends
 exact_unfit s p w link start keep (Served None reuse) ends sent e unfit =
     absurd (elim ends as (λ _. ⊥) [
       | inl whole ↦
-          let cut = sized_fit whole.head whole.len whole.n whole.answered
-          (subst (λ (h : RequestHead). IsUnfit h.method p link e) (one_head sent.accepted whole.accepted) unfit) in
+          let cut = sized_fit whole.informed whole.head whole.len whole.n whole.answered
+          (subst (λ (h : RequestHead). IsUnfit h p link e) (one_head sent.accepted whole.accepted) unfit) in
           absurd (omega (arith, cut.1, whole.body))
-      | inr whole ↦ whole_or_cut whole.whole (stream_fit whole.head whole.framing whole.len whole.answered
-          (subst (λ (h : RequestHead). IsUnfit h.method p link e) (one_head sent.accepted whole.accepted) unfit))
+      | inr whole ↦ whole_or_cut whole.whole (stream_fit whole.informed whole.head whole.framing whole.len whole.answered
+          (subst (λ (h : RequestHead). IsUnfit h p link e) (one_head sent.accepted whole.accepted) unfit))
     ])
 exact_unfit s p w link start keep (Served (Some told) reuse) ends sent e unfit =
-    elim ends.why as (λ _. IsUnfinished (Served (Some told) reuse) ⊎ IsMissed sent.request.method p link (Served (Some told) reuse)) [
+    elim ends.why as (λ _. IsUnfinished (Served (Some told) reuse) ⊎ IsMissed sent.request p link (Served (Some told) reuse)) [
       | inl bad ↦ inr (missed s p link told reuse sent bad ends.stays)
       | inr other ↦ absurd (elim other as (λ _. ⊥) [
         | inl fault ↦ elim fault.place as (λ _. ⊥) [
           | inl sending ↦ sending.left (sent.sent ∙ ap request_text (one_head sent.accepted sending.accepted))
           | inr later ↦ elim later as (λ _. ⊥) [
-            | inl head ↦ open_fit head.open_head head.ended unfit
+            | inl head ↦ open_fit head.informed (subst (λ (h : RequestHead). IsOpenBehind h.method false p.got head.informed)
+                (one_head head.whole.accepted sent.accepted) head.open_head) head.ended unfit
             | inr within ↦
-                let there = subst (λ (h : RequestHead). IsUnfit h.method p link e)
+                let there = subst (λ (h : RequestHead). IsUnfit h p link e)
                 (one_head sent.accepted within.whole.accepted) unfit in
                 elim within.body as (λ _. ⊥) [
-                  | inl sized ↦ not_both (sized_fit sized.head sized.len sized.n sized.answered there).0 within.ended
-                  | inr stream ↦ not_both (stream_fit stream.head stream.framing stream.len stream.answered there).ended
+                  | inl sized ↦ not_both (sized_fit sized.informed sized.head sized.len sized.n sized.answered there).0 within.ended
+                  | inr stream ↦ not_both (stream_fit stream.informed stream.head stream.framing stream.len stream.answered there).ended
                       within.ended
                 ]
           ]
         ]
         | inr client ↦ written_fit client.writing
-            (subst (λ (h : RequestHead). IsUnfit h.method p link e) (one_head sent.accepted client.whole.accepted) unfit)
+            (subst (λ (h : RequestHead). IsUnfit h p link e) (one_head sent.accepted client.whole.accepted) unfit)
       ])
     ]
 exact_unfit s p w link start keep TurnLimit ends sent e unfit = inl (inl refl)
@@ -466,36 +548,38 @@ exact_unfit s p w link start keep OutOfMemory ends sent e unfit = inl (inr refl)
 exact_broken : (s : Start) (p : Passed) (w : World) (link : LinkState) (start : LinkStart) (keep : Bool) (outcome : Outcome)
     → EndsLinked s p w link start keep outcome → (sent : IsSentWhole s p) (e : Error)
     → HasBrokenBody sent.request.method p e → ¬ (Rattle.relay_links.specs.Count.Rose s.faults w.client.faults)
-    → IsUnfinished outcome ⊎ IsMissed sent.request.method p link outcome
+    → IsUnfinished outcome ⊎ IsMissed sent.request p link outcome
 exact_broken s p w link start keep NoRequest ends sent e breaks calm = absurd ends
 exact_broken s p w link start keep (Refused error) ends sent e breaks calm = absurd ends
 exact_broken s p w link start keep (Served None reuse) ends sent e breaks calm =
     absurd (elim ends as (λ _. ⊥) [
       | inl whole ↦
           let there = subst (λ (h : RequestHead). HasBrokenBody h.method p e) (one_head sent.accepted whole.accepted) breaks in
-          sized_or_streamed whole.n whole.answered.has whole.answered.built there.answered.has there.answered.built
+          sized_or_streamed whole.n (stands whole.answered.has) whole.answered.built (stands there.answered.has) there.answered.built
       | inr whole ↦
           let there = subst (λ (h : RequestHead). HasBrokenBody h.method p e) (one_head sent.accepted whole.accepted) breaks in
-          whole_or_broken there.body whole.whole (same_breaks whole.head whole.framing whole.len whole.answered.has there)
+          whole_or_broken there.body whole.whole (same_breaks whole.head whole.framing whole.len (stands whole.answered.has) there)
     ])
 exact_broken s p w link start keep (Served (Some told) reuse) ends sent e breaks calm =
-    elim ends.why as (λ _. IsUnfinished (Served (Some told) reuse) ⊎ IsMissed sent.request.method p link (Served (Some told) reuse)) [
+    elim ends.why as (λ _. IsUnfinished (Served (Some told) reuse) ⊎ IsMissed sent.request p link (Served (Some told) reuse)) [
       | inl bad ↦ inr (missed s p link told reuse sent bad ends.stays)
       | inr other ↦ absurd (elim other as (λ _. ⊥) [
         | inl fault ↦ elim fault.place as (λ _. ⊥) [
           | inl sending ↦ sending.left (sent.sent ∙ ap request_text (one_head sent.accepted sending.accepted))
           | inr later ↦ elim later as (λ _. ⊥) [
-            | inl head ↦ HasResponse-IsOpen sent.request.method false p.got breaks.head breaks.framing breaks.len
-                breaks.answered.has head.open_head
+            | inl head ↦ Stands-IsOpen sent.request.method p.got breaks.head breaks.framing breaks.len
+                (stands breaks.answered.has)
+                (subst (λ (h : RequestHead). IsOpenBehind h.method false p.got head.informed)
+                (one_head head.whole.accepted sent.accepted) head.open_head)
             | inr within ↦
                 let there = subst (λ (h : RequestHead). HasBrokenBody h.method p e)
                 (one_head sent.accepted within.whole.accepted) breaks in
                 elim within.body as (λ _. ⊥) [
-                  | inl sized ↦ sized_or_streamed sized.n sized.answered.has sized.answered.built there.answered.has
+                  | inl sized ↦ sized_or_streamed sized.n (stands sized.answered.has) sized.answered.built (stands there.answered.has)
                       there.answered.built
                   | inr stream ↦ open_broken stream.body there.body
                       (Body-unique stream.framing (drop stream.len p.got) _ _ stream.still
-                      (same_breaks stream.head stream.framing stream.len stream.answered.has there))
+                      (same_breaks stream.head stream.framing stream.len (stands stream.answered.has) there))
                 ]
           ]
         ]
@@ -552,129 +636,119 @@ record IsHeaded (method text : List ℕ) : Type 0 where
   head : ResponseHead
   framing : Framing
   len : ℕ
-  has : HasResponse method false text head framing len
+  has : Stands method text head framing len
+  stays : ¬ (IsSwitch head)
 
 headed : {method text : List ℕ} → IsResponse method text → IsHeaded method text
-headed (exact.IsResponse.has_length head framing len n has built whole) =
-    record { head = head; framing = framing; len = len; has = has }
-headed (exact.IsResponse.is_chunked head len n cut has final ends) =
-    record { head = head; framing = Chunked; len = len; has = has }
-headed (exact.IsResponse.ends_with_link head len has final room) =
-    record { head = head; framing = UntilClose; len = len; has = has }
+headed (exact.IsResponse.has_length informed head framing len n has built whole) =
+    record { head = head; framing = framing; len = len; has = stands has; stays = built.stays }
+headed (exact.IsResponse.is_chunked informed head len n cut has stays ends) =
+    record { head = head; framing = Chunked; len = len; has = stands has; stays = stays }
+headed (exact.IsResponse.ends_with_link informed head len has stays room) =
+    record { head = head; framing = UntilClose; len = len; has = stands has; stays = stays }
 
 -- chunks do not end with the connection
 not_close : Chunked ≡ UntilClose → ⊥
 not_close is = cc
 
--- a response that is relayed, and a head that is not
-response_or_not : {method text : List ℕ} {head : ResponseHead} {framing : Framing} {len : ℕ} → IsResponse method text
-    → HasResponse method false text head framing len → ((n : ℕ) → ¬ (IsBuiltResponse head framing n))
-    → ¬ (IsBuiltStream head framing) → ⊥
-response_or_not (exact.IsResponse.has_length h f len n has built whole) other unbuilt unstreamed =
-    answered_or_not has built other unbuilt
-response_or_not (exact.IsResponse.is_chunked h len n cut has final ends) other unbuilt unstreamed =
-    streamed_or_not has (record { final = final; streamed = tt {0} }) other unstreamed
-response_or_not (exact.IsResponse.ends_with_link h len has final room) other unbuilt unstreamed =
-    streamed_or_not has (record { final = final; streamed = tt {0} }) other unstreamed
-
 -- a response that is relayed, and a head that has no room for its framing
 response_or_full : {method text : List ℕ} {head : ResponseHead} {len : ℕ} → IsResponse method text
-    → HasResponse method false text head UntilClose len → IsBuiltStream head UntilClose
+    → Stands method text head UntilClose len → IsBuiltStream head UntilClose
     → RefusesInsert head.fields (codes "transfer-encoding") → ⊥
-response_or_full (exact.IsResponse.has_length h f k n has built whole) other stream full =
-    sized_or_streamed n has built other stream
-response_or_full {method} {text} {head} {len} (exact.IsResponse.is_chunked h k n cut has final ends) other stream full =
-    not_close (HasResponse-unique method false text h head Chunked UntilClose k len has other).1
-response_or_full {method} {text} {head} {len} (exact.IsResponse.ends_with_link h k has final room) other stream full =
+response_or_full (exact.IsResponse.has_length informed h f k n has built whole) other stream full =
+    sized_or_streamed n (stands has) built other stream
+response_or_full {method} {text} {head} {len} (exact.IsResponse.is_chunked informed h k n cut has stays ends) other stream full =
+    not_close (Stands-unique method text h head Chunked UntilClose k len (stands has) other).1
+response_or_full {method} {text} {head} {len} (exact.IsResponse.ends_with_link informed h k has stays room) other stream full =
     room refl (subst (λ (x : ResponseHead). RefusesInsert x.fields (codes "transfer-encoding"))
-    (sym (HasResponse-unique method false text h head UntilClose UntilClose k len has other).0) full)
+    (sym (Stands-unique method text h head UntilClose UntilClose k len (stands has) other).0) full)
 
 -- a response that is relayed, and a body with a length that has not come whole
 response_or_short : {method text : List ℕ} {head : ResponseHead} {framing : Framing} {len : ℕ} (n : ℕ)
-    → IsResponse method text → HasResponse method false text head framing len → IsBuiltResponse head framing n
+    → IsResponse method text → Stands method text head framing len → IsBuiltResponse head framing n
     → length text < len + n → ⊥
-response_or_short n (exact.IsResponse.has_length h f k m has built whole) other sized short =
-    whole_or_short m n has built.length other sized.length whole short
-response_or_short n (exact.IsResponse.is_chunked h k m cut has final ends) other sized short =
-    sized_or_streamed n other sized has (record { final = final; streamed = tt {0} })
-response_or_short n (exact.IsResponse.ends_with_link h k has final room) other sized short =
-    sized_or_streamed n other sized has (record { final = final; streamed = tt {0} })
+response_or_short n (exact.IsResponse.has_length informed h f k m has built whole) other sized short =
+    whole_or_short m n (stands has) built.length other sized.length whole short
+response_or_short n (exact.IsResponse.is_chunked informed h k m cut has stays ends) other sized short =
+    sized_or_streamed n other sized (stands has) (record { stays = stays; streamed = tt {0} })
+response_or_short n (exact.IsResponse.ends_with_link informed h k has stays room) other sized short =
+    sized_or_streamed n other sized (stands has) (record { stays = stays; streamed = tt {0} })
 
 -- a response that is relayed, and a body in chunks that has not ended
 response_or_open : {method text : List ℕ} {head : ResponseHead} {framing : Framing} {len : ℕ} (cut : List ℕ)
-    → IsResponse method text → HasResponse method false text head framing len → IsBuiltStream head framing
+    → IsResponse method text → Stands method text head framing len → IsBuiltStream head framing
     → framing ≡ Chunked → Body framing (drop len text) (open_text cut) → ⊥
-response_or_open cut (exact.IsResponse.has_length h f k m has built whole) other stream chunked still =
-    sized_or_streamed m has built other stream
-response_or_open {method} {text} cut (exact.IsResponse.is_chunked h k m whole has final ends) other stream chunked still =
-    ended_open whole cut m (one_body has other ends still)
-response_or_open {method} {text} {head} {framing} {len} cut (exact.IsResponse.ends_with_link h k has final room) other
+response_or_open cut (exact.IsResponse.has_length informed h f k m has built whole) other stream chunked still =
+    sized_or_streamed m (stands has) built other stream
+response_or_open {method} {text} cut (exact.IsResponse.is_chunked informed h k m whole has stays ends) other stream chunked still =
+    ended_open whole cut m (one_body (stands has) other ends still)
+response_or_open {method} {text} {head} {framing} {len} cut (exact.IsResponse.ends_with_link informed h k has stays room) other
     stream chunked still =
-    not_close (sym ((HasResponse-unique method false text h head UntilClose framing k len has other).1 ∙ chunked))
+    not_close (sym ((Stands-unique method text h head UntilClose framing k len (stands has) other).1 ∙ chunked))
 
 -- a response that is relayed, and a body that is broken
 response_or_broken : {method text : List ℕ} {head : ResponseHead} {framing : Framing} {len : ℕ} (cut : List ℕ)
-    → IsResponse method text → HasResponse method false text head framing len → IsBuiltStream head framing
+    → IsResponse method text → Stands method text head framing len → IsBuiltStream head framing
     → Body framing (drop len text) (record { bytes = cut; mark = broken }) → ⊥
-response_or_broken cut (exact.IsResponse.has_length h f k m has built whole) other stream breaks =
-    sized_or_streamed m has built other stream
-response_or_broken {method} {text} cut (exact.IsResponse.is_chunked h k m whole has final ends) other stream breaks =
-    ended_broken whole cut m (one_body has other ends breaks)
-response_or_broken {method} {text} {head} {framing} {len} cut (exact.IsResponse.ends_with_link h k has final room) other
-    stream breaks =
-    close_broken (drop len text) cut (sym (HasResponse-unique method false text h head UntilClose framing k len has other).1) breaks
+response_or_broken cut (exact.IsResponse.has_length informed h f k m has built whole) other stream breaks =
+    sized_or_streamed m (stands has) built other stream
+response_or_broken {method} {text} cut (exact.IsResponse.is_chunked informed h k m whole has stays ends) other stream breaks =
+    ended_broken whole cut m (one_body (stands has) other ends breaks)
+response_or_broken {method} {text} {head} {framing} {len} cut (exact.IsResponse.ends_with_link informed h k has stays room)
+    other stream breaks =
+    close_broken (drop len text) cut (sym (Stands-unique method text h head UntilClose framing k len (stands has) other).1)
+    breaks
+
+-- what stands in the bytes that came stands in all of the text
+stands_in : {method : List ℕ} {p : Passed} {link : LinkState} {text : List ℕ} {head : ResponseHead} {framing : Framing} {len : ℕ}
+    → AnswersWith method p link text → Stands method p.got head framing len → Stands method text head framing len
+stands_in {method} {p} {link} {text} {head} {framing} {len} answers has =
+    subst (λ (xs : List ℕ). Stands method xs head framing len) answers.joined
+    (Stands-append method p.got answers.rest head framing len has)
 
 -- a response that is relayed is not unfit, as far as it has come
-answers_not_unfit : {method : List ℕ} {p : Passed} {link : LinkState} {e : Error} {text : List ℕ}
-    → AnswersWith method p link text → IsUnfit method p link e → ⊥
-answers_not_unfit {method} {p} {link} {e} {text} answers (endings.IsUnfit.has_broken_head bad) =
+answers_not_unfit : {request : RequestHead} {p : Passed} {link : LinkState} {e : Error} {text : List ℕ}
+    → AnswersWith request.method p link text → IsUnfit request p link e → ⊥
+answers_not_unfit {request} {p} {link} {e} {text} answers (endings.IsUnfit.has_broken_head bad) =
     let first = headed answers.response in
-    HasResponse-IsRefusedResponse method false text first.head first.framing first.len bad.why first.has
-    (subst (λ (xs : List ℕ). IsRefusedResponse method false xs bad.why) answers.joined
-    (IsRefusedResponse-append method false p.got answers.rest bad.why bad.refused))
-answers_not_unfit {method} {p} {link} {e} {text} answers (endings.IsUnfit.has_unbuilt_head unbuilt) =
-    response_or_not answers.response
-    (subst (λ (xs : List ℕ). HasResponse method false xs unbuilt.head unbuilt.framing unbuilt.len) answers.joined
-    (HasResponse-append method false p.got answers.rest unbuilt.head unbuilt.framing unbuilt.len unbuilt.has))
-    unbuilt.unbuilt unbuilt.unstreamed
-answers_not_unfit {method} {p} {link} {e} {text} answers (endings.IsUnfit.has_full_head full) =
-    response_or_full answers.response
-    (subst (λ (xs : List ℕ). HasResponse method false xs full.head UntilClose full.len) answers.joined
-    (HasResponse-append method false p.got answers.rest full.head UntilClose full.len full.has))
-    full.built full.full
-answers_not_unfit {method} {p} {link} {e} {text} answers (endings.IsUnfit.is_cut_in_head cut) =
+    Stands-IsRefused request.method text first.head first.framing first.len bad.why first.has
+    (subst (λ (xs : List ℕ). IsRefusedBehind request.method false xs bad.informed bad.why) answers.joined
+    (IsRefusedBehind-append request.method false p.got answers.rest bad.informed bad.why bad.refused))
+answers_not_unfit answers (endings.IsUnfit.has_switch_head switch) =
     let first = headed answers.response in
-    HasResponse-IsOpen method false text first.head first.framing first.len first.has
-    (subst (λ (xs : List ℕ). IsOpen xs) (all_got method p link text answers cut.ended) cut.open_head)
-answers_not_unfit {method} {p} {link} {e} {text} answers (endings.IsUnfit.is_cut_in_body cut) =
-    let all = all_got method p link text answers cut.ended in
-    response_or_short cut.body.n answers.response
-    (subst (λ (xs : List ℕ). HasResponse method false xs cut.body.head cut.body.answered.framing cut.body.len) all
-    cut.body.answered.has)
-    cut.body.answered.built (omega (arith, cut.body.short, ap length all))
-answers_not_unfit {method} {p} {link} {e} {text} answers (endings.IsUnfit.is_cut_in_stream cut) =
-    let all = all_got method p link text answers cut.ended in
-    response_or_open cut.stream.body answers.response
-    (subst (λ (xs : List ℕ). HasResponse method false xs cut.stream.head cut.stream.framing cut.stream.len) all
-    cut.stream.answered.has)
+    stays_or_switch first.has first.stays (stands_in answers (stands switch.has)) switch.switches
+answers_not_unfit answers (endings.IsUnfit.has_full_head full) =
+    response_or_full answers.response (stands_in answers (stands full.has)) full.built full.full
+answers_not_unfit {request} {p} {link} {e} {text} answers (endings.IsUnfit.is_cut_in_head cut) =
+    let first = headed answers.response in
+    Stands-IsOpen request.method text first.head first.framing first.len first.has
+    (subst (λ (xs : List ℕ). IsOpenBehind request.method false xs cut.informed)
+    (all_got request.method p link text answers cut.ended) cut.open_head)
+answers_not_unfit {request} {p} {link} {e} {text} answers (endings.IsUnfit.is_cut_in_body cut) =
+    response_or_short cut.body.n answers.response (stands_in answers (stands cut.body.answered.has))
+    cut.body.answered.built
+    (omega (arith, cut.body.short, ap length (all_got request.method p link text answers cut.ended)))
+answers_not_unfit {request} {p} {link} {e} {text} answers (endings.IsUnfit.is_cut_in_stream cut) =
+    response_or_open cut.stream.body answers.response (stands_in answers (stands cut.stream.answered.has))
     cut.stream.answered.built cut.chunked
-    (subst (λ (xs : List ℕ). Body cut.stream.framing (drop cut.stream.len xs) (open_text cut.stream.body)) all cut.stream.still)
+    (subst (λ (xs : List ℕ). Body cut.stream.framing (drop cut.stream.len xs) (open_text cut.stream.body))
+    (all_got request.method p link text answers cut.ended) cut.stream.still)
 
 -- a response that is relayed is not broken, as far as it has come
 answers_not_broken : {method : List ℕ} {p : Passed} {link : LinkState} {e : Error} {text : List ℕ}
     → AnswersWith method p link text → HasBrokenBody method p e → ⊥
 answers_not_broken {method} {p} {link} {e} {text} answers breaks =
-    response_or_broken breaks.body answers.response
-    (subst (λ (xs : List ℕ). HasResponse method false xs breaks.head breaks.framing breaks.len) answers.joined
-    (HasResponse-append method false p.got answers.rest breaks.head breaks.framing breaks.len breaks.answered.has))
+    response_or_broken breaks.body answers.response (stands_in answers (stands breaks.answered.has))
     breaks.answered.built
-    (subst (λ (xs : List ℕ). Body breaks.framing (drop breaks.len xs) (record { bytes = breaks.body; mark = broken })) answers.joined
+    (subst (λ (xs : List ℕ). Body breaks.framing (drop breaks.len xs) (record { bytes = breaks.body; mark = broken }))
+    answers.joined
     (subst (λ (xs : List ℕ). Body breaks.framing xs (record { bytes = breaks.body; mark = broken }))
     (sym (drop-append-le breaks.len p.got answers.rest within))
     (Body-broken-append breaks.framing (drop breaks.len p.got) answers.rest breaks.body breaks.breaks)))
   where
     within : breaks.len ≤ length p.got
-    within = (head_end-within p.got breaks.len breaks.answered.has.starts.ends).1
+    within =
+        (HasFinal-within method false p.got breaks.informed breaks.head breaks.framing breaks.len breaks.answered.has).1
 
 whole_unlinked : (s : Start) (p : Passed) (w : World) (outcome : Outcome) (text : List ℕ) → EndsUnlinked s p w outcome
     → AsksFor s p w text → ¬ (Rattle.relay_links.specs.Count.Rose s.faults w.client.faults)
@@ -708,7 +782,7 @@ whole_linked s p w link start keep (Served (Some e) reuse) asked_for text ends a
     absurd (elim ends.why as (λ _. ⊥) [
       | inl bad ↦ elim bad.why as (λ _. ⊥) [
         | inl unfit ↦ answers_not_unfit answers
-            (subst (λ (h : RequestHead). IsUnfit h.method p link e) (asks_that asks bad.whole.accepted) unfit)
+            (subst (λ (h : RequestHead). IsUnfit h p link e) (asks_that asks bad.whole.accepted) unfit)
         | inr breaks ↦ answers_not_broken answers
             (subst (λ (h : RequestHead). HasBrokenBody h.method p e) (asks_that asks bad.whole.accepted) breaks)
       ]
@@ -779,12 +853,12 @@ module _ {L : Type 0} (state : L → LinkState) (start_at : L → LinkStart) whe
               | inr one ↦ absurd (relayed_or_not one.head one.len one.accepted cause)
             ];
         unfit = λ q e one sent unfit.
-            subst (λ (x : Returned L). IsUnfinished outcome ⊎ IsMissed sent.request.method p (state x.link) outcome)
+            subst (λ (x : Returned L). IsUnfinished outcome ⊎ IsMissed sent.request p (state x.link) outcome)
             (same_one one)
             (exact_unfit s p w (state r.link) (start_at r.link) r.keep outcome ends sent e
-            (subst (λ (x : Returned L). IsUnfit sent.request.method p (state x.link) e) (sym (same_one one)) unfit));
+            (subst (λ (x : Returned L). IsUnfit sent.request p (state x.link) e) (sym (same_one one)) unfit));
         broken = λ q e one sent breaks calm.
-            subst (λ (x : Returned L). IsUnfinished outcome ⊎ IsMissed sent.request.method p (state x.link) outcome)
+            subst (λ (x : Returned L). IsUnfinished outcome ⊎ IsMissed sent.request p (state x.link) outcome)
             (same_one one)
             (exact_broken s p w (state r.link) (start_at r.link) r.keep outcome ends sent e breaks calm);
         whole = λ request response asked_for answers faultless.

@@ -1,38 +1,35 @@
 -- Turns of an attempt: the head is sent, the response's head comes and is written, the body is relayed.
-use Rattle.std.proofs.Common.{◌≡◌, ℕ, ◌<◌, ◌≤◌, false, List, [], ◌∷◌, ◌++◌, length, take, drop, ◌==◌, Some, refl, sym, ap, subst, ◌∙◌, inl, inr, arith, length-append, append_assoc, append-nil}
-use Rattle.relay_tasks.specs.declared.Context.{Context}
+use Rattle.std.proofs.Common.{◌≡◌, ℕ, ◌<◌, ◌≤◌, Bool, true, false, cond, flat_map, List, [], ◌∷◌, ◌++◌, length, take, Some, refl, sym, ap, subst, ◌∙◌, inl, inr, arith, length-append, append_assoc, append-nil}
 use Rattle.relay_tasks.specs.declared.Error.{Error}
 use Rattle.relay_tasks.specs.declared.ErrorSource.TheVariants.{Upstream}
 use Rattle.relay_tasks.specs.declared.Fault.{Fault}
 use Rattle.relay_tasks.specs.Head.{RequestHead, ResponseHead}
 use Rattle.relay_links.specs.Count.{Rose}
 use Rattle.relay_links.specs.Connector.{IsConnectFault}
-use Rattle.relay_links.specs.Link.{LinkState, LinkStart, IsSound, IsHandedOut, GivesBytes, WaitsOnRead, EndsRead, FailsRead, WaitsOnWrite, FailsWrite}
+use Rattle.relay_links.specs.Link.{LinkState, LinkStart, IsSound, IsHandedOut, EndsRead, FailsRead, WaitsOnWrite, FailsWrite}
 use Rattle.relay_links.specs.Told.{Since, told_length}
 use Rattle.relay_links.specs.declared.Pause.TheVariants.{NotReady}
 use Rattle.relay_links.proofs.SinceLemmas.{Since-start}
-use Rattle.relay_h1.specs.Verdict.{IsOpen, HasResponse, IsRefusedResponse, refused_from}
+use Rattle.relay_h1.specs.Framing.{is_http_10}
+use Rattle.relay_h1.specs.Tasks as tasks
+use Rattle.relay_h1.specs.Tasks.{Informs}
 use Rattle.relay_h1.specs.Wire.{request_text, response_text}
-use Rattle.relay_h1.specs.declared.Connection.{Connection}
-use Rattle.relay_h1.specs.declared.Framing.{Framing}
-use Rattle.relay_h1.proofs.HeadEndLemmas.{head_end-within}
-use Rattle.relay_h1.proofs.VerdictLemmas.{HasResponse-append}
-use Rattle.relay_proxy.specs.Built.{IsBuiltResponse, IsBuiltStream}
+use Rattle.relay_h1.proofs.TasksLemmas.{HasFinal-append}
+use Rattle.relay_proxy.specs.Built.{informed_text}
 use Rattle.relay_proxy.specs.Passed.{World, Start, Passed, Waited, TellsClient, TellsLink}
-use Rattle.relay_proxy.specs.Endings as endings
-use Rattle.relay_proxy.specs.Endings.{IsPrefixOf, IsInOrder, response_so_far, IsSentWhole, EndsLinked, IsAskedPeer, fault_error, unbuilt_error, cut_off}
+use Rattle.relay_proxy.specs.Endings.{IsPrefixOf, IsInOrder, response_so_far, IsSentWhole, EndsLinked, IsAskedPeer, fault_error}
 use Rattle.relay_proxy.specs.Phases.{IsAsking, IsAnswering, IsAttempt, RunSoFar, allowance}
 use Rattle.relay_proxy.specs.Turn.{Advances, failed}
 use Rattle.relay_proxy.specs.Offer.{TakesFront}
 use Rattle.relay_proxy.specs.declared.machine.Attempt.{Attempt}
 use Rattle.relay_proxy.specs.declared.machine.Phase.{Phase}
-use Rattle.relay_proxy.specs.declared.machine.Phase.TheVariants.{Connect, SendHead, ReadResponse, WriteHead, Ended}
-use Rattle.relay_proxy.specs.declared.machine.RunStep.{RunStep}
+use Rattle.relay_proxy.specs.declared.machine.Heard.TheVariants.{Nothing}
+use Rattle.relay_proxy.specs.declared.machine.Phase.TheVariants.{Connect, SendHead, ReadResponse, Ended}
 use Rattle.relay_proxy.specs.declared.machine.RunStep.TheVariants as step
 use Rattle.relay_proxy.specs.declared.outcome.Outcome.TheVariants as outcome
 use Rattle.relay_proxy.specs.declared.pending.Pending.{Pending}
 use Rattle.relay_proxy.specs.declared.record.AttemptRecord.{AttemptRecord}
-use Rattle.relay_proxy.proofs.Tells.{Rose-le, written_more, got_more, sent_more, link_waited, client_still, client_same, link_gave, link_took, link_still, link_waits, take_some, take_whole, take_rest}
+use Rattle.relay_proxy.proofs.Tells.{Rose-le, written_more, got_more, sent_more, link_waited, client_still, client_same, link_took, link_still, link_waits, take_some, take_whole, take_rest}
 
 -- what was accepted stays accepted while the client gives nothing
 abbrev pub asking_as : (s : Start) (p q : Passed) (ahead : List ℕ) (head : RequestHead) → q.came ≡ p.came
@@ -65,10 +62,43 @@ abbrev pub sent_whole_by : (s : Start) (p : Passed) (ahead : List ℕ) (head : R
 sent_whole_by s p ahead head asking sent =
     record { request = head; request_len = asking.len; accepted = asking.accepted; sent = sent }
 
+-- no heads have no text
+pub informed_nothing : (request : RequestHead) → informed_text request [] ≡ []
+informed_nothing request = on (is_http_10 request.version)
+  where
+    on : (old : Bool) → cond old [] (flat_map response_text []) ≡ []
+    on true = refl
+    on false = refl
+
+-- what was written is the front of the heads that only inform
+pub order_of_informed : (s : Start) (p : Passed) (ahead : List ℕ) (head : RequestHead)
+    (informed : List ResponseHead) (place : ℕ)
+    → IsAsking s p ahead head → p.sent ≡ request_text head
+    → Informs head.method false p.got informed place
+    → IsPrefixOf p.written (informed_text head informed) → IsInOrder s p
+order_of_informed s p ahead head informed place asking sent informs part = record {
+  sent = inr (record {
+    head = head;
+    len = asking.len;
+    accepted = asking.accepted;
+    part = record { rest = []; joined = append-nil p.sent ∙ sent };
+  });
+  written = inr (inr (inr (inr (record {
+    request = head;
+    request_len = asking.len;
+    accepted = asking.accepted;
+    sent = sent;
+    informed = informed;
+    place = place;
+    informs = informs;
+    part = part;
+  }))));
+}
+
 -- what was written is the front of the response
 pub order_of_answering : (s : Start) (p : Passed) (ahead : List ℕ) (request : RequestHead) (link : LinkState)
     (reply : ResponseHead) (a : IsAnswering s p ahead request link reply)
-    → IsPrefixOf p.written (response_so_far p reply a.len a.n) → IsInOrder s p
+    → IsPrefixOf p.written (response_so_far p a.head a.informed reply a.len a.n) → IsInOrder s p
 order_of_answering s p ahead request link reply a part = record {
   sent = inr (record {
     head = a.head;
@@ -81,11 +111,13 @@ order_of_answering s p ahead request link reply a part = record {
     request_len = a.asking.len;
     accepted = a.asking.accepted;
     sent = a.sent;
-    head = reply;
+    informed = a.informed;
+    head = a.given;
     len = a.len;
     n = a.n;
     answered = a.answered;
-    part = part;
+    part = subst (λ (r : ResponseHead). IsPrefixOf p.written (response_so_far p a.head a.informed r a.len a.n))
+        a.reply part;
   })));
 }
 
@@ -98,10 +130,13 @@ answering_wrote s p ahead more request link reply a = record {
   is = a.is;
   asking = asking_as s p (written_more p more) ahead a.head refl a.asking;
   sent = a.sent;
+  informed = a.informed;
+  given = a.given;
   len = a.len;
   n = a.n;
   answered = record { framing = a.answered.framing; has = a.answered.has; built = a.answered.built };
   within = a.within;
+  reply = a.reply;
   ended = a.ended;
 }
 
@@ -114,14 +149,17 @@ answering_got s p ahead more request now link after reply asks open_end a = reco
   is = asks ∙ a.is;
   asking = asking_as s p (got_more p more) ahead a.head refl a.asking;
   sent = a.sent;
+  informed = a.informed;
+  given = a.given;
   len = a.len;
   n = a.n;
   answered = record {
     framing = a.answered.framing;
-    has = HasResponse-append a.head.method false p.got more reply a.answered.framing a.len a.answered.has;
+    has = HasFinal-append a.head.method false p.got more a.informed a.given a.answered.framing a.len a.answered.has;
     built = a.answered.built;
   };
   within = omega (arith, a.within, length-append p.got more);
+  reply = a.reply;
   ended = open_end;
 }
 
@@ -134,20 +172,15 @@ answering_as s p ahead now request again link after reply same asks ended a = re
   is = asks ∙ a.is;
   asking = subst (λ (xs : List ℕ). IsAsking s p xs a.head) (sym same) a.asking;
   sent = a.sent;
+  informed = a.informed;
+  given = a.given;
   len = a.len;
   n = a.n;
   answered = a.answered;
   within = a.within;
+  reply = a.reply;
   ended = ended ∙ a.ended;
 }
-
--- a response in the same bytes, to the same method
-pub answers_to : (method asked : List ℕ) (got held : List ℕ) (head : ResponseHead) (framing : Framing) (len : ℕ)
-    → asked ≡ method → held ≡ got → HasResponse asked false held head framing len
-    → HasResponse method false got head framing len
-answers_to method asked got held head framing len same all has =
-    subst (λ (m : List ℕ). HasResponse m false got head framing len) same
-    (subst (λ (xs : List ℕ). HasResponse asked false xs head framing len) all has)
 
 -- the text of the head and then of the body, as far as it has come
 pub head_then_body : (front text head body : List ℕ) → front ++ text ≡ head → front ++ (text ++ body) ≡ head ++ body
@@ -257,7 +290,7 @@ module _ {L C : Type 0} (state : L → LinkState) (start_at : L → LinkStart) w
       → b.connection.ahead ≡ a.connection.ahead
       → TakesFront (state a.connection.link) (state b.connection.link) text.output []
       → RunSoFar {C = C} state start_at s p v w [] (SendHead a text)
-      → Advances {C = C} state start_at s p v w (SendHead a text) (ReadResponse b) step.Moved
+      → Advances {C = C} state start_at s p v w (SendHead a text) (ReadResponse b Nothing) step.Moved
   sent_all s p v w a b text same peer reused asks held takes run = record {
     passed = sent_more p (take takes.n text.output);
     waited = v;
@@ -276,8 +309,12 @@ module _ {L C : Type 0} (state : L → LinkState) (start_at : L → LinkStart) w
           is = asks ∙ run.holds.1.is;
           asking = asking;
           sent = all;
-          written = run.holds.1.written;
-          all_held = held ∙ run.holds.1.none_held ∙ sym run.holds.1.got;
+          informed = [];
+          place = 0;
+          informs = tasks.Informs.none_came p.got;
+          begun = refl;
+          written = run.holds.1.written ∙ sym (informed_nothing run.holds.1.head);
+          rest_held = held ∙ run.holds.1.none_held ∙ sym run.holds.1.got;
           open_end = λ some. absurd (omega (arith, ap length (held ∙ run.holds.1.none_held)));
         },
       );
@@ -428,74 +465,6 @@ module _ {L C : Type 0} (state : L → LinkState) (start_at : L → LinkStart) w
       })
       (omega arith)
 
-  -- more of the response's head came
-  pub response_came : (s : Start) (p : Passed) (v : Waited) (w : World) (a b : Attempt L C) (room : List ℕ) (n : ℕ)
-      → start_at b.connection.link ≡ start_at a.connection.link → b.peer ≡ a.peer → b.reused ≡ a.reused → b.request ≡ a.request
-      → b.connection.ahead ≡ a.connection.ahead ++ take n room
-      → GivesBytes (state a.connection.link) room n (state b.connection.link)
-      → RunSoFar {C = C} state start_at s p v w [] (ReadResponse a)
-      → Advances {C = C} state start_at s p v w (ReadResponse a) (ReadResponse b) step.Moved
-  response_came s p v w a b room n same peer reused asks grown gives run = record {
-    passed = got_more p (take n room);
-    waited = v;
-    run = record {
-      tells = client_same s p (got_more p (take n room)) v v w refl refl refl run.tells;
-      order = order_of_sending s (got_more p (take n room)) w.ahead run.holds.1.head []
-          (asking_as s p (got_more p (take n room)) w.ahead run.holds.1.head refl run.holds.1.asking)
-          (append-nil p.sent ∙ run.holds.1.sent) run.holds.1.written;
-      going = tt;
-      holds = (
-        attempt_as p (got_more p (take n room)) v v a b
-            (link_gave p v (state a.connection.link) (state b.connection.link) (start_at a.connection.link) room n
-            gives run.holds.0.tells)
-            gives.sound same peer reused run.holds.0,
-        record {
-          head = run.holds.1.head;
-          is = asks ∙ run.holds.1.is;
-          asking = asking_as s p (got_more p (take n room)) w.ahead run.holds.1.head refl run.holds.1.asking;
-          sent = run.holds.1.sent;
-          written = run.holds.1.written;
-          all_held = grown ∙ ap (λ (xs : List ℕ). xs ++ take n room) run.holds.1.all_held;
-          open_end = λ some. gives.ended;
-        },
-      );
-    };
-    spends = omega (arith, length-append p.got (take n room), take_some room n gives.some gives.fits);
-  }
-
-  -- the link is not ready for the response's head
-  pub response_waits : (s : Start) (p : Passed) (v : Waited) (w : World) (a b : Attempt L C)
-      → start_at b.connection.link ≡ start_at a.connection.link → b.peer ≡ a.peer → b.reused ≡ a.reused → b.request ≡ a.request
-      → b.connection.ahead ≡ a.connection.ahead
-      → WaitsOnRead (state a.connection.link) (state b.connection.link)
-      → RunSoFar {C = C} state start_at s p v w [] (ReadResponse a)
-      → Advances {C = C} state start_at s p v w (ReadResponse a) (ReadResponse b) (step.Waited NotReady)
-  response_waits s p v w a b same peer reused asks held waits run = record {
-    passed = p;
-    waited = link_waited v;
-    run = record {
-      tells = client_same s p p v (link_waited v) w refl refl refl run.tells;
-      order = run.order;
-      going = tt;
-      holds = (
-        attempt_as p p v (link_waited v) a b
-            (link_waits p v (state a.connection.link) (state b.connection.link) (start_at a.connection.link)
-            waits.given waits.taken waits.waits waits.faults run.holds.0.tells)
-            waits.sound same peer reused run.holds.0,
-        record {
-          head = run.holds.1.head;
-          is = asks ∙ run.holds.1.is;
-          asking = run.holds.1.asking;
-          sent = run.holds.1.sent;
-          written = run.holds.1.written;
-          all_held = held ∙ run.holds.1.all_held;
-          open_end = λ some. waits.ended;
-        },
-      );
-    };
-    spends = (refl, omega arith, refl);
-  }
-
   -- an attempt whose link ended
   pub attempt_ended : (p : Passed) (v : Waited) (a b : Attempt L C)
       → start_at b.connection.link ≡ start_at a.connection.link → b.peer ≡ a.peer → b.reused ≡ a.reused
@@ -519,181 +488,3 @@ module _ {L C : Type 0} (state : L → LinkState) (start_at : L → LinkStart) w
       (Rose-le (state a.connection.link).faults (state b.connection.link).faults fails.sound_before.faults_fit fails.faults)
       h.tells)
       fails.sound same peer reused h
-
-  -- the link ended in the response's head
-  pub response_cut : (s : Start) (p : Passed) (v : Waited) (w : World) (a b : Attempt L C) (next : Phase L C)
-      → start_at b.connection.link ≡ start_at a.connection.link → b.peer ≡ a.peer → b.reused ≡ a.reused
-      → EndsRead (state a.connection.link) (state b.connection.link) → IsOpen a.connection.ahead
-      → next ≡ failed b (cut_off (length a.connection.ahead == 0))
-      → RunSoFar {C = C} state start_at s p v w [] (ReadResponse a)
-      → Advances {C = C} state start_at s p v w (ReadResponse a) next step.Ended
-  response_cut s p v w a b next same peer reused ends open_head is run =
-      fails_with s p v w (ReadResponse a) next b (cut_off (length a.connection.ahead == 0)) is run.tells run.order
-      (attempt_ended p v a b same peer reused ends run.holds.0)
-      (record {
-        why = inl (record {
-          whole = sent_whole_by s p w.ahead run.holds.1.head run.holds.1.asking run.holds.1.sent;
-          why = inl (endings.IsUnfit.is_cut_in_head (record {
-            open_head = subst (λ (xs : List ℕ). IsOpen xs) run.holds.1.all_held open_head;
-            ended = ends.ended;
-            error = ap (λ (xs : List ℕ). cut_off (length xs == 0)) run.holds.1.all_held;
-            written = run.holds.1.written;
-          }));
-        });
-        not_kept = refl;
-        stays = refl;
-      })
-      (omega arith)
-
-  -- a read of the response's head failed
-  pub response_fails : (s : Start) (p : Passed) (v : Waited) (w : World) (a b : Attempt L C) (fault : Fault)
-      (next : Phase L C)
-      → start_at b.connection.link ≡ start_at a.connection.link → b.peer ≡ a.peer → b.reused ≡ a.reused
-      → FailsRead (state a.connection.link) fault (state b.connection.link) → IsOpen a.connection.ahead
-      → next ≡ failed b (fault_error Upstream fault)
-      → RunSoFar {C = C} state start_at s p v w [] (ReadResponse a)
-      → Advances {C = C} state start_at s p v w (ReadResponse a) next step.Ended
-  response_fails s p v w a b fault next same peer reused fails open_head is run =
-      fails_with s p v w (ReadResponse a) next b (fault_error Upstream fault) is run.tells run.order
-      (attempt_read_failed p v a b fault same peer reused fails run.holds.0)
-      (record {
-        why = inr (inl (record {
-          fault = fault;
-          error = refl;
-          rose = λ below. omega (arith, run.holds.0.tells.faults, fails.faults below, ap (λ (at : LinkStart). at.faults) same);
-          place = inr (inl (record {
-            kind = fails.kind;
-            whole = sent_whole_by s p w.ahead run.holds.1.head run.holds.1.asking run.holds.1.sent;
-            open_head = subst (λ (xs : List ℕ). IsOpen xs) run.holds.1.all_held open_head;
-            ended = fails.ended;
-          }));
-        }));
-        not_kept = refl;
-        stays = refl;
-      })
-      (omega arith)
-
-  -- the response's head is refused
-  pub response_broken : (s : Start) (p : Passed) (v : Waited) (w : World) (a : Attempt L C) (why : Context)
-      (next : Phase L C)
-      → IsRefusedResponse a.request.method false a.connection.ahead why
-      → next ≡ failed a (refused_from Upstream why)
-      → RunSoFar {C = C} state start_at s p v w [] (ReadResponse a)
-      → Advances {C = C} state start_at s p v w (ReadResponse a) next step.Ended
-  response_broken s p v w a why next refused is run =
-      fails_with s p v w (ReadResponse a) next a (refused_from Upstream why) is run.tells run.order
-      run.holds.0
-      (record {
-        why = inl (record {
-          whole = sent_whole_by s p w.ahead run.holds.1.head run.holds.1.asking run.holds.1.sent;
-          why = inl (endings.IsUnfit.has_broken_head (record {
-            why = why;
-            refused = subst (λ (xs : List ℕ). IsRefusedResponse run.holds.1.head.method false xs why) run.holds.1.all_held
-                (subst (λ (h : RequestHead). IsRefusedResponse h.method false a.connection.ahead why) run.holds.1.is refused);
-            error = refl;
-            written = run.holds.1.written;
-          }));
-        });
-        not_kept = refl;
-        stays = refl;
-      })
-      (omega arith)
-
-  -- the response's head is valid, and not of a form that is relayed
-  pub response_unbuilt : (s : Start) (p : Passed) (v : Waited) (w : World) (a : Attempt L C) (head : ResponseHead)
-      (framing : Framing) (len : ℕ) (next : Phase L C)
-      → HasResponse a.request.method false a.connection.ahead head framing len
-      → ((n : ℕ) → ¬ (IsBuiltResponse head framing n)) → ¬ (IsBuiltStream head framing)
-      → next ≡ failed a (unbuilt_error head)
-      → RunSoFar {C = C} state start_at s p v w [] (ReadResponse a)
-      → Advances {C = C} state start_at s p v w (ReadResponse a) next step.Ended
-  response_unbuilt s p v w a head framing len next has unbuilt unstreamed is run =
-      fails_with s p v w (ReadResponse a) next a (unbuilt_error head) is run.tells run.order
-      run.holds.0
-      (record {
-        why = inl (record {
-          whole = sent_whole_by s p w.ahead run.holds.1.head run.holds.1.asking run.holds.1.sent;
-          why = inl (endings.IsUnfit.has_unbuilt_head (record {
-            head = head;
-            framing = framing;
-            len = len;
-            has = answers_to run.holds.1.head.method a.request.method p.got a.connection.ahead head framing len
-                (ap (λ (h : RequestHead). h.method) run.holds.1.is) run.holds.1.all_held has;
-            unbuilt = unbuilt;
-            unstreamed = unstreamed;
-            error = refl;
-            written = run.holds.1.written;
-          }));
-        });
-        not_kept = refl;
-        stays = refl;
-      })
-      (omega arith)
-
-  -- the response's head was accepted, and taken from what is held
-  pub response_accepted : (s : Start) (p : Passed) (v : Waited) (w : World) (a b : Attempt L C) (head : ResponseHead)
-      (framing : Framing) (len n : ℕ) (text : Pending)
-      → b.connection.link ≡ a.connection.link → b.peer ≡ a.peer → b.reused ≡ a.reused → b.request ≡ a.request
-      → b.connection.ahead ≡ drop len a.connection.ahead
-      → HasResponse a.request.method false a.connection.ahead head framing len
-      → IsBuiltResponse head framing n → text.output ≡ response_text head
-      → RunSoFar {C = C} state start_at s p v w [] (ReadResponse a)
-      → Advances {C = C} state start_at s p v w (ReadResponse a) (WriteHead b head text n) step.Moved
-  response_accepted s p v w a b head framing len n text link peer reused asks held has built whole run = record {
-    passed = p;
-    waited = v;
-    run = record {
-      tells = run.tells;
-      order = run.order;
-      going = tt;
-      holds = (
-        record {
-          tells = rw link run.holds.0.tells;
-          sound = rw link run.holds.0.sound;
-          peer = peer ∙ run.holds.0.peer;
-          reused = rw link (reused ∙ run.holds.0.reused);
-        },
-        record {
-          answering = record {
-            head = run.holds.1.head;
-            is = asks ∙ run.holds.1.is;
-            asking = run.holds.1.asking;
-            sent = run.holds.1.sent;
-            len = len;
-            n = n;
-            answered = record {
-              framing = framing;
-              has = answers_to run.holds.1.head.method a.request.method p.got a.connection.ahead head framing len
-                  (ap (λ (h : RequestHead). h.method) run.holds.1.is) run.holds.1.all_held has;
-              built = built;
-            };
-            within = omega (arith, ends_within.1, ap length run.holds.1.all_held);
-            ended = rw link (run.holds.1.open_end (omega (arith, ends_within.0, ends_within.1)));
-          };
-          joined = ap (λ (xs : List ℕ). xs ++ text.output) run.holds.1.written ∙ whole;
-          rest_held = held ∙ ap (λ (xs : List ℕ). drop len xs) run.holds.1.all_held;
-          body = refl;
-        },
-      );
-    };
-    spends = omega arith;
-  }
-    where
-      ends_within : (4 ≤ len) × (len ≤ length a.connection.ahead)
-      ends_within = head_end-within a.connection.ahead len has.starts.ends
-
-  -- a turn of an attempt whose connection is as it was
-  pub turn_as : (s : Start) (p : Passed) (v : Waited) (w : World) (a : Attempt L C) (now : Connection L (Unit {0}))
-      (next : Phase L C) (step : RunStep)
-      → now ≡ a.connection
-      → (RunSoFar {C = C} state start_at s p v w [] (ReadResponse (record a { connection = now }))
-      → Advances {C = C} state start_at s p v w (ReadResponse (record a { connection = now })) next step)
-      → RunSoFar {C = C} state start_at s p v w [] (ReadResponse a)
-      → Advances {C = C} state start_at s p v w (ReadResponse a) next step
-  turn_as s p v w a now next step same =
-      subst (λ (k : Connection L (Unit {0})).
-      (RunSoFar {C = C} state start_at s p v w [] (ReadResponse (record a { connection = k }))
-      → Advances {C = C} state start_at s p v w (ReadResponse (record a { connection = k })) next step)
-      → RunSoFar {C = C} state start_at s p v w [] (ReadResponse a)
-      → Advances {C = C} state start_at s p v w (ReadResponse a) next step)
-      (sym same) (λ turn run. turn run)

@@ -5,4 +5,5 @@ pub mod BodySteps
 pub mod StepLemmas
 pub mod UnderWay
 pub mod ExactLemmas
+pub mod ResponseSteps
 pub mod StreamSteps

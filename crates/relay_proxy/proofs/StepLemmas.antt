@@ -16,7 +16,7 @@ use Rattle.relay_proxy.specs.Closing.{Hands, HandsBack, Settles, GivesUp, Finish
 use Rattle.relay_proxy.specs.declared.finish.Ending.{Ending}
 use Rattle.relay_proxy.specs.declared.machine.Attempt.{Attempt}
 use Rattle.relay_proxy.specs.declared.machine.Phase.{Phase}
-use Rattle.relay_proxy.specs.declared.machine.Phase.TheVariants.{ReadHead, Refuse, Connect, SendHead, ReadResponse, WriteHead, RelayBody, WriteChunks, ReadChunks, WriteLast, Close, Ended}
+use Rattle.relay_proxy.specs.declared.machine.Phase.TheVariants.{ReadHead, Refuse, Connect, SendHead, ReadResponse, WriteInformed, WriteHead, RelayBody, WriteChunks, ReadChunks, WriteLast, Close, Ended}
 use Rattle.relay_proxy.specs.declared.machine.RunStep.{RunStep}
 use Rattle.relay_proxy.specs.declared.machine.RunStep.TheVariants as step
 use Rattle.relay_proxy.specs.declared.outcome.Outcome.{Outcome}
@@ -116,8 +116,10 @@ module _ {L C : Type 0} (state : L → LinkState) (start_at : L → LinkStart) w
       stays s p v w (Connect context request text) settled before after does.0 does.1 run
   settle_run s p v w (SendHead a text) settled before after does run =
       stays s p v w (SendHead a text) settled before after does.0 does.1 run
-  settle_run s p v w (ReadResponse a) settled before after does run =
-      stays s p v w (ReadResponse a) settled before after does.0 does.1 run
+  settle_run s p v w (ReadResponse a heard) settled before after does run =
+      stays s p v w (ReadResponse a heard) settled before after does.0 does.1 run
+  settle_run s p v w (WriteInformed a text) settled before after does run =
+      stays s p v w (WriteInformed a text) settled before after does.0 does.1 run
   settle_run s p v w (WriteHead a reply text left) settled before after does run =
       stays s p v w (WriteHead a reply text left) settled before after does.0 does.1 run
   settle_run s p v w (RelayBody a reply left) settled before after does run =
@@ -162,7 +164,8 @@ module _ {L C : Type 0} (state : L → LinkState) (start_at : L → LinkStart) w
   counts_turn (Refuse answer e) before after did work works is = counts_work before after did work works is
   counts_turn (Connect context request text) before after did work works is = counts_work before after did work works is
   counts_turn (SendHead a text) before after did work works is = counts_work before after did work works is
-  counts_turn (ReadResponse a) before after did work works is = counts_work before after did work works is
+  counts_turn (ReadResponse a heard) before after did work works is = counts_work before after did work works is
+  counts_turn (WriteInformed a text) before after did work works is = counts_work before after did work works is
   counts_turn (WriteHead a reply text left) before after did work works is = counts_work before after did work works is
   counts_turn (RelayBody a reply left) before after did work works is = counts_work before after did work works is
   counts_turn (WriteChunks a stream text) before after did work works is = counts_work before after did work works is
@@ -283,8 +286,11 @@ module _ {L C : Type 0} (state : L → LinkState) (start_at : L → LinkStart) w
   step_on s p v [] w x (SendHead a text) turns work spent n next did before mid after turn rests kept does works is running =
       live_on s p v x (record { phase = SendHead a text; turns = turns; work = work }) n next did before mid after (λ q u h. h)
       (turn running.run) kept does (counts_work turns n.turns did spent works is) running.turns
-  step_on s p v [] w x (ReadResponse a) turns work spent n next did before mid after turn rests kept does works is running =
-      live_on s p v x (record { phase = ReadResponse a; turns = turns; work = work }) n next did before mid after (λ q u h. h)
+  step_on s p v [] w x (ReadResponse a heard) turns work spent n next did before mid after turn rests kept does works is running =
+      live_on s p v x (record { phase = ReadResponse a heard; turns = turns; work = work }) n next did before mid after (λ q u h. h)
+      (turn running.run) kept does (counts_work turns n.turns did spent works is) running.turns
+  step_on s p v [] w x (WriteInformed a text) turns work spent n next did before mid after turn rests kept does works is running =
+      live_on s p v x (record { phase = WriteInformed a text; turns = turns; work = work }) n next did before mid after (λ q u h. h)
       (turn running.run) kept does (counts_work turns n.turns did spent works is) running.turns
   step_on s p v [] w x (WriteHead a reply text left) turns work spent n next did before mid after turn rests kept does works is running =
       live_on s p v x (record { phase = WriteHead a reply text left; turns = turns; work = work }) n next did before mid after (λ q u h. h)
@@ -313,7 +319,9 @@ module _ {L C : Type 0} (state : L → LinkState) (start_at : L → LinkStart) w
       absurd running.run.holds
   step_on s p v (r ∷ own) w x (SendHead a text) turns work spent n next did before mid after turn rests kept does works is running =
       absurd running.run.holds
-  step_on s p v (r ∷ own) w x (ReadResponse a) turns work spent n next did before mid after turn rests kept does works is running =
+  step_on s p v (r ∷ own) w x (ReadResponse a heard) turns work spent n next did before mid after turn rests kept does works is running =
+      absurd running.run.holds
+  step_on s p v (r ∷ own) w x (WriteInformed a text) turns work spent n next did before mid after turn rests kept does works is running =
       absurd running.run.holds
   step_on s p v (r ∷ own) w x (WriteHead a reply text left) turns work spent n next did before mid after turn rests kept does works is running =
       absurd running.run.holds
@@ -403,9 +411,12 @@ module _ {L C : Type 0} (state : L → LinkState) (start_at : L → LinkStart) w
   end_of s p v [] w (SendHead a text) before after ending does run =
       linked_end s p v w (SendHead a text) a false before after ending TurnLimit does.limit does.back run run.holds.0 refl
       (λ l same h. inr (inl (rw same h)))
-  end_of s p v [] w (ReadResponse a) before after ending does run =
-      linked_end s p v w (ReadResponse a) a false before after ending TurnLimit does.limit does.back run run.holds.0 refl
+  end_of s p v [] w (ReadResponse a heard) before after ending does run =
+      linked_end s p v w (ReadResponse a heard) a false before after ending TurnLimit does.limit does.back run run.holds.0 refl
       (λ l same h. inl (rw same h))
+  end_of s p v [] w (WriteInformed a text) before after ending does run =
+      linked_end s p v w (WriteInformed a text) a false before after ending TurnLimit does.limit does.back run run.holds.0 refl
+      (λ l same h. inr (inr h))
   end_of s p v [] w (WriteHead a reply text left) before after ending does run =
       linked_end s p v w (WriteHead a reply text left) a false before after ending TurnLimit does.limit does.back run run.holds.0 refl
       (λ l same h. inr (inr h))
@@ -430,7 +441,8 @@ module _ {L C : Type 0} (state : L → LinkState) (start_at : L → LinkStart) w
   end_of s p v (r ∷ own) w (Refuse answer e) before after ending does run = absurd run.holds
   end_of s p v (r ∷ own) w (Connect context request text) before after ending does run = absurd run.holds
   end_of s p v (r ∷ own) w (SendHead a text) before after ending does run = absurd run.holds
-  end_of s p v (r ∷ own) w (ReadResponse a) before after ending does run = absurd run.holds
+  end_of s p v (r ∷ own) w (ReadResponse a heard) before after ending does run = absurd run.holds
+  end_of s p v (r ∷ own) w (WriteInformed a text) before after ending does run = absurd run.holds
   end_of s p v (r ∷ own) w (WriteHead a reply text left) before after ending does run = absurd run.holds
   end_of s p v (r ∷ own) w (RelayBody a reply left) before after ending does run = absurd run.holds
   end_of s p v (r ∷ own) w (WriteChunks a stream text) before after ending does run = absurd run.holds
@@ -446,7 +458,8 @@ module _ {L C : Type 0} (state : L → LinkState) (start_at : L → LinkStart) w
   allowance-le (Refuse answer e) = omega arith
   allowance-le (Connect context request text) = omega arith
   allowance-le (SendHead a text) = omega arith
-  allowance-le (ReadResponse a) = omega arith
+  allowance-le (ReadResponse a heard) = omega arith
+  allowance-le (WriteInformed a text) = omega arith
   allowance-le (WriteHead a reply text left) = omega arith
   allowance-le (RelayBody a reply left) = omega arith
   allowance-le (WriteChunks a stream text) = omega arith
@@ -463,7 +476,8 @@ module _ {L C : Type 0} (state : L → LinkState) (start_at : L → LinkStart) w
   over_end v (Refuse answer e) before after ending going does over = absurd (not_true (sym over))
   over_end v (Connect context request text) before after ending going does over = absurd (not_true (sym over))
   over_end v (SendHead a text) before after ending going does over = absurd (not_true (sym over))
-  over_end v (ReadResponse a) before after ending going does over = absurd (not_true (sym over))
+  over_end v (ReadResponse a heard) before after ending going does over = absurd (not_true (sym over))
+  over_end v (WriteInformed a text) before after ending going does over = absurd (not_true (sym over))
   over_end v (WriteHead a reply text left) before after ending going does over = absurd (not_true (sym over))
   over_end v (RelayBody a reply left) before after ending going does over = absurd (not_true (sym over))
   over_end v (WriteChunks a stream text) before after ending going does over = absurd (not_true (sym over))
@@ -479,7 +493,8 @@ module _ {L C : Type 0} (state : L → LinkState) (start_at : L → LinkStart) w
   going_end (Refuse answer e) before after ending does live = does.limit
   going_end (Connect context request text) before after ending does live = does.limit
   going_end (SendHead a text) before after ending does live = does.limit
-  going_end (ReadResponse a) before after ending does live = does.limit
+  going_end (ReadResponse a heard) before after ending does live = does.limit
+  going_end (WriteInformed a text) before after ending does live = does.limit
   going_end (WriteHead a reply text left) before after ending does live = does.limit
   going_end (RelayBody a reply left) before after ending does live = does.limit
   going_end (WriteChunks a stream text) before after ending does live = does.limit
@@ -513,7 +528,9 @@ progress (Connect context request text) did old turn now works is moved fits =
     work_grows old turn now (subst (λ (d : RunStep). DoesWork d turn) moved works) is fits
 progress (SendHead a text) did old turn now works is moved fits =
     work_grows old turn now (subst (λ (d : RunStep). DoesWork d turn) moved works) is fits
-progress (ReadResponse a) did old turn now works is moved fits =
+progress (ReadResponse a heard) did old turn now works is moved fits =
+    work_grows old turn now (subst (λ (d : RunStep). DoesWork d turn) moved works) is fits
+progress (WriteInformed a text) did old turn now works is moved fits =
     work_grows old turn now (subst (λ (d : RunStep). DoesWork d turn) moved works) is fits
 progress (WriteHead a reply text left) did old turn now works is moved fits =
     work_grows old turn now (subst (λ (d : RunStep). DoesWork d turn) moved works) is fits
@@ -537,7 +554,8 @@ rests_end w x ReadHead next did rests over = absurd (not_true (sym over))
 rests_end w x (Refuse answer e) next did rests over = absurd (not_true (sym over))
 rests_end w x (Connect context request text) next did rests over = absurd (not_true (sym over))
 rests_end w x (SendHead a text) next did rests over = absurd (not_true (sym over))
-rests_end w x (ReadResponse a) next did rests over = absurd (not_true (sym over))
+rests_end w x (ReadResponse a heard) next did rests over = absurd (not_true (sym over))
+rests_end w x (WriteInformed a text) next did rests over = absurd (not_true (sym over))
 rests_end w x (WriteHead a reply text left) next did rests over = absurd (not_true (sym over))
 rests_end w x (RelayBody a reply left) next did rests over = absurd (not_true (sym over))
 rests_end w x (WriteChunks a stream text) next did rests over = absurd (not_true (sym over))

@@ -1,5 +1,5 @@
 -- Turns of an attempt whose response is sent in chunks: its text is written as its body is cut.
-use Rattle.std.proofs.Common.{◌≡◌, ℕ, ◌+◌, ◌-◌, ◌<◌, ◌≤◌, ◌⊎◌, ◌↔◌, IsTrue, Bool, true, false, List, [], ◌∷◌, ◌++◌, length, take, drop, codes, refl, sym, ap, subst, ◌∙◌, inl, inr, arith, length-append, append_assoc, append-nil}
+use Rattle.std.proofs.Common.{◌≡◌, ℕ, ◌+◌, ◌-◌, ◌<◌, ◌≤◌, ◌⊎◌, ◌↔◌, IsTrue, Bool, true, false, cond, List, [], ◌∷◌, ◌++◌, length, take, drop, codes, refl, sym, ap, subst, ◌∙◌, inl, inr, arith, length-append, append_assoc, append-nil}
 use Rattle.std.specs.List.{concat}
 use Rattle.std.proofs.lemmas.List.{drop-append-le, drop-drop}
 use Rattle.std.proofs.lemmas.List.Folds.{concat-append}
@@ -13,7 +13,10 @@ use Rattle.relay_links.specs.declared.Pause.TheVariants.{NotReady, Silent}
 use Rattle.relay_h1.specs.Body.{BodyText, broken, open_text, ended_text, behind, Body}
 use Rattle.relay_h1.specs.Body as body
 use Rattle.relay_h1.specs.BodyReader.{Reads, SoFar}
-use Rattle.relay_h1.specs.BodyWire.{chunk_text, pieces_text}
+use Rattle.relay_h1.specs.BodyWire.{chunk_text, piece_text, pieces_text, end_text}
+use Rattle.relay_h1.specs.ClientHead.{is_informational}
+use Rattle.relay_h1.specs.Framing.{is_http_10}
+use Rattle.relay_h1.specs.Tasks.{HasFinal}
 use Rattle.relay_h1.specs.Verdict.{HasResponse, refused_from}
 use Rattle.relay_h1.specs.Wire.{response_text}
 use Rattle.relay_h1.specs.declared.body_reader.State.{State}
@@ -23,17 +26,18 @@ use Rattle.relay_h1.specs.declared.Framing.TheVariants.{Empty, Length, Chunked, 
 use Rattle.relay_h1.proofs.BodyLemmas.{Chunked-total}
 use Rattle.relay_h1.proofs.BodyReaderLemmas.{SoFar-more, SoFar-reads}
 use Rattle.relay_h1.proofs.HeadEndLemmas.{head_end-within}
-use Rattle.relay_h1.proofs.VerdictLemmas.{HasResponse-append}
-use Rattle.relay_proxy.specs.Built.{IsBuiltStream, IsStreamed, HasRoom, streamed_head, is_until_close, IsStreamReusable, IsClientReusable}
-use Rattle.relay_proxy.specs.Passed.{World, Start, Passed, Waited, TellsClient}
+use Rattle.relay_h1.proofs.TasksLemmas.{HasFinal-append, Informs-within}
+use Rattle.relay_proxy.specs.Built.{IsBuiltStream, IsStreamed, HasRoom, streamed_head, reply_to, informed_text, heads_text, framing_to, stream_so_far, stream_whole, is_until_close, IsStreamReusable, IsClientReusable}
+use Rattle.relay_proxy.specs.Passed.{World, Start, Passed, Waited, amount, TellsClient}
 use Rattle.relay_proxy.specs.Endings as endings
-use Rattle.relay_proxy.specs.Endings.{IsPrefixOf, IsInOrder, EndsBody, AreFrontOf, IsWholeBody, stream_so_far, stream_whole, fault_error, cut_off}
+use Rattle.relay_proxy.specs.Endings.{IsPrefixOf, IsInOrder, EndsBody, AreFrontOf, IsWholeBody, fault_error, cut_off}
 use Rattle.relay_proxy.specs.Phases.{IsStreaming, IsWritingChunks, IsWritingLast, IsAttempt, RunSoFar, IsAsking, allowance}
 use Rattle.relay_proxy.specs.Stream.{IsAwaitingChunks, EndsStream, IsStreamEnd}
 use Rattle.relay_proxy.specs.Turn.{Advances, failed}
 use Rattle.relay_proxy.specs.Offer.{TakesFront}
 use Rattle.relay_proxy.specs.declared.machine.Attempt.{Attempt}
 use Rattle.relay_proxy.specs.declared.machine.Next.{Next}
+use Rattle.relay_proxy.specs.declared.machine.Heard.{Heard}
 use Rattle.relay_proxy.specs.declared.machine.Phase.{Phase}
 use Rattle.relay_proxy.specs.declared.machine.Phase.TheVariants.{ReadResponse, WriteChunks, ReadChunks, WriteLast}
 use Rattle.relay_proxy.specs.declared.machine.RunStep.{RunStep}
@@ -41,25 +45,41 @@ use Rattle.relay_proxy.specs.declared.machine.RunStep.TheVariants as step
 use Rattle.relay_proxy.specs.declared.machine.Stream.{Stream}
 use Rattle.relay_proxy.specs.declared.pending.Pending.{Pending}
 use Rattle.relay_proxy.proofs.Tells.{Rose-le, written_more, got_more, client_waited, link_waited, client_took, client_still, client_waits, client_same, link_gave, link_waits, take_some, take_whole, take_rest, not_true}
-use Rattle.relay_proxy.proofs.ExchangeSteps.{asking_as, answers_to, sent_whole_by, attempt_as, fails_with, attempt_ended, attempt_read_failed}
+use Rattle.relay_proxy.proofs.ResponseSteps.{final_behind, place_within}
+use Rattle.relay_proxy.proofs.ExchangeSteps.{asking_as, sent_whole_by, attempt_as, fails_with, attempt_ended, attempt_read_failed}
 use Rattle.relay_proxy.proofs.BodySteps.{attempt_same}
 
 -- ---- texts in chunks
 
 -- the text of one more piece stands behind that of the others
-pieces_text-more : (pieces : List (List ℕ)) (piece : List ℕ)
-    → pieces_text Chunked (pieces ++ piece ∷ []) ≡ pieces_text Chunked pieces ++ chunk_text piece
-pieces_text-more [] piece = append-nil (chunk_text piece)
-pieces_text-more (x ∷ pieces) piece =
-    ap (λ (xs : List ℕ). chunk_text x ++ xs) (pieces_text-more pieces piece)
+pieces_text-more : (old : Bool) (pieces : List (List ℕ)) (piece : List ℕ)
+    → pieces_text (cond old UntilClose Chunked) (pieces ++ piece ∷ [])
+    ≡ pieces_text (cond old UntilClose Chunked) pieces
+    ++ piece_text (cond old UntilClose Chunked) piece
+pieces_text-more true [] piece = append-nil piece
+pieces_text-more true (x ∷ pieces) piece =
+    ap (λ (xs : List ℕ). x ++ xs) (pieces_text-more true pieces piece)
+    ∙ sym (append_assoc x (pieces_text UntilClose pieces) piece)
+pieces_text-more false [] piece = append-nil (chunk_text piece)
+pieces_text-more false (x ∷ pieces) piece =
+    ap (λ (xs : List ℕ). chunk_text x ++ xs) (pieces_text-more false pieces piece)
     ∙ sym (append_assoc (chunk_text x) (pieces_text Chunked pieces) (chunk_text piece))
 
 -- the response so far, and then one more piece
-so_far-more : (reply : ResponseHead) (pieces : List (List ℕ)) (piece : List ℕ)
-    → stream_so_far reply pieces ++ chunk_text piece ≡ stream_so_far reply (pieces ++ piece ∷ [])
-so_far-more reply pieces piece =
-    append_assoc (response_text reply) (pieces_text Chunked pieces) (chunk_text piece)
-    ∙ ap (λ (xs : List ℕ). response_text reply ++ xs) (sym (pieces_text-more pieces piece))
+so_far-more : (request : RequestHead) (informed : List ResponseHead) (reply : ResponseHead)
+    (pieces : List (List ℕ)) (piece : List ℕ)
+    → stream_so_far request informed reply pieces ++ piece_text (framing_to request) piece
+    ≡ stream_so_far request informed reply (pieces ++ piece ∷ [])
+so_far-more request informed reply pieces piece =
+    append_assoc (heads_text request informed reply) (pieces_text (framing_to request) pieces)
+    (piece_text (framing_to request) piece)
+    ∙ ap (λ (xs : List ℕ). heads_text request informed reply ++ xs)
+    (sym (pieces_text-more (is_http_10 request.version) pieces piece))
+
+-- where no piece was cut, the heads are all
+so_far-none : (request : RequestHead) (informed : List ResponseHead) (reply : ResponseHead)
+    → stream_so_far request informed reply [] ≡ heads_text request informed reply
+so_far-none request informed reply = append-nil (heads_text request informed reply)
 
 -- one more piece joins the others
 concat-more : (pieces : List (List ℕ)) (piece : List ℕ)
@@ -136,10 +156,11 @@ streaming_got s p ahead more request again st asks h = record {
   is = asks ∙ h.is;
   asking = asking_as s p (got_more p more) ahead h.head refl h.asking;
   sent = h.sent;
+  informed = h.informed;
   given = h.given;
   len = h.len;
   answered = record {
-    has = HasResponse-append h.head.method false p.got more h.given st.framing h.len h.answered.has;
+    has = HasFinal-append h.head.method false p.got more h.informed h.given st.framing h.len h.answered.has;
     built = h.answered.built;
     room = h.answered.room;
   };
@@ -155,6 +176,7 @@ streaming_wrote s p ahead now more request st same h = record {
   asking = subst (λ (xs : List ℕ). IsAsking s (written_more p more) xs h.head) (sym same)
       (asking_as s p (written_more p more) ahead h.head refl h.asking);
   sent = h.sent;
+  informed = h.informed;
   given = h.given;
   len = h.len;
   answered = record { has = h.answered.has; built = h.answered.built; room = h.answered.room };
@@ -171,6 +193,7 @@ streaming_as s p ahead now request again st at same asks h = record {
   is = asks ∙ h.is;
   asking = subst (λ (xs : List ℕ). IsAsking s p xs h.head) (sym same) h.asking;
   sent = h.sent;
+  informed = h.informed;
   given = h.given;
   len = h.len;
   answered = h.answered;
@@ -178,12 +201,13 @@ streaming_as s p ahead now request again st at same asks h = record {
   reply = h.reply;
 }
 
--- what was written is the front of the response in chunks
+-- what was written is the front of the response
 order_of_stream : (s : Start) (p : Passed) (ahead : List ℕ) (request : RequestHead) (st : Stream)
     (h : IsStreaming s p ahead request st) (pieces : List (List ℕ))
     → AreFrontOf st.framing (drop h.len p.got) pieces
-    → IsPrefixOf p.written (stream_so_far st.head pieces)
-    ⊎ (EndsBody st.framing (drop h.len p.got) (concat pieces) × IsPrefixOf p.written (stream_whole st.head pieces))
+    → IsPrefixOf p.written (stream_so_far h.head h.informed st.head pieces)
+    ⊎ (EndsBody st.framing (drop h.len p.got) (concat pieces)
+    × IsPrefixOf p.written (stream_whole h.head h.informed st.head pieces))
     → IsInOrder s p
 order_of_stream s p ahead request st h pieces front part = record {
   sent = inr (record {
@@ -192,21 +216,22 @@ order_of_stream s p ahead request st h pieces front part = record {
     accepted = h.asking.accepted;
     part = record { rest = []; joined = append-nil p.sent ∙ h.sent };
   });
-  written = inr (inr (inr (record {
+  written = inr (inr (inr (inl (record {
     request = h.head;
     request_len = h.asking.len;
     accepted = h.asking.accepted;
     sent = h.sent;
+    informed = h.informed;
     head = h.given;
     framing = st.framing;
     len = h.len;
     answered = h.answered;
+    reply = st.head;
+    is_reply = h.reply;
     pieces = pieces;
     front = front;
-    part = subst (λ (reply : ResponseHead). IsPrefixOf p.written (stream_so_far reply pieces)
-        ⊎ (EndsBody st.framing (drop h.len p.got) (concat pieces) × IsPrefixOf p.written (stream_whole reply pieces)))
-        h.reply part;
-  })));
+    part = part;
+  }))));
 }
 
 -- a text of which this is left is written up to there
@@ -229,19 +254,37 @@ close_of Tunnel is = absurd (not_true is)
 pub no_close : (f : Framing) → is_until_close f ≡ false → ¬ (f ≡ UntilClose)
 no_close f is same = not_true (sym is ∙ ap (λ (g : Framing). is_until_close g) same)
 
+-- what stands behind a response that the link does not end is what is held
+past_of : (request : RequestHead) (f : Framing) (reply : ResponseHead) (held past : List ℕ) → IsStreamed f
+    → (keep : Bool) → (f ≡ Chunked → held ≡ past) → (IsTrue keep ↔ IsStreamReusable request f reply held)
+    → (IsTrue keep ↔ IsStreamReusable request f reply past)
+past_of request Empty reply held past streamed keep same kept = absurd streamed
+past_of request (Length m) reply held past streamed keep same kept = absurd streamed
+past_of request Chunked reply held past streamed keep same kept =
+    subst (λ (xs : List ℕ). IsTrue keep ↔ IsStreamReusable request Chunked reply xs) (same refl) kept
+past_of request UntilClose reply held past streamed keep same kept = (
+  λ keeps. absurd (not_closed (kept.0 keeps).ends_itself),
+  λ reusable. absurd (not_closed reusable.ends_itself),
+)
+  where
+    not_closed : true ≡ false → ⊥
+    not_closed is = cc
+past_of request Tunnel reply held past streamed keep same kept = absurd streamed
+
 module _ {L C : Type 0} (state : L → LinkState) (start_at : L → LinkStart) where
   -- the response's head was accepted, and taken from what is held
-  pub stream_accepted : (s : Start) (p : Passed) (v : Waited) (w : World) (a b : Attempt L C) (given reply : ResponseHead)
-      (framing : Framing) (len : ℕ) (at : State) (text : Pending)
+  pub stream_accepted : (s : Start) (p : Passed) (v : Waited) (w : World) (a b : Attempt L C) (heard : Heard)
+      (given reply : ResponseHead) (framing : Framing) (len : ℕ) (at : State) (text : Pending)
       → b.connection.link ≡ a.connection.link → b.peer ≡ a.peer → b.reused ≡ a.reused → b.request ≡ a.request
       → b.connection.ahead ≡ drop len a.connection.ahead
       → HasResponse a.request.method false a.connection.ahead given framing len
-      → IsBuiltStream given framing → HasRoom framing given → reply ≡ streamed_head framing given
+      → is_informational given.status ≡ false
+      → IsBuiltStream given framing → HasRoom framing given → reply ≡ reply_to a.request (streamed_head framing given)
       → ((ahead : List ℕ) → SoFar framing ahead [] at ahead) → text.output ≡ response_text reply
-      → RunSoFar {C = C} state start_at s p v w [] (ReadResponse a)
-      → Advances {C = C} state start_at s p v w (ReadResponse a)
+      → RunSoFar {C = C} state start_at s p v w [] (ReadResponse a heard)
+      → Advances {C = C} state start_at s p v w (ReadResponse a heard)
       (WriteChunks b (record { head = reply; framing = framing; reader = at }) text) step.Moved
-  stream_accepted s p v w a b given reply framing len at text link peer reused asks held has built room is starts whole run = record {
+  stream_accepted s p v w a b heard given reply framing len at text link peer reused asks held has final built room is starts whole run = record {
     passed = p;
     waited = v;
     run = record {
@@ -263,23 +306,29 @@ module _ {L C : Type 0} (state : L → LinkState) (start_at : L → LinkStart) w
               is = asks ∙ run.holds.1.is;
               asking = run.holds.1.asking;
               sent = run.holds.1.sent;
+              informed = run.holds.1.informed;
               given = given;
-              len = len;
+              len = run.holds.1.place + len;
               answered = record {
-                has = answers_to run.holds.1.head.method a.request.method p.got a.connection.ahead given framing len
-                    (ap (λ (h : RequestHead). h.method) run.holds.1.is) run.holds.1.all_held has;
+                has = final_behind s p w.ahead a.request (state a.connection.link) a.connection.ahead heard run.holds.1 given
+                    framing len has final;
                 built = built;
                 room = room;
               };
-              within = omega (arith, ends_within.1, ap length run.holds.1.all_held);
-              reply = is;
+              within = place_within run.holds.1.place len p.got a.connection.ahead run.holds.1.rest_held
+                  (Informs-within run.holds.1.head.method false p.got run.holds.1.informed run.holds.1.place
+                  run.holds.1.informs) ends_within.1;
+              reply = is ∙ ap (λ (h : RequestHead). reply_to h (streamed_head framing given)) run.holds.1.is;
             };
-            so_far = subst (λ (xs : List ℕ). SoFar framing (drop len p.got) [] at xs)
-                (sym (held ∙ ap (λ (xs : List ℕ). drop len xs) run.holds.1.all_held)) (starts (drop len p.got));
+            so_far = subst (λ (xs : List ℕ). SoFar framing (drop (run.holds.1.place + len) p.got) [] at xs)
+                (sym (held ∙ ap (λ (xs : List ℕ). drop len xs) run.holds.1.rest_held
+                ∙ drop-drop len run.holds.1.place p.got))
+                (starts (drop (run.holds.1.place + len) p.got));
             ended = rw link (run.holds.1.open_end (omega (arith, ends_within.0, ends_within.1)));
           };
-          joined = ap (λ (xs : List ℕ). xs ++ text.output) run.holds.1.written ∙ whole
-              ∙ sym (append-nil (response_text reply));
+          joined = ap (λ (xs : List ℕ). xs ++ text.output) run.holds.1.written
+              ∙ ap (λ (xs : List ℕ). informed_text run.holds.1.head run.holds.1.informed ++ xs) whole
+              ∙ sym (so_far-none run.holds.1.head run.holds.1.informed reply);
         },
       );
     };
@@ -290,26 +339,29 @@ module _ {L C : Type 0} (state : L → LinkState) (start_at : L → LinkStart) w
       ends_within = head_end-within a.connection.ahead len has.starts.ends
 
   -- the response's head lacks a framing, and has no room for it
-  pub stream_full : (s : Start) (p : Passed) (v : Waited) (w : World) (a : Attempt L C) (given : ResponseHead)
-      (framing : Framing) (len : ℕ) (next : Phase L C)
+  pub stream_full : (s : Start) (p : Passed) (v : Waited) (w : World) (a : Attempt L C) (heard : Heard)
+      (given : ResponseHead) (framing : Framing) (len : ℕ) (next : Phase L C)
       → HasResponse a.request.method false a.connection.ahead given framing len
+      → is_informational given.status ≡ false
       → IsBuiltStream given framing → framing ≡ UntilClose
       → RefusesInsert given.fields (codes "transfer-encoding")
       → next ≡ failed a (refused_from Internal HeadTooLong)
-      → RunSoFar {C = C} state start_at s p v w [] (ReadResponse a)
-      → Advances {C = C} state start_at s p v w (ReadResponse a) next step.Ended
-  stream_full s p v w a given framing len next has built close full is run =
-      fails_with state start_at s p v w (ReadResponse a) next a (refused_from Internal HeadTooLong) is run.tells run.order
+      → RunSoFar {C = C} state start_at s p v w [] (ReadResponse a heard)
+      → Advances {C = C} state start_at s p v w (ReadResponse a heard) next step.Ended
+  stream_full s p v w a heard given framing len next has final built close full is run =
+      fails_with state start_at s p v w (ReadResponse a heard) next a (refused_from Internal HeadTooLong) is run.tells run.order
       run.holds.0
       (record {
         why = inl (record {
           whole = sent_whole_by s p w.ahead run.holds.1.head run.holds.1.asking run.holds.1.sent;
           why = inl (endings.IsUnfit.has_full_head (record {
+            informed = run.holds.1.informed;
             head = given;
-            len = len;
-            has = subst (λ (f : Framing). HasResponse run.holds.1.head.method false p.got given f len) close
-                (answers_to run.holds.1.head.method a.request.method p.got a.connection.ahead given framing len
-                (ap (λ (h : RequestHead). h.method) run.holds.1.is) run.holds.1.all_held has);
+            len = run.holds.1.place + len;
+            has = subst (λ (f : Framing).
+                HasFinal run.holds.1.head.method false p.got run.holds.1.informed given f (run.holds.1.place + len)) close
+                (final_behind s p w.ahead a.request (state a.connection.link) a.connection.ahead heard run.holds.1 given
+                framing len has final);
             built = subst (λ (f : Framing). IsBuiltStream given f) close built;
             full = full;
             error = refl;
@@ -359,7 +411,8 @@ module _ {L C : Type 0} (state : L → LinkState) (start_at : L → LinkStart) w
       streaming = streaming_wrote s p w.ahead x.ahead (take takes.n text.output) a.request st ahead
           run.holds.1.cutting.streaming
 
-      all : p.written ++ take takes.n text.output ≡ stream_so_far st.head run.holds.1.pieces
+      all : p.written ++ take takes.n text.output ≡ stream_so_far run.holds.1.cutting.streaming.head run.holds.1.cutting.streaming.informed st.head
+          run.holds.1.pieces
       all = ap (λ (xs : List ℕ). p.written ++ xs) (take_whole text.output takes.n takes.left) ∙ run.holds.1.joined
 
   -- some of what was cut was written
@@ -401,7 +454,8 @@ module _ {L C : Type 0} (state : L → LinkState) (start_at : L → LinkStart) w
       streaming = streaming_wrote s p w.ahead x.ahead (take takes.n text.output) a.request st ahead
           run.holds.1.cutting.streaming
 
-      all : (p.written ++ take takes.n text.output) ++ left.output ≡ stream_so_far st.head run.holds.1.pieces
+      all : (p.written ++ take takes.n text.output) ++ left.output ≡ stream_so_far run.holds.1.cutting.streaming.head run.holds.1.cutting.streaming.informed st.head
+          run.holds.1.pieces
       all = take_rest p.written text.output left.output takes.n takes.left ∙ run.holds.1.joined
 
   -- the client is not ready for what was cut
@@ -449,7 +503,7 @@ module _ {L C : Type 0} (state : L → LinkState) (start_at : L → LinkStart) w
           rose = λ below. omega (arith, tells.faults, fails.faults below);
           kind = fails.kind;
           whole = sent_whole_by s p w.ahead h.head h.asking h.sent;
-          writing = endings.IsBeingWritten.is_streamed h.given st.framing h.len h.answered live;
+          writing = endings.IsBeingWritten.is_streamed h.informed h.given st.framing h.len h.answered live;
         }));
         not_kept = refl;
         stays = refl;
@@ -482,7 +536,7 @@ module _ {L C : Type 0} (state : L → LinkState) (start_at : L → LinkStart) w
       → b.connection.link ≡ a.connection.link → b.peer ≡ a.peer → b.reused ≡ a.reused → b.request ≡ a.request
       → ((framing : Framing) (given body : List ℕ) → SoFar framing given body st.reader a.connection.ahead
       → SoFar framing given (body ++ piece) at b.connection.ahead)
-      → text.output ≡ chunk_text piece
+      → text.output ≡ piece_text (framing_to a.request) piece
       → RunSoFar {C = C} state start_at s p v w [] (ReadChunks a st)
       → RunSoFar {C = C} state start_at s p v w [] (WriteChunks b (record st { reader = at }) text)
   piece_cut s p v w a b st at piece text link peer reused asks keeps is run = record {
@@ -502,11 +556,15 @@ module _ {L C : Type 0} (state : L → LinkState) (start_at : L → LinkStart) w
           ended = rw link run.holds.1.cutting.ended;
         };
         joined = ap (λ (xs : List ℕ). xs ++ text.output) run.holds.1.written
-            ∙ ap (λ (xs : List ℕ). stream_so_far st.head run.holds.1.pieces ++ xs) is
-            ∙ so_far-more st.head run.holds.1.pieces piece;
+            ∙ ap (λ (xs : List ℕ). stream_so_far told.head told.informed st.head run.holds.1.pieces ++ xs)
+            (is ∙ ap (λ (h : RequestHead). piece_text (framing_to h) piece) told.is)
+            ∙ so_far-more told.head told.informed st.head run.holds.1.pieces piece;
       },
     );
   }
+    where
+      told : IsStreaming s p w.ahead a.request st
+      told = run.holds.1.cutting.streaming
 
   -- a turn that goes on from what was cut is a turn of the reading
   pub from_cut : (s : Start) (p : Passed) (v : Waited) (x : World) (a b : Attempt L C) (st nd : Stream) (text : Pending)
@@ -581,6 +639,63 @@ module _ {L C : Type 0} (state : L → LinkState) (start_at : L → LinkStart) w
         run.holds.1.cutting.so_far);
   }
 
+  -- the response was written whole, so that the request ends
+  stream_ends : (s : Start) (p q : Passed) (v : Waited) (x : World) (phase : Phase L C) (a : Attempt L C) (st : Stream)
+      (next : Next L C)
+      → IsWritingLast s q x.ahead a.request (state a.connection.link) st a.connection.ahead []
+      → TellsClient s q v x → IsAttempt state start_at q v a → IsStreamEnd x.ahead a st next
+      → allowance state start_at phase + amount p v < 5 + amount q v
+      → Advances {C = C} state start_at s p v x phase next.phase next.step
+  stream_ends s p q v x phase a st next h tells attempt end less =
+      subst (λ (t : RunStep). Advances {C = C} state start_at s p v x phase next.phase t) (sym end.step)
+      (subst (λ (n : Phase L C). Advances {C = C} state start_at s p v x phase n step.Ended) (sym end.phase)
+      (record {
+        passed = q;
+        waited = v;
+        run = record {
+          tells = tells;
+          order = order_of_stream s q x.ahead a.request st h.streaming h.pieces
+              (front_of_whole st.framing (state a.connection.link) (drop h.streaming.len q.got) h.pieces h.n h.whole)
+              (inr (
+                ends_body st.framing (state a.connection.link) (drop h.streaming.len q.got) (concat h.pieces) h.n
+                    h.streaming.answered.built.streamed h.whole,
+                all_of _ _ written,
+              ));
+          going = λ limit. cc;
+          holds = (
+            attempt,
+            inr (record {
+              request = h.streaming.head;
+              request_len = h.streaming.asking.len;
+              accepted = h.streaming.asking.accepted;
+              sent = h.streaming.sent;
+              informed = h.streaming.informed;
+              head = h.streaming.given;
+              framing = st.framing;
+              len = h.streaming.len;
+              answered = h.streaming.answered;
+              reply = st.head;
+              is_reply = h.streaming.reply;
+              pieces = h.pieces;
+              n = h.n;
+              whole = h.whole;
+              written = written;
+              kept = subst (λ (r : RequestHead). IsTrue end.keep
+                  ↔ IsStreamReusable r st.framing st.head (drop (h.streaming.len + h.n) q.got)) h.streaming.is
+                  (past_of a.request st.framing st.head a.connection.ahead (drop (h.streaming.len + h.n) q.got)
+                  h.streaming.answered.built.streamed end.keep h.rest_held end.kept);
+              goes_back = subst (λ (r : RequestHead). IsTrue end.reuse ↔ IsClientReusable r st.head x.ahead)
+                  h.streaming.is end.goes_back;
+              ahead = h.streaming.asking.taken;
+            }),
+          );
+        };
+        spends = less;
+      }))
+    where
+      written : q.written ≡ stream_whole h.streaming.head h.streaming.informed st.head h.pieces
+      written = sym (append-nil q.written) ∙ h.joined
+
   -- the text of the body says that it has ended
   pub ended_by_text : (s : Start) (p : Passed) (v : Waited) (w : World) (a b : Attempt L C) (st : Stream) (at : State)
       → b.connection.link ≡ a.connection.link → b.peer ≡ a.peer → b.reused ≡ a.reused → b.request ≡ a.request
@@ -598,25 +713,13 @@ module _ {L C : Type 0} (state : L → LinkState) (start_at : L → LinkStart) w
         tells = run.tells;
         order = run.order;
         going = tt;
-        holds = (
-          still.holds.0,
-          record {
-            pieces = run.holds.1.pieces;
-            streaming = still.holds.1.cutting.streaming;
-            n = length given - length b.connection.ahead;
-            whole = endings.IsWholeBody.ends_by_text
-                (subst (λ (xs : List ℕ). Body st.framing given (ended_text xs (length given - length b.connection.ahead)))
-                (append-nil (concat run.holds.1.pieces))
-                (tells st.framing given (concat run.holds.1.pieces) run.holds.1.cutting.so_far));
-            rest_held = λ chunked. left_behind;
-            joined = ap (λ (xs : List ℕ). xs ++ text.output) run.holds.1.written
-                ∙ ap (λ (xs : List ℕ). stream_so_far st.head run.holds.1.pieces ++ xs) is;
-            ended = λ chunked. still.holds.1.cutting.ended;
-          },
-        );
+        holds = (still.holds.0, last_of text.output is);
       };
       spends = omega arith;
     };
+    ends = λ none next end.
+        stream_ends s p p v w (ReadChunks b (record st { reader = at })) b (record st { reader = at }) next
+        (last_of [] (sym none)) run.tells still.holds.0 end (omega arith);
     wants = record {
       passed = p;
       waited = v;
@@ -652,6 +755,26 @@ module _ {L C : Type 0} (state : L → LinkState) (start_at : L → LinkStart) w
           ≡ drop (run.holds.1.cutting.streaming.len + (length given - length b.connection.ahead)) p.got
       left_behind = rest_of given b.connection.ahead still.holds.1.cutting.so_far
           ∙ drop-drop (length given - length b.connection.ahead) run.holds.1.cutting.streaming.len p.got
+
+      told : IsStreaming s p w.ahead b.request (record st { reader = at })
+      told = still.holds.1.cutting.streaming
+
+      last_of : (text : List ℕ) → text ≡ end_text (framing_to b.request)
+          → IsWritingLast s p w.ahead b.request (state b.connection.link) (record st { reader = at }) b.connection.ahead text
+      last_of text is = record {
+        pieces = run.holds.1.pieces;
+        streaming = told;
+        n = length given - length b.connection.ahead;
+        whole = endings.IsWholeBody.ends_by_text
+            (subst (λ (xs : List ℕ). Body st.framing given (ended_text xs (length given - length b.connection.ahead)))
+            (append-nil (concat run.holds.1.pieces))
+            (tells st.framing given (concat run.holds.1.pieces) run.holds.1.cutting.so_far));
+        rest_held = λ chunked. left_behind;
+        joined = ap (λ (xs : List ℕ). xs ++ text) run.holds.1.written
+            ∙ ap (λ (xs : List ℕ). stream_so_far told.head told.informed st.head run.holds.1.pieces ++ xs)
+            (is ∙ ap (λ (h : RequestHead). end_text (framing_to h)) told.is);
+        ended = λ chunked. still.holds.1.cutting.ended;
+      }
 
   -- more of the body came
   pub stream_came : (s : Start) (p : Passed) (v : Waited) (w : World) (a b : Attempt L C) (st : Stream)
@@ -741,23 +864,12 @@ module _ {L C : Type 0} (state : L → LinkState) (start_at : L → LinkStart) w
         tells = waiting.run.tells;
         order = waiting.run.order;
         going = tt;
-        holds = (
-          attempt_ended state start_at p v a b same peer reused ends waiting.run.holds.0,
-          record {
-            pieces = waiting.run.holds.1.pieces;
-            streaming = streaming_as s p w.ahead w.ahead a.request b.request st st.reader refl asks
-                waiting.run.holds.1.cutting.streaming;
-            n = length given;
-            whole = endings.IsWholeBody.ends_with_link close ends.ended all refl;
-            rest_held = λ chunked. absurd (not_both_ways (sym chunked ∙ close));
-            joined = ap (λ (xs : List ℕ). xs ++ text.output) waiting.run.holds.1.written
-                ∙ ap (λ (xs : List ℕ). stream_so_far st.head waiting.run.holds.1.pieces ++ xs) is;
-            ended = λ chunked. absurd (not_both_ways (sym chunked ∙ close));
-          },
-        );
+        holds = (attempt, last_of text.output is);
       };
       spends = omega arith;
     };
+    ends = λ none next end.
+        stream_ends s p p v w (ReadChunks b st) b st next (last_of [] (sym none)) waiting.run.tells attempt end (omega arith);
     wants = record {
       passed = p;
       waited = v;
@@ -765,12 +877,18 @@ module _ {L C : Type 0} (state : L → LinkState) (start_at : L → LinkStart) w
         tells = waiting.run.tells;
         order = waiting.run.order;
         going = λ limit. cc;
-        holds = (attempt_ended state start_at p v a b same peer reused ends waiting.run.holds.0, refl);
+        holds = (attempt, refl);
       };
       spends = omega arith;
     };
   }
     where
+      attempt : IsAttempt state start_at p v b
+      attempt = attempt_ended state start_at p v a b same peer reused ends waiting.run.holds.0
+
+      told : IsStreaming s p w.ahead b.request st
+      told = streaming_as s p w.ahead w.ahead a.request b.request st st.reader refl asks waiting.run.holds.1.cutting.streaming
+
       given : List ℕ
       given = drop waiting.run.holds.1.cutting.streaming.len p.got
 
@@ -782,6 +900,20 @@ module _ {L C : Type 0} (state : L → LinkState) (start_at : L → LinkStart) w
 
       all : concat waiting.run.holds.1.pieces ≡ given
       all = ap (λ (t : BodyText). t.bytes) (open_all st.framing (concat waiting.run.holds.1.pieces) close waiting.still)
+
+      last_of : (text : List ℕ) → text ≡ end_text (framing_to b.request)
+          → IsWritingLast s p w.ahead b.request (state b.connection.link) st b.connection.ahead text
+      last_of text is = record {
+        pieces = waiting.run.holds.1.pieces;
+        streaming = told;
+        n = length given;
+        whole = endings.IsWholeBody.ends_with_link close ends.ended all refl;
+        rest_held = λ chunked. absurd (not_both_ways (sym chunked ∙ close));
+        joined = ap (λ (xs : List ℕ). xs ++ text) waiting.run.holds.1.written
+            ∙ ap (λ (xs : List ℕ). stream_so_far told.head told.informed st.head waiting.run.holds.1.pieces ++ xs)
+            (is ∙ ap (λ (h : RequestHead). end_text (framing_to h)) told.is);
+        ended = λ chunked. absurd (not_both_ways (sym chunked ∙ close));
+      }
 
   -- the link ended inside a body that comes in chunks
   pub stream_cut : (s : Start) (p : Passed) (v : Waited) (w : World) (a b : Attempt L C) (st : Stream) (next : Phase L C)
@@ -799,6 +931,7 @@ module _ {L C : Type 0} (state : L → LinkState) (start_at : L → LinkStart) w
           whole = sent_whole_by s p w.ahead h.head h.asking h.sent;
           why = inl (endings.IsUnfit.is_cut_in_stream (record {
             stream = record {
+              informed = h.informed;
               head = h.given;
               framing = st.framing;
               len = h.len;
@@ -845,6 +978,7 @@ module _ {L C : Type 0} (state : L → LinkState) (start_at : L → LinkStart) w
             kind = fails.kind;
             whole = sent_whole_by s p w.ahead h.head h.asking h.sent;
             body = inr (record {
+              informed = h.informed;
               head = h.given;
               framing = st.framing;
               len = h.len;
@@ -876,6 +1010,7 @@ module _ {L C : Type 0} (state : L → LinkState) (start_at : L → LinkStart) w
         why = inl (record {
           whole = sent_whole_by s p w.ahead h.head h.asking h.sent;
           why = inr (record {
+            informed = h.informed;
             head = h.given;
             framing = st.framing;
             len = h.len;
@@ -898,85 +1033,25 @@ module _ {L C : Type 0} (state : L → LinkState) (start_at : L → LinkStart) w
       → RunSoFar {C = C} state start_at s p v w [] (WriteLast a st text)
       → Advances {C = C} state start_at s p v x (WriteLast a st text) next.phase next.step
   last_wrote_all s p v w x a st text next ahead same takes end run =
-      subst (λ (t : RunStep). Advances {C = C} state start_at s p v x (WriteLast a st text) next.phase t) (sym end.step)
-      (subst (λ (n : Phase L C). Advances {C = C} state start_at s p v x (WriteLast a st text) n step.Ended) (sym end.phase)
+      stream_ends s p (written_more p (take takes.n text.output)) v x (WriteLast a st text) a st next
       (record {
-        passed = q;
-        waited = v;
-        run = record {
-          tells = client_took s p v w x text.output takes.n same takes.takes run.tells;
-          order = order_of_stream s q x.ahead a.request st streaming run.holds.1.pieces
-              (front_of_whole st.framing (state a.connection.link) (drop streaming.len p.got) run.holds.1.pieces run.holds.1.n
-              run.holds.1.whole)
-              (inr (
-                ends_body st.framing (state a.connection.link) (drop streaming.len p.got) (concat run.holds.1.pieces)
-                    run.holds.1.n streaming.answered.built.streamed run.holds.1.whole,
-                all_of _ _ all,
-              ));
-          going = λ limit. cc;
-          holds = (
-            attempt_same state start_at p q v v a refl refl refl run.holds.0,
-            inr (record {
-              request = streaming.head;
-              request_len = streaming.asking.len;
-              accepted = streaming.asking.accepted;
-              sent = streaming.sent;
-              head = streaming.given;
-              framing = st.framing;
-              len = streaming.len;
-              answered = streaming.answered;
-              pieces = run.holds.1.pieces;
-              n = run.holds.1.n;
-              whole = run.holds.1.whole;
-              written = all ∙ ap (λ (h : ResponseHead). stream_whole h run.holds.1.pieces) streaming.reply;
-              kept = subst (λ (h : ResponseHead). IsTrue end.keep
-                  ↔ IsStreamReusable streaming.head st.framing h (drop (streaming.len + run.holds.1.n) p.got)) streaming.reply
-                  (subst (λ (h : RequestHead). IsTrue end.keep
-                  ↔ IsStreamReusable h st.framing st.head (drop (streaming.len + run.holds.1.n) p.got)) streaming.is
-                  (past_of a.request st.framing st.head a.connection.ahead (drop (streaming.len + run.holds.1.n) p.got)
-                  streaming.answered.built.streamed end.keep run.holds.1.rest_held end.kept));
-              goes_back = subst (λ (h : ResponseHead). IsTrue end.reuse ↔ IsClientReusable streaming.head h x.ahead)
-                  streaming.reply
-                  (subst (λ (h : RequestHead). IsTrue end.reuse ↔ IsClientReusable h st.head x.ahead) streaming.is
-                  end.goes_back);
-              ahead = streaming.asking.taken;
-            }),
-          );
-        };
-        spends = omega (
-          arith,
-          length-append p.written (take takes.n text.output),
-          take_some_of text.output takes.n takes.takes.some takes.takes.fits,
-        );
-      }))
-    where
-      q : Passed
-      q = written_more p (take takes.n text.output)
-
-      streaming : IsStreaming s (written_more p (take takes.n text.output)) x.ahead a.request st
-      streaming = streaming_wrote s p w.ahead x.ahead (take takes.n text.output) a.request st ahead run.holds.1.streaming
-
-      all : p.written ++ take takes.n text.output ≡ stream_whole st.head run.holds.1.pieces
-      all = ap (λ (xs : List ℕ). p.written ++ xs) (take_whole text.output takes.n takes.left) ∙ run.holds.1.joined
-
-      take_some_of : (xs : List ℕ) (n : ℕ) → 1 ≤ n → n ≤ length xs → 1 ≤ length (take n xs)
-      take_some_of xs n some fits = take_some xs n some fits
-
-      not_closed : true ≡ false → ⊥
-      not_closed is = cc
-
-      past_of : (request : RequestHead) (f : Framing) (reply : ResponseHead) (held past : List ℕ) → IsStreamed f
-          → (keep : Bool) → (f ≡ Chunked → held ≡ past) → (IsTrue keep ↔ IsStreamReusable request f reply held)
-          → (IsTrue keep ↔ IsStreamReusable request f reply past)
-      past_of request Empty reply held past streamed keep same kept = absurd streamed
-      past_of request (Length m) reply held past streamed keep same kept = absurd streamed
-      past_of request Chunked reply held past streamed keep same kept =
-          subst (λ (xs : List ℕ). IsTrue keep ↔ IsStreamReusable request Chunked reply xs) (same refl) kept
-      past_of request UntilClose reply held past streamed keep same kept = (
-        λ keeps. absurd (not_closed (kept.0 keeps).ends_itself),
-        λ reusable. absurd (not_closed reusable.ends_itself),
-      )
-      past_of request Tunnel reply held past streamed keep same kept = absurd streamed
+        pieces = run.holds.1.pieces;
+        streaming = streaming_wrote s p w.ahead x.ahead (take takes.n text.output) a.request st ahead run.holds.1.streaming;
+        n = run.holds.1.n;
+        whole = run.holds.1.whole;
+        rest_held = run.holds.1.rest_held;
+        joined = append-nil (p.written ++ take takes.n text.output)
+            ∙ ap (λ (xs : List ℕ). p.written ++ xs) (take_whole text.output takes.n takes.left) ∙ run.holds.1.joined;
+        ended = run.holds.1.ended;
+      })
+      (client_took s p v w x text.output takes.n same takes.takes run.tells)
+      (attempt_same state start_at p (written_more p (take takes.n text.output)) v v a refl refl refl run.holds.0)
+      end
+      (omega (
+        arith,
+        length-append p.written (take takes.n text.output),
+        take_some text.output takes.n takes.takes.some takes.takes.fits,
+      ))
 
   -- some of the last of the response was written
   pub last_wrote_part : (s : Start) (p : Passed) (v : Waited) (w x : World) (a : Attempt L C) (st : Stream)
@@ -1021,7 +1096,8 @@ module _ {L C : Type 0} (state : L → LinkState) (start_at : L → LinkStart) w
       streaming : IsStreaming s (written_more p (take takes.n text.output)) x.ahead a.request st
       streaming = streaming_wrote s p w.ahead x.ahead (take takes.n text.output) a.request st ahead run.holds.1.streaming
 
-      all : (p.written ++ take takes.n text.output) ++ left.output ≡ stream_whole st.head run.holds.1.pieces
+      all : (p.written ++ take takes.n text.output) ++ left.output ≡ stream_whole run.holds.1.streaming.head run.holds.1.streaming.informed st.head
+          run.holds.1.pieces
       all = take_rest p.written text.output left.output takes.n takes.left ∙ run.holds.1.joined
 
   -- the client is not ready for the last of the response

@@ -11,7 +11,7 @@ use Rattle.relay_proxy.specs.Turn.{IsStalled, is_over, is_end}
 use Rattle.relay_proxy.specs.Closing.{StepSpends}
 use Rattle.relay_proxy.specs.declared.machine.Machine.{Machine}
 use Rattle.relay_proxy.specs.declared.machine.Phase.{Phase}
-use Rattle.relay_proxy.specs.declared.machine.Phase.TheVariants.{ReadHead, Refuse, Connect, SendHead, ReadResponse, WriteHead, RelayBody, WriteChunks, ReadChunks, WriteLast, Close, Ended}
+use Rattle.relay_proxy.specs.declared.machine.Phase.TheVariants.{ReadHead, Refuse, Connect, SendHead, ReadResponse, WriteInformed, WriteHead, RelayBody, WriteChunks, ReadChunks, WriteLast, Close, Ended}
 use Rattle.relay_proxy.specs.declared.machine.RunStep.{RunStep}
 use Rattle.relay_proxy.specs.declared.machine.RunStep.TheVariants as step
 use Rattle.relay_proxy.specs.declared.outcome.Outcome.TheVariants.{TurnLimit}
@@ -124,7 +124,8 @@ module _ {L C : Type 0} (state : L → LinkState) (start_at : L → LinkStart) w
   stalled_by p q v u w (Refuse answer e) next live spends was = spends.2
   stalled_by p q v u w (Connect context request text) next live spends was = spends.2
   stalled_by p q v u w (SendHead a text) next live spends was = spends.2
-  stalled_by p q v u w (ReadResponse a) next live spends was = spends.2
+  stalled_by p q v u w (ReadResponse a heard) next live spends was = spends.2
+  stalled_by p q v u w (WriteInformed a text) next live spends was = spends.2
   stalled_by p q v u w (WriteHead a reply text left) next live spends was = spends.2
   stalled_by p q v u w (RelayBody a reply left) next live spends was = spends.2
   stalled_by p q v u w (WriteChunks a stream text) next live spends was = spends.2

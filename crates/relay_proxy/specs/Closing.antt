@@ -10,7 +10,7 @@ use Rattle.relay_proxy.specs.Turn.{Spends, IsStalled, Advances}
 use Rattle.relay_proxy.specs.declared.finish.Ending.{Ending}
 use Rattle.relay_proxy.specs.declared.machine.Attempt.{Attempt}
 use Rattle.relay_proxy.specs.declared.machine.Phase.{Phase}
-use Rattle.relay_proxy.specs.declared.machine.Phase.TheVariants.{ReadHead, Refuse, Connect, SendHead, ReadResponse, WriteHead, RelayBody, WriteChunks, ReadChunks, WriteLast, Close, Ended}
+use Rattle.relay_proxy.specs.declared.machine.Phase.TheVariants.{ReadHead, Refuse, Connect, SendHead, ReadResponse, WriteInformed, WriteHead, RelayBody, WriteChunks, ReadChunks, WriteLast, Close, Ended}
 use Rattle.relay_proxy.specs.declared.machine.RunStep.{RunStep}
 use Rattle.relay_proxy.specs.declared.machine.RunStep.TheVariants as step
 use Rattle.relay_proxy.specs.declared.outcome.Outcome.{Outcome}
@@ -46,7 +46,8 @@ Settles ReadHead before after next = (next ≡ ReadHead) × (after ≡ before)
 Settles (Refuse answer error) before after next = (next ≡ Refuse answer error) × (after ≡ before)
 Settles (Connect context request text) before after next = (next ≡ Connect context request text) × (after ≡ before)
 Settles (SendHead a text) before after next = (next ≡ SendHead a text) × (after ≡ before)
-Settles (ReadResponse a) before after next = (next ≡ ReadResponse a) × (after ≡ before)
+Settles (ReadResponse a heard) before after next = (next ≡ ReadResponse a heard) × (after ≡ before)
+Settles (WriteInformed a text) before after next = (next ≡ WriteInformed a text) × (after ≡ before)
 Settles (WriteHead a reply text left) before after next = (next ≡ WriteHead a reply text left) × (after ≡ before)
 Settles (RelayBody a reply left) before after next = (next ≡ RelayBody a reply left) × (after ≡ before)
 Settles (WriteChunks a stream text) before after next = (next ≡ WriteChunks a stream text) × (after ≡ before)
@@ -76,7 +77,8 @@ Finishes ReadHead before after ending = GivesUp before after ending
 Finishes (Refuse answer error) before after ending = GivesUp before after ending
 Finishes (Connect context request text) before after ending = GivesUp before after ending
 Finishes (SendHead a text) before after ending = GivesLinkUp a before after ending
-Finishes (ReadResponse a) before after ending = GivesLinkUp a before after ending
+Finishes (ReadResponse a heard) before after ending = GivesLinkUp a before after ending
+Finishes (WriteInformed a text) before after ending = GivesLinkUp a before after ending
 Finishes (WriteHead a reply text left) before after ending = GivesLinkUp a before after ending
 Finishes (RelayBody a reply left) before after ending = GivesLinkUp a before after ending
 Finishes (WriteChunks a stream text) before after ending = GivesLinkUp a before after ending
@@ -100,7 +102,8 @@ Rests w x ReadHead next did = Unit {0}
 Rests w x (Refuse answer error) next did = Unit {0}
 Rests w x (Connect context request text) next did = Unit {0}
 Rests w x (SendHead a text) next did = Unit {0}
-Rests w x (ReadResponse a) next did = Unit {0}
+Rests w x (ReadResponse a heard) next did = Unit {0}
+Rests w x (WriteInformed a text) next did = Unit {0}
 Rests w x (WriteHead a reply text left) next did = Unit {0}
 Rests w x (RelayBody a reply left) next did = Unit {0}
 Rests w x (WriteChunks a stream text) next did = Unit {0}
@@ -119,7 +122,8 @@ module _ {L C : Type 0} (state : L → LinkState) (start_at : L → LinkStart) w
   TurnOf s p v w x (Connect context request text) next did =
       Advances state start_at s p v x (Connect context request text) next did
   TurnOf s p v w x (SendHead a text) next did = Advances state start_at s p v x (SendHead a text) next did
-  TurnOf s p v w x (ReadResponse a) next did = Advances state start_at s p v x (ReadResponse a) next did
+  TurnOf s p v w x (ReadResponse a heard) next did = Advances state start_at s p v x (ReadResponse a heard) next did
+  TurnOf s p v w x (WriteInformed a text) next did = Advances state start_at s p v x (WriteInformed a text) next did
   TurnOf s p v w x (WriteHead a reply text left) next did =
       Advances state start_at s p v x (WriteHead a reply text left) next did
   TurnOf s p v w x (RelayBody a reply left) next did =
@@ -143,7 +147,8 @@ module _ {L C : Type 0} (state : L → LinkState) (start_at : L → LinkStart) w
   StepSpends p v q u w (Connect context request text) next did =
       Spends state start_at p v q u w (Connect context request text) next did
   StepSpends p v q u w (SendHead a text) next did = Spends state start_at p v q u w (SendHead a text) next did
-  StepSpends p v q u w (ReadResponse a) next did = Spends state start_at p v q u w (ReadResponse a) next did
+  StepSpends p v q u w (ReadResponse a heard) next did = Spends state start_at p v q u w (ReadResponse a heard) next did
+  StepSpends p v q u w (WriteInformed a text) next did = Spends state start_at p v q u w (WriteInformed a text) next did
   StepSpends p v q u w (WriteHead a reply text left) next did =
       Spends state start_at p v q u w (WriteHead a reply text left) next did
   StepSpends p v q u w (RelayBody a reply left) next did =

@@ -1,5 +1,5 @@
 -- How a request may end: each outcome with its cause, in terms of what passed.
-use Rattle.std.specs.Prelude.{◌≡◌, ◌≢◌, ℕ, ◌+◌, ◌<◌, ◌≤◌, ◌⊎◌, ◌↔◌, Bool, true, false, List, [], ◌∷◌, ◌++◌, length, take, drop, IsTrue, ◌==◌, if◌then◌else◌, Option, None, Some, codes}
+use Rattle.std.specs.Prelude.{◌≡◌, ◌≢◌, ℕ, ◌+◌, ◌<◌, ◌≤◌, ◌⊎◌, ◌↔◌, Bool, true, false, List, [], ◌∷◌, ◌++◌, length, take, drop, IsTrue, ◌==◌, Option, None, Some, codes}
 use Rattle.std.specs.List.{concat}
 use Rattle.http_header.specs.HeaderMap.{RefusesInsert}
 use Rattle.relay_tasks.specs.Error.{new_error, error_of_fault, explained}
@@ -17,13 +17,13 @@ use Rattle.relay_links.specs.Count.{Rose}
 use Rattle.relay_links.specs.Connector.{IsConnectFault}
 use Rattle.relay_links.specs.Link.{LinkState, LinkStart, IsReadFault, IsWriteFault}
 use Rattle.relay_links.specs.declared.Returned.{Returned}
-use Rattle.relay_h1.specs.Verdict.{IsOpen, HasRequest, IsRefusedRequest, HasResponse, IsRefusedResponse, refused_from}
-use Rattle.relay_h1.specs.Wire.{request_text, response_text, generated}
+use Rattle.relay_h1.specs.Tasks.{Informs, HasFinal, IsOpenBehind, IsRefusedBehind}
+use Rattle.relay_h1.specs.Verdict.{IsOpen, HasRequest, IsRefusedRequest, refused_from}
+use Rattle.relay_h1.specs.Wire.{request_text, generated}
 use Rattle.relay_h1.specs.declared.Framing.{Framing}
 use Rattle.relay_h1.specs.Body.{BodyText, broken, open_text, ended_text, Body}
-use Rattle.relay_h1.specs.BodyWire.{pieces_text, end_text}
 use Rattle.relay_h1.specs.declared.Framing.TheVariants.{Empty, Length, Chunked, UntilClose, Tunnel}
-use Rattle.relay_proxy.specs.Built.{IsConnect, IsBuiltRequest, IsBuiltResponse, IsBuiltStream, HasRoom, streamed_head, IsLinkReusable, IsStreamReusable, IsClientReusable}
+use Rattle.relay_proxy.specs.Built.{IsConnect, IsBuiltRequest, IsSwitch, IsBuiltResponse, IsBuiltStream, HasRoom, streamed_head, reply_to, informed_text, heads_text, stream_so_far, stream_whole, IsLinkReusable, IsStreamReusable, IsClientReusable}
 use Rattle.relay_proxy.specs.Passed.{World, Start, Passed, Waited, asked, TellsClient, TellsLink, IsUnsent}
 use Rattle.relay_proxy.specs.declared.outcome.Outcome.{Outcome}
 use Rattle.relay_proxy.specs.declared.outcome.Outcome.TheVariants.{NoRequest, Refused, Served, TurnLimit, OutOfMemory}
@@ -39,19 +39,21 @@ pub record IsAccepted (s : Start) (p : Passed) (head : RequestHead) (len : ℕ) 
   pub has : HasRequest (asked s p) head Empty len
   pub built : IsBuiltRequest head Empty
 
--- the link's first len bytes are this head in answer to that method, which has a body of n bytes and
--- is of a form that is relayed
-pub record IsAnswered (method : List ℕ) (p : Passed) (head : ResponseHead) (len n : ℕ)
+-- the link's first len bytes are heads that only inform and this final head in answer to that
+-- method, which has a body of n bytes and is of a form that is relayed
+pub record IsAnswered
+    (method : List ℕ) (p : Passed) (informed : List ResponseHead) (head : ResponseHead) (len n : ℕ)
     : Type 0 where
   pub framing : Framing
-  pub has : HasResponse method false p.got head framing len
+  pub has : HasFinal method false p.got informed head framing len
   pub built : IsBuiltResponse head framing n
 
--- the link's first len bytes are this head in answer to that method, whose body is sent in chunks
+-- the link's first len bytes are heads that only inform and this final head in answer to that
+-- method, whose body is sent piece by piece
 pub record IsAnsweredByStream
-    (method : List ℕ) (p : Passed) (head : ResponseHead) (framing : Framing) (len : ℕ)
-    : Type 0 where
-  pub has : HasResponse method false p.got head framing len
+    (method : List ℕ) (p : Passed) (informed : List ResponseHead) (head : ResponseHead)
+    (framing : Framing) (len : ℕ) : Type 0 where
+  pub has : HasFinal method false p.got informed head framing len
   pub built : IsBuiltStream head framing
   pub room : HasRoom framing head
 
@@ -77,17 +79,11 @@ pub record AreFrontOf (framing : Framing) (bytes : List ℕ) (pieces : List (Lis
   pub rest : List ℕ
   pub joined : concat pieces ++ rest ≡ text.bytes
 
--- the response in chunks, as far as its body came in these pieces
-abbrev pub stream_so_far : ResponseHead → List (List ℕ) → List ℕ
-stream_so_far reply pieces = response_text reply ++ pieces_text Chunked pieces
-
--- the response in chunks, whole
-abbrev pub stream_whole : ResponseHead → List (List ℕ) → List ℕ
-stream_whole reply pieces = stream_so_far reply pieces ++ end_text Chunked
-
 -- the response as far as its body has come
-abbrev pub response_so_far : Passed → ResponseHead → ℕ → ℕ → List ℕ
-response_so_far p head len n = response_text head ++ take n (drop len p.got)
+abbrev pub response_so_far :
+    Passed → RequestHead → List ResponseHead → ResponseHead → ℕ → ℕ → List ℕ
+response_so_far p request informed reply len n =
+    heads_text request informed reply ++ take n (drop len p.got)
 
 -- why the client is given a generated answer, which one, and the error that goes with it
 pub data IsTurnedDown (bytes answer : List ℕ) (error : Option Error) : Type 0 where
@@ -119,33 +115,51 @@ pub record WritesResponse (s : Start) (p : Passed) : Type 0 where
   pub request_len : ℕ
   pub accepted : IsAccepted s p request request_len
   pub sent : p.sent ≡ request_text request
+  pub informed : List ResponseHead
   pub head : ResponseHead
   pub len : ℕ
   pub n : ℕ
-  pub answered : IsAnswered request.method p head len n
-  pub part : IsPrefixOf p.written (response_so_far p head len n)
+  pub answered : IsAnswered request.method p informed head len n
+  pub part : IsPrefixOf p.written
+      (response_so_far p request informed (reply_to request head) len n)
 
--- the whole head was sent, and what was written is the front of the response in chunks: its pieces
--- are the front of the body that came, and its last chunk stands only where that body has ended
+-- the whole head was sent, and what was written is the front of the response piece by piece: its
+-- pieces are the front of the body that came, and its end stands only where that body has ended
 pub record WritesStream (s : Start) (p : Passed) : Type 0 where
   pub request : RequestHead
   pub request_len : ℕ
   pub accepted : IsAccepted s p request request_len
   pub sent : p.sent ≡ request_text request
+  pub informed : List ResponseHead
   pub head : ResponseHead
   pub framing : Framing
   pub len : ℕ
-  pub answered : IsAnsweredByStream request.method p head framing len
+  pub answered : IsAnsweredByStream request.method p informed head framing len
+  pub reply : ResponseHead
+  pub is_reply : reply ≡ reply_to request (streamed_head framing head)
   pub pieces : List (List ℕ)
   pub front : AreFrontOf framing (drop len p.got) pieces
-  pub part : IsPrefixOf p.written (stream_so_far (streamed_head framing head) pieces)
+  pub part : IsPrefixOf p.written (stream_so_far request informed reply pieces)
       ⊎ (EndsBody framing (drop len p.got) (concat pieces)
-      × IsPrefixOf p.written (stream_whole (streamed_head framing head) pieces))
+      × IsPrefixOf p.written (stream_whole request informed reply pieces))
+
+-- the whole head was sent, and what was written is the front of the heads that only inform which
+-- came for it
+pub record WritesInformed (s : Start) (p : Passed) : Type 0 where
+  pub request : RequestHead
+  pub request_len : ℕ
+  pub accepted : IsAccepted s p request request_len
+  pub sent : p.sent ≡ request_text request
+  pub informed : List ResponseHead
+  pub place : ℕ
+  pub informs : Informs request.method false p.got informed place
+  pub part : IsPrefixOf p.written (informed_text request informed)
 
 -- what was sent and what was written, whatever the outcome
 pub record IsInOrder (s : Start) (p : Passed) : Type 0 where
   pub sent : (p.sent ≡ []) ⊎ SendsHead s p
-  pub written : (p.written ≡ []) ⊎ (WritesRefusal s p ⊎ (WritesResponse s p ⊎ WritesStream s p))
+  pub written : (p.written ≡ [])
+      ⊎ (WritesRefusal s p ⊎ (WritesResponse s p ⊎ (WritesStream s p ⊎ WritesInformed s p)))
 
 -- an error of that side which tells of the fault
 abbrev pub fault_error : ErrorSource → Fault → Error
@@ -154,12 +168,6 @@ fault_error side fault = record (error_of_fault fault) { esource = side }
 -- the error of an exchange that is not relayed
 abbrev pub unrelayed : ErrorSource → Error
 unrelayed side = new_error (kind.Custom 1) side
-
--- the error of a response whose head is valid and not relayed: a switch of protocols that was not
--- asked for is refused
-abbrev pub unbuilt_error : ResponseHead → Error
-unbuilt_error head =
-    if head.status == 101 then refused_from Upstream Mismatch101 else unrelayed Upstream
 
 -- the error of a client that ended inside its head
 abbrev pub left_early : Error
@@ -271,38 +279,43 @@ pub record IsRelayedWhole (s : Start) (p : Passed) (w : World) (keep reuse : Boo
   pub request_len : ℕ
   pub accepted : IsAccepted s p request request_len
   pub sent : p.sent ≡ request_text request
+  pub informed : List ResponseHead
   pub head : ResponseHead
   pub len : ℕ
   pub n : ℕ
-  pub answered : IsAnswered request.method p head len n
+  pub answered : IsAnswered request.method p informed head len n
   pub body : len + n ≤ length p.got
-  pub written : p.written ≡ response_so_far p head len n
+  pub reply : ResponseHead
+  pub is_reply : reply ≡ reply_to request head
+  pub written : p.written ≡ response_so_far p request informed reply len n
   -- the link is kept exactly where it may serve another request
-  pub kept : IsTrue keep ↔ IsLinkReusable request head (drop (len + n) p.got)
+  pub kept : IsTrue keep ↔ IsLinkReusable request reply (drop (len + n) p.got)
   -- the client goes back exactly where it may ask for more
-  pub goes_back : IsTrue reuse ↔ IsClientReusable request head w.ahead
+  pub goes_back : IsTrue reuse ↔ IsClientReusable request reply w.ahead
   pub ahead : w.ahead ≡ drop request_len (asked s p)
 
--- request and response were relayed whole, the response in chunks
+-- request and response were relayed whole, the response piece by piece
 pub record IsStreamedWhole
     (s : Start) (p : Passed) (w : World) (link : LinkState) (keep reuse : Bool) : Type 0 where
   pub request : RequestHead
   pub request_len : ℕ
   pub accepted : IsAccepted s p request request_len
   pub sent : p.sent ≡ request_text request
+  pub informed : List ResponseHead
   pub head : ResponseHead
   pub framing : Framing
   pub len : ℕ
-  pub answered : IsAnsweredByStream request.method p head framing len
+  pub answered : IsAnsweredByStream request.method p informed head framing len
+  pub reply : ResponseHead
+  pub is_reply : reply ≡ reply_to request (streamed_head framing head)
   pub pieces : List (List ℕ)
   pub n : ℕ
   pub whole : IsWholeBody framing link (drop len p.got) (concat pieces) n
-  pub written : p.written ≡ stream_whole (streamed_head framing head) pieces
+  pub written : p.written ≡ stream_whole request informed reply pieces
   -- the link is kept exactly where it may serve another request
-  pub kept : IsTrue keep
-      ↔ IsStreamReusable request framing (streamed_head framing head) (drop (len + n) p.got)
+  pub kept : IsTrue keep ↔ IsStreamReusable request framing reply (drop (len + n) p.got)
   -- the client goes back exactly where it may ask for more
-  pub goes_back : IsTrue reuse ↔ IsClientReusable request (streamed_head framing head) w.ahead
+  pub goes_back : IsTrue reuse ↔ IsClientReusable request reply w.ahead
   pub ahead : w.ahead ≡ drop request_len (asked s p)
 
 -- the whole head was sent
@@ -314,45 +327,53 @@ pub record IsSentWhole (s : Start) (p : Passed) : Type 0 where
 
 -- the response's head is of a form that is relayed, and its body has not come whole
 pub record IsInBody (method : List ℕ) (p : Passed) : Type 0 where
+  pub informed : List ResponseHead
   pub head : ResponseHead
   pub len : ℕ
   pub n : ℕ
-  pub answered : IsAnswered method p head len n
+  pub answered : IsAnswered method p informed head len n
   pub short : length p.got < len + n
 
--- the response's head was accepted, its body is sent in chunks, and it has not ended by its text
+-- the response's head was accepted, its body is sent piece by piece, and it has not ended by its
+-- text
 pub record IsInStream (method : List ℕ) (p : Passed) : Type 0 where
+  pub informed : List ResponseHead
   pub head : ResponseHead
   pub framing : Framing
   pub len : ℕ
-  pub answered : IsAnsweredByStream method p head framing len
+  pub answered : IsAnsweredByStream method p informed head framing len
   pub body : List ℕ
   pub still : Body framing (drop len p.got) (open_text body)
 
--- the response's head is refused, and nothing was written
-pub record IsBrokenHead (method : List ℕ) (p : Passed) (e : Error) : Type 0 where
+-- the response's head is refused, and nothing was written but the heads that only inform before it
+pub record IsBrokenHead (request : RequestHead) (p : Passed) (e : Error) : Type 0 where
+  pub informed : List ResponseHead
   pub why : Context
-  pub refused : IsRefusedResponse method false p.got why
+  pub refused : IsRefusedBehind request.method false p.got informed why
   pub error : e ≡ refused_from Upstream why
-  pub written : p.written ≡ []
+  pub written : p.written ≡ informed_text request informed
 
--- the response's head is valid, and not of a form that is relayed, and nothing was written
-pub record IsUnbuiltHead (method : List ℕ) (p : Passed) (e : Error) : Type 0 where
+-- the response's head switches protocols, which was not asked for, and nothing was written but the
+-- heads that only inform before it
+pub record HasSwitchHead (request : RequestHead) (p : Passed) (e : Error) : Type 0 where
+  pub informed : List ResponseHead
   pub head : ResponseHead
   pub framing : Framing
   pub len : ℕ
-  pub has : HasResponse method false p.got head framing len
-  pub unbuilt : (n : ℕ) → ¬ (IsBuiltResponse head framing n)
-  pub unstreamed : ¬ (IsBuiltStream head framing)
-  pub error : e ≡ unbuilt_error head
-  pub written : p.written ≡ []
+  pub has : HasFinal request.method false p.got informed head framing len
+  pub switches : IsSwitch head
+  pub error : e ≡ refused_from Upstream Mismatch101
+  pub written : p.written ≡ informed_text request informed
 
--- the link ended inside the response's head, and nothing was written
-pub record IsCutInHead (p : Passed) (link : LinkState) (e : Error) : Type 0 where
-  pub open_head : IsOpen p.got
+-- the link ended inside the response's head, and nothing was written but the heads that only inform
+-- before it
+pub record IsCutInHead (request : RequestHead) (p : Passed) (link : LinkState) (e : Error)
+    : Type 0 where
+  pub informed : List ResponseHead
+  pub open_head : IsOpenBehind request.method false p.got informed
   pub ended : link.ended ≡ true
   pub error : e ≡ cut_off (length p.got == 0)
-  pub written : p.written ≡ []
+  pub written : p.written ≡ informed_text request informed
 
 -- the link ended inside the response's body
 pub record IsCutInBody (method : List ℕ) (p : Passed) (link : LinkState) (e : Error) : Type 0 where
@@ -368,31 +389,34 @@ pub record IsCutInStream (method : List ℕ) (p : Passed) (link : LinkState) (e 
   pub ended : link.ended ≡ true
   pub error : e ≡ cut_off false
 
--- the response's head lacks a framing, and has no room for the field that would say it
-pub record IsFullHead (method : List ℕ) (p : Passed) (e : Error) : Type 0 where
+-- the response's head lacks a framing, and has no room for the field that would say it; nothing was
+-- written but the heads that only inform before it
+pub record IsFullHead (request : RequestHead) (p : Passed) (e : Error) : Type 0 where
+  pub informed : List ResponseHead
   pub head : ResponseHead
   pub len : ℕ
-  pub has : HasResponse method false p.got head UntilClose len
+  pub has : HasFinal request.method false p.got informed head UntilClose len
   pub built : IsBuiltStream head UntilClose
   pub full : RefusesInsert head.fields (codes "transfer-encoding")
   pub error : e ≡ refused_from Internal HeadTooLong
-  pub written : p.written ≡ []
+  pub written : p.written ≡ informed_text request informed
 
--- the response is broken, of a form that is not relayed, or cut off
-pub data IsUnfit (method : List ℕ) (p : Passed) (link : LinkState) (e : Error) : Type 0 where
-  has_broken_head : IsBrokenHead method p e → IsUnfit method p link e
-  has_unbuilt_head : IsUnbuiltHead method p e → IsUnfit method p link e
-  has_full_head : IsFullHead method p e → IsUnfit method p link e
-  is_cut_in_head : IsCutInHead p link e → IsUnfit method p link e
-  is_cut_in_body : IsCutInBody method p link e → IsUnfit method p link e
-  is_cut_in_stream : IsCutInStream method p link e → IsUnfit method p link e
+-- the response is broken, switches protocols, or is cut off
+pub data IsUnfit (request : RequestHead) (p : Passed) (link : LinkState) (e : Error) : Type 0 where
+  has_broken_head : IsBrokenHead request p e → IsUnfit request p link e
+  has_switch_head : HasSwitchHead request p e → IsUnfit request p link e
+  has_full_head : IsFullHead request p e → IsUnfit request p link e
+  is_cut_in_head : IsCutInHead request p link e → IsUnfit request p link e
+  is_cut_in_body : IsCutInBody request.method p link e → IsUnfit request p link e
+  is_cut_in_stream : IsCutInStream request.method p link e → IsUnfit request p link e
 
 -- the body comes in chunks, and its text is broken
 pub record HasBrokenBody (method : List ℕ) (p : Passed) (e : Error) : Type 0 where
+  pub informed : List ResponseHead
   pub head : ResponseHead
   pub framing : Framing
   pub len : ℕ
-  pub answered : IsAnsweredByStream method p head framing len
+  pub answered : IsAnsweredByStream method p informed head framing len
   pub body : List ℕ
   pub breaks : Body framing (drop len p.got) (record { bytes = body; mark = broken })
   pub error : e ≡ refused_from Upstream BadFraming
@@ -400,7 +424,7 @@ pub record HasBrokenBody (method : List ℕ) (p : Passed) (e : Error) : Type 0 w
 -- the response is unfit, which the error says
 pub record IsUnfitResponse (s : Start) (p : Passed) (link : LinkState) (e : Error) : Type 0 where
   pub whole : IsSentWhole s p
-  pub why : IsUnfit whole.request.method p link e ⊎ HasBrokenBody whole.request.method p e
+  pub why : IsUnfit whole.request p link e ⊎ HasBrokenBody whole.request.method p e
 
 -- the head was not sent whole: a write failed
 pub record IsInSending (s : Start) (p : Passed) (fault : Fault) : Type 0 where
@@ -415,7 +439,8 @@ pub record IsInSending (s : Start) (p : Passed) (fault : Fault) : Type 0 where
 pub record IsInHead (s : Start) (p : Passed) (link : LinkState) (fault : Fault) : Type 0 where
   pub kind : IsReadFault fault
   pub whole : IsSentWhole s p
-  pub open_head : IsOpen p.got
+  pub informed : List ResponseHead
+  pub open_head : IsOpenBehind whole.request.method false p.got informed
   pub ended : link.ended ≡ false
 
 -- the response's body has not come whole, and the link did not end: a read failed
@@ -433,13 +458,19 @@ pub record IsLinkFault
   pub rose : Rose start.faults link.faults
   pub place : IsInSending s p fault ⊎ (IsInHead s p link fault ⊎ IsInOpenBody s p link fault)
 
--- the response's head was accepted, and the link has not ended, or a body that it ends has
-pub data IsBeingWritten (method : List ℕ) (p : Passed) (link : LinkState) : Type 0 where
-  has_length : (head : ResponseHead) (len n : ℕ) → IsAnswered method p head len n
-      → link.ended ≡ false → IsBeingWritten method p link
-  is_streamed : (head : ResponseHead) (framing : Framing) (len : ℕ)
-      → IsAnsweredByStream method p head framing len
-      → (framing ≡ Chunked → link.ended ≡ false) → IsBeingWritten method p link
+-- a head that only informs was not written whole, or the response's head was accepted; and the link
+-- has not ended, or a body that it ends has
+pub data IsBeingWritten (request : RequestHead) (p : Passed) (link : LinkState) : Type 0 where
+  informs : (informed : List ResponseHead) (place : ℕ)
+      → Informs request.method false p.got informed place
+      → length p.written < length (informed_text request informed)
+      → link.ended ≡ false → IsBeingWritten request p link
+  has_length : (informed : List ResponseHead) (head : ResponseHead) (len n : ℕ)
+      → IsAnswered request.method p informed head len n
+      → link.ended ≡ false → IsBeingWritten request p link
+  is_streamed : (informed : List ResponseHead) (head : ResponseHead) (framing : Framing) (len : ℕ)
+      → IsAnsweredByStream request.method p informed head framing len
+      → (framing ≡ Chunked → link.ended ≡ false) → IsBeingWritten request p link
 
 -- the client's link failed while the response was written to it
 pub record IsLateClientFault
@@ -449,7 +480,7 @@ pub record IsLateClientFault
   pub error : e ≡ fault_error Downstream fault
   pub rose : Rose s.faults w.client.faults
   pub whole : IsSentWhole s p
-  pub writing : IsBeingWritten whole.request.method p link
+  pub writing : IsBeingWritten whole.request p link
 
 -- an attempt failed: its link is not kept, and the client does not go back
 pub record IsFailedAttempt

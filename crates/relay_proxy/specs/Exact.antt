@@ -5,11 +5,12 @@ use Rattle.relay_tasks.specs.declared.Error.{Error}
 use Rattle.relay_links.specs.Count.{Rose}
 use Rattle.relay_links.specs.Link.{LinkState, LinkStart}
 use Rattle.relay_links.specs.declared.Returned.{Returned}
-use Rattle.relay_h1.specs.Verdict.{HasRequest, HasResponse}
+use Rattle.relay_h1.specs.Tasks.{HasFinal}
+use Rattle.relay_h1.specs.Verdict.{HasRequest}
 use Rattle.relay_h1.specs.declared.Framing.{Framing}
 use Rattle.relay_h1.specs.Body.{ended_text, Body}
 use Rattle.relay_h1.specs.declared.Framing.TheVariants.{Empty, Chunked, UntilClose}
-use Rattle.relay_proxy.specs.Built.{IsBuiltRequest, IsBuiltResponse, HasRoom}
+use Rattle.relay_proxy.specs.Built.{IsBuiltRequest, IsSwitch, IsBuiltResponse, HasRoom}
 use Rattle.relay_proxy.specs.Passed.{World, Start, Passed, asked}
 use Rattle.relay_proxy.specs.Endings.{IsTurnedDown, IsLeftAlone, IsSentWhole, IsUnfit, HasBrokenBody}
 use Rattle.relay_proxy.specs.declared.outcome.Outcome.{Outcome}
@@ -29,16 +30,17 @@ pub record AsksFor (s : Start) (p : Passed) (w : World) (text : List ℕ) : Type
   pub built : IsBuiltRequest head Empty
   pub ended : w.client.ended ≡ true → rest ≡ []
 
--- the text begins with a response to that method that is relayed, whole, as far as its text says
+-- the text begins with a response to that method that is relayed, whole, as far as its text says:
+-- heads that only inform, its final head, and its body
 pub data IsResponse (method text : List ℕ) : Type 0 where
-  has_length : (head : ResponseHead) (framing : Framing) (len n : ℕ)
-      → HasResponse method false text head framing len → IsBuiltResponse head framing n
+  has_length : (informed : List ResponseHead) (head : ResponseHead) (framing : Framing) (len n : ℕ)
+      → HasFinal method false text informed head framing len → IsBuiltResponse head framing n
       → len + n ≤ length text → IsResponse method text
-  is_chunked : (head : ResponseHead) (len n : ℕ) (body : List ℕ)
-      → HasResponse method false text head Chunked len → 200 ≤ head.status
+  is_chunked : (informed : List ResponseHead) (head : ResponseHead) (len n : ℕ) (body : List ℕ)
+      → HasFinal method false text informed head Chunked len → ¬ (IsSwitch head)
       → Body Chunked (drop len text) (ended_text body n) → IsResponse method text
-  ends_with_link : (head : ResponseHead) (len : ℕ)
-      → HasResponse method false text head UntilClose len → 200 ≤ head.status
+  ends_with_link : (informed : List ResponseHead) (head : ResponseHead) (len : ℕ)
+      → HasFinal method false text informed head UntilClose len → ¬ (IsSwitch head)
       → HasRoom UntilClose head → IsResponse method text
 
 -- a link gives this text and no more, and it is such a response
@@ -63,10 +65,10 @@ pub record IsLeft (s : Start) (p : Passed) (w : World) (outcome : Outcome) : Typ
   pub is : outcome ≡ Refused (Some e)
 
 -- the response was not relayed whole, and the error has its cause
-pub record IsMissed (method : List ℕ) (p : Passed) (link : LinkState) (outcome : Outcome)
+pub record IsMissed (request : RequestHead) (p : Passed) (link : LinkState) (outcome : Outcome)
     : Type 0 where
   pub e : Error
-  pub why : IsUnfit method p link e ⊎ HasBrokenBody method p e
+  pub why : IsUnfit request p link e ⊎ HasBrokenBody request.method p e
   pub is : outcome ≡ Served (Some e) false
 
 module _ {L : Type 0} (state : L → LinkState) (start_at : L → LinkStart) where
@@ -86,14 +88,14 @@ module _ {L : Type 0} (state : L → LinkState) (start_at : L → LinkStart) whe
         → p.written ≡ answer → IsUnfinished outcome ⊎ IsRefusal s p outcome
     -- the client ended inside its head, or the head is of a form that is not relayed
     pub not_relayed : (e : Error) → IsLeftAlone s p w e → IsUnfinished outcome ⊎ IsLeft s p w outcome
-    -- the response is cut off, or of a form that is not relayed, or its head is broken
+    -- the response is cut off, or switches protocols, or its head is broken
     pub unfit : (r : Returned L) (e : Error) → own ≡ r ∷ [] → (whole : IsSentWhole s p)
-        → IsUnfit whole.request.method p (state r.link) e
-        → IsUnfinished outcome ⊎ IsMissed whole.request.method p (state r.link) outcome
+        → IsUnfit whole.request p (state r.link) e
+        → IsUnfinished outcome ⊎ IsMissed whole.request p (state r.link) outcome
     -- the body's text is broken, and no write to the client failed
     pub broken : (r : Returned L) (e : Error) → own ≡ r ∷ [] → (whole : IsSentWhole s p)
         → HasBrokenBody whole.request.method p e → ¬ (Rose s.faults w.client.faults)
-        → IsUnfinished outcome ⊎ IsMissed whole.request.method p (state r.link) outcome
+        → IsUnfinished outcome ⊎ IsMissed whole.request p (state r.link) outcome
     -- a request and a response that are relayed, with no fault
     pub whole : (request response : List ℕ) (asks : AsksFor s p w request)
         → ((r : Returned L) → own ≡ r ∷ [] → AnswersWith asks.head.method p (state r.link) response)

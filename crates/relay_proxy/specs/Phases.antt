@@ -1,18 +1,21 @@
 -- The phases of a request: what has passed when it stands in each of them, and what is left to do.
-use Rattle.std.specs.Prelude.{◌≡◌, ◌≢◌, ℕ, ◌+◌, ◌<◌, ◌≤◌, false, List, [], ◌∷◌, ◌++◌, length, take, drop, Option}
+use Rattle.std.specs.Prelude.{◌≡◌, ◌≢◌, ℕ, ◌+◌, ◌<◌, ◌≤◌, Bool, false, ◌==◌, List, [], ◌∷◌, ◌++◌, length, take, drop, Option}
 use Rattle.relay_tasks.specs.Head.{RequestHead, ResponseHead}
 use Rattle.relay_tasks.specs.declared.Error.{Error}
 use Rattle.relay_links.specs.Link.{LinkState, LinkStart, IsSound}
 use Rattle.relay_links.specs.declared.Returned.{Returned}
-use Rattle.relay_h1.specs.Wire.{request_text, response_text}
+use Rattle.relay_h1.specs.Tasks.{Informs}
+use Rattle.relay_h1.specs.Wire.{request_text}
 use Rattle.relay_proxy.specs.Passed.{World, Start, Passed, Waited, asked, TellsClient, TellsLink, IsUnsent}
-use Rattle.relay_proxy.specs.Endings.{IsAccepted, IsAnswered, IsAnsweredByStream, IsWholeBody, stream_so_far, stream_whole, IsTurnedDown, IsInOrder, EndsUnlinked, EndsLinked, EndsWith, IsAskedPeer, AttemptsUnlinked}
+use Rattle.relay_proxy.specs.Endings.{IsAccepted, IsAnswered, IsAnsweredByStream, IsWholeBody, IsTurnedDown, IsInOrder, EndsUnlinked, EndsLinked, EndsWith, IsAskedPeer, AttemptsUnlinked}
 use Rattle.relay_proxy.specs.declared.outcome.Outcome.TheVariants.{TurnLimit}
 use Rattle.relay_proxy.specs.declared.machine.Phase.{Phase}
-use Rattle.relay_proxy.specs.declared.machine.Phase.TheVariants.{ReadHead, Refuse, Connect, SendHead, ReadResponse, WriteHead, RelayBody, WriteChunks, ReadChunks, WriteLast, Close, Ended}
+use Rattle.relay_proxy.specs.declared.machine.Heard.{Heard}
+use Rattle.relay_proxy.specs.declared.machine.Heard.TheVariants.{Nothing, Informed}
+use Rattle.relay_proxy.specs.declared.machine.Phase.TheVariants.{ReadHead, Refuse, Connect, SendHead, ReadResponse, WriteInformed, WriteHead, RelayBody, WriteChunks, ReadChunks, WriteLast, Close, Ended}
 use Rattle.relay_proxy.specs.declared.machine.Attempt.{Attempt}
 use Rattle.relay_proxy.specs.declared.machine.Stream.{Stream}
-use Rattle.relay_proxy.specs.Built.{streamed_head}
+use Rattle.relay_proxy.specs.Built.{streamed_head, reply_to, informed_text, heads_text, stream_so_far, stream_whole}
 use Rattle.relay_h1.specs.BodyReader.{SoFar}
 use Rattle.relay_h1.specs.declared.Framing.TheVariants.{Chunked}
 use Rattle.std.specs.List.{concat}
@@ -57,18 +60,49 @@ pub record IsSending
   pub got : p.got ≡ []
   pub none_held : held ≡ []
 
--- the head was sent whole, and the response's head is read: nothing was taken from what is held
+-- whether a byte was taken from what the link gave
+abbrev pub IsHeard : Heard → ℕ → Type 0
+IsHeard Nothing place = place ≡ 0
+IsHeard Informed place = 0 < place
+
+-- no byte of the response has come, where this is held of it
+abbrev pub is_first : Heard → List ℕ → Bool
+is_first Nothing held = length held == 0
+is_first Informed held = false
+
+-- the head was sent whole, and the response's head is read: what is held stands behind heads that
+-- only inform, which were written whole
 pub record IsAwaiting
     (s : Start) (p : Passed) (ahead : List ℕ) (request : RequestHead) (link : LinkState)
-    (held : List ℕ) : Type 0 where
+    (held : List ℕ) (heard : Heard) : Type 0 where
   pub head : RequestHead
   pub is : request ≡ head
   pub asking : IsAsking s p ahead head
   pub sent : p.sent ≡ request_text head
-  pub written : p.written ≡ []
-  pub all_held : held ≡ p.got
+  pub informed : List ResponseHead
+  pub place : ℕ
+  pub informs : Informs head.method false p.got informed place
+  pub begun : IsHeard heard place
+  pub written : p.written ≡ informed_text head informed
+  pub rest_held : held ≡ drop place p.got
   -- a link that gave bytes has not ended
   pub open_end : 0 < length held → link.ended ≡ false
+
+-- this is left of the text of the heads that only inform, and what is held stands behind them
+pub record IsInforming
+    (s : Start) (p : Passed) (ahead : List ℕ) (request : RequestHead) (link : LinkState)
+    (held text : List ℕ) : Type 0 where
+  pub head : RequestHead
+  pub is : request ≡ head
+  pub asking : IsAsking s p ahead head
+  pub sent : p.sent ≡ request_text head
+  pub informed : List ResponseHead
+  pub place : ℕ
+  pub informs : Informs head.method false p.got informed place
+  pub begun : 0 < place
+  pub joined : p.written ++ text ≡ informed_text head informed
+  pub rest_held : held ≡ drop place p.got
+  pub ended : link.ended ≡ false
 
 -- the response's head was accepted, with a body of n bytes
 pub record IsAnswering
@@ -78,10 +112,13 @@ pub record IsAnswering
   pub is : request ≡ head
   pub asking : IsAsking s p ahead head
   pub sent : p.sent ≡ request_text head
+  pub informed : List ResponseHead
+  pub given : ResponseHead
   pub len : ℕ
   pub n : ℕ
-  pub answered : IsAnswered head.method p response len n
+  pub answered : IsAnswered head.method p informed given len n
   pub within : len ≤ length p.got
+  pub reply : response ≡ reply_to head given
   pub ended : link.ended ≡ false
 
 -- this is left of the response head's text, and all of its body
@@ -89,7 +126,7 @@ pub record IsWritingHead
     (s : Start) (p : Passed) (ahead : List ℕ) (request : RequestHead) (link : LinkState)
     (response : ResponseHead) (held text : List ℕ) (left : ℕ) : Type 0 where
   pub answering : IsAnswering s p ahead request link response
-  pub joined : p.written ++ text ≡ response_text response
+  pub joined : p.written ++ text ≡ heads_text answering.head answering.informed response
   pub rest_held : held ≡ drop answering.len p.got
   pub body : left ≡ answering.n
 
@@ -100,11 +137,13 @@ pub record IsRelayingBody
   pub answering : IsAnswering s p ahead request link response
   pub done : ℕ
   pub within : answering.len + done ≤ length p.got
-  pub written : p.written ≡ response_text response ++ take done (drop answering.len p.got)
+  pub written : p.written
+      ≡ heads_text answering.head answering.informed response
+      ++ take done (drop answering.len p.got)
   pub rest_held : held ≡ drop (answering.len + done) p.got
   pub body : done + left ≡ answering.n
 
--- the response's head was accepted, and its body is sent in chunks
+-- the response's head was accepted, and its body is sent piece by piece
 pub record IsStreaming
     (s : Start) (p : Passed) (ahead : List ℕ) (request : RequestHead) (stream : Stream)
     : Type 0 where
@@ -112,11 +151,12 @@ pub record IsStreaming
   pub is : request ≡ head
   pub asking : IsAsking s p ahead head
   pub sent : p.sent ≡ request_text head
+  pub informed : List ResponseHead
   pub given : ResponseHead
   pub len : ℕ
-  pub answered : IsAnsweredByStream head.method p given stream.framing len
+  pub answered : IsAnsweredByStream head.method p informed given stream.framing len
   pub within : len ≤ length p.got
-  pub reply : stream.head ≡ streamed_head stream.framing given
+  pub reply : stream.head ≡ reply_to head (streamed_head stream.framing given)
 
 -- these pieces of the body were cut, and more is to be cut from what is held
 pub record IsCutting
@@ -126,13 +166,14 @@ pub record IsCutting
   pub so_far : SoFar stream.framing (drop streaming.len p.got) (concat pieces) stream.reader held
   pub ended : link.ended ≡ false
 
--- this is left of the response in chunks as far as it was cut, and more is to come
+-- this is left of the response as far as its body was cut, and more is to come
 pub record IsWritingChunks
     (s : Start) (p : Passed) (ahead : List ℕ) (request : RequestHead) (link : LinkState)
     (stream : Stream) (held text : List ℕ) : Type 0 where
   pub pieces : List (List ℕ)
   pub cutting : IsCutting s p ahead request link stream held pieces
-  pub joined : p.written ++ text ≡ stream_so_far stream.head pieces
+  pub joined : p.written ++ text
+      ≡ stream_so_far cutting.streaming.head cutting.streaming.informed stream.head pieces
 
 -- all that was cut was written
 pub record IsReadingChunks
@@ -140,9 +181,10 @@ pub record IsReadingChunks
     (stream : Stream) (held : List ℕ) : Type 0 where
   pub pieces : List (List ℕ)
   pub cutting : IsCutting s p ahead request link stream held pieces
-  pub written : p.written ≡ stream_so_far stream.head pieces
+  pub written : p.written
+      ≡ stream_so_far cutting.streaming.head cutting.streaming.informed stream.head pieces
 
--- the body has ended, and this is left of the response in chunks
+-- the body has ended, and this is left of the response
 pub record IsWritingLast
     (s : Start) (p : Passed) (ahead : List ℕ) (request : RequestHead) (link : LinkState)
     (stream : Stream) (held text : List ℕ) : Type 0 where
@@ -151,7 +193,8 @@ pub record IsWritingLast
   pub n : ℕ
   pub whole : IsWholeBody stream.framing link (drop streaming.len p.got) (concat pieces) n
   pub rest_held : stream.framing ≡ Chunked → held ≡ drop (streaming.len + n) p.got
-  pub joined : p.written ++ text ≡ stream_whole stream.head pieces
+  pub joined : p.written ++ text
+      ≡ stream_whole streaming.head streaming.informed stream.head pieces
   pub ended : stream.framing ≡ Chunked → link.ended ≡ false
 
 module _ {L C : Type 0} (state : L → LinkState) (start_at : L → LinkStart) where
@@ -170,9 +213,12 @@ module _ {L C : Type 0} (state : L → LinkState) (start_at : L → LinkStart) w
       IsConnecting s p w.ahead request text.output
   IsAt s p v w (SendHead a text) =
       IsAttempt p v a × IsSending s p w.ahead a.request a.connection.ahead text.output
-  IsAt s p v w (ReadResponse a) =
+  IsAt s p v w (ReadResponse a heard) =
       IsAttempt p v a
-      × IsAwaiting s p w.ahead a.request (state a.connection.link) a.connection.ahead
+      × IsAwaiting s p w.ahead a.request (state a.connection.link) a.connection.ahead heard
+  IsAt s p v w (WriteInformed a text) =
+      IsAttempt p v a
+      × IsInforming s p w.ahead a.request (state a.connection.link) a.connection.ahead text.output
   IsAt s p v w (WriteHead a reply text left) =
       IsAttempt p v a
       × IsWritingHead s p w.ahead a.request (state a.connection.link) reply a.connection.ahead
@@ -205,7 +251,8 @@ module _ {L C : Type 0} (state : L → LinkState) (start_at : L → LinkStart) w
   PhaseHolds s p v w (r ∷ own) (Refuse answer error) = ⊥
   PhaseHolds s p v w (r ∷ own) (Connect context request text) = ⊥
   PhaseHolds s p v w (r ∷ own) (SendHead a text) = ⊥
-  PhaseHolds s p v w (r ∷ own) (ReadResponse a) = ⊥
+  PhaseHolds s p v w (r ∷ own) (ReadResponse a heard) = ⊥
+  PhaseHolds s p v w (r ∷ own) (WriteInformed a text) = ⊥
   PhaseHolds s p v w (r ∷ own) (WriteHead a reply text left) = ⊥
   PhaseHolds s p v w (r ∷ own) (RelayBody a reply left) = ⊥
   PhaseHolds s p v w (r ∷ own) (WriteChunks a stream text) = ⊥
@@ -221,7 +268,8 @@ module _ {L C : Type 0} (state : L → LinkState) (start_at : L → LinkStart) w
   IsGoing v (Refuse answer error) = v.link ≡ 0
   IsGoing v (Connect context request text) = v.link ≡ 0
   IsGoing v (SendHead a text) = Unit {0}
-  IsGoing v (ReadResponse a) = Unit {0}
+  IsGoing v (ReadResponse a heard) = Unit {0}
+  IsGoing v (WriteInformed a text) = Unit {0}
   IsGoing v (WriteHead a reply text left) = Unit {0}
   IsGoing v (RelayBody a reply left) = Unit {0}
   IsGoing v (WriteChunks a stream text) = Unit {0}
@@ -245,7 +293,8 @@ module _ {L C : Type 0} (state : L → LinkState) (start_at : L → LinkStart) w
   allowance (Refuse answer error) = 1
   allowance (Connect context request text) = 1
   allowance (SendHead a text) = 2
-  allowance (ReadResponse a) = 2
+  allowance (ReadResponse a heard) = 2
+  allowance (WriteInformed a text) = 2
   allowance (WriteHead a reply text left) = 3
   allowance (RelayBody a reply left) = 3
   allowance (WriteChunks a stream text) = 3

@@ -6,7 +6,7 @@ use Rattle.relay_h1.specs.declared.Connection.{Connection}
 use Rattle.relay_proxy.specs.Passed.{World, Start, Passed, Waited, amount}
 use Rattle.relay_proxy.specs.Phases.{RunSoFar, allowance}
 use Rattle.relay_proxy.specs.declared.machine.Phase.{Phase}
-use Rattle.relay_proxy.specs.declared.machine.Phase.TheVariants.{ReadHead, Refuse, Connect, SendHead, ReadResponse, WriteHead, RelayBody, WriteChunks, ReadChunks, WriteLast, Close, Ended}
+use Rattle.relay_proxy.specs.declared.machine.Phase.TheVariants.{ReadHead, Refuse, Connect, SendHead, ReadResponse, WriteInformed, WriteHead, RelayBody, WriteChunks, ReadChunks, WriteLast, Close, Ended}
 use Rattle.relay_proxy.specs.declared.machine.Next.{Next}
 use Rattle.relay_proxy.specs.declared.machine.Attempt.{Attempt}
 use Rattle.relay_proxy.specs.declared.machine.BodyLeft.{BodyLeft}
@@ -42,7 +42,8 @@ module _ {L C : Type 0} (state : L → LinkState) (start_at : L → LinkStart) w
   links_held (Refuse answer error) = 0
   links_held (Connect context request text) = 0
   links_held (SendHead a text) = 1
-  links_held (ReadResponse a) = 1
+  links_held (ReadResponse a heard) = 1
+  links_held (WriteInformed a text) = 1
   links_held (WriteHead a reply text left) = 1
   links_held (RelayBody a reply left) = 1
   links_held (WriteChunks a stream text) = 1
@@ -57,7 +58,8 @@ module _ {L C : Type 0} (state : L → LinkState) (start_at : L → LinkStart) w
   IsStalled w (Refuse answer error) = w.client.silent_on_write ≡ true
   IsStalled w (Connect context request text) = ⊥
   IsStalled w (SendHead a text) = (state a.connection.link).silent_on_write ≡ true
-  IsStalled w (ReadResponse a) = (state a.connection.link).silent_on_read ≡ true
+  IsStalled w (ReadResponse a heard) = (state a.connection.link).silent_on_read ≡ true
+  IsStalled w (WriteInformed a text) = w.client.silent_on_write ≡ true
   IsStalled w (WriteHead a reply text left) = w.client.silent_on_write ≡ true
   IsStalled w (RelayBody a reply left) =
       ((state a.connection.link).silent_on_read ≡ true) ⊎ (w.client.silent_on_write ≡ true)
@@ -112,7 +114,8 @@ WorksIn ReadHead did work = DoesWork did work
 WorksIn (Refuse answer error) did work = DoesWork did work
 WorksIn (Connect context request text) did work = DoesWork did work
 WorksIn (SendHead a text) did work = DoesWork did work
-WorksIn (ReadResponse a) did work = DoesWork did work
+WorksIn (ReadResponse a heard) did work = DoesWork did work
+WorksIn (WriteInformed a text) did work = DoesWork did work
 WorksIn (WriteHead a reply text left) did work = DoesWork did work
 WorksIn (RelayBody a reply left) did work = DoesWork did work
 WorksIn (WriteChunks a stream text) did work = DoesWork did work
@@ -127,7 +130,8 @@ is_over ReadHead = false
 is_over (Refuse answer error) = false
 is_over (Connect context request text) = false
 is_over (SendHead a text) = false
-is_over (ReadResponse a) = false
+is_over (ReadResponse a heard) = false
+is_over (WriteInformed a text) = false
 is_over (WriteHead a reply text left) = false
 is_over (RelayBody a reply left) = false
 is_over (WriteChunks a stream text) = false

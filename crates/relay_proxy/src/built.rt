@@ -1,11 +1,11 @@
-//! The forms of exchange that are relayed so far: a request by HTTP/1.1 without a body, answered by
-//! one final head and a body of a known length (RFC 9110, sections 9 and 15).
+//! The forms of exchange that are relayed so far: a request without a body, answered by one final
+//! head and its body; and the response as its client gets it (RFC 9110, sections 9 and 15).
 ghost use Rattle.std.specs.Prelude.{◌≡◌, ◌↔◌, IsTrue, ℕ, IfSome, IfNone, codes};
 ghost use Rattle.http_header.specs.HeaderMap.{ContainsKey};
-ghost use Rattle.relay_proxy.specs.Built.{IsConnect, IsKnownTarget, IsBuiltRequest, HasLength, IsBuiltResponse, IsStreamed, IsBuiltStream, is_until_close, StayOpen, IsLinkReusable, IsStreamReusable, IsClientReusable};
+ghost use Rattle.relay_proxy.specs.Built.{IsConnect, IsKnownTarget, IsBuiltRequest, HasLength, IsBuiltResponse, IsStreamed, IsBuiltStream, reply_to, framing_to, is_until_close, StayOpen, IsLinkReusable, IsStreamReusable, IsClientReusable};
 
 use http::Version;
-use http_header::HeaderMap;
+use http_header::{HeaderMap, TRANSFER_ENCODING};
 use relay_h1::{Framing, closes};
 use relay_tasks::{RequestHeader, ResponseHeader};
 
@@ -21,9 +21,6 @@ pub(crate) fn is_built_request(head: &RequestHeader, framing: Framing) -> bool
     ensures { IsTrue result ↔ IsBuiltRequest head.now framing }
 {
     if framing != Framing::Empty {
-        return false;
-    }
-    if head.version() != Version::HTTP_11 {
         return false;
     }
     if is_connect(head) {
@@ -43,7 +40,7 @@ pub(crate) fn built_length(head: &ResponseHeader, framing: Framing) -> Option<u6
     ensures built { IfSome result (λ n. IsBuiltResponse head.now framing n) }
     ensures unbuilt { IfNone result ((n : ℕ) → ¬ (IsBuiltResponse head.now framing n)) }
 {
-    if head.status() < 200 {
+    if head.status() == 101 {
         return None;
     }
     length_of(framing)
@@ -60,11 +57,11 @@ fn length_of(framing: Framing) -> Option<u64>
     }
 }
 
-/// Whether the body of a response is sent in chunks.
+/// Whether the body of a response is sent piece by piece, as it comes.
 pub(crate) fn is_built_stream(head: &ResponseHeader, framing: Framing) -> bool
     ensures { IsTrue result ↔ IsBuiltStream head.now framing }
 {
-    if head.status() < 200 {
+    if head.status() == 101 {
         return false;
     }
     is_streamed(framing)
@@ -79,6 +76,26 @@ fn is_streamed(framing: Framing) -> bool
     }
 }
 
+/// Makes the head of a response the one that the client gets: HTTP/1.0 has no Transfer-Encoding.
+pub(crate) fn make_reply(request: &RequestHeader, head: &mut ResponseHeader)
+    ensures { head.new ≡ reply_to request.now head.old }
+{
+    if request.version() == Version::HTTP_10 {
+        let _ = head.remove_header(&TRANSFER_ENCODING);
+    }
+}
+
+/// How a body that is sent piece by piece is framed: HTTP/1.0 takes it up to the close.
+pub(crate) fn framing_to(request: &RequestHeader) -> Framing
+    ensures { result ≡ framing_to request.now }
+{
+    if request.version() == Version::HTTP_10 {
+        Framing::UntilClose
+    } else {
+        Framing::Chunked
+    }
+}
+
 /// Whether the body ends with the connection.
 pub(crate) fn is_until_close(framing: Framing) -> bool
     ensures { result ≡ is_until_close framing }
@@ -86,7 +103,7 @@ pub(crate) fn is_until_close(framing: Framing) -> bool
     framing == Framing::UntilClose
 }
 
-/// Whether the link may serve another request behind a response that was sent in chunks.
+/// Whether the link may serve another request behind a response that was sent piece by piece.
 pub(crate) fn is_stream_reusable(
     request: &RequestHeader,
     framing: Framing,

@@ -1,22 +1,19 @@
-//! The attempt: the head goes to the link, and the response's head and body come back.
+//! The attempt: the request's head goes to the link, and the response's head and a body with a
+//! length go to the client.
 ghost use Rattle.std.specs.Prelude.{◌≡◌, ◌≤◌, ◌<◌, ℕ, [], length, false, true};
-ghost use Rattle.relay_h1.specs.Verdict.{IsOpen, HasResponse};
-ghost use Rattle.relay_proxy.specs.Built.{IsBuiltStream};
-ghost use Rattle.relay_proxy.specs.Endings.{fault_error, unbuilt_error, cut_off};
+ghost use Rattle.relay_proxy.specs.Endings.{fault_error, cut_off};
 ghost use Rattle.relay_proxy.specs.Passed.{World, Start, Passed, Waited, asked};
 ghost use Rattle.relay_proxy.specs.Phases.{RunSoFar};
 ghost use Rattle.relay_proxy.specs.Turn.{failed, IsRest, world_of, DoesWork, is_over, is_end, links_held, Advances};
 
-use crate::built::{built_length, is_built_stream, is_client_reusable, is_link_reusable};
-use crate::machine::{Attempt, BodyLeft, Next, Phase, RunStep};
+use crate::built::{is_client_reusable, is_link_reusable};
+use crate::machine::{Attempt, BodyLeft, Heard, Next, Phase, RunStep};
 use crate::outcome::Outcome;
 use crate::pending::{Offered, Pending};
-use crate::stream::accept_stream;
 use crate::work::Work;
-use relay_h1::{Connection, Output, ResponseRead, write_response_head};
+use relay_h1::Connection;
 use relay_links::{ByteLink, Got, Pause, Put};
-use relay_tasks::{Context, Error, ErrorSource, ErrorType, Fail, Fault, ResponseHeader, RetryType};
-use std::alloc::Global;
+use relay_tasks::{Context, Error, ErrorSource, ErrorType, Fault, ResponseHeader, RetryType};
 
 /// One write of the request's head.
 pub(crate) fn send_head<L: ByteLink, C: Drop>(
@@ -33,7 +30,7 @@ pub(crate) fn send_head<L: ByteLink, C: Drop>(
 {
     match text.write_to(&mut attempt.connection) {
         Offered::Whole => Next {
-            phase: Phase::ReadResponse(attempt),
+            phase: Phase::ReadResponse(attempt, Heard::Nothing),
             step: RunStep::Moved,
             work: Work::USED,
         },
@@ -123,167 +120,6 @@ pub(crate) fn cut_off(is_first: bool) -> Error
         }
     } else {
         error
-    }
-}
-
-/// The error of a response whose head is valid and not relayed.
-fn unbuilt_error(head: &ResponseHeader) -> Error
-    ensures { result ≡ unbuilt_error head.now }
-{
-    if head.status() == 101 {
-        Error::explain(ErrorType::InvalidHTTPHeader, Context::Mismatch101).into_up()
-    } else {
-        Error::new_up(ErrorType::Custom(1))
-    }
-}
-
-/// The response's head: judged where it stands, else the link is read once.
-pub(crate) fn read_response<L: ByteLink, C: Drop>(
-    alloc: Global,
-    mut attempt: Attempt<L, C>,
-) -> Next<L, C>
-    ensures run { (s : Start) (p : Passed) (v : Waited) (w : World)
-        → RunSoFar {C = C} L.state L.start s p v w [] (Phase.ReadResponse attempt)
-        → Advances L.state L.start s p v w (Phase.ReadResponse attempt)
-        result.phase result.step }
-    ensures work { DoesWork result.step result.work }
-    ensures over { is_over result.phase ≡ is_end result.step }
-    ensures linked { links_held L.state L.start result.phase ≡ 1 }
-{
-    let held = &mut attempt;
-    match held
-        .connection
-        .judge_response(alloc, held.request.method(), false)
-    {
-        Ok(None) => await_response(attempt),
-        Ok(Some(read)) => take_response(alloc, attempt, read),
-        Err(Fail::Error(error)) => Next {
-            phase: response_unfit(attempt, error),
-            step: RunStep::Ended,
-            work: Work::ENDED,
-        },
-        Err(Fail::OutOfMemory) => Next {
-            phase: Phase::Close(attempt, false, Outcome::OutOfMemory),
-            step: RunStep::Ended,
-            work: Work::ENDED,
-        },
-    }
-}
-
-/// One read of the link, for more of the response's head.
-fn await_response<L: ByteLink, C: Drop>(mut attempt: Attempt<L, C>) -> Next<L, C>
-    ensures run { (s : Start) (p : Passed) (v : Waited) (w : World)
-        → RunSoFar {C = C} L.state L.start s p v w [] (Phase.ReadResponse attempt)
-        → IsOpen attempt.connection.ahead
-        → Advances L.state L.start s p v w (Phase.ReadResponse attempt)
-        result.phase result.step }
-    ensures work { DoesWork result.step result.work }
-    ensures over { is_over result.phase ≡ is_end result.step }
-    ensures linked { links_held L.state L.start result.phase ≡ 1 }
-{
-    match attempt.connection.read_more() {
-        Err(_) => Next {
-            phase: Phase::Close(attempt, false, Outcome::OutOfMemory),
-            step: RunStep::Ended,
-            work: Work::ENDED,
-        },
-        Ok(Got::Bytes(_)) => Next {
-            phase: Phase::ReadResponse(attempt),
-            step: RunStep::Moved,
-            work: Work::USED,
-        },
-        Ok(Got::NotReady) => Next {
-            phase: Phase::ReadResponse(attempt),
-            step: RunStep::Waited(Pause::NotReady),
-            work: Work::USED,
-        },
-        Ok(Got::Silent) => Next {
-            phase: Phase::ReadResponse(attempt),
-            step: RunStep::Waited(Pause::Silent),
-            work: Work::NONE,
-        },
-        Ok(Got::End) => {
-            let error = cut_off(attempt.connection.ahead().is_empty());
-            Next {
-                phase: response_unfit(attempt, error),
-                step: RunStep::Ended,
-                work: Work::USED_AND_ENDED,
-            }
-        }
-        Ok(Got::Failed(fault)) => Next {
-            phase: link_failed(attempt, fault),
-            step: RunStep::Ended,
-            work: Work::USED,
-        },
-    }
-}
-
-/// A response's head that is valid: its body has a length, is sent in chunks, or is not relayed.
-fn take_response<L: ByteLink, C: Drop>(
-    alloc: Global,
-    attempt: Attempt<L, C>,
-    read: ResponseRead,
-) -> Next<L, C>
-    requires { read.len ≤ length attempt.connection.ahead }
-    ensures run { (s : Start) (p : Passed) (v : Waited) (w : World)
-        → RunSoFar {C = C} L.state L.start s p v w [] (Phase.ReadResponse attempt)
-        → HasResponse attempt.request.method false attempt.connection.ahead read.head read.framing
-        read.len
-        → Advances L.state L.start s p v w (Phase.ReadResponse attempt)
-        result.phase result.step }
-    ensures work { DoesWork result.step result.work }
-    ensures over { is_over result.phase ≡ is_end result.step }
-    ensures linked { links_held L.state L.start result.phase ≡ 1 }
-{
-    if is_built_stream(&read.head, read.framing) {
-        return accept_stream(alloc, attempt, read);
-    }
-    accept_response(alloc, attempt, read)
-}
-
-/// A response's head whose body is not sent in chunks: it is taken from what is held, and its text
-/// is made.
-fn accept_response<L: ByteLink, C: Drop>(
-    alloc: Global,
-    mut attempt: Attempt<L, C>,
-    read: ResponseRead,
-) -> Next<L, C>
-    requires { read.len ≤ length attempt.connection.ahead }
-    ensures run { (s : Start) (p : Passed) (v : Waited) (w : World)
-        → RunSoFar {C = C} L.state L.start s p v w [] (Phase.ReadResponse attempt)
-        → HasResponse attempt.request.method false attempt.connection.ahead read.head read.framing
-        read.len
-        → ¬ (IsBuiltStream read.head read.framing)
-        → Advances L.state L.start s p v w (Phase.ReadResponse attempt)
-        result.phase result.step }
-    ensures work { DoesWork result.step result.work }
-    ensures over { is_over result.phase ≡ is_end result.step }
-    ensures linked { links_held L.state L.start result.phase ≡ 1 }
-{
-    let Some(left) = built_length(&read.head, read.framing) else {
-        let error = unbuilt_error(&read.head);
-        return Next {
-            phase: response_unfit(attempt, error),
-            step: RunStep::Ended,
-            work: Work::ENDED,
-        };
-    };
-    let mut text = Vec::new(alloc);
-    let Ok(()) = write_response_head(&mut text, &read.head) else {
-        return Next {
-            phase: Phase::Close(attempt, false, Outcome::OutOfMemory),
-            step: RunStep::Ended,
-            work: Work::ENDED,
-        };
-    };
-    let Some(text) = Pending::new(Output::new(text)) else {
-        unreachable!()
-    };
-    attempt.connection.consume(read.len);
-    Next {
-        phase: Phase::WriteHead(attempt, read.head, text, left),
-        step: RunStep::Moved,
-        work: Work::MOVED,
     }
 }
 

@@ -64,7 +64,8 @@ pub(crate) fn settle<K: Connector, C: Drop>(
         Phase::Refuse(answer, error) => Phase::Refuse(answer, error),
         Phase::Connect(context, request, text) => Phase::Connect(context, request, text),
         Phase::SendHead(attempt, text) => Phase::SendHead(attempt, text),
-        Phase::ReadResponse(attempt) => Phase::ReadResponse(attempt),
+        Phase::ReadResponse(attempt, heard) => Phase::ReadResponse(attempt, heard),
+        Phase::WriteInformed(attempt, text) => Phase::WriteInformed(attempt, text),
         Phase::WriteHead(attempt, reply, text, left) => {
             Phase::WriteHead(attempt, reply, text, left)
         }
@@ -122,7 +123,8 @@ pub(crate) fn finish<K: Connector, C: Drop>(
         Phase::Refuse(_answer, _error) => give_up(alloc),
         Phase::Connect(_context, _request, _text) => give_up(alloc),
         Phase::SendHead(attempt, _text) => give_link_up(connector, attempt),
-        Phase::ReadResponse(attempt) => give_link_up(connector, attempt),
+        Phase::ReadResponse(attempt, _heard) => give_link_up(connector, attempt),
+        Phase::WriteInformed(attempt, _text) => give_link_up(connector, attempt),
         Phase::WriteHead(attempt, _reply, _text, _left) => give_link_up(connector, attempt),
         Phase::RelayBody(attempt, _reply, _left) => give_link_up(connector, attempt),
         Phase::WriteChunks(attempt, _stream, _text) => give_link_up(connector, attempt),

@@ -12,6 +12,7 @@ mod outcome;
 mod pending;
 mod proxy;
 mod record;
+mod response;
 mod stream;
 mod turn;
 mod work;

@@ -6,7 +6,10 @@
 //!    +-> Refuse  +-> Ended  +-------------+-------------+------------+--> Close (the attempt failed)
 //!    +-> Ended (nothing asked, nothing relayed)
 //!
-//! ReadResponse -> WriteChunks <-> ReadChunks -> WriteLast -> Close (a body that is sent in chunks)
+//! ReadResponse <-> WriteInformed (heads that only inform)
+//! ReadResponse -> WriteChunks <-> ReadChunks -> WriteLast -> Close (a body that is sent piece by
+//!                                      |                            piece, as it comes)
+//!                                      +-> Close (to HTTP/1.0, where no text ends it)
 //! ```
 
 ghost use Rattle.std.specs.Prelude.{◌<◌, ◌≡◌};
@@ -41,8 +44,15 @@ pub(crate) struct Attempt<L, C> {
     pub(crate) context: C,
 }
 
-/// A response whose body is sent in chunks: its head as the client gets it, the framing of its body
-/// on the link, and where that body is read.
+/// Whether heads that only inform came before the response's head.
+#[derive(Clone, Copy)]
+pub(crate) enum Heard {
+    Nothing,
+    Informed,
+}
+
+/// A response whose body is sent piece by piece: its head as the client gets it, the framing of its
+/// body on the link, and where that body is read.
 #[derive(Drop)]
 pub(crate) struct Stream {
     pub(crate) head: ResponseHeader,
@@ -68,12 +78,15 @@ pub(crate) enum Phase<L, C> {
     /// The head's text is written to the link.
     SendHead(Attempt<L, C>, Pending),
     /// The response's head is read.
-    ReadResponse(Attempt<L, C>),
+    ReadResponse(Attempt<L, C>, Heard),
+    /// The text of a head that only informs is written; the response's head is to follow.
+    WriteInformed(Attempt<L, C>, Pending),
     /// The text of the response's head is written; a body of that length follows.
     WriteHead(Attempt<L, C>, ResponseHeader, Pending, u64),
     /// The body of that response is relayed.
     RelayBody(Attempt<L, C>, ResponseHeader, BodyLeft),
-    /// The text of a response in chunks is written, as far as it was cut; more is to come.
+    /// The text of a response that is sent piece by piece is written, as far as it was cut; more is
+    /// to come.
     WriteChunks(Attempt<L, C>, Stream, Pending),
     /// All that was cut of that response was written.
     ReadChunks(Attempt<L, C>, Stream),
@@ -117,7 +130,8 @@ impl<L, C> Phase<L, C> {
             Phase::Refuse(_answer, _error) => unreachable!(),
             Phase::Connect(_context, _request, _text) => unreachable!(),
             Phase::SendHead(_attempt, _text) => unreachable!(),
-            Phase::ReadResponse(_attempt) => unreachable!(),
+            Phase::ReadResponse(_attempt, _heard) => unreachable!(),
+            Phase::WriteInformed(_attempt, _text) => unreachable!(),
             Phase::WriteHead(_attempt, _reply, _text, _left) => unreachable!(),
             Phase::RelayBody(_attempt, _reply, _left) => unreachable!(),
             Phase::WriteChunks(_attempt, _stream, _text) => unreachable!(),

@@ -7,9 +7,10 @@ ghost use Rattle.relay_proxy.specs.Turn.{world_of, links_held, is_over, is_end, 
 
 use crate::client_head::{read_head, write_refusal};
 use crate::connecting::connect;
-use crate::exchange::{read_response, relay_body, send_head, write_head};
+use crate::exchange::{relay_body, send_head, write_head};
 use crate::hooks::ProxyHttp;
 use crate::machine::{Next, Phase, RunStep};
+use crate::response::{read_response, write_informed};
 use crate::stream::{read_chunks, write_chunks, write_last};
 use crate::work::Work;
 use relay_h1::Connection;
@@ -48,7 +49,8 @@ pub(crate) fn take_turn<SV: ProxyHttp, K: Connector, D: ByteLink, U>(
             connect(alloc, connector, context, request, text)
         }
         Phase::SendHead(attempt, text) => send_head(attempt, text),
-        Phase::ReadResponse(attempt) => read_response(alloc, attempt),
+        Phase::ReadResponse(attempt, heard) => read_response(alloc, client, attempt, heard),
+        Phase::WriteInformed(attempt, text) => write_informed(client, attempt, text),
         Phase::WriteHead(attempt, reply, text, left) => {
             write_head(client, attempt, reply, text, left)
         }

@@ -70,21 +70,33 @@ fn exchange(alloc: Global, client: ScriptLink, peer: ScriptLink) -> Result<Excha
     })
 }
 
-/// Two items that give these bytes, cut at that place.
-fn cut_in_two(alloc: Global, bytes: &[u8], cut: usize) -> Result<Vec<ReadItem>, Fail> {
-    let mut items = Vec::new(alloc);
-    let mut front = Vec::new(alloc);
-    let mut back = Vec::new(alloc);
+/// Three items that give these bytes, cut at these places.
+fn cut_in_three(
+    alloc: Global,
+    bytes: &[u8],
+    first: usize,
+    second: usize,
+) -> Result<Vec<ReadItem>, Fail> {
+    let mut parts = Vec::new(alloc);
+    for _ in 0..3u8 {
+        parts.push(Vec::new(alloc))?;
+    }
     for (place, byte) in bytes.iter().enumerate() {
-        if place < cut {
-            front.push(*byte)?;
-        } else {
-            back.push(*byte)?;
+        let part = usize::from(place >= first) + usize::from(place >= second);
+        if let Some(part) = parts.get_mut(part) {
+            part.push(*byte)?;
         }
     }
-    items.push(ReadItem::Bytes(Bytes::copy_from_slice(alloc, &front)?))?;
-    items.push(ReadItem::Bytes(Bytes::copy_from_slice(alloc, &back)?))?;
+    let mut items = Vec::new(alloc);
+    for part in &parts {
+        items.push(ReadItem::Bytes(Bytes::copy_from_slice(alloc, part)?))?;
+    }
     Ok(items)
+}
+
+/// Two items that give these bytes, cut at that place.
+fn cut_in_two(alloc: Global, bytes: &[u8], cut: usize) -> Result<Vec<ReadItem>, Fail> {
+    cut_in_three(alloc, bytes, cut, bytes.len())
 }
 
 #[test]
@@ -109,22 +121,32 @@ fn relays_the_same_whatever_the_cuts(rt: HostRuntime) -> Result<(), Fail> {
     Ok(())
 }
 
-/// What a client gets of a response whose body `hello` was cut at that place: one chunk or two.
-fn written_in_chunks(alloc: Global, cut: usize) -> Result<Vec<u8>, Fail> {
+/// What a client gets of a response whose body `hello` came in pieces of these lengths.
+fn written_in_chunks(alloc: Global, lengths: [usize; 3]) -> Result<Vec<u8>, Fail> {
     let mut text = Vec::new(alloc);
     text.extend_from_slice(b"HTTP/1.1 200 OK\r\ntransfer-encoding: chunked\r\n\r\n")?;
     let body: &[u8] = b"hello";
-    let cut = cut.min(body.len());
-    for piece in [&body[..cut], &body[cut..]] {
-        if !piece.is_empty() {
-            text.push(b'0' + piece.len() as u8)?;
+    let mut place: usize = 0;
+    for length in lengths {
+        let end = body.len().min(place.saturating_add(length));
+        if place < end {
+            text.push(b'0' + (end - place) as u8)?;
             text.extend_from_slice(b"\r\n")?;
-            text.extend_from_slice(piece)?;
+            text.extend_from_slice(&body[place..end])?;
             text.extend_from_slice(b"\r\n")?;
         }
+        place = end;
     }
     text.extend_from_slice(b"0\r\n\r\n")?;
     Ok(text)
+}
+
+/// How many of the bytes from a place on are among the first `cut`, five at most.
+fn pieces_before(place: usize, cut: usize) -> usize {
+    if cut <= place {
+        return 0;
+    }
+    (cut - place).min(5)
 }
 
 #[test]
@@ -132,27 +154,60 @@ fn relays_chunks_whatever_the_cuts(rt: HostRuntime) -> Result<(), Fail> {
     let alloc = rt.alloc();
     let response =
         b"HTTP/1.1 200 OK\r\nTransfer-Encoding: chunked\r\n\r\n5;x=1\r\nhello\r\n0\r\ny: 2\r\n\r\n";
+    // where the body stands in the response
+    let place = 54;
+    for first in 1..response.len() {
+        for second in first..response.len() {
+            let peer = cut_in_three(alloc, response, first, second)?;
+            let ran = exchange(
+                alloc,
+                ScriptLink::new(
+                    alloc,
+                    cut_in_two(alloc, REQUEST, REQUEST.len())?,
+                    Vec::new(alloc),
+                ),
+                ScriptLink::new(alloc, peer, Vec::new(alloc)),
+            )?;
+            let whole = Outcome::Served {
+                error: None,
+                reuse: true,
+            };
+            let front = pieces_before(place, first);
+            let both = pieces_before(place, second);
+            let text = written_in_chunks(alloc, [front, both.saturating_sub(front), 5])?;
+            assert!(rt; ran.outcome == whole, "cut at {first} and {second}");
+            assert!(rt;
+                ran.written.as_slice() == text.as_slice(),
+                "cut at {first} and {second}"
+            );
+        }
+    }
+    Ok(())
+}
+
+#[test]
+fn hands_heads_on_whatever_the_cuts(rt: HostRuntime) -> Result<(), Fail> {
+    let alloc = rt.alloc();
+    let response = b"HTTP/1.1 100 Continue\r\n\r\nHTTP/1.1 103 Early Hints\r\na: b\r\n\r\n\
+        HTTP/1.1 200 OK\r\nContent-Length: 2\r\n\r\nhi";
+    let written = b"HTTP/1.1 100 Continue\r\n\r\nHTTP/1.1 103 Early Hints\r\na: b\r\n\r\n\
+        HTTP/1.1 200 OK\r\ncontent-length: 2\r\n\r\nhi";
     for cut in 1..response.len() {
+        let peer = cut_in_two(alloc, response, cut)?;
         let ran = exchange(
             alloc,
-            ScriptLink::new(
-                alloc,
-                cut_in_two(alloc, REQUEST, REQUEST.len())?,
-                Vec::new(alloc),
-            ),
-            ScriptLink::new(alloc, cut_in_two(alloc, response, cut)?, Vec::new(alloc)),
+            slow_link(alloc, REQUEST, Failing::No)?,
+            ScriptLink::new(alloc, peer, Vec::new(alloc)),
         )?;
         let whole = Outcome::Served {
             error: None,
             reuse: true,
         };
         assert!(rt; ran.outcome == whole, "cut at {cut}");
-        let mut is_known = false;
-        for place in 0..5usize {
-            let text = written_in_chunks(alloc, place)?;
-            is_known = is_known || text.as_slice() == ran.written.as_slice();
-        }
-        assert!(rt; is_known, "cut at {cut}");
+        assert!(rt;
+            ran.written.as_slice() == written.as_slice(),
+            "cut at {cut}"
+        );
     }
     Ok(())
 }

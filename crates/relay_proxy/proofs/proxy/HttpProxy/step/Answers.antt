@@ -4,7 +4,7 @@ use Rattle.relay_links.specs.declared.Pause.TheVariants.{Silent}
 use Rattle.relay_proxy.specs.Turn.{DoesWork, WorksIn, is_over}
 use Rattle.relay_proxy.specs.Work.{total_work}
 use Rattle.relay_proxy.specs.declared.machine.Phase.{Phase}
-use Rattle.relay_proxy.specs.declared.machine.Phase.TheVariants.{ReadHead, Refuse, Connect, SendHead, ReadResponse, WriteHead, RelayBody, WriteChunks, ReadChunks, WriteLast, Close, Ended}
+use Rattle.relay_proxy.specs.declared.machine.Phase.TheVariants.{ReadHead, Refuse, Connect, SendHead, ReadResponse, WriteInformed, WriteHead, RelayBody, WriteChunks, ReadChunks, WriteLast, Close, Ended}
 use Rattle.relay_proxy.specs.declared.machine.RunStep.{RunStep}
 use Rattle.relay_proxy.specs.declared.machine.RunStep.TheVariants as did
 use Rattle.relay_proxy.specs.declared.work.Work.{Work}
@@ -28,8 +28,10 @@ idle_work (Connect context request text) step work works (inl silent) = silent_w
 idle_work (Connect context request text) step work works (inr over) = absurd (true≢false (sym over))
 idle_work (SendHead a text) step work works (inl silent) = silent_work step work works silent
 idle_work (SendHead a text) step work works (inr over) = absurd (true≢false (sym over))
-idle_work (ReadResponse a) step work works (inl silent) = silent_work step work works silent
-idle_work (ReadResponse a) step work works (inr over) = absurd (true≢false (sym over))
+idle_work (ReadResponse a heard) step work works (inl silent) = silent_work step work works silent
+idle_work (ReadResponse a heard) step work works (inr over) = absurd (true≢false (sym over))
+idle_work (WriteInformed a text) step work works (inl silent) = silent_work step work works silent
+idle_work (WriteInformed a text) step work works (inr over) = absurd (true≢false (sym over))
 idle_work (WriteHead a reply text left) step work works (inl silent) = silent_work step work works silent
 idle_work (WriteHead a reply text left) step work works (inr over) = absurd (true≢false (sym over))
 idle_work (RelayBody a reply left) step work works (inl silent) = silent_work step work works silent
