@@ -1,7 +1,8 @@
 -- The report of the script that the bytes spell was written, or a write failed.
-use Rattle.std.proofs.Common.{ℕ, List, inl, inr, subst, sym}
+use Rattle.std.proofs.Common.{◌≡◌, ℕ, List, None, inl, inr, refl, subst, sym}
 use Rattle.relay_links.specs.Sink.{SinkState}
-use Rattle.relay_cli.specs.Run.{IsReportOf, EndsBytes, status_after}
+use Rattle.relay_cli.specs.Run.{IsReportOf, EndsBytes, refused_text, status_after}
+use Rattle.relay_cli.specs.Script.{reads_script}
 use Rattle.relay_cli.specs.Transfer.{WritesOut}
 use Rattle.relay_cli.specs.declared.run.Status.TheVariants as status
 use Rattle.relay_cli.specs.declared.transfer.Output.{Output}
@@ -19,6 +20,16 @@ reported bytes text before after output.Failed is fails =
 reported bytes text before after output.OutOfMemory is stops =
     inr (record { text = text; due = inl is; stops = stops })
 
+-- why it ends so behind the write of the line that refuses
+refused : (bytes : List ℕ) (before after : SinkState) (out : Output) → reads_script bytes ≡ None
+    → WritesOut before after refused_text out
+    → EndsBytes bytes before after (status_after out status.ScriptRefused)
+refused bytes before after output.Done none takes = (none, takes)
+refused bytes before after output.Failed none fails =
+    record { text = refused_text; due = inr (none, refl); fails = fails }
+refused bytes before after output.OutOfMemory none stops =
+    inr (record { text = refused_text; due = inr (none, refl); stops = stops })
+
 pub returns-in-Ok : goal.returns-in-Ok
 returns-in-Ok g c =
     let before = g.T.Sink.state c.args.sink.now in
@@ -28,3 +39,12 @@ returns-in-Ok g c =
     subst (λ s. EndsBytes c.args.bytes.now before after s) (sym c.write_text.ensures.2)
     (reported c.args.bytes.now c.deref.result.now before after c.write_text.ensures.0 is
     c.write_text.ensures.1)
+
+pub returns-in-Err-Refused : goal.returns-in-Err-Refused
+returns-in-Err-Refused g c =
+    let before = g.T.Sink.state c.args.sink.now in
+    let after = g.T.Sink.state c.write_text-in-Err-Refused.new.sink in
+    let none = rw c.in-Err-Refused.field-0-is at c.in-Err-Refused.ensures in
+    let ends = c.write_text-in-Err-Refused.ensures in
+    subst (λ s. EndsBytes c.args.bytes.now before after s) (sym ends.2)
+    (refused c.args.bytes.now before after ends.0 none ends.1)
