@@ -1,0 +1,3 @@
+pub mod Answer
+pub mod TcpConnector
+pub mod TcpLink

@@ -1,0 +1,73 @@
+//! What a call of a socket means: the answer of a link that follows from what the socket gave.
+ghost use Rattle.std.specs.Prelude.{◌≡◌};
+ghost use Rattle.relay_tcp.specs.Answer.{trouble_of, AnswersRead, AnswersWrite};
+
+use relay_links::{Got, Put};
+use relay_tasks::{Fault, FaultKind, RetryType};
+use std::io;
+use std::io::ErrorKind;
+
+/// Why a call of a socket moved nothing.
+#[derive(Clone, Copy)]
+enum Trouble {
+    /// Nothing moved now; a later call may move something.
+    Wait,
+    /// The far side did not answer in time.
+    TimedOut,
+    /// The connection is not there, or is broken.
+    Broken,
+}
+
+impl Trouble {
+    /// `Wait` where the call would block or was interrupted, `TimedOut` where it was timed out, and
+    /// `Broken` for each other kind.
+    fn of(kind: ErrorKind) -> Trouble
+        ensures { result ≡ trouble_of kind }
+    {
+        match kind {
+            ErrorKind::WouldBlock | ErrorKind::Interrupted => Trouble::Wait,
+            ErrorKind::TimedOut => Trouble::TimedOut,
+            _ => Trouble::Broken,
+        }
+    }
+}
+
+/// What a read of a socket means: 0 bytes are the end.
+pub(crate) fn read_answer(read: io::Result<usize>) -> Got
+    ensures { AnswersRead read result }
+{
+    match read {
+        Ok(0) => Got::End,
+        Ok(count) => Got::Bytes(count),
+        Err(error) => match Trouble::of(error.kind()) {
+            Trouble::Wait => Got::NotReady,
+            Trouble::TimedOut => Got::Failed(of_link(FaultKind::ReadTimedout)),
+            Trouble::Broken => Got::Failed(of_link(FaultKind::Read)),
+        },
+    }
+}
+
+/// What a write to a socket means: 0 bytes taken are a fault.
+pub(crate) fn write_answer(written: io::Result<usize>) -> Put
+    ensures { AnswersWrite written result }
+{
+    match written {
+        Ok(0) => Put::Failed(of_link(FaultKind::Write)),
+        Ok(count) => Put::Took(count),
+        Err(error) => match Trouble::of(error.kind()) {
+            Trouble::Wait => Put::NotReady,
+            Trouble::TimedOut => Put::Failed(of_link(FaultKind::WriteTimedout)),
+            Trouble::Broken => Put::Failed(of_link(FaultKind::Write)),
+        },
+    }
+}
+
+/// A fault of a link: another attempt may help where the connection had been used before.
+fn of_link(kind: FaultKind) -> Fault
+    ensures { result ≡ record { kind = kind; retry = RetryType.ReusedOnly } }
+{
+    Fault {
+        kind,
+        retry: RetryType::ReusedOnly,
+    }
+}

@@ -1,0 +1,96 @@
+//! A connector that opens a TCP connection to a fixed address, whatever the peer is. It tells no
+//! list of the links that come back.
+ghost use Rattle.std.specs.Prelude.{◌≡◌, ◌+◌, ◌≤◌, ◌<◌, None, false, IfOk, IfErr, OnOk, IsOkUnless, is_ok, if◌then◌else◌};
+ghost use Rattle.relay_links.specs.Count.{last_count, up, Rose};
+ghost use Rattle.relay_links.specs.Connector.{IsConnectFault};
+ghost use Rattle.relay_links.specs.Link.{IsHandedOut};
+ghost use Rattle.relay_tcp.specs.TcpLink.{tcp_state, tcp_start, IsUnused};
+ghost use Rattle.relay_tcp.specs.TcpConnector.{links_out, gets_failed, IsNew, OpensSocket};
+
+use crate::tcp_link::TcpLink;
+use mio::net::TcpStream;
+use relay_links::Connector;
+use relay_tasks::{Fault, FaultKind, Peer, RetryType};
+use std::net::{Net, SocketAddr};
+
+/// Connects to its address at each `get`, and closes each link that comes back.
+#[derive(Drop)]
+pub struct TcpConnector<R> {
+    rt: R,
+    address: SocketAddr,
+    out: u64,
+    faults: u64,
+}
+
+impl<R: Net + Clone + Drop> TcpConnector<R> {
+    ghost use Rattle.relay_tasks.specs.declared.error.Fail.{Fail};
+
+    /// A connector to that address, with a copy of the runtime. It fails only where the runtime
+    /// finds no memory for its copy.
+    pub fn new(rt: &R, address: SocketAddr) -> relay_tasks::Result<TcpConnector<R>>
+        ensures ok { IfOk result (λ connector. IsNew connector address) }
+        ensures err { IsOkUnless result Fail.OutOfMemory }
+    {
+        Ok(TcpConnector {
+            rt: rt.clone()?,
+            address,
+            out: 0,
+            faults: 0,
+        })
+    }
+}
+
+impl<R: Net + Clone + Drop> Connector for TcpConnector<R> {
+    type Byte = TcpLink;
+
+    ghost returned = { λ _. None };
+
+    ghost out = { links_out };
+
+    ghost fault_count = { gets_failed };
+
+    /// A new link, whose connection may not stand yet: a fault in making it is then answered by the
+    /// link. `Connect` where the system refuses at once, or where 2^64 - 1 links are out.
+    fn get(&mut self, _peer: &Peer) -> Result<(TcpLink, bool), Fault>
+        ensures handed { IfOk result (λ got.
+            IsHandedOut (tcp_state got.0) (tcp_start got.0) got.1) }
+        ensures out { links_out self.new
+            ≡ (if is_ok result then links_out self.old + 1 else links_out self.old) }
+        ensures no_fault { OnOk result (gets_failed self.new ≡ gets_failed self.old) }
+        ensures fault { IfErr result IsConnectFault }
+        ensures rose { IfErr result (λ _. Rose (gets_failed self.old) (gets_failed self.new)) }
+        ensures fits { (gets_failed self.old ≤ last_count) × (gets_failed self.new ≤ last_count) }
+        ensures socket { OpensSocket (gets_failed self.old) (gets_failed self.new) result }
+        ensures address { self.new.address ≡ self.old.address }
+    {
+        let faults = self.faults;
+        let Some(out) = self.out.checked_add(1) else {
+            self.faults = faults.saturating_add(1);
+            return Err(REFUSED);
+        };
+        match TcpStream::connect(&self.rt, self.address) {
+            Ok(stream) => {
+                self.out = out;
+                Ok((TcpLink::new(stream, false), false))
+            }
+            Err(_) => {
+                self.faults = faults.saturating_add(1);
+                Err(REFUSED)
+            }
+        }
+    }
+
+    fn release(&mut self, _peer: Peer, _link: TcpLink, _keep: bool) {
+        self.out -= 1;
+    }
+
+    fn faults(&self) -> u64 {
+        self.faults
+    }
+}
+
+/// The fault of a connection that was refused at once: another attempt would meet it too.
+const REFUSED: Fault = Fault {
+    kind: FaultKind::Connect,
+    retry: RetryType::Decided(false),
+};
