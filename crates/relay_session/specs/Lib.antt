@@ -1,0 +1,10 @@
+pub mod Asked
+pub mod Front
+pub mod Generated
+pub mod HeadLent
+pub mod Reading
+pub mod Response
+pub mod Session
+pub mod Summary
+pub mod TaskSteps
+pub mod TaskWire

@@ -1,0 +1,19 @@
+//! The session of a client on an HTTP/1 link: its request is read, and the response is queued and
+//! written (RFC 9112, sections 2 to 9).
+#![tactic(auto)]
+
+mod front;
+mod generated;
+mod queue;
+mod reading;
+mod session;
+mod summary;
+mod task_text;
+#[cfg(test)]
+mod tests;
+mod writing;
+
+pub use front::Front;
+pub use session::HttpSession;
+pub use task_text::{Asks, Place, Request};
+pub use writing::Writing;
