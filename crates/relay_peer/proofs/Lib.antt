@@ -1,0 +1,4 @@
+pub mod ExactLemmas
+pub mod ReadingSteps
+pub mod RequestLemmas
+pub mod ResponseLemmas

@@ -1,0 +1,19 @@
+-- A body that lasts until the link ends has ended, and any other is cut off.
+use Rattle.std.proofs.Common.{refl}
+use Rattle.relay_peer.proofs.ResponseLemmas.{ends_there, cut_there}
+use Rattle.relay_peer.proofs.response_reading.end_of_body.Goals as goal
+
+pub returns-in-Ok : goal.returns-in-Ok
+returns-in-Ok c = λ method given told ahead still. (
+  refl,
+  ends_there method given told c.args.body ahead still
+      (c.in-Ok.ensures.answer still.0.framing still.0.so_far.of_framing),
+)
+
+pub returns-in-Err : goal.returns-in-Err
+returns-in-Err c = λ method given told ahead still.
+    let answer = c.in-Err.ensures.answer still.0.framing still.0.so_far.of_framing in
+    cut_there method given told c.args.body
+    (record c.args.body { reader = c.end_of_stream.new.self })
+    ahead c.in-Err.error c.into_up.result still answer.0 answer.1 c.in-Err.ensures.err
+    c.into_up.ensures

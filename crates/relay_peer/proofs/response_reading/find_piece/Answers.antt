@@ -1,0 +1,80 @@
+-- What the reader of the body answers, as a step of the response.
+use Rattle.std.proofs.Common.{refl, sym, ap, ◌∙◌, ◌+◌, ◌++◌, drop}
+use Rattle.relay_tasks.specs.declared.context.Context.TheVariants.{BadFraming}
+use Rattle.relay_tasks.specs.declared.error.Error.{Error}
+use Rattle.relay_tasks.specs.declared.error.ErrorSource.TheVariants.{Upstream}
+use Rattle.relay_peer.proofs.ResponseLemmas.{body_ended, body_ended_here, body_goes_on, body_stays, body_open, body_broken, run_goes_on}
+use Rattle.relay_peer.proofs.response_reading.find_piece.Goals as goal
+
+pub returns-in-Piece-default-true : goal.returns-in-Piece-default-true
+returns-in-Piece-default-true c = λ method closed given told here.
+    let reads = drop (here.n + here.len) given in
+    let so_far = c.in-Piece-default-true.ensures.keeps here.framing reads told.body here.so_far in (
+      c.in-Piece-default-true.ensures.answer.some,
+      refl,
+      body_ended method closed given told c.args.body c.args.ahead.now c.take.new.ahead
+          (told.body ++ c.in-Piece-default-true.piece)
+          (record c.args.body { reader = c.take.new.self }) here so_far
+          (c.in-Piece-default-true.ensures.tells here.framing reads told.body here.so_far
+          c.in-Piece-default-true.field-1-test),
+    )
+
+pub returns-in-Piece-default-false : goal.returns-in-Piece-default-false
+returns-in-Piece-default-false c = λ method closed given told here.
+    let reads = drop (here.n + here.len) given in
+    let so_far =
+    c.in-Piece-default-false.ensures.keeps here.framing reads told.body here.so_far in (
+      c.in-Piece-default-false.ensures.answer.some,
+      refl,
+      body_goes_on method given told c.args.body (record c.args.body { reader = c.take.new.self })
+          c.args.ahead.now c.take.new.ahead (told.body ++ c.in-Piece-default-false.piece) here
+          so_far
+          (sym c.in-Piece-default-false.ensures.answer.is_end
+          ∙ c.in-Piece-default-false.field-1-test)
+          refl,
+    )
+
+pub returns-in-End : goal.returns-in-End
+returns-in-End c = λ method closed given told here.
+    let reads = drop (here.n + here.len) given in (
+      tt,
+      refl,
+      body_ended_here method closed given told c.args.body c.args.ahead.now c.take.new.ahead
+          (record c.args.body { reader = c.take.new.self }) here
+          (c.in-End.ensures.keeps here.framing reads told.body here.so_far)
+          (c.in-End.ensures.tells here.framing reads told.body here.so_far),
+    )
+
+pub returns-in-More : goal.returns-in-More
+returns-in-More c = λ method closed given told here.
+    let reads = drop (here.n + here.len) given in
+    body_open method given told c.args.body (record c.args.body { reader = c.take.new.self })
+    c.args.ahead.now c.take.new.ahead here
+    (c.in-More.ensures.keeps here.framing reads told.body here.so_far)
+    (c.in-More.ensures.tells here.framing reads told.body here.so_far) refl
+
+pub returns-in-Failed-OutOfMemory : goal.returns-in-Failed-OutOfMemory
+returns-in-Failed-OutOfMemory c = λ method closed given told here.
+    let reads = drop (here.n + here.len) given in
+    let some = rw c.in-Failed-OutOfMemory.field-0-is at c.in-Failed-OutOfMemory.ensures.answer in
+    body_stays method given told c.args.body (record c.args.body { reader = c.take.new.self })
+    c.args.ahead.now c.take.new.ahead here
+    (c.in-Failed-OutOfMemory.ensures.keeps here.framing reads told.body here.so_far)
+    (run_goes_on c.take.new.self c.take.new.ahead some) refl
+
+pub returns-in-Failed-Error : goal.returns-in-Failed-Error
+returns-in-Failed-Error c = λ method closed given told here.
+    let reads = drop (here.n + here.len) given in
+    let answer = rw c.in-Failed-Error.field-0-is at c.in-Failed-Error.ensures.answer in
+    let told_so = rw c.in-Failed-Error.field-0-is at c.in-Failed-Error.ensures.tells in
+    let is_broken = body_broken method closed given told c.args.body
+    (record c.args.body { reader = c.take.new.self }) c.args.ahead.now c.take.new.ahead here
+    (c.in-Failed-Error.ensures.keeps here.framing reads told.body here.so_far)
+    (told_so here.framing reads told.body here.so_far) refl in (
+      BadFraming,
+      c.into_up.ensures
+          ∙ ap (λ (e : Error). record e { esource = Upstream })
+          (c.in-Failed-Error.error-is ∙ answer.0),
+      is_broken.says_so,
+      is_broken.read,
+    )

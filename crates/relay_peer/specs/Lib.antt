@@ -1,0 +1,3 @@
+pub mod H1Client
+pub mod RequestWriting
+pub mod ResponseReading

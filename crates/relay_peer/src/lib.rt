@@ -1,0 +1,12 @@
+//! The client of a peer on an HTTP/1 link: a request is queued and written, and the response is read
+//! as tasks (RFC 9112, sections 2 to 9).
+#![tactic(auto)]
+
+mod h1_client;
+mod request_writing;
+mod response_reading;
+#[cfg(test)]
+mod tests;
+mod unsent;
+
+pub use h1_client::H1Client;

@@ -1,0 +1,344 @@
+//! How the response of a peer is read: the heads that only inform, the final head, and its body
+//! piece by piece (RFC 9110, section 15.2; RFC 9112, sections 4 to 8).
+ghost use Rattle.std.specs.Prelude.{◌≡◌, ◌==◌, ℕ, List, [], Bool, true, false, length};
+ghost use Rattle.relay_h1.specs.BodyWire.{says_end};
+ghost use Rattle.relay_peer.specs.ResponseReading.{Told, ReadAt, OpenAt, IsAwaitingHead, lets_keep, is_http_11, step_over, Finds, FindsAtEnd, ReadsTask, ReadsOn, FindsAgain, EndsThere, cut_off_error, is_over, may_keep_reading};
+
+use http::{Method, Version};
+use relay_h1::{Ahead, BodyReader, Cut, Framing, closes, judge_response};
+use relay_links::{ByteLink, Got};
+use relay_tasks::{Error, ErrorType, Fail, HttpTask, Pause, ResponseHeader, RetryType, Took};
+use std::alloc::Global;
+use std::mem;
+
+/// A body that has not ended: where it is read, and whether its head and framing let the link be
+/// kept.
+#[derive(Drop)]
+pub(crate) struct OpenBody {
+    pub(crate) reader: BodyReader,
+    pub(crate) keeps: bool,
+}
+
+/// Where the reading of a response is.
+#[derive(Drop)]
+pub(crate) enum Place {
+    /// No head was read.
+    NoHead,
+    /// Heads that only inform were read.
+    Informed,
+    /// The final head was read, and its body has not ended.
+    InBody(OpenBody),
+    /// The response has ended. Its head and framing let the link be kept, or not.
+    Ended(bool),
+}
+
+/// What stands at the front of the bytes ahead.
+#[derive(Drop)]
+pub(crate) enum Found {
+    /// A task, which was taken.
+    Task(HttpTask),
+    /// Not enough to tell.
+    Nothing,
+    /// The response has ended before.
+    End,
+    /// What is refused, or memory is wanted.
+    Failed(Fail),
+}
+
+/// Where the reading is behind what was found.
+#[derive(Drop)]
+pub(crate) struct Step {
+    pub(crate) place: Place,
+    pub(crate) found: Found,
+}
+
+/// The reading of one response.
+#[derive(Drop)]
+pub(crate) struct ResponseReading {
+    pub(crate) place: Place,
+    pub(crate) ahead: Ahead,
+}
+
+impl ResponseReading {
+    pub(crate) fn new(alloc: Global) -> ResponseReading
+        ensures place { result.place ≡ Place.NoHead }
+        ensures ahead { result.ahead ≡ [] }
+    {
+        ResponseReading {
+            place: Place::NoHead,
+            ahead: Ahead::new(alloc),
+        }
+    }
+
+    /// The next task of the response to that method: one that stands ahead, or else one that stands
+    /// there after one read of the link.
+    pub(crate) fn read_task<L: ByteLink>(
+        &mut self,
+        alloc: Global,
+        method: &Method,
+        link: &mut L,
+    ) -> Took<HttpTask>
+        ensures reads { ReadsTask method.now (L.state link.old) (L.state link.new) self.old
+            self.new result }
+        ensures start { L.start link.new ≡ L.start link.old }
+    {
+        match self.find(alloc, method) {
+            Found::Task(task) => Took::Item(task),
+            Found::Nothing => self.read_on(alloc, method, link),
+            Found::End => Took::End,
+            Found::Failed(fail) => Took::Failed(fail),
+        }
+    }
+
+    /// What stands ahead; a task is taken.
+    fn find(&mut self, alloc: Global, method: &Method) -> Found
+        ensures rests { is_over self.old.place ≡ true
+            → (result ≡ Found.End) × (self.new ≡ self.old) }
+        ensures finds { (closed : Bool) (given : List ℕ) (told : Told)
+            → ReadAt method.now closed given told self.old.place self.old.ahead
+            → Finds method.now closed given told self.old.place self.new.place self.new.ahead
+            result }
+    {
+        let place = mem::replace(&mut self.place, Place::NoHead);
+        let step = find(alloc, method, place, &mut self.ahead);
+        self.place = step.place;
+        step.found
+    }
+
+    /// One read of the link, where nothing stands ahead.
+    fn read_on<L: ByteLink>(
+        &mut self,
+        alloc: Global,
+        method: &Method,
+        link: &mut L,
+    ) -> Took<HttpTask>
+        ensures reads { ReadsOn method.now (L.state link.old) (L.state link.new) self.old self.new
+            result }
+        ensures start { L.start link.new ≡ L.start link.old }
+    {
+        match self.ahead.read_from(link) {
+            Err(_) => Took::Failed(Fail::OutOfMemory),
+            Ok(Got::Bytes(_)) => self.find_again(alloc, method),
+            Ok(Got::NotReady) => Took::Waited(Pause::NotReady),
+            Ok(Got::Silent) => Took::Waited(Pause::Silent),
+            Ok(Got::End) => self.end(),
+            Ok(Got::Failed(fault)) => Took::Failed(Fail::Error(Error::of_fault(fault).into_up())),
+        }
+    }
+
+    /// What stands ahead after bytes came.
+    fn find_again(&mut self, alloc: Global, method: &Method) -> Took<HttpTask>
+        ensures { (closed : Bool) (given : List ℕ) (told : Told)
+            → ReadAt method.now closed given told self.old.place self.old.ahead
+            → FindsAgain method.now closed given told self.old.place self.new result }
+    {
+        match self.find(alloc, method) {
+            Found::Task(task) => Took::Item(task),
+            Found::Nothing => Took::More,
+            Found::End => Took::End,
+            Found::Failed(fail) => Took::Failed(fail),
+        }
+    }
+
+    /// No byte comes any more, and nothing stands ahead: what lasts until the link ends has ended.
+    fn end(&mut self) -> Took<HttpTask>
+        ensures { (method given : List ℕ) (told : Told)
+            → OpenAt method given told self.old.place self.old.ahead
+            → EndsThere method given told self.new result }
+    {
+        let place = mem::replace(&mut self.place, Place::NoHead);
+        let step = end_of_link(place, self.ahead.is_empty());
+        self.place = step.place;
+        match step.found {
+            Found::Task(task) => Took::Item(task),
+            Found::Nothing => Took::More,
+            Found::End => Took::End,
+            Found::Failed(fail) => Took::Failed(fail),
+        }
+    }
+
+    /// Whether the response has ended, with no byte read past it, and lets its link be kept.
+    pub(crate) fn may_keep(&self) -> bool
+        ensures { result ≡ may_keep_reading self.now }
+    {
+        match &self.place {
+            Place::Ended(keeps) => *keeps && self.ahead.is_empty(),
+            Place::NoHead | Place::Informed | Place::InBody(_) => false,
+        }
+    }
+}
+
+/// What stands ahead, and the place behind it.
+fn find(alloc: Global, method: &Method, place: Place, ahead: &mut Ahead) -> Step
+    ensures rests { is_over place ≡ true
+        → (result ≡ record { place = place; found = Found.End }) × (ahead.new ≡ ahead.old) }
+    ensures finds { (closed : Bool) (given : List ℕ) (told : Told)
+        → ReadAt method.now closed given told place ahead.old
+        → Finds method.now closed given told place result.place ahead.new result.found }
+{
+    match place {
+        Place::NoHead => find_head(alloc, method, Place::NoHead, ahead),
+        Place::Informed => find_head(alloc, method, Place::Informed, ahead),
+        Place::InBody(body) => find_piece(alloc, body, ahead),
+        Place::Ended(keeps) => Step {
+            place: Place::Ended(keeps),
+            found: Found::End,
+        },
+    }
+}
+
+/// The head that stands ahead.
+fn find_head(alloc: Global, method: &Method, place: Place, ahead: &mut Ahead) -> Step
+    requires { IsAwaitingHead place }
+    ensures { (closed : Bool) (given : List ℕ) (told : Told)
+        → ReadAt method.now closed given told place ahead.old
+        → Finds method.now closed given told place result.place ahead.new result.found }
+{
+    match judge_response(alloc, ahead, method, false) {
+        Ok(Some(read)) => {
+            ahead.consume(read.len);
+            step_over(read.head, read.framing)
+        }
+        Ok(None) => Step {
+            place,
+            found: Found::Nothing,
+        },
+        Err(fail) => Step {
+            place,
+            found: Found::Failed(fail),
+        },
+    }
+}
+
+/// The step over a head, which carries the end where its body has ended at once.
+fn step_over(head: ResponseHeader, framing: Framing) -> Step
+    ensures { result ≡ step_over head framing }
+{
+    if head.is_informational() {
+        return Step {
+            place: Place::Informed,
+            found: Found::Task(HttpTask::Header(head, false)),
+        };
+    }
+    let keeps = lets_keep(&head, framing);
+    let reader = BodyReader::new(framing);
+    if reader.is_done() {
+        return Step {
+            place: Place::Ended(keeps),
+            found: Found::Task(HttpTask::Header(head, true)),
+        };
+    }
+    Step {
+        place: Place::InBody(OpenBody { reader, keeps }),
+        found: Found::Task(HttpTask::Header(head, false)),
+    }
+}
+
+/// The piece of a body, or its end, that stands ahead.
+fn find_piece(alloc: Global, mut body: OpenBody, ahead: &mut Ahead) -> Step
+    ensures { (method : List ℕ) (closed : Bool) (given : List ℕ) (told : Told)
+        → ReadAt method closed given told (Place.InBody body) ahead.old
+        → Finds method closed given told (Place.InBody body) result.place ahead.new result.found }
+{
+    match body.reader.take(alloc, ahead) {
+        Cut::Piece(piece, true) => Step {
+            place: Place::Ended(body.keeps),
+            found: Found::Task(HttpTask::Body(Some(piece), true)),
+        },
+        Cut::Piece(piece, false) => Step {
+            place: Place::InBody(body),
+            found: Found::Task(HttpTask::Body(Some(piece), false)),
+        },
+        Cut::End => Step {
+            place: Place::Ended(body.keeps),
+            found: Found::Task(HttpTask::Done),
+        },
+        Cut::More => Step {
+            place: Place::InBody(body),
+            found: Found::Nothing,
+        },
+        Cut::Failed(Fail::OutOfMemory) => Step {
+            place: Place::InBody(body),
+            found: Found::Failed(Fail::OutOfMemory),
+        },
+        Cut::Failed(Fail::Error(error)) => Step {
+            place: Place::InBody(body),
+            found: Found::Failed(Fail::Error(error.into_up())),
+        },
+    }
+}
+
+/// The place where a link ended, and the end or the error that follows from it.
+fn end_of_link(place: Place, none_ahead: bool) -> Step
+    ensures { (method given : List ℕ) (told : Told) (ahead : List ℕ)
+        → OpenAt method given told place ahead → none_ahead ≡ (length ahead == 0)
+        → FindsAtEnd method given told result.place ahead result.found }
+{
+    match place {
+        Place::NoHead => cut_off(Place::NoHead, none_ahead),
+        Place::Informed => cut_off(Place::Informed, false),
+        Place::InBody(body) => end_of_body(body),
+        Place::Ended(keeps) => Step {
+            place: Place::Ended(keeps),
+            found: Found::End,
+        },
+    }
+}
+
+/// The same inside a body.
+fn end_of_body(mut body: OpenBody) -> Step
+    ensures { (method given : List ℕ) (told : Told) (ahead : List ℕ)
+        → OpenAt method given told (Place.InBody body) ahead
+        → FindsAtEnd method given told result.place ahead result.found }
+{
+    match body.reader.end_of_stream() {
+        Ok(()) => Step {
+            place: Place::Ended(body.keeps),
+            found: Found::Task(HttpTask::Done),
+        },
+        Err(error) => Step {
+            place: Place::InBody(body),
+            found: Found::Failed(Fail::Error(error.into_up())),
+        },
+    }
+}
+
+/// The link ended inside the response. Another attempt may help where no byte had come.
+fn cut_off(place: Place, none_came: bool) -> Step
+    ensures { (given : List ℕ) → none_came ≡ (length given == 0)
+        → result ≡ record {
+          place = place;
+          found = Found.Failed (Fail.Error (cut_off_error given));
+        } }
+{
+    let mut error = Error::new_up(ErrorType::ConnectionClosed);
+    if none_came {
+        error.retry = RetryType::ReusedOnly;
+    }
+    Step {
+        place,
+        found: Found::Failed(Fail::Error(error)),
+    }
+}
+
+/// Whether the head and the framing of a response let its link be kept.
+fn lets_keep(head: &ResponseHeader, framing: Framing) -> bool
+    ensures { result ≡ lets_keep head.now framing }
+{
+    is_http_11(head.version()) && (says_end(framing) && !closes(head.headers()))
+}
+
+fn is_http_11(version: Version) -> bool
+    ensures { result ≡ is_http_11 version }
+{
+    version == Version::HTTP_11
+}
+
+fn says_end(framing: Framing) -> bool
+    ensures { result ≡ says_end framing }
+{
+    match framing {
+        Framing::Empty | Framing::Length(_) | Framing::Chunked => true,
+        Framing::UntilClose | Framing::Tunnel => false,
+    }
+}

@@ -1,0 +1,3 @@
+//! Each public call once, with ample memory.
+
+mod h1_client;
