@@ -1,0 +1,9 @@
+pub mod BatchLemmas
+pub mod ChooseLemmas
+pub mod CauseLemmas
+pub mod BoolLemmas
+pub mod MoveLemmas
+pub mod SoundLemmas
+pub mod EndLemmas
+pub mod StuckLemmas
+pub mod DoneLemmas

@@ -1,0 +1,689 @@
+-- A sound state stays sound whatever step is taken.
+use Rattle.std.proofs.Common.{◌≡◌, ◌≤◌, ◌<◌, ◌+◌, Bool, ltb, option_to_list, true, false, ◌&&◌, ◌||◌, not, if◌then◌else◌, List, [], ◌∷◌, ◌++◌, length, Option, Some, None, is_some, Result, Ok, Err, refl, sym, ap, ◌∙◌, subst, inl, inr, ◌⊎◌, arith, length-append}
+use Rattle.std.proofs.lemmas.Bool.{ltb-true}
+use Rattle.std.specs.List.{list_any}
+use Rattle.relay_tasks.specs.declared.error.Error.{Error}
+use Rattle.relay_tasks.specs.declared.error.Fail.{Fail}
+use Rattle.relay_tasks.specs.declared.error.Fail.TheVariants as fail
+use Rattle.relay_tasks.specs.declared.task.HttpTask.{HttpTask}
+use Rattle.relay_tasks.specs.declared.task.HttpTask.TheVariants as task
+use Rattle.relay_tasks.specs.declared.took.Took.{Took}
+use Rattle.relay_tasks.specs.declared.took.Took.TheVariants as took
+use Rattle.relay_tasks.specs.Task.{is_end}
+use Rattle.relay_links.specs.declared.branch.Branch.{Branch}
+use Rattle.relay_links.specs.declared.branch.Branch.TheVariants as branch
+use Rattle.relay_links.specs.declared.link.Put.{Put}
+use Rattle.relay_links.specs.declared.link.Put.TheVariants as put
+use Rattle.relay_core.specs.declared.downstream_state.DownstreamStateMachine.{DownstreamStateMachine}
+use Rattle.relay_core.specs.declared.downstream_state.DownstreamStateMachine.TheVariants.{Reading, ReadingFinished, Errored}
+use Rattle.relay_core.specs.declared.duplex.Duplex.{Duplex}
+use Rattle.relay_core.specs.declared.piece.Piece.{Piece}
+use Rattle.relay_core.specs.declared.step.Step.{Step}
+use Rattle.relay_core.specs.Batch.{batch_of, rest_of}
+use Rattle.relay_core.specs.Down.{DownState, ReadsPiece, TakesBatch, Finishes, accepts}
+use Rattle.relay_core.specs.Down as down
+use Rattle.relay_core.specs.Piece.{put_of, task_put_of}
+use Rattle.relay_core.specs.Pipe.{Held, has_room, places, with_task}
+use Rattle.relay_core.specs.Sound.{Runs, IsSound, ends_from, ends_with, has_end}
+use Rattle.relay_core.specs.State.{is_response_done, is_reading, finished, reset_to_reading, is_complete}
+use Rattle.relay_core.specs.Steps.{StepsTo, with_requests, with_responses}
+use Rattle.relay_core.specs.Table.{State, enabled, down_runs, up_runs, is_failed, failed, with_send_error, after_up_write, after_down_write, after_piece, with_piece_sent, ends_tunnel, ends_request, with_upgrade, with_response_done, with_request_done, after_batch, after_up_read, with_task_read, told_error, after_down_read, with_piece_read, after_up_finish, after_down_finish}
+use Rattle.relay_core.specs.Up.{UpState}
+use Rattle.relay_core.proofs.BoolLemmas.{clash, and_left, and_right, and_both, or_left, or_right, or_inl, or_inr, or_cases, or-true, not_true}
+use Rattle.relay_core.proofs.MoveLemmas.{batch-rest, Leaves, leaves_at, leaves_next, leaves_failed, leaves_response_done, leaves_request_done, leaves_up_write, leaves_down_write, leaves_piece, leaves_sent, leaves_batch, leaves_up_finish, leaves_down_finish}
+
+-- what holds of a duplex holds at what it is
+runs_at : (d d' : Duplex) (b b' u u' : Bool) → d' ≡ d → b' ≡ b → u' ≡ u → Runs d b u
+    → Runs d' b' u'
+runs_at d d' b b' u u' is same same' r =
+    let P : Duplex → Type 0 = λ x. Runs x b' u' in
+    let Q : Bool → Type 0 = λ x. Runs d x u' in
+    let R : Bool → Type 0 = λ x. Runs d b x in
+    subst P (sym is) (subst Q (sym same) (subst R (sym same') r))
+
+-- an end that was passed on stays so, where each of its forms does
+end_stays : (a a' e e' c c' : Bool) → (a ≡ true → a' ≡ true) → (e ≡ true → e' ≡ true)
+    → (c ≡ true → c' ≡ true) → (a || (e || c)) ≡ true → (a' || (e' || c')) ≡ true
+end_stays true a' e e' c c' p q r h = or_inl a' (e' || c') (p refl)
+end_stays false a' true e' c c' p q r h = or_inr a' (e' || c') (or_inl e' c' (q refl))
+end_stays false a' false e' c c' p q r h = or_inr a' (e' || c') (or_inr e' c' (r h))
+
+-- a request that is done stays done in a tunnel
+tunnel_stays : (u q q' : Bool) → (q ≡ true → q' ≡ true) → (u && q) ≡ true → (u && q') ≡ true
+tunnel_stays true q q' p h = p h
+tunnel_stays false q q' p h = h
+
+-- a response that is done stays done
+done_stays : (u v c : Bool) → (u && c) ≡ true → ((u || v) && c) ≡ true
+done_stays true v c h = h
+done_stays false v c h = clash false h refl
+
+-- a request that is read after it may have ended was read before, and did not end
+read_before : (request : DownstreamStateMachine) (set : Bool)
+    → is_reading (finished request set) ≡ true → (is_reading request ≡ true) × (set ≡ false)
+read_before Reading true h = cc
+read_before Reading false h = (refl, refl)
+read_before ReadingFinished set h = cc
+read_before Errored set h = cc
+
+-- a duplex that failed owes nothing
+runs_failed : (d : Duplex) (b u : Bool) → is_failed (failed d).word ≡ false → Runs (failed d) b u
+runs_failed d b u h = clash true refl h
+
+runs_send_error : (d : Duplex) (error : Error) (b u : Bool) → Runs d b u
+    → Runs (with_send_error d error) b u
+runs_send_error d error b u r = record {
+  uncached = r.uncached;
+  reading = r.reading;
+  unsent = λ h. refl;
+  ended = λ h. end_stays _ _ _ _ (u && d.upstream_request_done) (u && true) (λ p. p) (λ p. p)
+      (tunnel_stays u d.upstream_request_done true (λ p. refl)) (r.ended h);
+  requests_closed = r.requests_closed;
+  responses_closed = r.responses_closed;
+  complete = r.complete;
+}
+
+runs_up_write : (d : Duplex) (answer : Put) (b u : Bool) → Runs d b u
+    → is_failed (after_up_write d answer).word ≡ false → Runs (after_up_write d answer) b u
+runs_up_write d (put.Took n) b u r h = r
+runs_up_write d put.NotReady b u r h = r
+runs_up_write d put.Silent b u r h = r
+runs_up_write d (put.Failed fault) b u r h = runs_send_error d _ b u r
+runs_up_write d put.OutOfMemory b u r h = runs_failed d b u h
+
+runs_down_write : (d : Duplex) (answer : Put) (b u : Bool) → Runs d b u
+    → is_failed (after_down_write d answer).word ≡ false → Runs (after_down_write d answer) b u
+runs_down_write d (put.Took n) b u r h = r
+runs_down_write d put.NotReady b u r h = r
+runs_down_write d put.Silent b u r h = r
+runs_down_write d (put.Failed fault) b u r h = runs_failed d b u h
+runs_down_write d put.OutOfMemory b u r h = runs_failed d b u h
+
+runs_requests : (d : Duplex) (tasks : List HttpTask) (b u : Bool) → Runs d b u
+    → Runs (with_requests d tasks) b u
+runs_requests d tasks b u r = record {
+  uncached = r.uncached;
+  reading = r.reading;
+  unsent = r.unsent;
+  ended = r.ended;
+  requests_closed = r.requests_closed;
+  responses_closed = r.responses_closed;
+  complete = r.complete;
+}
+
+-- a piece with which a tunnel ends, ends the request too
+ends_both : (tunnel : Bool) (piece : HttpTask) → ends_tunnel tunnel piece ≡ true
+    → (tunnel ≡ true) × (ends_request tunnel piece ≡ true)
+ends_both tunnel (task.Header head end) h = cc
+ends_both tunnel (task.Body bytes end) h = cc
+ends_both tunnel (task.UpgradedBody bytes end) h =
+    (and_right end tunnel h, and_left end tunnel h)
+ends_both tunnel (task.Trailer fields) h = cc
+ends_both tunnel task.Done h = cc
+ends_both tunnel (task.Failed error) h = cc
+
+runs_sent : (d : Duplex) (piece : HttpTask) (b u : Bool) → Runs d b u
+    → Runs (with_piece_sent d u piece) b u
+runs_sent d piece b u r = record {
+  uncached = r.uncached;
+  reading = r.reading;
+  unsent = λ h. or_inl d.upstream_request_done (ends_request u piece) (r.unsent h);
+  ended = λ h. elim (or_cases d.upstream_response_done (ends_tunnel u piece) h) [
+    | inl before ↦ end_stays _ _ _ _ (u && d.upstream_request_done)
+        (u && (d.upstream_request_done || ends_request u piece)) (λ p. p) (λ p. p)
+        (tunnel_stays u d.upstream_request_done (d.upstream_request_done || ends_request u piece)
+        (or_inl d.upstream_request_done (ends_request u piece))) (r.ended before)
+    | inr now ↦ or_inr (is_response_done d.client_response) _
+        (or_inr (ends_with d.responses.tasks) _
+        (and_both u (d.upstream_request_done || ends_request u piece) (ends_both u piece now).0
+        (or_inr d.upstream_request_done (ends_request u piece) (ends_both u piece now).1)))
+  ];
+  requests_closed = r.requests_closed;
+  responses_closed = r.responses_closed;
+  complete = r.complete;
+}
+
+runs_piece : (d : Duplex) (answer : Result Unit Fail) (b u : Bool) → Runs d b u
+    → is_failed (after_piece d answer).word ≡ false → Runs (after_piece d answer) b u
+runs_piece d (Ok done) b u r h = r
+runs_piece d (Err (fail.Error error)) b u r h = runs_send_error d error b u r
+runs_piece d (Err fail.OutOfMemory) b u r h = runs_failed d b u h
+
+-- the last task of two lists is that of the second, or there is an end in the first
+ends_in_parts : (so_far : Bool) (xs ys : List HttpTask) → ends_from so_far (xs ++ ys) ≡ true
+    → (ends_with ys ≡ true) ⊎ ((so_far ≡ true) ⊎ (list_any is_end xs ≡ true))
+ends_in_parts so_far [] [] h = inr (inl h)
+ends_in_parts so_far [] (y ∷ ys) h = inl h
+ends_in_parts so_far (x ∷ xs) ys h =
+    elim (ends_in_parts (is_end x) xs ys h) [
+      | inl last ↦ inl last
+      | inr first ↦ elim first [
+        | inl here ↦ inr (inr (or_inl (is_end x) (list_any is_end xs) here))
+        | inr later ↦ inr (inr (or_inr (is_end x) (list_any is_end xs) later))
+      ]
+    ]
+
+pub ends-append : (so_far : Bool) (xs : List HttpTask) (task : HttpTask)
+    → ends_from so_far (xs ++ task ∷ []) ≡ is_end task
+ends-append so_far [] task = refl
+ends-append so_far (x ∷ xs) task = ends-append (is_end x) xs task
+
+-- an end of the upstream's response is passed on with a batch
+ended_after : (d : Duplex) (batch rest : List HttpTask) (done b u c : Bool)
+    → batch ++ rest ≡ d.responses.tasks → Runs d b u
+    → ((u && d.upstream_request_done) ≡ true → c ≡ true) → d.upstream_response_done ≡ true
+    → (((d.client_response.upstream_done || (list_any is_end batch || done))
+    && d.client_response.cached_done) || (ends_with rest || c)) ≡ true
+ended_after d batch rest done b u c parts r tunnel h =
+    let now : Bool = d.client_response.upstream_done || (list_any is_end batch || done) in
+    let by_end = λ (end : list_any is_end batch ≡ true).
+    or_inl (now && d.client_response.cached_done) (ends_with rest || c)
+    (and_both now d.client_response.cached_done
+    (or_inr d.client_response.upstream_done (list_any is_end batch || done)
+    (or_inl (list_any is_end batch) done end)) r.uncached) in
+    elim (or_cases (is_response_done d.client_response)
+    (ends_with d.responses.tasks || (u && d.upstream_request_done)) (r.ended h)) [
+      | inl before ↦ or_inl (now && d.client_response.cached_done) (ends_with rest || c)
+          (done_stays d.client_response.upstream_done (list_any is_end batch || done)
+          d.client_response.cached_done before)
+      | inr other ↦ elim (or_cases (ends_with d.responses.tasks) (u && d.upstream_request_done)
+          other) [
+            | inl last ↦ elim (ends_in_parts false batch rest (ap (λ (xs : List HttpTask). ends_with xs)
+                parts ∙ last)) [
+                  | inl behind ↦ or_inr (now && d.client_response.cached_done) (ends_with rest || c)
+                      (or_inl (ends_with rest) c behind)
+                  | inr first ↦ elim first [ inl never ↦ clash false never refl | inr end ↦ by_end end ]
+                ]
+            | inr ended ↦ or_inr (now && d.client_response.cached_done) (ends_with rest || c)
+                (or_inr (ends_with rest) c (tunnel ended))
+          ]
+    ]
+
+-- the client was given a batch; a 101 was accepted in it or not
+runs_batch : (d : Duplex) (batch rest : List HttpTask) (done accepted b b' u u' : Bool)
+    → batch ++ rest ≡ d.responses.tasks → b' ≡ (if accepted then false else b)
+    → (u ≡ true → accepted ≡ false) → (u ≡ true → u' ≡ true) → Runs d b u
+    → Runs (with_request_done (with_response_done (with_upgrade (with_responses d rest) accepted)
+    (list_any is_end batch || done)) (list_any is_end batch && u')) b' u'
+runs_batch d batch rest done true b b' u u' parts was once stays r = record {
+  uncached = r.uncached;
+  reading = λ h. was;
+  unsent = λ h. and_both d.upstream_request_done (is_some d.send_error) (r.unsent h) h;
+  ended = ended_after d batch rest done b u
+      (u' && (d.upstream_request_done && is_some d.send_error)) parts r
+      (λ is. clash true refl (once (and_left u d.upstream_request_done is)));
+  requests_closed = r.requests_closed;
+  responses_closed = r.responses_closed;
+  complete = r.complete;
+}
+runs_batch d batch rest done false b b' u u' parts was once stays r = record {
+  uncached = r.uncached;
+  reading = λ h. was
+      ∙ r.reading (read_before d.client_request (list_any is_end batch && u') h).0;
+  unsent = r.unsent;
+  ended = ended_after d batch rest done b u (u' && d.upstream_request_done) parts r
+      (λ is. and_both u' d.upstream_request_done (stays (and_left u d.upstream_request_done is))
+      (and_right u d.upstream_request_done is));
+  requests_closed = r.requests_closed;
+  responses_closed = r.responses_closed;
+  complete = r.complete;
+}
+
+-- a client that was upgraded accepts no 101 again
+accepts_once : (side side' : DownState) → side.upgraded ≡ true → accepts side side' ≡ false
+accepts_once side side' is = rw is refl
+
+runs_after_batch : (d : Duplex) (side side' : DownState) (batch rest : List HttpTask)
+    (answer : Result Bool Fail) → batch ++ rest ≡ d.responses.tasks
+    → TakesBatch side batch side' answer → Runs d side.body_done side.upgraded
+    → is_failed (after_batch (with_responses d rest) side batch side' answer).word ≡ false
+    → Runs (after_batch (with_responses d rest) side batch side' answer) side'.body_done
+    side'.upgraded
+runs_after_batch d side side' batch rest (Ok done) parts takes r h =
+    runs_batch d batch rest done (accepts side side') side.body_done side'.body_done
+    side.upgraded side'.upgraded parts (ap (λ (s : DownState). s.body_done) takes.exact)
+    (accepts_once side side') takes.upgraded_stays r
+runs_after_batch d side side' batch rest (Err why) parts takes r h =
+    runs_failed (with_responses d rest) side'.body_done side'.upgraded h
+
+-- a task was dropped, the response being done
+runs_drop : (d : Duplex) (rest : List HttpTask) (b u : Bool)
+    → is_response_done d.client_response ≡ true → Runs d b u → Runs (with_responses d rest) b u
+runs_drop d rest b u done r = record {
+  uncached = r.uncached;
+  reading = r.reading;
+  unsent = r.unsent;
+  ended = λ h. or_inl (is_response_done d.client_response) _ done;
+  requests_closed = r.requests_closed;
+  responses_closed = r.responses_closed;
+  complete = r.complete;
+}
+
+runs_response_done : (d : Duplex) (done b u : Bool) → Runs d b u
+    → Runs (with_response_done d done) b u
+runs_response_done d done b u r = record {
+  uncached = r.uncached;
+  reading = r.reading;
+  unsent = r.unsent;
+  ended = λ h. end_stays (is_response_done d.client_response) _ (ends_with d.responses.tasks)
+      (ends_with d.responses.tasks) (u && d.upstream_request_done) (u && d.upstream_request_done)
+      (done_stays d.client_response.upstream_done done d.client_response.cached_done) (λ p. p)
+      (λ p. p) (r.ended h);
+  requests_closed = r.requests_closed;
+  responses_closed = r.responses_closed;
+  complete = r.complete;
+}
+
+-- the client's request may have ended; where it is still read, its body is open
+runs_request_done : (d : Duplex) (done b b' u : Bool) → (done ≡ false → b' ≡ b) → Runs d b u
+    → Runs (with_request_done d done) b' u
+runs_request_done d done b b' u same r = record {
+  uncached = r.uncached;
+  reading = λ h. same (read_before d.client_request done h).1
+      ∙ r.reading (read_before d.client_request done h).0;
+  unsent = r.unsent;
+  ended = r.ended;
+  requests_closed = r.requests_closed;
+  responses_closed = r.responses_closed;
+  complete = r.complete;
+}
+
+runs_task_read : (d : Duplex) (tunnel : Bool) (task : HttpTask) (b u : Bool)
+    → d.upstream_response_done ≡ false → Runs d b u → Runs (with_task_read d tunnel task) b u
+runs_task_read d tunnel task b u runs r = record {
+  uncached = r.uncached;
+  reading = r.reading;
+  unsent = λ h. or_inl d.upstream_request_done (is_end task && tunnel) (r.unsent h);
+  ended = λ h. elim (or_cases d.upstream_response_done (is_end task) h) [
+    | inl before ↦ clash d.upstream_response_done before runs
+    | inr now ↦ or_inr (is_response_done d.client_response) _
+        (or_inl (ends_with (d.responses.tasks ++ task ∷ [])) _
+        (ends-append false d.responses.tasks task ∙ now))
+  ];
+  requests_closed = r.requests_closed;
+  responses_closed = r.responses_closed;
+  complete = r.complete;
+}
+
+runs_up_read : (d : Duplex) (tunnel : Bool) (answer : Took HttpTask) (b u : Bool)
+    → d.upstream_response_done ≡ false → Runs d b u
+    → is_failed (after_up_read d tunnel answer).word ≡ false
+    → Runs (after_up_read d tunnel answer) b u
+runs_up_read d tunnel (took.Item task) b u runs r h = runs_task_read d tunnel task b u runs r
+runs_up_read d tunnel took.More b u runs r h = r
+runs_up_read d tunnel (took.Waited why) b u runs r h = r
+runs_up_read d tunnel took.End b u runs r h = r
+runs_up_read d tunnel (took.Failed (fail.Error error)) b u runs r h =
+    runs_task_read d tunnel (task.Failed (told_error d.send_error error)) b u runs r
+runs_up_read d tunnel (took.Failed fail.OutOfMemory) b u runs r h = runs_failed d b u h
+
+-- a body that was open and did not end is open
+body_stays : (b end : Bool) → end ≡ false → (b || end) ≡ b
+body_stays true end is = refl
+body_stays false end is = is
+
+runs_down_read : (d : Duplex) (side side' : DownState) (answer : Took Piece)
+    → ReadsPiece side side' answer → Runs d side.body_done side.upgraded
+    → is_failed (after_down_read d side.upgraded answer).word ≡ false
+    → Runs (after_down_read d side.upgraded answer) side'.body_done side'.upgraded
+runs_down_read d side side' (took.Item piece) reads r h =
+    let with_tasks =
+    runs_requests d (d.requests.tasks ++ put_of side.upgraded piece) side.body_done
+    side.upgraded r in
+    let read = runs_request_done _ piece.client_end side.body_done side'.body_done side.upgraded
+    (λ end. ap (λ (s : DownState). s.body_done) reads.exact
+    ∙ body_stays side.body_done piece.client_end end) with_tasks in
+    runs_at _ _ side'.body_done side'.body_done side.upgraded side'.upgraded refl refl
+    (ap (λ (s : DownState). s.upgraded) reads.exact)
+    (runs_response_done _ (piece.client_end && side.upgraded) side'.body_done side.upgraded read)
+runs_down_read d side side' took.More reads r h =
+    runs_at d d side.body_done side'.body_done side.upgraded side'.upgraded refl
+    (ap (λ (s : DownState). s.body_done) reads) (ap (λ (s : DownState). s.upgraded) reads) r
+runs_down_read d side side' (took.Waited why) reads r h =
+    runs_at d d side.body_done side'.body_done side.upgraded side'.upgraded refl
+    (ap (λ (s : DownState). s.body_done) reads) (ap (λ (s : DownState). s.upgraded) reads) r
+runs_down_read d side side' took.End reads r h = absurd reads
+runs_down_read d side side' (took.Failed why) reads r h =
+    runs_failed d side'.body_done side'.upgraded h
+
+runs_up_finish : (d : Duplex) (why : Option Error) (b u : Bool) → Runs d b u
+    → is_failed (after_up_finish d why).word ≡ false → Runs (after_up_finish d why) b u
+runs_up_finish d None b u r h = record {
+  uncached = r.uncached;
+  reading = r.reading;
+  unsent = r.unsent;
+  ended = r.ended;
+  requests_closed = refl;
+  responses_closed = refl;
+  complete = r.complete;
+}
+runs_up_finish d (Some error) b u r h = runs_failed d b u h
+
+runs_down_finish : (d : Duplex) (pending : Bool) (answer : Result Unit Fail) (b u : Bool)
+    → Runs d b u → is_failed (after_down_finish d pending answer).word ≡ false
+    → Runs (after_down_finish d pending answer) b u
+runs_down_finish d true (Ok done) b u r h = r
+runs_down_finish d false (Ok done) b u r h = record {
+  uncached = r.uncached;
+  reading = r.reading;
+  unsent = r.unsent;
+  ended = r.ended;
+  requests_closed = r.requests_closed;
+  responses_closed = sym (or-true d.upstream_finished);
+  complete = refl;
+}
+runs_down_finish d true (Err why) b u r h = runs_failed d b u h
+runs_down_finish d false (Err why) b u r h = runs_failed d b u h
+
+-- what a side tells of its body and of an upgrade stays
+pub record SameBody (old new : DownState) : Type 0 where
+  pub body : new.body_done ≡ old.body_done
+  pub upgraded : new.upgraded ≡ old.upgraded
+
+same_body : (old new : DownState) → new ≡ old → SameBody old new
+same_body old new is = record {
+  body = ap (λ (s : DownState). s.body_done) is;
+  upgraded = ap (λ (s : DownState). s.upgraded) is;
+}
+
+down_writes_body : (old new : DownState) (answer : Put) → down.Writes old new answer
+    → SameBody old new
+down_writes_body old new (put.Took n) is = record {
+  body = ap (λ (s : DownState). s.body_done) is;
+  upgraded = ap (λ (s : DownState). s.upgraded) is;
+}
+down_writes_body old new put.NotReady is = record {
+  body = ap (λ (s : DownState). s.body_done) is;
+  upgraded = ap (λ (s : DownState). s.upgraded) is;
+}
+down_writes_body old new put.Silent is = record {
+  body = ap (λ (s : DownState). s.body_done) is;
+  upgraded = ap (λ (s : DownState). s.upgraded) is;
+}
+down_writes_body old new (put.Failed fault) is = record {
+  body = ap (λ (s : DownState). s.body_done) is;
+  upgraded = ap (λ (s : DownState). s.upgraded) is;
+}
+down_writes_body old new put.OutOfMemory is = same_body old new is
+
+down_ends_body : (old new : DownState) (answer : Result Unit Fail) → Finishes old new answer
+    → SameBody old new
+down_ends_body old new (Ok done) ends = record {
+  body = ap (λ (s : DownState). s.body_done) ends.exact;
+  upgraded = ap (λ (s : DownState). s.upgraded) ends.exact;
+}
+down_ends_body old new (Err why) is = record {
+  body = ap (λ (s : DownState). s.body_done) is;
+  upgraded = ap (λ (s : DownState). s.upgraded) is;
+}
+
+-- what holds after the effect of a branch holds of the new state
+runs_then : (wanted : Duplex) (old new : State) → new.duplex ≡ wanted
+    → SameBody old.down new.down
+    → (is_failed wanted.word ≡ false → Runs wanted old.down.body_done old.down.upgraded)
+    → is_failed new.duplex.word ≡ false
+    → Runs new.duplex new.down.body_done new.down.upgraded
+runs_then wanted old new is same made h =
+    runs_at wanted new.duplex old.down.body_done new.down.body_done old.down.upgraded
+    new.down.upgraded is same.body same.upgraded
+    (made (sym (ap (λ (d : Duplex). is_failed d.word) is) ∙ h))
+
+-- a half that runs has not failed
+up_sound : (d : Duplex) → up_runs d ≡ true → is_failed d.word ≡ false
+up_sound d runs = not_true (is_failed d.word) (and_right (not d.upstream_finished) _ runs)
+
+down_sound : (d : Duplex) → down_runs d ≡ true → is_failed d.word ≡ false
+down_sound d runs = not_true (is_failed d.word) (and_right (not d.client_finished) _ runs)
+
+-- where no half fails, the halves agree after each step
+step_runs : (b : Branch) (old new : State) (result : Step) → enabled old b ≡ true
+    → StepsTo b old new result → Runs old.duplex old.down.body_done old.down.upgraded
+    → is_failed new.duplex.word ≡ false → Runs new.duplex new.down.body_done new.down.upgraded
+step_runs branch.UpWrite old new result on by r =
+    runs_then _ old new by.does.duplex (same_body old.down new.down by.down)
+    (runs_up_write old.duplex by.does.answer old.down.body_done old.down.upgraded r)
+step_runs branch.DownWrite old new result on by r =
+    runs_then _ old new by.does.duplex
+    (down_writes_body old.down new.down by.does.answer by.does.writes)
+    (runs_down_write old.duplex by.does.answer old.down.body_done old.down.upgraded r)
+step_runs branch.UpTake old new result on by r =
+    runs_then _ old new by.does.duplex (same_body old.down new.down by.down)
+    (runs_piece _ by.does.answer old.down.body_done old.down.upgraded
+    (runs_sent (with_requests old.duplex by.does.rest) by.does.piece old.down.body_done
+    old.down.upgraded
+    (runs_requests old.duplex by.does.rest old.down.body_done old.down.upgraded r)))
+step_runs branch.DownTake old new result on by r =
+    let held = old.duplex.responses.tasks in
+    elim by.does [
+      | inl gives ↦ λ h. runs_at _ new.duplex new.down.body_done new.down.body_done
+          new.down.upgraded new.down.upgraded gives.duplex refl refl
+          (runs_after_batch old.duplex old.down new.down (batch_of held) (rest_of held) gives.answer
+          (batch-rest held) gives.takes r
+          (sym (ap (λ (d : Duplex). is_failed d.word) gives.duplex) ∙ h))
+      | inr loses ↦ λ h. clash true refl
+          (sym (ap (λ (d : Duplex). is_failed d.word) loses.duplex) ∙ h)
+    ]
+step_runs branch.DownDrop old new result on by r =
+    runs_then _ old new by.does.duplex (same_body old.down new.down by.down)
+    (λ h. runs_drop old.duplex by.does.rest old.down.body_done old.down.upgraded
+    (and_left (is_response_done old.duplex.client_response) _
+    (and_right (down_runs old.duplex) _ on)) r)
+step_runs branch.DownEnd old new result on by r =
+    runs_then _ old new by.does.duplex (same_body old.down new.down by.down)
+    (λ h. runs_response_done old.duplex true old.down.body_done old.down.upgraded r)
+step_runs branch.DownClosed old new result on by r =
+    runs_then _ old new by.does.duplex (same_body old.down new.down by.down)
+    (λ h. runs_request_done old.duplex true old.down.body_done old.down.body_done
+    old.down.upgraded (λ p. refl) r)
+step_runs branch.UpRead old new result on by r =
+    runs_then _ old new by.does.duplex (same_body old.down new.down by.down)
+    (runs_up_read old.duplex old.down.upgraded by.does.answer old.down.body_done
+    old.down.upgraded
+    (not_true old.duplex.upstream_response_done
+    (and_left (not old.duplex.upstream_response_done) _ (and_right (up_runs old.duplex) _ on)))
+    r)
+step_runs branch.DownRead old new result on by r =
+    λ h. runs_at _ new.duplex new.down.body_done new.down.body_done new.down.upgraded
+    new.down.upgraded by.does.duplex refl refl
+    (runs_down_read old.duplex old.down new.down by.does.answer by.does.reads r
+    (sym (ap (λ (d : Duplex). is_failed d.word) by.does.duplex) ∙ h))
+step_runs branch.UpFinish old new result on by r =
+    runs_then _ old new by.does.duplex (same_body old.down new.down by.down)
+    (runs_up_finish old.duplex _ old.down.body_done old.down.upgraded r)
+step_runs branch.DownFinish old new result on by r =
+    runs_then _ old new by.does.duplex
+    (down_ends_body old.down new.down by.does.answer by.does.ends)
+    (runs_down_finish old.duplex new.down.pending by.does.answer old.down.body_done
+    old.down.upgraded r)
+step_runs branch.MessageUp old new result on by r = absurd by
+step_runs branch.MessageDown old new result on by r = absurd by
+
+-- each pipe holds what has places
+record Fits (d : Duplex) : Type 0 where
+  requests : length d.requests.tasks ≤ places
+  responses : length d.responses.tasks ≤ places
+
+fits_left : (old new : Duplex) → Leaves old new → Fits old → Fits new
+fits_left old new leaves f = record {
+  requests = rw (leaves.requests) f.requests;
+  responses = rw (leaves.responses) f.responses;
+}
+
+-- the lists of the pipes are these
+fits_at : (old new : Duplex) → new ≡ old → Fits old → Fits new
+fits_at old new is f = let P : Duplex → Type 0 = λ d. Fits d in subst P (sym is) f
+
+-- what is behind the first tasks is no longer
+behind_fits : (xs ys zs : List HttpTask) → xs ++ ys ≡ zs → length zs ≤ places
+    → length ys ≤ places
+behind_fits xs ys zs is fits = omega (arith, length-append xs ys, ap length is)
+
+-- a pipe with room has a place for one more
+room_fits : (d : Bool) (held more : List HttpTask) → (not d && ltb (length held) 4) ≡ true
+    → length more ≤ 1 → length (held ++ more) ≤ places
+room_fits d held more room few =
+    let below : length held < 4 = ltb-true (length held) 4 (and_right (not d) _ room) in
+    omega (arith, length-append held more)
+
+-- a piece puts one task at most
+few_put : (task : Option HttpTask) → length (option_to_list task) ≤ 1
+few_put None = omega arith
+few_put (Some task) = omega arith
+
+fits_up_read : (d : Duplex) (tunnel : Bool) (answer : Took HttpTask)
+    → has_room d.responses ≡ true → Fits d → Fits (after_up_read d tunnel answer)
+fits_up_read d tunnel (took.Item task) room f = record {
+  requests = f.requests;
+  responses = room_fits d.responses.closed d.responses.tasks (task ∷ []) room (omega arith);
+}
+fits_up_read d tunnel took.More room f = f
+fits_up_read d tunnel (took.Waited why) room f = f
+fits_up_read d tunnel took.End room f = f
+fits_up_read d tunnel (took.Failed (fail.Error error)) room f = record {
+  requests = f.requests;
+  responses = room_fits d.responses.closed d.responses.tasks
+      (task.Failed (told_error d.send_error error) ∷ []) room (omega arith);
+}
+fits_up_read d tunnel (took.Failed fail.OutOfMemory) room f =
+    record { requests = f.requests; responses = f.responses }
+
+fits_down_read : (d : Duplex) (upgraded : Bool) (answer : Took Piece)
+    → has_room d.requests ≡ true → Fits d → Fits (after_down_read d upgraded answer)
+fits_down_read d upgraded (took.Item piece) room f = record {
+  requests = room_fits d.requests.closed d.requests.tasks (put_of upgraded piece) room
+      (few_put (task_put_of upgraded piece));
+  responses = f.responses;
+}
+fits_down_read d upgraded took.More room f = f
+fits_down_read d upgraded (took.Waited why) room f = f
+fits_down_read d upgraded took.End room f = f
+fits_down_read d upgraded (took.Failed why) room f =
+    record { requests = f.requests; responses = f.responses }
+
+fits_requests : (d : Duplex) (tasks : List HttpTask) → length tasks ≤ places → Fits d
+    → Fits (with_requests d tasks)
+fits_requests d tasks few f = record { requests = few; responses = f.responses }
+
+fits_responses : (d : Duplex) (tasks : List HttpTask) → length tasks ≤ places → Fits d
+    → Fits (with_responses d tasks)
+fits_responses d tasks few f = record { requests = f.requests; responses = few }
+
+-- each pipe holds what has places after each step
+step_fits : (b : Branch) (old new : State) (result : Step) → enabled old b ≡ true
+    → StepsTo b old new result → Fits old.duplex → Fits new.duplex
+step_fits branch.UpWrite old new result on by f =
+    fits_left old.duplex new.duplex
+    (leaves_at _ _ _ by.does.duplex (leaves_up_write old.duplex by.does.answer)) f
+step_fits branch.DownWrite old new result on by f =
+    fits_left old.duplex new.duplex
+    (leaves_at _ _ _ by.does.duplex (leaves_down_write old.duplex by.does.answer)) f
+step_fits branch.UpTake old new result on by f =
+    let mid = with_requests old.duplex by.does.rest in
+    fits_left mid new.duplex
+    (leaves_at _ _ _ by.does.duplex (leaves_next mid _ _
+    (leaves_sent mid old.down.upgraded by.does.piece)
+    (leaves_piece (with_piece_sent mid old.down.upgraded by.does.piece) by.does.answer)))
+    (fits_requests old.duplex by.does.rest
+    (behind_fits (by.does.piece ∷ []) by.does.rest old.duplex.requests.tasks
+    (sym by.does.held) f.requests) f)
+step_fits branch.DownTake old new result on by f =
+    let held = old.duplex.responses.tasks in
+    elim by.does [
+      | inl gives ↦ fits_left (with_responses old.duplex (rest_of held)) new.duplex
+          (leaves_at _ _ _ gives.duplex (leaves_batch (with_responses old.duplex (rest_of held))
+          old.down (batch_of held) new.down gives.answer))
+          (fits_responses old.duplex (rest_of held)
+          (behind_fits (batch_of held) (rest_of held) held (batch-rest held) f.responses) f)
+      | inr loses ↦ fits_left (with_responses old.duplex loses.left) new.duplex
+          (leaves_at _ _ _ loses.duplex (leaves_failed (with_responses old.duplex loses.left)))
+          (fits_responses old.duplex loses.left
+          (behind_fits loses.lost loses.left held (sym loses.parts) f.responses) f)
+    ]
+step_fits branch.DownDrop old new result on by f =
+    fits_at _ new.duplex by.does.duplex
+    (fits_responses old.duplex by.does.rest
+    (behind_fits (by.does.task ∷ []) by.does.rest old.duplex.responses.tasks
+    (sym by.does.held) f.responses) f)
+step_fits branch.DownEnd old new result on by f =
+    fits_left old.duplex new.duplex
+    (leaves_at _ _ _ by.does.duplex (leaves_response_done old.duplex true)) f
+step_fits branch.DownClosed old new result on by f =
+    fits_left old.duplex new.duplex
+    (leaves_at _ _ _ by.does.duplex (leaves_request_done old.duplex true)) f
+step_fits branch.UpRead old new result on by f =
+    fits_at _ new.duplex by.does.duplex
+    (fits_up_read old.duplex old.down.upgraded by.does.answer
+    (and_right (not old.duplex.upstream_response_done) _ (and_right (up_runs old.duplex) _ on))
+    f)
+step_fits branch.DownRead old new result on by f =
+    fits_at _ new.duplex by.does.duplex
+    (fits_down_read old.duplex old.down.upgraded by.does.answer
+    (and_left (has_room old.duplex.requests) _ (and_right (down_runs old.duplex) _ on)) f)
+step_fits branch.UpFinish old new result on by f =
+    fits_left old.duplex new.duplex
+    (leaves_at _ _ _ by.does.duplex (leaves_up_finish old.duplex _)) f
+step_fits branch.DownFinish old new result on by f =
+    fits_left old.duplex new.duplex
+    (leaves_at _ _ _ by.does.duplex
+    (leaves_down_finish old.duplex new.down.pending by.does.answer
+    (down_sound old.duplex (and_left (down_runs old.duplex) _ on)))) f
+step_fits branch.MessageUp old new result on by f = absurd by
+step_fits branch.MessageDown old new result on by f = absurd by
+
+-- a branch is enabled only where no half failed
+enabled_sound : (b : Branch) (s : State) → enabled s b ≡ true → is_failed s.duplex.word ≡ false
+enabled_sound branch.UpWrite s on = up_sound s.duplex (and_left (up_runs s.duplex) _ on)
+enabled_sound branch.DownWrite s on = down_sound s.duplex (and_left (down_runs s.duplex) _ on)
+enabled_sound branch.UpTake s on = up_sound s.duplex (and_left (up_runs s.duplex) _ on)
+enabled_sound branch.DownTake s on = down_sound s.duplex (and_left (down_runs s.duplex) _ on)
+enabled_sound branch.DownDrop s on = down_sound s.duplex (and_left (down_runs s.duplex) _ on)
+enabled_sound branch.DownEnd s on = down_sound s.duplex (and_left (down_runs s.duplex) _ on)
+enabled_sound branch.DownClosed s on = down_sound s.duplex (and_left (down_runs s.duplex) _ on)
+enabled_sound branch.UpRead s on = up_sound s.duplex (and_left (up_runs s.duplex) _ on)
+enabled_sound branch.DownRead s on = down_sound s.duplex (and_left (down_runs s.duplex) _ on)
+enabled_sound branch.UpFinish s on = up_sound s.duplex (and_left (up_runs s.duplex) _ on)
+enabled_sound branch.DownFinish s on = down_sound s.duplex (and_left (down_runs s.duplex) _ on)
+enabled_sound branch.MessageUp s on = clash false on refl
+enabled_sound branch.MessageDown s on = clash false on refl
+
+-- a sound state stays sound whatever step is taken
+pub step_sound : (b : Branch) (old new : State) (result : Step) → enabled old b ≡ true
+    → StepsTo b old new result → IsSound old → IsSound new
+step_sound b old new result on by sound =
+    let fits = step_fits b old new result on by
+    (record { requests = sound.requests_fit; responses = sound.responses_fit }) in
+    record {
+      requests_fit = fits.requests;
+      responses_fit = fits.responses;
+      runs = step_runs b old new result on by (sound.runs (enabled_sound b old on));
+    }
+
+-- a duplex that begins stays sound with the replay put
+pub sound_replay : (d : Duplex) (pipe : Held) (down : DownState) (up : UpState)
+    (task : HttpTask) → d.requests.tasks ≡ [] → pipe ≡ with_task d.requests task
+    → d.send_error ≡ None → d.upstream_response_done ≡ false
+    → IsSound (record { duplex = d; down = down; up = up })
+    → IsSound (record {
+      duplex = record d { requests = pipe; upstream_request_done = false };
+      down = down;
+      up = up;
+    })
+sound_replay d pipe down up task empty is unsent unread sound = record {
+  requests_fit =
+      let same : pipe.tasks ≡ task ∷ [] =
+      ap (λ (p : Held). p.tasks) is ∙ ap (λ (xs : List HttpTask). xs ++ task ∷ []) empty in
+      let fits : length (task ∷ []) ≤ places = omega arith in
+      rw same fits;
+  responses_fit = sound.responses_fit;
+  runs = λ alive.
+      let r = sound.runs alive in
+      record {
+        uncached = r.uncached;
+        reading = r.reading;
+        unsent = λ h. clash (is_some d.send_error) h (ap (λ (e : Option Error). is_some e) unsent);
+        ended = λ h. clash d.upstream_response_done h unread;
+        requests_closed = ap (λ (p : Held). p.closed) is ∙ r.requests_closed;
+        responses_closed = r.responses_closed;
+        complete = r.complete;
+      };
+}

@@ -1,0 +1,13 @@
+pub mod State
+pub mod Pipe
+pub mod Piece
+pub mod Told
+pub mod Down
+pub mod Up
+pub mod Batch
+pub mod Table
+pub mod Steps
+pub mod Causes
+pub mod Moves
+pub mod Sound
+pub mod Ends

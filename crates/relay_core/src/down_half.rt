@@ -1,0 +1,160 @@
+//! The client's half of a duplex: one function for each of its branches.
+ghost use Rattle.std.specs.Prelude.{◌≡◌, ◌<◌, length, IsTrue, true};
+ghost use Rattle.relay_core.specs.Pipe.{has_room};
+ghost use Rattle.relay_core.specs.Steps.{DownWrites, DownTakes, GivesBatch, DownDrops, DownReads, DownEnds, Becomes};
+ghost use Rattle.relay_core.specs.Table.{after_down_write, step_of_down_write, with_upgrade, with_response_done, with_request_done, with_piece_read, with_client_finished};
+
+use crate::batch::{has_end, next_batch};
+use crate::down::Down;
+use crate::duplex::Duplex;
+use crate::piece::Piece;
+use crate::pipe_state::PipeState;
+use crate::step::Step;
+use crate::up_half::half_finished;
+use relay_links::Put;
+use relay_tasks::{Error, Fail, Pause, TaskList, Took};
+
+impl Duplex {
+    /// One write to the client.
+    pub(crate) fn down_write<D: Down>(&mut self, down: &mut D) -> Step
+        requires { IsTrue (D.state down.old).pending }
+        ensures { DownWrites self.old (D.state down.old) self.new (D.state down.new) result }
+    {
+        let answer = down.write_pending();
+        self.after_down_write(answer)
+    }
+
+    fn after_down_write(&mut self, answer: Put) -> Step
+        ensures duplex { self.new ≡ after_down_write self.old answer }
+        ensures step { result ≡ step_of_down_write answer }
+    {
+        match answer {
+            Put::Took(_) => Step::Moved,
+            Put::NotReady => Step::Waited(Pause::NotReady),
+            Put::Silent => Step::Waited(Pause::Silent),
+            Put::Failed(fault) => self.fail(Fail::Error(Error::of_fault(fault).into_down())),
+            Put::OutOfMemory => self.fail(Fail::OutOfMemory),
+        }
+    }
+
+    /// Gives the tasks of the response pipe that go together to the client.
+    pub(crate) fn down_take<D: Down>(&mut self, down: &mut D) -> Step
+        requires { 0 < length self.old.responses.tasks }
+        ensures { DownTakes self.old (D.state down.old) self.new (D.state down.new) result }
+    {
+        match next_batch(self.alloc, &mut self.responses) {
+            Ok(tasks) => self.give_batch(down, tasks),
+            Err(why) => self.fail(why),
+        }
+    }
+
+    fn give_batch<D: Down>(&mut self, down: &mut D, tasks: TaskList) -> Step
+        ensures { GivesBatch self.old (D.state down.old) tasks self.new (D.state down.new) result }
+    {
+        let was_upgraded = down.upgraded();
+        let end = has_end(&tasks);
+        match down.take_batch(tasks, self.kind) {
+            Ok(done) => {
+                let upgraded = down.upgraded();
+                self.accept_upgrade(!was_upgraded && upgraded);
+                self.client_response.maybe_set_upstream_done(end || done);
+                self.client_request.maybe_finished(end && upgraded);
+                Step::Moved
+            }
+            Err(why) => self.fail(why),
+        }
+    }
+
+    /// After a 101 was accepted, the client's request is read again, and so is the upstream's where
+    /// no send error is kept.
+    fn accept_upgrade(&mut self, accepted: bool)
+        ensures { self.new ≡ with_upgrade self.old accepted }
+    {
+        if accepted {
+            self.client_request.reset();
+            self.upstream_request_done = self.upstream_request_done && self.send_error.is_some();
+        }
+    }
+
+    /// Drops the first task of the response pipe.
+    pub(crate) fn down_drop(&mut self) -> Step
+        requires { 0 < length self.old.responses.tasks }
+        ensures { DownDrops self.old self.new result }
+    {
+        let _task = self.responses.take_held();
+        Step::Moved
+    }
+
+    /// The response is done, since no more of it comes.
+    pub(crate) fn down_end(&mut self) -> Step
+        ensures { Becomes (with_response_done self.old true) self.new result }
+    {
+        self.client_response.maybe_set_upstream_done(true);
+        Step::Moved
+    }
+
+    /// The request is done, since no more of it is wanted.
+    pub(crate) fn down_closed(&mut self) -> Step
+        ensures { Becomes (with_request_done self.old true) self.new result }
+    {
+        self.client_request.maybe_finished(true);
+        Step::Moved
+    }
+
+    /// Reads a piece of the request and puts it.
+    pub(crate) fn down_read<D: Down>(&mut self, down: &mut D) -> Step
+        requires { IsTrue (has_room self.old.requests) }
+        ensures { DownReads self.old (D.state down.old) self.new (D.state down.new) result }
+    {
+        let upgraded = down.upgraded();
+        match down.read_piece(self.client_request.is_done()) {
+            Took::Item(piece) => self.put_piece(piece, upgraded),
+            Took::More => Step::Moved,
+            Took::Waited(pause) => Step::Waited(pause),
+            Took::End => unreachable!(),
+            Took::Failed(why) => self.fail(why),
+        }
+    }
+
+    /// Puts a piece of the request, unless it is empty and not the end. With the client's end the
+    /// request is done, in a tunnel the response too.
+    fn put_piece(&mut self, piece: Piece, upgraded: bool) -> Step
+        requires { IsTrue (has_room self.old.requests) }
+        ensures duplex { self.new ≡ with_piece_read self.old upgraded piece }
+        ensures step { result ≡ Step.Moved }
+    {
+        let end = piece.client_end;
+        if let Some(task) = piece.into_task(upgraded) {
+            self.requests.add(task);
+        }
+        self.client_request.maybe_finished(end);
+        self.client_response
+            .maybe_set_upstream_done(end && upgraded);
+        Step::Moved
+    }
+
+    /// Ends the response's body; with nothing pending then, the client's half has finished.
+    pub(crate) fn down_finish<D: Down>(&mut self, down: &mut D) -> Step
+        ensures { DownEnds self.old (D.state down.old) self.new (D.state down.new) result }
+    {
+        match down.finish() {
+            Ok(()) => {
+                if down.has_pending() {
+                    return Step::Moved;
+                }
+                self.finish_client();
+                half_finished(self.upstream_finished)
+            }
+            Err(why) => self.fail(why),
+        }
+    }
+
+    /// The client's half has finished: the word says so, and the response pipe is closed.
+    fn finish_client(&mut self)
+        ensures { self.new ≡ with_client_finished self.old }
+    {
+        self.client_finished = true;
+        self.word = PipeState::DownstreamComplete;
+        self.responses.close();
+    }
+}

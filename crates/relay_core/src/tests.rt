@@ -1,0 +1,4 @@
+//! What the duplex core does with ample memory.
+
+mod duplex;
+mod states;
