@@ -1,10 +1,10 @@
 -- Lists that are gone through, and batches.
-use Rattle.std.proofs.Common.{◌≡◌, ℕ, suc, ◌+◌, ◌<◌, Bool, true, false, not, List, [], ◌∷◌, ◌++◌, length, drop, slice_get, Option, Some, None, refl, sym, ap, ◌∙◌, arith, add-one, append_assoc, subst, Result, Ok, Err, OnErr}
+use Rattle.std.proofs.Common.{◌≡◌, ℕ, suc, ◌+◌, ◌<◌, Bool, true, false, List, [], ◌∷◌, ◌++◌, length, drop, slice_get, Some, None, refl, sym, ap, ◌∙◌, arith, add-one, append_assoc, subst, Result, Ok, Err, OnErr}
 use Rattle.std.proofs.Math.Seq.{drop-cons}
 use Rattle.std.proofs.lemmas.Option.{slice_get_within, get_or_from_slice_get, slice_get-get_or}
 use Rattle.std.specs.List.{list_any}
 use Rattle.relay_tasks.specs.declared.task.HttpTask.{HttpTask}
-use Rattle.relay_core.specs.Batch.{plain_front, behind_plain, batch_of, rest_of, Loses}
+use Rattle.relay_core.specs.Batch.{plain_front, behind_plain, Loses}
 use Rattle.relay_core.specs.Pipe.{Held, is_failure, begins_plain}
 use Rattle.relay_core.proofs.BoolLemmas.{not_true}
 

@@ -1,5 +1,5 @@
 -- Each answer of a step has its cause, and tells what the duplex has become.
-use Rattle.std.proofs.Common.{◌≡◌, ℕ, ◌<◌, Bool, true, false, List, Option, Some, None, Result, Ok, Err, refl, sym, ap, subst, inl, inr, ◌⊎◌, arith}
+use Rattle.std.proofs.Common.{◌≡◌, ℕ, Bool, true, false, List, Option, Some, None, Result, Ok, Err, refl, sym, ap, subst, inl, inr, arith}
 use Rattle.relay_tasks.specs.declared.error.Error.{Error}
 use Rattle.relay_tasks.specs.declared.error.Fail.{Fail}
 use Rattle.relay_tasks.specs.declared.error.Fail.TheVariants as fail
@@ -9,7 +9,7 @@ use Rattle.relay_tasks.specs.declared.took.Pause.{Pause}
 use Rattle.relay_tasks.specs.declared.took.Pause.TheVariants as pause
 use Rattle.relay_tasks.specs.declared.took.Took.{Took}
 use Rattle.relay_tasks.specs.declared.took.Took.TheVariants as took
-use Rattle.relay_links.specs.Count.{Rose, up, last_count}
+use Rattle.relay_links.specs.Count.{Rose, up}
 use Rattle.relay_links.specs.declared.branch.Branch.{Branch}
 use Rattle.relay_links.specs.declared.branch.Branch.TheVariants as branch
 use Rattle.relay_links.specs.declared.link.Put.{Put}
@@ -27,7 +27,7 @@ use Rattle.relay_core.specs.Down.{DownState, ReadsPiece, TakesBatch, Finishes}
 use Rattle.relay_core.specs.Down as down
 use Rattle.relay_core.specs.Steps.{StepsTo, with_requests, with_responses}
 use Rattle.relay_core.specs.Table.{State, after_up_write, after_down_write, after_piece, with_piece_sent, with_upgrade, after_batch, after_up_read, after_down_read, after_up_finish, after_down_finish, step_of_up_write, step_of_down_write, step_of_up_take, step_of_batch, step_of_up_read, step_of_down_read, custom_error, step_of_half, step_of_up_finish, step_of_down_finish}
-use Rattle.relay_core.specs.Told.{paused, failed, written, fault_of}
+use Rattle.relay_core.specs.Told.{paused, failed, fault_of}
 use Rattle.relay_core.specs.Up.{UpState, ReadsTask, TakesPiece}
 use Rattle.relay_core.specs.Up as up
 
@@ -205,15 +205,15 @@ keeps_write side side' d (put.Failed fault) writes =
     )
 keeps_write side side' d put.OutOfMemory writes = inl refl
 
-keeps_piece : (side side' : UpState) (d : Duplex) (piece : HttpTask) (answer : Result Unit Fail)
-    → TakesPiece side piece side' answer
+keeps_piece : (side side' : UpState) (d : Duplex) (answer : Result Unit Fail)
+    → TakesPiece side side' answer
     → KeepsSendError side.told side'.told d.send_error (after_piece d answer).send_error
-keeps_piece side side' d piece (Ok done) takes = inl refl
-keeps_piece side side' d piece (Err (fail.Error error)) takes =
+keeps_piece side side' d (Ok done) takes = inl refl
+keeps_piece side side' d (Err (fail.Error error)) takes =
     inr (error, refl, rose error side.told side'.told (ap (λ (s : UpState). s.told) takes))
-keeps_piece side side' d piece (Err fail.OutOfMemory) takes = inl refl
+keeps_piece side side' d (Err fail.OutOfMemory) takes = inl refl
 
-kept_batch : (d : Duplex) (side side' : DownState) (tasks : List HttpTask)
+pub kept_batch : (d : Duplex) (side side' : DownState) (tasks : List HttpTask)
     (answer : Result Bool Fail)
     → (after_batch d side tasks side' answer).send_error ≡ d.send_error
 kept_batch d side side' tasks (Ok done) = kept_upgrade d (down.accepts side side')
@@ -224,7 +224,7 @@ kept_batch d side side' tasks (Ok done) = kept_upgrade d (down.accepts side side
     kept_upgrade d false = refl
 kept_batch d side side' tasks (Err why) = refl
 
-kept_up_read : (d : Duplex) (tunnel : Bool) (answer : Took HttpTask)
+pub kept_up_read : (d : Duplex) (tunnel : Bool) (answer : Took HttpTask)
     → (after_up_read d tunnel answer).send_error ≡ d.send_error
 kept_up_read d tunnel (took.Item task) = refl
 kept_up_read d tunnel took.More = refl
@@ -233,7 +233,7 @@ kept_up_read d tunnel took.End = refl
 kept_up_read d tunnel (took.Failed (fail.Error error)) = refl
 kept_up_read d tunnel (took.Failed fail.OutOfMemory) = refl
 
-kept_down_read : (d : Duplex) (upgraded : Bool) (answer : Took Piece)
+pub kept_down_read : (d : Duplex) (upgraded : Bool) (answer : Took Piece)
     → (after_down_read d upgraded answer).send_error ≡ d.send_error
 kept_down_read d upgraded (took.Item piece) = refl
 kept_down_read d upgraded took.More = refl
@@ -241,7 +241,7 @@ kept_down_read d upgraded (took.Waited why) = refl
 kept_down_read d upgraded took.End = refl
 kept_down_read d upgraded (took.Failed why) = refl
 
-kept_down_write : (d : Duplex) (answer : Put)
+pub kept_down_write : (d : Duplex) (answer : Put)
     → (after_down_write d answer).send_error ≡ d.send_error
 kept_down_write d (put.Took n) = refl
 kept_down_write d put.NotReady = refl
@@ -249,12 +249,12 @@ kept_down_write d put.Silent = refl
 kept_down_write d (put.Failed fault) = refl
 kept_down_write d put.OutOfMemory = refl
 
-kept_up_finish : (d : Duplex) (why : Option Error)
+pub kept_up_finish : (d : Duplex) (why : Option Error)
     → (after_up_finish d why).send_error ≡ d.send_error
 kept_up_finish d None = refl
 kept_up_finish d (Some error) = refl
 
-kept_down_finish : (d : Duplex) (pending : Bool) (answer : Result Unit Fail)
+pub kept_down_finish : (d : Duplex) (pending : Bool) (answer : Result Unit Fail)
     → (after_down_finish d pending answer).send_error ≡ d.send_error
 kept_down_finish d true (Ok done) = refl
 kept_down_finish d false (Ok done) = refl
@@ -282,7 +282,7 @@ step_keeps branch.UpTake old new result by =
     keeps_at old.up.told new.up.told old.duplex.send_error _ new.duplex by.does.duplex
     (keeps_piece old.up new.up
     (with_piece_sent (with_requests old.duplex by.does.rest) old.down.upgraded by.does.piece)
-    by.does.piece by.does.answer by.does.takes)
+    by.does.answer by.does.takes)
 step_keeps branch.DownTake old new result by =
     elim by.does [
       | inl gives ↦ keeps_at old.up.told new.up.told old.duplex.send_error _ new.duplex gives.duplex

@@ -1,5 +1,5 @@
 -- Why the client's request and the upstream's response became done; a full response pipe moves.
-use Rattle.std.proofs.Common.{◌≡◌, Bool, true, false, ◌&&◌, ◌||◌, ◌==◌, not, ℕ, List, [], ◌∷◌, ◌++◌, length, Option, Some, None, Result, Ok, Err, refl, sym, ap, ◌∙◌, inl, inr, ◌⊎◌}
+use Rattle.std.proofs.Common.{◌≡◌, Bool, true, false, ◌&&◌, ◌||◌, ◌==◌, not, ℕ, List, [], ◌∷◌, ◌++◌, length, Option, Some, None, Result, Ok, Err, refl, sym, ap, ◌∙◌, inl, inr}
 use Rattle.std.specs.List.{list_any}
 use Rattle.relay_tasks.specs.declared.error.Error.{Error}
 use Rattle.relay_tasks.specs.declared.error.Fail.{Fail}
@@ -20,12 +20,12 @@ use Rattle.relay_core.specs.declared.piece.Piece.{Piece}
 use Rattle.relay_core.specs.declared.step.Step.{Step}
 use Rattle.relay_core.specs.Batch.{batch_of, rest_of}
 use Rattle.relay_core.specs.Down.{DownState, ReadsPiece, accepts}
-use Rattle.relay_core.specs.Ends.{ClientTunnelEnds, EndsRequest, UpstreamTunnelEnds, EndsResponse, can_pass_on}
+use Rattle.relay_core.specs.Ends.{EndsRequest, UpstreamTunnelEnds, EndsResponse, can_pass_on}
 use Rattle.relay_core.specs.Pipe.{is_empty, places}
 use Rattle.relay_core.specs.Sound.{ends_with}
 use Rattle.relay_core.specs.State.{is_reading, finished, reset_to_reading, is_response_done}
 use Rattle.relay_core.specs.Steps.{StepsTo, with_requests, with_responses}
-use Rattle.relay_core.specs.Table.{State, enabled, down_runs, after_up_write, after_down_write, after_piece, with_piece_sent, ends_request, ends_tunnel, with_upgrade, with_response_done, after_batch, after_up_read, told_error, after_down_read, custom_error, after_up_finish, after_down_finish}
+use Rattle.relay_core.specs.Table.{State, enabled, down_runs, after_up_write, after_down_write, after_piece, with_piece_sent, ends_request, ends_tunnel, with_upgrade, after_batch, after_up_read, told_error, after_down_read, custom_error, after_up_finish, after_down_finish}
 use Rattle.relay_core.proofs.BoolLemmas.{clash, and_left, and_right, or_cases, or_inl, or_inr}
 use Rattle.relay_core.proofs.SoundLemmas.{ends-append}
 

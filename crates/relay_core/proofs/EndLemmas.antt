@@ -1,5 +1,5 @@
--- What a step answers tells what the duplex has become; behind an end nothing is put.
-use Rattle.std.proofs.Common.{◌≡◌, Bool, true, false, ◌&&◌, not, List, [], ◌++◌, Option, Some, None, Result, Ok, Err, refl, sym, ap, ◌∙◌, subst, inl, inr, ◌⊎◌, append-nil}
+-- What a step answers tells what the duplex has become.
+use Rattle.std.proofs.Common.{◌≡◌, Bool, true, false, ◌&&◌, not, List, Option, Some, None, Result, Ok, Err, refl, sym, ap, ◌∙◌, subst, inl, inr}
 use Rattle.relay_tasks.specs.declared.error.Error.{Error}
 use Rattle.relay_tasks.specs.declared.error.Fail.{Fail}
 use Rattle.relay_tasks.specs.declared.error.Fail.TheVariants as fail
@@ -16,11 +16,10 @@ use Rattle.relay_core.specs.declared.step.Step.{Step}
 use Rattle.relay_core.specs.declared.step.Step.TheVariants as step
 use Rattle.relay_core.specs.Batch.{batch_of, rest_of}
 use Rattle.relay_core.specs.Causes.{Tells, says_failed, says_finished}
-use Rattle.relay_core.specs.Down.{DownState, ReadsPiece, TakesBatch, Finishes, accepts}
-use Rattle.relay_core.specs.Down as down
+use Rattle.relay_core.specs.Down.{DownState, accepts}
 use Rattle.relay_core.specs.Steps.{StepsTo, with_requests, with_responses}
-use Rattle.relay_core.specs.Table.{State, enabled, down_runs, up_runs, is_failed, is_finished, failed, after_up_write, step_of_up_write, after_down_write, step_of_down_write, after_piece, with_piece_sent, step_of_up_take, with_upgrade, with_request_done, with_response_done, after_batch, step_of_batch, after_up_read, step_of_up_read, after_down_read, step_of_down_read, after_up_finish, step_of_up_finish, with_upstream_finished, step_of_half, with_client_finished, after_down_finish, step_of_down_finish}
-use Rattle.relay_core.proofs.BoolLemmas.{clash, and_left, and_right, and-true, and_false, not_true}
+use Rattle.relay_core.specs.Table.{State, enabled, down_runs, up_runs, is_failed, is_finished, failed, after_up_write, step_of_up_write, after_down_write, step_of_down_write, after_piece, with_piece_sent, step_of_up_take, with_upgrade, after_batch, step_of_batch, after_up_read, step_of_up_read, after_down_read, step_of_down_read, after_up_finish, step_of_up_finish, step_of_half, after_down_finish, step_of_down_finish}
+use Rattle.relay_core.proofs.BoolLemmas.{and_left, and_right, and-true, and_false, not_true}
 
 -- no half failed, and not both have finished
 pub record Alive (d : Duplex) : Type 0 where
@@ -198,57 +197,3 @@ step_tells branch.DownFinish old new result on by =
     (alive_down old.duplex (and_left (down_runs old.duplex) _ on)))
 step_tells branch.MessageUp old new result on by = absurd by
 step_tells branch.MessageDown old new result on by = absurd by
-
-stops_write : (side side' : DownState) (answer : Put) → down.Writes side side' answer
-    → side'.put ≡ side.put
-stops_write side side' (put.Took n) is = ap (λ (s : DownState). s.put) is
-stops_write side side' put.NotReady is = ap (λ (s : DownState). s.put) is
-stops_write side side' put.Silent is = ap (λ (s : DownState). s.put) is
-stops_write side side' (put.Failed fault) is = ap (λ (s : DownState). s.put) is
-stops_write side side' put.OutOfMemory is = ap (λ (s : DownState). s.put) is
-
-stops_batch : (side side' : DownState) (tasks : List HttpTask) (answer : Result Bool Fail)
-    → TakesBatch side tasks side' answer → side'.put ≡ side.put
-stops_batch side side' tasks (Ok done) takes = ap (λ (s : DownState). s.put) takes.exact
-stops_batch side side' tasks (Err why) takes = ap (λ (s : DownState). s.put) takes.exact
-
-stops_read : (side side' : DownState) (answer : Took Piece) → ReadsPiece side side' answer
-    → side.request_ended ≡ true → side'.put ≡ side.put
-stops_read side side' (took.Item piece) reads ended =
-    ap (λ (s : DownState). s.put) reads.exact
-    ∙ ap (λ (xs : List HttpTask). side.put ++ xs) (reads.nothing_behind ended)
-    ∙ append-nil side.put
-stops_read side side' took.More reads ended = ap (λ (s : DownState). s.put) reads
-stops_read side side' (took.Waited why) reads ended = ap (λ (s : DownState). s.put) reads
-stops_read side side' took.End reads ended = absurd reads
-stops_read side side' (took.Failed why) reads ended = ap (λ (s : DownState). s.put) reads
-
-stops_finish : (side side' : DownState) (answer : Result Unit Fail) → Finishes side side' answer
-    → side'.put ≡ side.put
-stops_finish side side' (Ok done) ends = ap (λ (s : DownState). s.put) ends.exact
-stops_finish side side' (Err why) is = ap (λ (s : DownState). s.put) is
-
--- behind the end of the request nothing is put
-pub step_stops : (b : Branch) (old new : State) (result : Step) → StepsTo b old new result
-    → old.down.request_ended ≡ true → new.down.put ≡ old.down.put
-step_stops branch.UpWrite old new result by ended = ap (λ (s : DownState). s.put) by.down
-step_stops branch.DownWrite old new result by ended =
-    stops_write old.down new.down by.does.answer by.does.writes
-step_stops branch.UpTake old new result by ended = ap (λ (s : DownState). s.put) by.down
-step_stops branch.DownTake old new result by ended =
-    elim by.does [
-      | inl gives ↦ stops_batch old.down new.down (batch_of old.duplex.responses.tasks) gives.answer
-          gives.takes
-      | inr loses ↦ ap (λ (s : DownState). s.put) loses.same
-    ]
-step_stops branch.DownDrop old new result by ended = ap (λ (s : DownState). s.put) by.down
-step_stops branch.DownEnd old new result by ended = ap (λ (s : DownState). s.put) by.down
-step_stops branch.DownClosed old new result by ended = ap (λ (s : DownState). s.put) by.down
-step_stops branch.UpRead old new result by ended = ap (λ (s : DownState). s.put) by.down
-step_stops branch.DownRead old new result by ended =
-    stops_read old.down new.down by.does.answer by.does.reads ended
-step_stops branch.UpFinish old new result by ended = ap (λ (s : DownState). s.put) by.down
-step_stops branch.DownFinish old new result by ended =
-    stops_finish old.down new.down by.does.answer by.does.ends
-step_stops branch.MessageUp old new result by ended = absurd by
-step_stops branch.MessageDown old new result by ended = absurd by

@@ -2,8 +2,12 @@ pub mod BatchLemmas
 pub mod ChooseLemmas
 pub mod CauseLemmas
 pub mod BoolLemmas
+pub mod TaskLemmas
+pub mod HeldLemmas
+pub mod OrdinaryLemmas
 pub mod MoveLemmas
 pub mod SoundLemmas
 pub mod EndLemmas
 pub mod StuckLemmas
 pub mod DoneLemmas
+pub mod KeepLemmas

@@ -1,5 +1,5 @@
 -- A sound state stays sound whatever step is taken.
-use Rattle.std.proofs.Common.{◌≡◌, ◌≤◌, ◌<◌, ◌+◌, Bool, ltb, option_to_list, true, false, ◌&&◌, ◌||◌, not, if◌then◌else◌, List, [], ◌∷◌, ◌++◌, length, Option, Some, None, is_some, Result, Ok, Err, refl, sym, ap, ◌∙◌, subst, inl, inr, ◌⊎◌, arith, length-append}
+use Rattle.std.proofs.Common.{◌≡◌, ◌≤◌, ◌<◌, Bool, ltb, option_to_list, true, false, ◌&&◌, ◌||◌, not, if◌then◌else◌, List, [], ◌∷◌, ◌++◌, length, Option, Some, None, is_some, Result, Ok, Err, refl, sym, ap, ◌∙◌, subst, inl, inr, ◌⊎◌, arith, length-append}
 use Rattle.std.proofs.lemmas.Bool.{ltb-true}
 use Rattle.std.specs.List.{list_any}
 use Rattle.relay_tasks.specs.declared.error.Error.{Error}
@@ -24,12 +24,12 @@ use Rattle.relay_core.specs.Down.{DownState, ReadsPiece, TakesBatch, Finishes, a
 use Rattle.relay_core.specs.Down as down
 use Rattle.relay_core.specs.Piece.{put_of, task_put_of}
 use Rattle.relay_core.specs.Pipe.{Held, has_room, places, with_task}
-use Rattle.relay_core.specs.Sound.{Runs, IsSound, ends_from, ends_with, has_end}
-use Rattle.relay_core.specs.State.{is_response_done, is_reading, finished, reset_to_reading, is_complete}
+use Rattle.relay_core.specs.Sound.{Runs, IsSound, ends_from, ends_with}
+use Rattle.relay_core.specs.State.{is_response_done, is_reading, finished}
 use Rattle.relay_core.specs.Steps.{StepsTo, with_requests, with_responses}
-use Rattle.relay_core.specs.Table.{State, enabled, down_runs, up_runs, is_failed, failed, with_send_error, after_up_write, after_down_write, after_piece, with_piece_sent, ends_tunnel, ends_request, with_upgrade, with_response_done, with_request_done, after_batch, after_up_read, with_task_read, told_error, after_down_read, with_piece_read, after_up_finish, after_down_finish}
+use Rattle.relay_core.specs.Table.{State, enabled, down_runs, up_runs, is_failed, failed, with_send_error, after_up_write, after_down_write, after_piece, with_piece_sent, ends_tunnel, ends_request, with_upgrade, with_response_done, with_request_done, after_batch, after_up_read, with_task_read, told_error, after_down_read, after_up_finish, after_down_finish}
 use Rattle.relay_core.specs.Up.{UpState}
-use Rattle.relay_core.proofs.BoolLemmas.{clash, and_left, and_right, and_both, or_left, or_right, or_inl, or_inr, or_cases, or-true, not_true}
+use Rattle.relay_core.proofs.BoolLemmas.{clash, and_left, and_right, and_both, or_inl, or_inr, or_cases, or-true, not_true}
 use Rattle.relay_core.proofs.MoveLemmas.{batch-rest, Leaves, leaves_at, leaves_next, leaves_failed, leaves_response_done, leaves_request_done, leaves_up_write, leaves_down_write, leaves_piece, leaves_sent, leaves_batch, leaves_up_finish, leaves_down_finish}
 
 -- what holds of a duplex holds at what it is
@@ -386,7 +386,7 @@ same_body old new is = record {
   upgraded = ap (λ (s : DownState). s.upgraded) is;
 }
 
-down_writes_body : (old new : DownState) (answer : Put) → down.Writes old new answer
+pub down_writes_body : (old new : DownState) (answer : Put) → down.Writes old new answer
     → SameBody old new
 down_writes_body old new (put.Took n) is = record {
   body = ap (λ (s : DownState). s.body_done) is;
@@ -406,7 +406,7 @@ down_writes_body old new (put.Failed fault) is = record {
 }
 down_writes_body old new put.OutOfMemory is = same_body old new is
 
-down_ends_body : (old new : DownState) (answer : Result Unit Fail) → Finishes old new answer
+pub down_ends_body : (old new : DownState) (answer : Result Unit Fail) → Finishes old new answer
     → SameBody old new
 down_ends_body old new (Ok done) ends = record {
   body = ap (λ (s : DownState). s.body_done) ends.exact;
@@ -631,7 +631,7 @@ step_fits branch.MessageUp old new result on by f = absurd by
 step_fits branch.MessageDown old new result on by f = absurd by
 
 -- a branch is enabled only where no half failed
-enabled_sound : (b : Branch) (s : State) → enabled s b ≡ true → is_failed s.duplex.word ≡ false
+pub enabled_sound : (b : Branch) (s : State) → enabled s b ≡ true → is_failed s.duplex.word ≡ false
 enabled_sound branch.UpWrite s on = up_sound s.duplex (and_left (up_runs s.duplex) _ on)
 enabled_sound branch.DownWrite s on = down_sound s.duplex (and_left (down_runs s.duplex) _ on)
 enabled_sound branch.UpTake s on = up_sound s.duplex (and_left (up_runs s.duplex) _ on)

@@ -1,5 +1,5 @@
 -- In a sound state that has not finished and not failed, a branch is enabled.
-use Rattle.std.proofs.Common.{◌≡◌, ℕ, ◌<◌, ◌≤◌, Bool, true, false, ◌&&◌, ◌||◌, ◌==◌, not, ltb, List, [], ◌∷◌, length, Option, Some, None, is_some, is_none, IsNone, IfSome, find, refl, sym, ap, ◌∙◌, inl, inr, ◌⊎◌, arith, eqb-true}
+use Rattle.std.proofs.Common.{◌≡◌, Bool, true, false, ◌&&◌, ◌||◌, ◌==◌, not, ltb, List, [], ◌∷◌, length, Option, Some, None, is_some, is_none, IsNone, IfSome, find, refl, sym, ◌∙◌, inl, inr, arith, eqb-true}
 use Rattle.std.specs.List.{list_any}
 use Rattle.relay_tasks.specs.declared.error.Error.{Error}
 use Rattle.relay_tasks.specs.declared.task.HttpTask.{HttpTask}
@@ -7,13 +7,11 @@ use Rattle.relay_links.specs.Branch.{has, is_same_branch}
 use Rattle.relay_links.specs.declared.branch.Branch.{Branch}
 use Rattle.relay_links.specs.declared.branch.Branch.TheVariants as branch
 use Rattle.relay_links.specs.declared.branch.TheConstants.{BRANCHES}
-use Rattle.relay_core.specs.declared.downstream_state.DownstreamStateMachine.{DownstreamStateMachine}
-use Rattle.relay_core.specs.declared.duplex.Duplex.{Duplex}
 use Rattle.relay_core.specs.Down.{may_read}
 use Rattle.relay_core.specs.Pipe.{is_empty, has_room}
 use Rattle.relay_core.specs.Sound.{Runs, IsSound, ends_with}
 use Rattle.relay_core.specs.State.{is_reading, is_done, is_response_done}
-use Rattle.relay_core.specs.Table.{State, enabled, first_enabled, chosen, is_failed, is_finished, down_runs, up_runs, up_is_through}
+use Rattle.relay_core.specs.Table.{State, enabled, is_failed, is_finished, down_runs, up_runs, up_is_through}
 use Rattle.relay_core.proofs.BoolLemmas.{decide, clash, and_both, and_right, or_inl, or_inr, or_cases, or_false, not_false, and_false}
 use Rattle.relay_core.proofs.ChooseLemmas.{any-branch}
 
@@ -44,7 +42,7 @@ not_both true false false p h = refl
 not_both false response false p h = refl
 
 -- a pipe that holds nothing has no last task
-empty_ends : (tasks : List HttpTask) → (length tasks == 0) ≡ true → ends_with tasks ≡ false
+pub empty_ends : (tasks : List HttpTask) → (length tasks == 0) ≡ true → ends_with tasks ≡ false
 empty_ends [] h = refl
 empty_ends (x ∷ xs) h =
     let e : length (x ∷ xs) ≡ 0 = eqb-true (length (x ∷ xs)) 0 h in absurd (omega arith)

@@ -1,5 +1,5 @@
 -- The client's side of a duplex: its meaning, and what each of its answers does.
-use Rattle.std.specs.Prelude.{◌≡◌, Bool, true, false, ◌&&◌, ◌||◌, not, if◌then◌else◌, List, [], ◌∷◌, ◌++◌, Result, Ok, Err, IsTrue}
+use Rattle.std.specs.Prelude.{◌≡◌, Bool, true, false, ◌&&◌, ◌||◌, not, if◌then◌else◌, List, [], ◌∷◌, Result, Ok, Err, IsTrue}
 use Rattle.std.specs.List.{list_any}
 use Rattle.relay_tasks.specs.declared.error.Error.{Error}
 use Rattle.relay_tasks.specs.declared.error.ErrorSource.TheVariants.{Downstream}
@@ -17,14 +17,11 @@ use Rattle.relay_core.specs.Piece.{put_of}
 use Rattle.relay_core.specs.Pipe.{is_failure}
 use Rattle.relay_core.specs.Told.{paused, failed, written}
 
--- the client's side: the tasks that its pieces put and the tasks that it was given, in order;
--- whether the end of the request was among its pieces (or went with the head) and no 101 was
--- accepted since; whether its body has ended; whether it waits for the answer to an upgrade, and
--- whether it was upgraded; whether its response is done, and the response's body was finished;
--- whether output is pending; and what it tells of its answers
+-- the client's side: whether the end of the request was among its pieces (or went with the head) and
+-- no 101 was accepted since; whether its body has ended; whether it waits for the answer to an
+-- upgrade, and whether it was upgraded; whether its response is done, and the response's body was
+-- finished; whether output is pending; and what it tells of its answers
 pub record DownState : Type 0 where
-  pub put : List HttpTask
-  pub batched : List HttpTask
   pub request_ended : Bool
   pub body_done : Bool
   pub awaits_upgrade : Bool
@@ -41,7 +38,6 @@ may_read side = not (side.body_done && side.awaits_upgrade)
 -- a piece came. The client's end ends the request, and nothing is put behind the request's end
 pub record GivesPiece (before after : DownState) (piece : Piece) : Type 0 where
   pub exact : after ≡ record before {
-    put = before.put ++ put_of before.upgraded piece;
     request_ended = before.request_ended || piece.upstream_end;
     body_done = before.body_done || piece.client_end;
   }
@@ -66,7 +62,6 @@ accepts before after = not before.upgraded && after.upgraded
 pub record QueuesBatch (before : DownState) (tasks : List HttpTask) (after : DownState)
     (done : Bool) : Type 0 where
   pub exact : after ≡ record before {
-    batched = before.batched ++ tasks;
     request_ended = if accepts before after then false else before.request_ended;
     body_done = if accepts before after then false else before.body_done;
     awaits_upgrade = after.awaits_upgrade;
@@ -80,15 +75,11 @@ pub record QueuesBatch (before : DownState) (tasks : List HttpTask) (after : Dow
   pub finished_stays : IsTrue before.body_finished → after.body_finished ≡ true
   pub no_failure : list_any is_failure tasks ≡ false
 
--- the tasks were refused, after the first of them were filtered; a task `Failed` alone is refused
--- by its error
+-- the tasks were refused, and an upgraded client stays so; a task `Failed` alone is refused by its
+-- error
 pub record RefusesBatch (before : DownState) (tasks : List HttpTask) (after : DownState)
     (why : Fail) : Type 0 where
-  pub filtered : List HttpTask
-  pub left : List HttpTask
-  pub parts : filtered ++ left ≡ tasks
   pub exact : after ≡ record before {
-    batched = before.batched ++ filtered;
     awaits_upgrade = after.awaits_upgrade;
     upgraded = after.upgraded;
     response_done = after.response_done;
@@ -96,6 +87,7 @@ pub record RefusesBatch (before : DownState) (tasks : List HttpTask) (after : Do
     pending = after.pending;
     told = failed why before.told;
   }
+  pub upgraded_stays : IsTrue before.upgraded → after.upgraded ≡ true
   pub by_failure : (error : Error) → tasks ≡ task.Failed error ∷ [] → IsMemoryOr error why
 
 -- what taking a batch does, by its answer

@@ -30,3 +30,8 @@ EndsResponse old new =
 abbrev pub can_pass_on : State → Bool
 can_pass_on s =
     enabled s branch.DownWrite || (enabled s branch.DownTake || enabled s branch.DownDrop)
+
+-- the upstream half can write, take what the request pipe holds, or finish
+abbrev pub can_send_on : State → Bool
+can_send_on s =
+    enabled s branch.UpWrite || (enabled s branch.UpTake || enabled s branch.UpFinish)

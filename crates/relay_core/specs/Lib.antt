@@ -2,12 +2,13 @@ pub mod State
 pub mod Pipe
 pub mod Piece
 pub mod Told
+pub mod Past
 pub mod Down
 pub mod Up
 pub mod Batch
 pub mod Table
 pub mod Steps
 pub mod Causes
-pub mod Moves
 pub mod Sound
+pub mod Moves
 pub mod Ends

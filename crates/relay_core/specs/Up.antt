@@ -1,5 +1,5 @@
 -- The upstream's side of a duplex: its meaning, and what each of its answers does.
-use Rattle.std.specs.Prelude.{◌≡◌, Bool, true, false, List, [], ◌∷◌, Option, Result, Ok, Err, IsTrue}
+use Rattle.std.specs.Prelude.{◌≡◌, Bool, true, false, Result, Ok, Err, IsTrue}
 use Rattle.relay_tasks.specs.declared.error.ErrorSource.TheVariants.{Upstream}
 use Rattle.relay_tasks.specs.declared.error.Fail.{Fail}
 use Rattle.relay_tasks.specs.declared.task.HttpTask.{HttpTask}
@@ -7,29 +7,22 @@ use Rattle.relay_tasks.specs.declared.took.Took.{Took}
 use Rattle.relay_tasks.specs.declared.took.Took.TheVariants as took
 use Rattle.relay_links.specs.declared.link.Put.{Put}
 use Rattle.relay_links.specs.declared.link.Put.TheVariants as put
-use Rattle.relay_links.specs.Told.{more}
 use Rattle.relay_core.specs.declared.step.UpKind.{UpKind}
 use Rattle.relay_core.specs.declared.told.Told.{Told}
 use Rattle.relay_core.specs.Pipe.{is_failure}
 use Rattle.relay_core.specs.Told.{paused, failed, written}
 
--- the upstream's side: its kind; the tasks that it gave and the pieces that it was given, in
--- order, where it tells them; whether its response began a tunnel; whether output is pending; and
+-- the upstream's side: its kind; whether its response began a tunnel; whether output is pending; and
 -- what it tells of its answers
 pub record UpState : Type 0 where
   pub kind : UpKind
-  pub read : Option (List HttpTask)
-  pub taken : Option (List HttpTask)
   pub upgraded : Bool
   pub pending : Bool
   pub told : Told
 
 -- a task of the response came
 pub record GivesTask (before after : UpState) (task : HttpTask) : Type 0 where
-  pub exact : after ≡ record before {
-    read = more before.read (task ∷ []);
-    upgraded = after.upgraded;
-  }
+  pub exact : after ≡ record before { upgraded = after.upgraded }
   pub upgraded_stays : IsTrue before.upgraded → after.upgraded ≡ true
   pub no_failure : is_failure task ≡ false
 
@@ -43,12 +36,10 @@ ReadsTask before after took.End = ⊥
 ReadsTask before after (took.Failed fail) =
     after ≡ record before { told = failed fail before.told }
 
--- what taking a piece does, by its answer: a piece that is refused counts as taken
-abbrev pub TakesPiece : UpState → HttpTask → UpState → Result Unit Fail → Type 0
-TakesPiece before task after (Ok done) =
-    after ≡ record before { taken = more before.taken (task ∷ []); pending = after.pending }
-TakesPiece before task after (Err why) = after ≡ record before {
-  taken = more before.taken (task ∷ []);
+-- what taking a piece does, by its answer
+abbrev pub TakesPiece : UpState → UpState → Result Unit Fail → Type 0
+TakesPiece before after (Ok done) = after ≡ record before { pending = after.pending }
+TakesPiece before after (Err why) = after ≡ record before {
   pending = after.pending;
   told = failed why before.told;
 }

@@ -1,17 +1,38 @@
 //! The client's side of a duplex: what it means, and what each of its answers does.
-ghost use Rattle.std.specs.Prelude.{◌≡◌, IsTrue};
+ghost use Rattle.std.specs.Prelude.{◌≡◌, ◌++◌, ◌∷◌, [], List, IsTrue};
+ghost use Rattle.relay_tasks.specs.declared.error.Error.{Error};
+ghost use Rattle.relay_tasks.specs.declared.error.ErrorSource.TheVariants.{Downstream};
+ghost use Rattle.relay_tasks.specs.declared.task.HttpTask.{HttpTask};
 ghost use Rattle.relay_core.specs.Down.{DownState, may_read, ReadsPiece, TakesBatch, Writes, Finishes};
+ghost use Rattle.relay_core.specs.Past.{Origin, DownPast, DownGoes, BatchGoes, put_in, closing_in, error_of_took, error_of_put, error_of_result};
 
 use crate::piece::Piece;
 use crate::step::UpKind;
 use crate::told::Told;
 use relay_links::Put;
-use relay_tasks::{Result, TaskList, Took};
+use relay_tasks::{Pause, Result, TaskList, Took};
 
 /// The client's side: it gives pieces of the request, filtered, and takes the tasks of the
 /// response. It means its state; each answer changes what its relation names, and no more.
+///
+/// It also means what passed through it since its request began, by a relation: `past` holds of
+/// more than one past, since a side keeps none, and each call takes every past to one that goes on
+/// from it. `blames` says that the side answers for an error, `refuses` that it refuses these tasks
+/// behind those that it was given, and `is_silent` that the client's link is silent on what the side
+/// asked of it.
 pub trait Down {
+    /// The client, whose link the side reads and writes.
+    type Client;
+
     ghost state: { Self → DownState };
+
+    ghost past: { Self → Self.Client → Origin → DownPast → Type 0 };
+
+    ghost blames: { Self → Self.Client → Origin → DownPast → Error → Type 0 };
+
+    ghost refuses: { Self → Self.Client → Origin → DownPast → List HttpTask → Error → Type 0 };
+
+    ghost is_silent: { Self.Client → Type 0 };
 
     /// Whether the client may be read: not where its request has ended and it waits for the answer
     /// to an upgrade.
@@ -28,27 +49,44 @@ pub trait Down {
 
     /// Reads a piece of the request and filters it. `idle` says that the request has ended: the
     /// client is then only watched. The end comes with a piece, and `End` is never answered.
-    fn read_piece(&mut self, idle: bool) -> Took<Piece>
-        ensures { ReadsPiece (state self.old) (state self.new) result };
+    fn read_piece(&mut self, client: &mut Self::Client, idle: bool) -> Took<Piece>
+        ensures reads { ReadsPiece (state self.old) (state self.new) result }
+        ensures goes { (s : Origin) (p : DownPast) → past self.old client.old s p
+            → DownGoes (past self.new client.new s) (blames self.new client.new s)
+            (p.put ++ put_in (state self.old).upgraded result) p.batched p.closing
+            (error_of_took result) }
+        ensures silent { result ≡ Took.Waited Pause.Silent → is_silent client.new };
 
     /// Filters the tasks in their order and queues them for the client. Ok says whether its
-    /// response is done. An error queues none of them; a task `Failed` comes alone and is answered
-    /// with its error.
+    /// response is done. An error queues none of them, or those in front of a refused one; a task
+    /// `Failed` comes alone and is answered with its error.
     fn take_batch(&mut self, tasks: TaskList, kind: UpKind) -> Result<bool>
-        ensures { TakesBatch (state self.old) tasks (state self.new) result };
+        ensures takes { TakesBatch (state self.old) tasks (state self.new) result }
+        ensures goes { (client : Self.Client) (s : Origin) (p : DownPast)
+            → past self.old client s p
+            → BatchGoes (past self.new client s) (blames self.new client s)
+            (refuses self.new client s) p tasks result };
 
     /// Whether output for the client is pending.
     fn has_pending(&self) -> bool
         ensures { result ≡ (state self.now).pending };
 
     /// Writes pending output once.
-    fn write_pending(&mut self) -> Put
+    fn write_pending(&mut self, client: &mut Self::Client) -> Put
         requires { IsTrue (state self.old).pending }
-        ensures { Writes (state self.old) (state self.new) result };
+        ensures writes { Writes (state self.old) (state self.new) result }
+        ensures goes { (s : Origin) (p : DownPast) → past self.old client.old s p
+            → DownGoes (past self.new client.new s) (blames self.new client.new s)
+            p.put p.batched p.closing (error_of_put Downstream result) }
+        ensures silent { result ≡ Put.Silent → is_silent client.new };
 
     /// Ends the response's body. Where it was ended already this queues nothing.
     fn finish(&mut self) -> Result<()>
-        ensures { Finishes (state self.old) (state self.new) result };
+        ensures ends { Finishes (state self.old) (state self.new) result }
+        ensures goes { (client : Self.Client) (s : Origin) (p : DownPast)
+            → past self.old client s p
+            → DownGoes (past self.new client s) (blames self.new client s)
+            p.put p.batched (p.closing ++ closing_in result) (error_of_result result) };
 
     /// What the side tells of its answers.
     fn told(&self) -> Told

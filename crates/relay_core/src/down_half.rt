@@ -1,7 +1,8 @@
 //! The client's half of a duplex: one function for each of its branches.
 ghost use Rattle.std.specs.Prelude.{◌≡◌, ◌<◌, length, IsTrue, true};
 ghost use Rattle.relay_core.specs.Pipe.{has_room};
-ghost use Rattle.relay_core.specs.Steps.{DownWrites, DownTakes, GivesBatch, DownDrops, DownReads, DownEnds, Becomes};
+ghost use Rattle.relay_core.specs.Past.{Origin, DownPast};
+ghost use Rattle.relay_core.specs.Steps.{DownWrites, DownWritesOn, DownTakes, DownTakesOn, GivesBatch, GivesBatchOn, DownDrops, DownReads, DownReadsOn, DownEnds, DownEndsOn, Becomes};
 ghost use Rattle.relay_core.specs.Table.{after_down_write, step_of_down_write, with_upgrade, with_response_done, with_request_done, with_piece_read, with_client_finished};
 
 use crate::batch::{has_end, next_batch};
@@ -16,11 +17,15 @@ use relay_tasks::{Error, Fail, Pause, TaskList, Took};
 
 impl Duplex {
     /// One write to the client.
-    pub(crate) fn down_write<D: Down>(&mut self, down: &mut D) -> Step
+    pub(crate) fn down_write<D: Down>(&mut self, client: &mut D::Client, down: &mut D) -> Step
         requires { IsTrue (D.state down.old).pending }
-        ensures { DownWrites self.old (D.state down.old) self.new (D.state down.new) result }
+        ensures exact { DownWrites self.old (D.state down.old) self.new (D.state down.new) result }
+        ensures goes { (s : Origin) (p : DownPast) → D.past down.old client.old s p
+            → DownWritesOn (D.past down.new client.new s) (D.blames down.new client.new s) p
+            self.old (D.state down.old) self.new (D.state down.new) result }
+        ensures silent { result ≡ Step.Waited Pause.Silent → D.is_silent client.new }
     {
-        let answer = down.write_pending();
+        let answer = down.write_pending(client);
         self.after_down_write(answer)
     }
 
@@ -40,7 +45,11 @@ impl Duplex {
     /// Gives the tasks of the response pipe that go together to the client.
     pub(crate) fn down_take<D: Down>(&mut self, down: &mut D) -> Step
         requires { 0 < length self.old.responses.tasks }
-        ensures { DownTakes self.old (D.state down.old) self.new (D.state down.new) result }
+        ensures exact { DownTakes self.old (D.state down.old) self.new (D.state down.new) result }
+        ensures goes { (client : D.Client) (s : Origin) (p : DownPast) → D.past down.old client s p
+            → DownTakesOn (D.past down.new client s) (D.blames down.new client s)
+            (D.refuses down.new client s) p self.old (D.state down.old) self.new
+            (D.state down.new) result }
     {
         match next_batch(self.alloc, &mut self.responses) {
             Ok(tasks) => self.give_batch(down, tasks),
@@ -49,7 +58,11 @@ impl Duplex {
     }
 
     fn give_batch<D: Down>(&mut self, down: &mut D, tasks: TaskList) -> Step
-        ensures { GivesBatch self.old (D.state down.old) tasks self.new (D.state down.new) result }
+        ensures exact { GivesBatch self.old (D.state down.old) tasks self.new (D.state down.new) result }
+        ensures goes { (client : D.Client) (s : Origin) (p : DownPast) → D.past down.old client s p
+            → GivesBatchOn (D.past down.new client s) (D.blames down.new client s)
+            (D.refuses down.new client s) p self.old (D.state down.old) tasks self.new
+            (D.state down.new) result }
     {
         let was_upgraded = down.upgraded();
         let end = has_end(&tasks);
@@ -102,12 +115,16 @@ impl Duplex {
     }
 
     /// Reads a piece of the request and puts it.
-    pub(crate) fn down_read<D: Down>(&mut self, down: &mut D) -> Step
+    pub(crate) fn down_read<D: Down>(&mut self, client: &mut D::Client, down: &mut D) -> Step
         requires { IsTrue (has_room self.old.requests) }
-        ensures { DownReads self.old (D.state down.old) self.new (D.state down.new) result }
+        ensures exact { DownReads self.old (D.state down.old) self.new (D.state down.new) result }
+        ensures goes { (s : Origin) (p : DownPast) → D.past down.old client.old s p
+            → DownReadsOn (D.past down.new client.new s) (D.blames down.new client.new s) p
+            self.old (D.state down.old) self.new (D.state down.new) result }
+        ensures silent { result ≡ Step.Waited Pause.Silent → D.is_silent client.new }
     {
         let upgraded = down.upgraded();
-        match down.read_piece(self.client_request.is_done()) {
+        match down.read_piece(client, self.client_request.is_done()) {
             Took::Item(piece) => self.put_piece(piece, upgraded),
             Took::More => Step::Moved,
             Took::Waited(pause) => Step::Waited(pause),
@@ -135,7 +152,10 @@ impl Duplex {
 
     /// Ends the response's body; with nothing pending then, the client's half has finished.
     pub(crate) fn down_finish<D: Down>(&mut self, down: &mut D) -> Step
-        ensures { DownEnds self.old (D.state down.old) self.new (D.state down.new) result }
+        ensures exact { DownEnds self.old (D.state down.old) self.new (D.state down.new) result }
+        ensures goes { (client : D.Client) (s : Origin) (p : DownPast) → D.past down.old client s p
+            → DownEndsOn (D.past down.new client s) (D.blames down.new client s) p self.old
+            (D.state down.old) self.new (D.state down.new) result }
     {
         match down.finish() {
             Ok(()) => {

@@ -3,7 +3,7 @@
 //! The client's half reads pieces of the request into one pipe and takes tasks of the response out
 //! of the other; the upstream half does the reverse. Which steps are possible is a table over what
 //! both halves hold, `specs/Table.antt`; a schedule picks one of them.
-ghost use Rattle.std.specs.Prelude.{◌≡◌, ◌&&◌, ◌||◌, [], true, false, not, is_none, None, length, IsTrue, IsNone, IfSome};
+ghost use Rattle.std.specs.Prelude.{◌≡◌, ◌&&◌, ◌||◌, ◌⊎◌, [], true, false, not, is_none, None, length, IsTrue, IsNone, IfSome};
 ghost use Rattle.relay_links.specs.Branch.{has, is_same_branch};
 ghost use Rattle.relay_links.specs.declared.branch.Branch.{Branch};
 ghost use Rattle.relay_core.specs.Down.{DownState};
@@ -11,7 +11,8 @@ ghost use Rattle.relay_core.specs.State.{is_reading, is_response_done};
 ghost use Rattle.relay_core.specs.Up.{UpState};
 ghost use Rattle.relay_core.specs.Piece.{task_put_of};
 ghost use Rattle.relay_core.specs.Causes.{HasCause, KeepsSendError, Tells, told_of};
-ghost use Rattle.relay_core.specs.Moves.{Start, Moved};
+ghost use Rattle.relay_core.specs.Past.{Origin, DownPast, UpPast};
+ghost use Rattle.relay_core.specs.Moves.{SoFar, Goes};
 ghost use Rattle.relay_core.specs.Sound.{IsSound};
 ghost use Rattle.relay_core.specs.Ends.{EndsRequest, EndsResponse, can_pass_on};
 ghost use Rattle.relay_core.specs.Pipe.{places};
@@ -27,7 +28,7 @@ use crate::response_state::ResponseStateMachine;
 use crate::step::{Step, UpKind};
 use crate::up::Up;
 use relay_links::{BRANCHES, Branch, BranchSet, Schedule};
-use relay_tasks::Error;
+use relay_tasks::{Error, Pause};
 use std::alloc::Global;
 
 /// Both halves of an exchange behind its heads.
@@ -246,20 +247,35 @@ impl Duplex {
     }
 
     /// Takes the step of the branch.
-    fn step_by<D: Down, U: Up>(&mut self, down: &mut D, up: &mut U, branch: Branch) -> Step
+    fn step_by<D: Down, U: Up>(
+        &mut self,
+        client: &mut D::Client,
+        down: &mut D,
+        up: &mut U,
+        branch: Branch,
+    ) -> Step
         requires { IsTrue (enabled (core self.old (D.state down.old) (U.state up.old)) branch) }
-        ensures { StepsTo branch (core self.old (D.state down.old) (U.state up.old)) (core self.new (D.state down.new) (U.state up.new)) result }
+        ensures exact { StepsTo branch (core self.old (D.state down.old) (U.state up.old))
+            (core self.new (D.state down.new) (U.state up.new)) result }
+        ensures goes { (s : Origin) (p : DownPast) (q : UpPast)
+            → SoFar (D.past down.old client.old s) (U.past up.old s) (U.blames up.old s)
+            (core self.old (D.state down.old) (U.state up.old)) p q
+            → Goes (D.past down.new client.new s) (D.blames down.new client.new s)
+            (D.refuses down.new client.new s) (U.past up.new s) (U.blames up.new s)
+            (core self.new (D.state down.new) (U.state up.new)) result }
+        ensures silent { result ≡ Step.Waited Pause.Silent
+            → D.is_silent client.new ⊎ U.is_silent up.new }
     {
         match branch {
             Branch::UpWrite => self.up_write(up),
-            Branch::DownWrite => self.down_write(down),
+            Branch::DownWrite => self.down_write(client, down),
             Branch::UpTake => self.up_take(up, down.upgraded()),
             Branch::DownTake => self.down_take(down),
             Branch::DownDrop => self.down_drop(),
             Branch::DownEnd => self.down_end(),
             Branch::DownClosed => self.down_closed(),
             Branch::UpRead => self.up_read(up, down.upgraded()),
-            Branch::DownRead => self.down_read(down),
+            Branch::DownRead => self.down_read(client, down),
             Branch::UpFinish => self.up_finish(),
             Branch::DownFinish => self.down_finish(down),
             Branch::MessageUp => unreachable!(),
@@ -269,7 +285,16 @@ impl Duplex {
 
     /// Takes one step by the branch, which is enabled. `Waited` changes nothing but the count of the
     /// side that had to wait; `Failed` marks both pipes, and no branch is enabled from then on.
-    pub fn step<D: Down, U: Up>(&mut self, down: &mut D, up: &mut U, branch: Branch) -> Step
+    ///
+    /// `Failed` with an error is one for which a side answers, the last that it told or the send
+    /// error that was kept, or one that tasks of the response are refused with.
+    pub fn step<D: Down, U: Up>(
+        &mut self,
+        client: &mut D::Client,
+        down: &mut D,
+        up: &mut U,
+        branch: Branch,
+    ) -> Step
         requires { IsTrue (enabled (core self.old (D.state down.old) (U.state up.old)) branch) }
 
         // What the branch does, with the answer of its side.
@@ -287,12 +312,20 @@ impl Duplex {
         // The answer says exactly whether a half failed, and whether both have finished.
         ensures tells { Tells result self.new }
 
-        // What was put into a pipe since a start is what was taken out and what is held; behind the
-        // end of the request nothing is put.
-        ensures moved { (start : Start) → Moved start (core self.old (D.state down.old) (U.state up.old))
-            → Moved start (core self.new (D.state down.new) (U.state up.new)) }
-        ensures stops { IsTrue (D.state down.old).request_ended
-            → (D.state down.new).put ≡ (D.state down.old).put }
+        // The exchange so far goes on: what was put into a pipe is what was taken out and what is
+        // held, behind the end of the request nothing is put, where the step finished both
+        // directions were relayed, and where the request pipe is then full without a send error,
+        // the upstream half can write, take or finish.
+        ensures goes { (s : Origin) (p : DownPast) (q : UpPast)
+            → SoFar (D.past down.old client.old s) (U.past up.old s) (U.blames up.old s)
+            (core self.old (D.state down.old) (U.state up.old)) p q
+            → Goes (D.past down.new client.new s) (D.blames down.new client.new s)
+            (D.refuses down.new client.new s) (U.past up.new s) (U.blames up.new s)
+            (core self.new (D.state down.new) (U.state up.new)) result }
+
+        // Silence is that of a link.
+        ensures silent { result ≡ Step.Waited Pause.Silent
+            → D.is_silent client.new ⊎ U.is_silent up.new }
 
         // The client's request and the upstream's response become done for their causes alone.
         ensures request_done { IsTrue (is_reading self.old.client_request)
@@ -312,7 +345,7 @@ impl Duplex {
         ensures sound { IsSound (core self.old (D.state down.old) (U.state up.old))
             → IsSound (core self.new (D.state down.new) (U.state up.new)) }
     {
-        self.step_by(down, up, branch)
+        self.step_by(client, down, up, branch)
     }
 }
 

@@ -1,16 +1,29 @@
 //! The upstream's side of a duplex: what it means, and what each of its answers does.
-ghost use Rattle.std.specs.Prelude.{◌≡◌, IsTrue};
+ghost use Rattle.std.specs.Prelude.{◌≡◌, ◌++◌, ◌∷◌, ◌||◌, [], IsTrue};
+ghost use Rattle.relay_tasks.specs.declared.error.Error.{Error};
+ghost use Rattle.relay_tasks.specs.declared.error.ErrorSource.TheVariants.{Upstream};
+ghost use Rattle.relay_core.specs.Past.{Origin, UpPast, UpGoes, task_in, loses, error_of_took, error_of_put, error_of_result};
 ghost use Rattle.relay_core.specs.Up.{UpState, ReadsTask, TakesPiece, Writes};
 
 use crate::step::UpKind;
 use crate::told::Told;
 use relay_links::Put;
-use relay_tasks::{HttpTask, Result, Took};
+use relay_tasks::{HttpTask, Pause, Result, Took};
 
 /// The upstream's side: it gives the tasks of the response, and takes the pieces of the request. It
 /// means its state; each answer changes what its relation names, and no more.
+///
+/// It also means what passed through it since its link was handed out, by a relation: each call
+/// takes every past to one that goes on from it. `blames` says that the side answers for an error,
+/// which it does from then on, and `is_silent` that its link is silent on what was asked of it.
 pub trait Up {
     ghost state: { Self → UpState };
+
+    ghost past: { Self → Origin → UpPast → Type 0 };
+
+    ghost blames: { Self → Origin → UpPast → Error → Type 0 };
+
+    ghost is_silent: { Self → Type 0 };
 
     /// Which kind of upstream it is.
     fn kind(&self) -> UpKind
@@ -23,12 +36,20 @@ pub trait Up {
     /// Reads a task of the response. Its end comes with a task, and `End` is never answered; no
     /// item is `Failed`.
     fn read_task(&mut self) -> Took<HttpTask>
-        ensures { ReadsTask (state self.old) (state self.new) result };
+        ensures reads { ReadsTask (state self.old) (state self.new) result }
+        ensures goes { (s : Origin) (q : UpPast) → past self.old s q
+            → UpGoes (past self.new s) (blames self.old s) (blames self.new s) q
+            (q.read ++ task_in result) q.taken q.lost (error_of_took result) }
+        ensures silent { result ≡ Took.Waited Pause.Silent → is_silent self.new };
 
     /// Takes a piece of the request, and queues its bytes for the upstream. An error says that the
-    /// upstream cannot take it, or that the request ended short of its Content-Length.
+    /// upstream cannot take it, or that the request ended short of its Content-Length; the piece
+    /// counts as taken, and is lost.
     fn take_piece(&mut self, task: HttpTask) -> Result<()>
-        ensures { TakesPiece (state self.old) task (state self.new) result };
+        ensures takes { TakesPiece (state self.old) (state self.new) result }
+        ensures goes { (s : Origin) (q : UpPast) → past self.old s q
+            → UpGoes (past self.new s) (blames self.old s) (blames self.new s) q
+            q.read (q.taken ++ task ∷ []) (q.lost || loses result) (error_of_result result) };
 
     /// Whether output for the upstream is pending.
     fn has_pending(&self) -> bool
@@ -37,7 +58,11 @@ pub trait Up {
     /// Writes pending output once.
     fn write_pending(&mut self) -> Put
         requires { IsTrue (state self.old).pending }
-        ensures { Writes (state self.old) (state self.new) result };
+        ensures writes { Writes (state self.old) (state self.new) result }
+        ensures goes { (s : Origin) (q : UpPast) → past self.old s q
+            → UpGoes (past self.new s) (blames self.old s) (blames self.new s) q
+            q.read q.taken q.lost (error_of_put Upstream result) }
+        ensures silent { result ≡ Put.Silent → is_silent self.new };
 
     /// What the side tells of its answers.
     fn told(&self) -> Told

@@ -1,7 +1,8 @@
 //! The upstream half of a duplex: one function for each of its branches.
 ghost use Rattle.std.specs.Prelude.{◌≡◌, ◌<◌, length, IsTrue, false};
 ghost use Rattle.relay_core.specs.Pipe.{has_room};
-ghost use Rattle.relay_core.specs.Steps.{UpWrites, UpTakes, UpReads, UpEnds};
+ghost use Rattle.relay_core.specs.Past.{Origin, UpPast};
+ghost use Rattle.relay_core.specs.Steps.{UpWrites, UpWritesOn, UpTakes, UpTakesOn, UpReads, UpReadsOn, UpEnds};
 ghost use Rattle.relay_core.specs.Table.{failed, with_send_error, after_up_write, step_of_up_write, after_piece, step_of_up_take, ends_request, ends_tunnel, with_task_read, custom_error, step_of_half};
 
 use crate::duplex::Duplex;
@@ -15,7 +16,11 @@ impl Duplex {
     /// One write to the upstream. A fault is kept as the send error.
     pub(crate) fn up_write<U: Up>(&mut self, up: &mut U) -> Step
         requires { IsTrue (U.state up.old).pending }
-        ensures { UpWrites self.old (U.state up.old) self.new (U.state up.new) result }
+        ensures exact { UpWrites self.old (U.state up.old) self.new (U.state up.new) result }
+        ensures goes { (s : Origin) (q : UpPast) → U.past up.old s q
+            → UpWritesOn (U.past up.new s) (U.blames up.old s) (U.blames up.new s) q
+            self.old (U.state up.old) self.new (U.state up.new) result }
+        ensures silent { result ≡ Step.Waited Pause.Silent → U.is_silent up.new }
     {
         let answer = up.write_pending();
         self.after_up_write(answer)
@@ -60,7 +65,10 @@ impl Duplex {
     /// send error.
     pub(crate) fn up_take<U: Up>(&mut self, up: &mut U, tunnel: bool) -> Step
         requires { 0 < length self.old.requests.tasks }
-        ensures { UpTakes tunnel self.old (U.state up.old) self.new (U.state up.new) result }
+        ensures exact { UpTakes tunnel self.old (U.state up.old) self.new (U.state up.new) result }
+        ensures goes { (s : Origin) (q : UpPast) → U.past up.old s q
+            → UpTakesOn (U.past up.new s) (U.blames up.old s) (U.blames up.new s) q tunnel
+            self.old (U.state up.old) self.new (U.state up.new) result }
     {
         let piece = self.requests.take_held();
         let ends_request = ends_request(&piece, tunnel);
@@ -89,7 +97,11 @@ impl Duplex {
     /// error where one is kept.
     pub(crate) fn up_read<U: Up>(&mut self, up: &mut U, tunnel: bool) -> Step
         requires { IsTrue (has_room self.old.responses) }
-        ensures { UpReads tunnel self.old (U.state up.old) self.new (U.state up.new) result }
+        ensures exact { UpReads tunnel self.old (U.state up.old) self.new (U.state up.new) result }
+        ensures goes { (s : Origin) (q : UpPast) → U.past up.old s q
+            → UpReadsOn (U.past up.new s) (U.blames up.old s) (U.blames up.new s) q tunnel
+            self.old (U.state up.old) self.new (U.state up.new) result }
+        ensures silent { result ≡ Step.Waited Pause.Silent → U.is_silent up.new }
     {
         match up.read_task() {
             Took::Item(task) => self.put_response(task, tunnel),

@@ -1,4 +1,4 @@
-ghost use Rattle.std.specs.Prelude.{◌≡◌, ◌++◌, [], false, None, Some, OnOk, OnErr, IsTrue};
+ghost use Rattle.std.specs.Prelude.{◌≡◌, ◌++◌, ◌∷◌, [], false, None, Some, OnOk, OnErr, IsTrue};
 ghost use Rattle.std.specs.List.{flat_map, list_any};
 ghost use Rattle.relay_core.specs.declared.step.UpKind.TheVariants.{H1};
 ghost use Rattle.relay_core.specs.Piece.{put_of};
@@ -32,13 +32,21 @@ fn tell(told: Told, error: Error) -> Told
     }
 }
 
+/// Puts the task behind the others, where there is memory.
+fn push(tasks: &mut TaskList, task: HttpTask) -> bool
+    ensures pushed { IsTrue result → tasks.new ≡ tasks.old ++ task ∷ [] }
+    ensures same { result ≡ false → tasks.new ≡ tasks.old }
+{
+    tasks.push(task).is_ok()
+}
+
 /// An upstream that gives pieces with these bytes, the last first, and then the end. It takes each
 /// task, or refuses each with an error.
 #[derive(Drop)]
 struct Upstream {
     pieces: Vec<&'static str>,
     refuses: Option<Error>,
-    got: Vec<HttpTask>,
+    got: TaskList,
     pending: bool,
     told: Told,
 }
@@ -46,12 +54,16 @@ struct Upstream {
 impl Up for Upstream {
     ghost state = { λ u. record {
       kind = H1;
-      read = None;
-      taken = None;
       upgraded = false;
       pending = u.pending;
       told = u.told;
     } };
+
+    ghost past = { λ u s q. q.lost ≡ false → q.taken ≡ u.got };
+
+    ghost blames = { λ u s q e. u.refuses ≡ Some e };
+
+    ghost is_silent = { λ u. ⊥ };
 
     fn kind(&self) -> UpKind {
         UpKind::H1
@@ -76,11 +88,11 @@ impl Up for Upstream {
             self.told = tell(self.told, error);
             return Err(Fail::Error(error));
         }
-        self.pending = true;
-        match self.got.push(task) {
-            Ok(()) => Ok(()),
-            Err(_) => Err(Fail::OutOfMemory),
+        if push(&mut self.got, task) {
+            self.pending = true;
+            return Ok(());
         }
+        Err(Fail::OutOfMemory)
     }
 
     fn has_pending(&self) -> bool {
@@ -105,6 +117,7 @@ struct Client {
     breaks_off: Option<Error>,
     put: TaskList,
     batches: Vec<TaskList>,
+    closing: TaskList,
     ended: bool,
     finished: bool,
     pending: bool,
@@ -170,9 +183,9 @@ fn keep(batches: &mut Vec<TaskList>, tasks: TaskList) -> bool
 }
 
 impl Down for Client {
+    type Client = ();
+
     ghost state = { λ c. record {
-      put = c.put;
-      batched = flat_map (λ batch. batch) c.batches.items;
       request_ended = c.ended;
       body_done = c.ended;
       awaits_upgrade = false;
@@ -182,6 +195,15 @@ impl Down for Client {
       pending = c.pending;
       told = c.told;
     } };
+
+    ghost past = { λ c client s p. (p.put ≡ c.put)
+        × (p.batched ≡ flat_map (λ batch. batch) c.batches.items) × (p.closing ≡ c.closing) };
+
+    ghost blames = { λ c client s p e. c.told.last ≡ Some e };
+
+    ghost refuses = { λ c client s p tasks e. ⊥ };
+
+    ghost is_silent = { λ client. ⊥ };
 
     fn may_read(&self) -> bool {
         true
@@ -195,7 +217,7 @@ impl Down for Client {
         false
     }
 
-    fn read_piece(&mut self, _idle: bool) -> Took<Piece> {
+    fn read_piece(&mut self, _client: &mut (), _idle: bool) -> Took<Piece> {
         if self.ended {
             return Took::More;
         }
@@ -225,16 +247,17 @@ impl Down for Client {
         self.pending
     }
 
-    fn write_pending(&mut self) -> Put {
+    fn write_pending(&mut self, _client: &mut ()) -> Put {
         self.pending = false;
         Put::Took(1)
     }
 
     fn finish(&mut self) -> Result<()> {
-        if !self.finished {
-            self.finished = true;
-            self.pending = true;
+        if !push(&mut self.closing, HttpTask::Done) {
+            return Err(Fail::OutOfMemory);
         }
+        self.pending = self.pending || !self.finished;
+        self.finished = true;
         Ok(())
     }
 
@@ -246,6 +269,7 @@ impl Down for Client {
 /// Takes as many steps by that schedule, and answers as the last.
 fn run<D: Down, U: Up, H: Schedule>(
     duplex: &mut Duplex,
+    client: &mut D::Client,
     down: &mut D,
     up: &mut U,
     schedule: &mut H,
@@ -254,7 +278,7 @@ fn run<D: Down, U: Up, H: Schedule>(
     let mut last = Step::Moved;
     for _ in 0..turns {
         match duplex.choose(down, up, schedule) {
-            Some(branch) => last = duplex.step(down, up, branch),
+            Some(branch) => last = duplex.step(client, down, up, branch),
             None => return last,
         }
     }
@@ -267,6 +291,7 @@ fn sending(alloc: Global, pieces: Vec<&'static str>, breaks_off: Option<Error>) 
         breaks_off,
         put: TaskList::new(alloc),
         batches: Vec::new(alloc),
+        closing: TaskList::new(alloc),
         ended: false,
         finished: false,
         pending: false,
@@ -278,7 +303,7 @@ fn serving(alloc: Global, pieces: Vec<&'static str>, refuses: Option<Error>) -> 
     Upstream {
         pieces,
         refuses,
-        got: Vec::new(alloc),
+        got: TaskList::new(alloc),
         pending: false,
         told: NOTHING_TOLD,
     }
@@ -305,7 +330,14 @@ fn an_upload_and_a_download_run_to_their_end(rt: HostRuntime) -> std::result::Re
     let mut down = sending(alloc, vec![in alloc; "c", "", "b", "a"]?, None);
     let mut up = serving(alloc, vec![in alloc; "y", "x"]?, None);
     let mut duplex = begun(alloc);
-    run(&mut duplex, &mut down, &mut up, &mut RoundRobin::new(), 100);
+    run(
+        &mut duplex,
+        &mut (),
+        &mut down,
+        &mut up,
+        &mut RoundRobin::new(),
+        100,
+    );
     assert!(rt; ended_well(&duplex));
     assert_eq!(rt;
         up.got.len(),
@@ -322,7 +354,14 @@ fn a_client_that_breaks_off_fails_the_step(rt: HostRuntime) -> std::result::Resu
     let mut down = sending(alloc, vec![in alloc; "a"]?, Some(closed));
     let mut up = serving(alloc, vec![in alloc]?, None);
     let mut duplex = begun(alloc);
-    let last = run(&mut duplex, &mut down, &mut up, &mut RoundRobin::new(), 100);
+    let last = run(
+        &mut duplex,
+        &mut (),
+        &mut down,
+        &mut up,
+        &mut RoundRobin::new(),
+        100,
+    );
     assert_eq!(rt; last, Step::Failed(Fail::Error(closed)));
     assert!(rt; has_failed(&duplex));
     assert_eq!(rt; down.put.len(), 1, "no end is put");

@@ -1,5 +1,5 @@
 -- A task that is moved leaves the pipe and joins the list; without memory it is lost.
-use Rattle.std.proofs.Common.{List, [], ◌∷◌, ◌++◌, sym, ◌∙◌, ap, subst, append_assoc}
+use Rattle.std.proofs.Common.{List, sym, ◌∙◌, subst}
 use Rattle.relay_tasks.specs.declared.task.HttpTask.{HttpTask}
 use Rattle.relay_core.proofs.BatchLemmas.{Moving, moving_on, on_err, loses_after}
 use Rattle.relay_core.proofs.batch.move_plain.Goals as goal

@@ -1,5 +1,5 @@
 -- What was taken out of the pipe before memory ran out is lost.
-use Rattle.std.proofs.Common.{refl, [], ◌∷◌}
+use Rattle.std.proofs.Common.{[], ◌∷◌}
 use Rattle.relay_core.proofs.BatchLemmas.{loses_more, on_err}
 use Rattle.relay_core.proofs.batch.next_batch.Goals as goal
 

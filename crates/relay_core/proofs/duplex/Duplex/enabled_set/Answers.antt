@@ -1,5 +1,5 @@
 -- One more branch of the order is in the set where it can be taken; at the end all were looked at.
-use Rattle.std.proofs.Common.{refl, arith}
+use Rattle.std.proofs.Common.{refl}
 use Rattle.relay_core.specs.Table.{State, enabled}
 use Rattle.relay_core.proofs.ChooseLemmas.{passed_more, passed_all}
 use Rattle.relay_core.proofs.duplex.Duplex.enabled_set.Goals as goal

@@ -2,8 +2,7 @@
 use Rattle.relay_core.specs.Table.{State}
 use Rattle.relay_core.proofs.CauseLemmas.{step_cause, step_keeps}
 use Rattle.relay_core.proofs.DoneLemmas.{step_ends_request, step_ends_response, response_full}
-use Rattle.relay_core.proofs.EndLemmas.{step_tells, step_stops}
-use Rattle.relay_core.proofs.MoveLemmas.{step_moves}
+use Rattle.relay_core.proofs.EndLemmas.{step_tells}
 use Rattle.relay_core.proofs.SoundLemmas.{step_sound}
 use Rattle.relay_core.proofs.duplex.Duplex.step.Goals as goal
 
@@ -19,7 +18,7 @@ returns-clause-cause g c =
       down = g.D.Down.state c.step_by.new.down;
       up = g.U.Up.state c.step_by.new.up;
     } in
-    step_cause c.args.branch old new c.step_by.result c.step_by.ensures
+    step_cause c.args.branch old new c.step_by.result c.step_by.ensures.exact
 
 pub returns-clause-kept : goal.returns-clause-kept
 returns-clause-kept g c =
@@ -33,7 +32,7 @@ returns-clause-kept g c =
       down = g.D.Down.state c.step_by.new.down;
       up = g.U.Up.state c.step_by.new.up;
     } in
-    step_keeps c.args.branch old new c.step_by.result c.step_by.ensures
+    step_keeps c.args.branch old new c.step_by.result c.step_by.ensures.exact
 
 pub returns-clause-tells : goal.returns-clause-tells
 returns-clause-tells g c =
@@ -47,35 +46,7 @@ returns-clause-tells g c =
       down = g.D.Down.state c.step_by.new.down;
       up = g.U.Up.state c.step_by.new.up;
     } in
-    step_tells c.args.branch old new c.step_by.result c.requires c.step_by.ensures
-
-pub returns-clause-moved : goal.returns-clause-moved
-returns-clause-moved g c =
-    let old : State = record {
-      duplex = c.args.self.now;
-      down = g.D.Down.state c.args.down.now;
-      up = g.U.Up.state c.args.up.now;
-    } in
-    let new : State = record {
-      duplex = c.step_by.new.self;
-      down = g.D.Down.state c.step_by.new.down;
-      up = g.U.Up.state c.step_by.new.up;
-    } in
-    λ start. step_moves start c.args.branch old new c.step_by.result c.requires c.step_by.ensures
-
-pub returns-clause-stops : goal.returns-clause-stops
-returns-clause-stops g c =
-    let old : State = record {
-      duplex = c.args.self.now;
-      down = g.D.Down.state c.args.down.now;
-      up = g.U.Up.state c.args.up.now;
-    } in
-    let new : State = record {
-      duplex = c.step_by.new.self;
-      down = g.D.Down.state c.step_by.new.down;
-      up = g.U.Up.state c.step_by.new.up;
-    } in
-    step_stops c.args.branch old new c.step_by.result c.step_by.ensures
+    step_tells c.args.branch old new c.step_by.result c.requires c.step_by.ensures.exact
 
 pub returns-clause-request_done : goal.returns-clause-request_done
 returns-clause-request_done g c =
@@ -89,7 +60,7 @@ returns-clause-request_done g c =
       down = g.D.Down.state c.step_by.new.down;
       up = g.U.Up.state c.step_by.new.up;
     } in
-    step_ends_request c.args.branch old new c.step_by.result c.requires c.step_by.ensures
+    step_ends_request c.args.branch old new c.step_by.result c.requires c.step_by.ensures.exact
 
 pub returns-clause-response_done : goal.returns-clause-response_done
 returns-clause-response_done g c =
@@ -103,7 +74,7 @@ returns-clause-response_done g c =
       down = g.D.Down.state c.step_by.new.down;
       up = g.U.Up.state c.step_by.new.up;
     } in
-    step_ends_response c.args.branch old new c.step_by.result c.step_by.ensures
+    step_ends_response c.args.branch old new c.step_by.result c.step_by.ensures.exact
 
 pub returns-clause-full : goal.returns-clause-full
 returns-clause-full g c =
@@ -126,4 +97,4 @@ returns-clause-sound g c =
       down = g.D.Down.state c.step_by.new.down;
       up = g.U.Up.state c.step_by.new.up;
     } in
-    step_sound c.args.branch old new c.step_by.result c.requires c.step_by.ensures
+    step_sound c.args.branch old new c.step_by.result c.requires c.step_by.ensures.exact

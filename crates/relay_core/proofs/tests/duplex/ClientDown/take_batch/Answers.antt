@@ -1,27 +1,25 @@
--- Where the tasks are not kept, all of them are left.
-use Rattle.std.proofs.Common.{◌≡◌, false, List, [], refl, ap}
+-- The batch is kept behind those before it.
+use Rattle.std.proofs.Common.{List, ◌++◌, refl, sym, ap, ◌∙◌}
 use Rattle.relay_tasks.specs.declared.task.HttpTask.{HttpTask}
-use Rattle.relay_core.specs.Down.{DownState}
 use Rattle.relay_core.proofs.tests.duplex.ClientDown.take_batch.Goals as goal
 
-pub returns : goal.returns
-returns c =
-    let side : List HttpTask → DownState = λ tasks. record {
-      put = c.args.self.now.put;
-      batched = tasks;
-      request_ended = c.args.self.now.ended;
-      body_done = c.args.self.now.ended;
-      awaits_upgrade = false;
-      upgraded = false;
-      response_done = false;
-      body_finished = c.args.self.now.finished;
-      pending = c.args.self.now.pending;
-      told = c.args.self.now.told;
-    } in
-    record {
-      filtered = [];
-      left = c.args.tasks;
-      parts = refl;
-      exact = ap side (c.keep.ensures.same c.if-keep.false);
-      by_failure = λ error alone. tt;
-    }
+pub returns-then-keep-clause-goes : goal.returns-then-keep-clause-goes
+returns-then-keep-clause-goes c = λ client s p holds. record {
+  past = record {
+    came = p.came;
+    written = p.written;
+    put = p.put;
+    batched = _;
+    closing = p.closing;
+  };
+  stands = (
+    holds.0,
+    ap (λ (xs : List HttpTask). xs ++ c.args.tasks) holds.1
+        ∙ sym (c.keep.ensures.kept c.if-keep.true),
+    holds.2,
+  );
+  is_put = refl;
+  is_batched = refl;
+  is_closing = refl;
+  blamed = λ e none. cc;
+}

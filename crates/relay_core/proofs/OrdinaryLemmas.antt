@@ -1,0 +1,742 @@
+-- Without a failure and without a tunnel, what is done is done for its cause, whatever step is taken.
+use Rattle.std.proofs.Common.{◌≡◌, Bool, true, false, ◌&&◌, ◌||◌, not, if◌then◌else◌, List, [], ◌∷◌, ◌++◌, option_to_list, Option, Some, None, Result, Ok, Err, refl, sym, ap, ◌∙◌, subst, inl, inr, ◌⊎◌, append_assoc, append-nil, ◌==◌, length, arith}
+use Rattle.std.specs.List.{list_any}
+use Rattle.relay_tasks.specs.declared.error.Error.{Error}
+use Rattle.relay_tasks.specs.declared.error.Fail.{Fail}
+use Rattle.relay_tasks.specs.declared.error.Fail.TheVariants as fail
+use Rattle.relay_tasks.specs.declared.task.HttpTask.{HttpTask}
+use Rattle.relay_tasks.specs.declared.task.HttpTask.TheVariants as task
+use Rattle.relay_tasks.specs.declared.took.Took.{Took}
+use Rattle.relay_tasks.specs.declared.took.Took.TheVariants as took
+use Rattle.relay_tasks.specs.Task.{is_end}
+use Rattle.relay_links.specs.declared.link.Put.{Put}
+use Rattle.relay_links.specs.declared.link.Put.TheVariants as put
+use Rattle.relay_core.specs.declared.downstream_state.DownstreamStateMachine.{DownstreamStateMachine}
+use Rattle.relay_core.specs.declared.downstream_state.DownstreamStateMachine.TheVariants.{Reading, ReadingFinished, Errored}
+use Rattle.relay_core.specs.declared.duplex.Duplex.{Duplex}
+use Rattle.relay_core.specs.declared.piece.Piece.{Piece}
+use Rattle.relay_core.specs.Down.{DownState, GivesPiece, ReadsPiece, TakesBatch, Finishes, accepts}
+use Rattle.relay_core.specs.Down as down
+use Rattle.relay_core.specs.Moves.{Steady, Ordinary, EndsLast}
+use Rattle.relay_core.specs.Past.{DownPast, UpPast, put_in, loses}
+use Rattle.relay_core.specs.Piece.{is_empty, task_of, task_put_of, put_of}
+use Rattle.relay_core.specs.Pipe as pipe
+use Rattle.relay_core.specs.Sound.{Runs}
+use Rattle.relay_core.specs.State.{is_response_done, is_reading, is_complete, finished}
+use Rattle.relay_core.specs.Steps.{with_requests, with_responses}
+use Rattle.relay_core.specs.Table.{State, core, is_failed, with_send_error, after_up_write, after_down_write, after_up_take, with_piece_sent, ends_request, with_upgrade, with_response_done, with_request_done, after_batch, after_up_read, with_task_read, told_error, after_down_read, with_piece_read, after_up_finish, after_down_finish, up_is_through}
+use Rattle.relay_core.specs.Up.{UpState}
+use Rattle.relay_core.proofs.BoolLemmas.{clash, and_left, and_right, and_both, and-true, or_inl, or_inr, or_cases, or_false}
+use Rattle.std.proofs.lemmas.Bool.{eqb-true}
+use Rattle.relay_core.proofs.TaskLemmas.{any_left, any_right, any_cases, ends_more}
+
+-- the pasts have these lists
+pub ordinary_at : (s : State) (p p' : DownPast) (q q' : UpPast) → p'.put ≡ p.put
+    → p'.batched ≡ p.batched → p'.closing ≡ p.closing → q'.lost ≡ q.lost → Ordinary s p q
+    → Ordinary s p' q'
+ordinary_at s p p' q q' is_put is_batched is_closing is_lost o = record {
+  ends_last = let P : List HttpTask → Type 0 = λ xs. EndsLast xs in
+      subst P (sym is_put) o.ends_last;
+  ended = λ h. o.ended (ap (list_any is_end) (sym is_put) ∙ h);
+  request_done = o.request_done;
+  unlost = λ h. is_lost ∙ o.unlost h;
+  whole = o.whole;
+  sent = o.sent;
+  through = o.through;
+  answered = λ h. elim (o.answered h) [
+    | inl given ↦ inl (ap (list_any is_end) is_batched ∙ given)
+    | inr said ↦ inr said
+  ];
+  client_done = o.client_done;
+  closed = elim o.closed [
+    | inl none ↦ inl (is_closing ∙ none)
+    | inr done ↦ inr done
+  ];
+}
+
+-- an upstream half that runs wrote, and its pending output changed
+ordinary_written : (d : Duplex) (side : DownState) (u u' : UpState) (p : DownPast) (q : UpPast)
+    → d.upstream_finished ≡ false → Ordinary (core d side u) p q → Ordinary (core d side u') p q
+ordinary_written d side u u' p q runs o = record {
+  ends_last = o.ends_last;
+  ended = o.ended;
+  request_done = o.request_done;
+  unlost = o.unlost;
+  whole = o.whole;
+  sent = λ h fin. clash d.upstream_finished fin runs;
+  through = o.through;
+  answered = o.answered;
+  client_done = o.client_done;
+  closed = o.closed;
+}
+
+-- with a send error nothing is said of the upstream's request
+ordinary_unsent : (d : Duplex) (error : Error) (side : DownState) (u u' : UpState) (p : DownPast)
+    (q q' : UpPast) → d.upstream_finished ≡ false → Ordinary (core d side u) p q
+    → Ordinary (core (with_send_error d error) side u') p q'
+ordinary_unsent d error side u u' p q q' runs o = record {
+  ends_last = o.ends_last;
+  ended = o.ended;
+  request_done = o.request_done;
+  unlost = λ h. cc;
+  whole = λ h done. cc;
+  sent = λ h fin. clash d.upstream_finished fin runs;
+  through = λ fin. clash d.upstream_finished fin runs;
+  answered = o.answered;
+  client_done = o.client_done;
+  closed = o.closed;
+}
+
+pub ordinary_up_write : (d : Duplex) (side : DownState) (u u' : UpState) (answer : Put)
+    (p : DownPast) (q : UpPast) → d.upstream_finished ≡ false → Ordinary (core d side u) p q
+    → is_failed (after_up_write d answer).word ≡ false
+    → Ordinary (core (after_up_write d answer) side u') p q
+ordinary_up_write d side u u' (put.Took n) p q runs o alive = ordinary_written d side u u' p q runs o
+ordinary_up_write d side u u' put.NotReady p q runs o alive =
+    ordinary_written d side u u' p q runs o
+ordinary_up_write d side u u' put.Silent p q runs o alive = ordinary_written d side u u' p q runs o
+ordinary_up_write d side u u' (put.Failed fault) p q runs o alive =
+    ordinary_unsent d _ side u u' p q q runs o
+ordinary_up_write d side u u' put.OutOfMemory p q runs o alive = clash true refl alive
+
+-- what the client's side tells of its request and its response stays
+pub record SameEnds (old new : DownState) : Type 0 where
+  pub request : new.request_ended ≡ old.request_ended
+  pub response : new.response_done ≡ old.response_done
+
+-- the client's half runs, and its pending output changed
+ordinary_side : (d : Duplex) (side side' : DownState) (u : UpState) (p : DownPast) (q : UpPast)
+    → d.client_finished ≡ false → SameEnds side side' → Ordinary (core d side u) p q
+    → Ordinary (core d side' u) p q
+ordinary_side d side side' u p q runs same o = record {
+  ends_last = o.ends_last;
+  ended = λ h. same.request ∙ o.ended h;
+  request_done = λ h. elim (o.request_done h) [
+    | inl ended ↦ inl (same.request ∙ ended)
+    | inr closed ↦ inr closed
+  ];
+  unlost = o.unlost;
+  whole = λ h done. let w = o.whole h done in (w.0, same.request ∙ w.1);
+  sent = λ h fin. let w = o.sent h fin in (w.0, same.request ∙ w.1, w.2);
+  through = o.through;
+  answered = λ h. elim (o.answered h) [
+    | inl given ↦ inl given
+    | inr said ↦ inr (same.response ∙ said)
+  ];
+  client_done = λ fin. clash d.client_finished fin runs;
+  closed = o.closed;
+}
+
+same_ends : (old new : DownState) → new ≡ old → SameEnds old new
+same_ends old new is = record {
+  request = ap (λ (s : DownState). s.request_ended) is;
+  response = ap (λ (s : DownState). s.response_done) is;
+}
+
+down_writes_ends : (old new : DownState) (answer : Put) → down.Writes old new answer
+    → SameEnds old new
+down_writes_ends old new (put.Took n) is = record {
+  request = ap (λ (s : DownState). s.request_ended) is;
+  response = ap (λ (s : DownState). s.response_done) is;
+}
+down_writes_ends old new put.NotReady is = record {
+  request = ap (λ (s : DownState). s.request_ended) is;
+  response = ap (λ (s : DownState). s.response_done) is;
+}
+down_writes_ends old new put.Silent is = record {
+  request = ap (λ (s : DownState). s.request_ended) is;
+  response = ap (λ (s : DownState). s.response_done) is;
+}
+down_writes_ends old new (put.Failed fault) is = record {
+  request = ap (λ (s : DownState). s.request_ended) is;
+  response = ap (λ (s : DownState). s.response_done) is;
+}
+down_writes_ends old new put.OutOfMemory is = same_ends old new is
+
+pub ordinary_down_write : (d : Duplex) (side side' : DownState) (u : UpState) (answer : Put)
+    (p : DownPast) (q : UpPast) → d.client_finished ≡ false → down.Writes side side' answer
+    → Ordinary (core d side u) p q → is_failed (after_down_write d answer).word ≡ false
+    → Ordinary (core (after_down_write d answer) side' u) p q
+ordinary_down_write d side side' u (put.Took n) p q runs writes o alive =
+    ordinary_side d side side' u p q runs (down_writes_ends side side' (put.Took n) writes) o
+ordinary_down_write d side side' u put.NotReady p q runs writes o alive =
+    ordinary_side d side side' u p q runs (down_writes_ends side side' put.NotReady writes) o
+ordinary_down_write d side side' u put.Silent p q runs writes o alive =
+    ordinary_side d side side' u p q runs (down_writes_ends side side' put.Silent writes) o
+ordinary_down_write d side side' u (put.Failed fault) p q runs writes o alive =
+    clash true refl alive
+ordinary_down_write d side side' u put.OutOfMemory p q runs writes o alive = clash true refl alive
+
+-- without a tunnel, a piece with which the upstream's request ends is an end
+ends_is_end : (piece : HttpTask) → ends_request false piece ≡ is_end piece
+ends_is_end (task.Header head end) = refl
+ends_is_end (task.Body bytes end) = and-true end
+ends_is_end (task.UpgradedBody bytes end) = refl
+ends_is_end (task.Trailer fields) = refl
+ends_is_end task.Done = refl
+ends_is_end (task.Failed error) = refl
+
+-- the end of the request was taken: nothing is held behind it, and the client told that it ended
+ended_whole : (put taken : List HttpTask) (piece : HttpTask) (rest : List HttpTask) (ended : Bool)
+    → put ≡ taken ++ (piece ∷ rest) → is_end piece ≡ true → EndsLast put
+    → (list_any is_end put ≡ true → ended ≡ true) → (rest ≡ []) × (ended ≡ true)
+ended_whole put taken piece rest ended parts end last tells =
+    let front : list_any is_end (taken ++ piece ∷ []) ≡ true =
+    any_right is_end taken (piece ∷ []) (or_inl (is_end piece) false end) in
+    let parts' : put ≡ (taken ++ piece ∷ []) ++ rest =
+    parts ∙ sym (append_assoc taken (piece ∷ []) rest) in (
+      last (taken ++ piece ∷ []) rest parts' front,
+      tells (ap (list_any is_end) parts' ∙ any_left is_end (taken ++ piece ∷ []) rest front),
+    )
+
+-- the upstream took a piece
+ordinary_sent : (d : Duplex) (tunnel : Bool) (side : DownState) (u u' : UpState)
+    (piece : HttpTask) (rest : List HttpTask) (p : DownPast) (q q' : UpPast) → tunnel ≡ false
+    → d.upstream_finished ≡ false → d.upstream_request_done ≡ false
+    → p.put ≡ q.taken ++ (piece ∷ rest) → q'.lost ≡ (q.lost || false)
+    → Ordinary (core d side u) p q
+    → Ordinary (core (with_piece_sent (with_requests d rest) tunnel piece) side u') p q'
+ordinary_sent d true side u u' piece rest p q q' plain runs unsent parts is_lost o =
+    clash true refl plain
+ordinary_sent d false side u u' piece rest p q q' plain runs unsent parts is_lost o = record {
+  ends_last = o.ends_last;
+  ended = o.ended;
+  request_done = o.request_done;
+  unlost = λ h. is_lost ∙ or_false q.lost false (o.unlost h) refl;
+  whole = λ h done. elim (or_cases d.upstream_request_done (ends_request false piece) done) [
+    | inl before ↦ clash d.upstream_request_done before unsent
+    | inr now ↦ ended_whole p.put q.taken piece rest side.request_ended parts
+        (sym (ends_is_end piece) ∙ now) o.ends_last o.ended
+  ];
+  sent = λ h fin. clash d.upstream_finished fin runs;
+  through = λ fin. clash d.upstream_finished fin runs;
+  answered = o.answered;
+  client_done = o.client_done;
+  closed = o.closed;
+}
+
+pub ordinary_up_take : (d : Duplex) (tunnel : Bool) (side : DownState) (u u' : UpState)
+    (piece : HttpTask) (rest : List HttpTask) (answer : Result Unit Fail) (p : DownPast)
+    (q q' : UpPast) → tunnel ≡ false → d.upstream_finished ≡ false
+    → d.upstream_request_done ≡ false → p.put ≡ q.taken ++ (piece ∷ rest)
+    → q'.lost ≡ (q.lost || loses answer) → Ordinary (core d side u) p q
+    → is_failed (after_up_take (with_requests d rest) tunnel piece answer).word ≡ false
+    → Ordinary (core (after_up_take (with_requests d rest) tunnel piece answer) side u') p q'
+ordinary_up_take d tunnel side u u' piece rest (Ok done) p q q' plain runs unsent parts is_lost o
+    alive =
+    ordinary_sent d tunnel side u u' piece rest p q q' plain runs unsent parts is_lost o
+ordinary_up_take d tunnel side u u' piece rest (Err (fail.Error error)) p q q' plain runs unsent
+    parts is_lost o alive = record {
+      ends_last = o.ends_last;
+      ended = o.ended;
+      request_done = o.request_done;
+      unlost = λ h. cc;
+      whole = λ h done. cc;
+      sent = λ h fin. clash d.upstream_finished fin runs;
+      through = λ fin. clash d.upstream_finished fin runs;
+      answered = o.answered;
+      client_done = o.client_done;
+      closed = o.closed;
+    }
+ordinary_up_take d tunnel side u u' piece rest (Err fail.OutOfMemory) p q q' plain runs unsent
+    parts is_lost o alive = clash true refl alive
+
+-- a request that is done after it may have ended was done before, or ended
+done_before : (request : DownstreamStateMachine) (set : Bool)
+    → is_reading (finished request set) ≡ false → (is_reading request ≡ false) ⊎ (set ≡ true)
+done_before Reading true h = inr refl
+done_before Reading false h = inl h
+done_before ReadingFinished set h = inl refl
+done_before Errored set h = inl refl
+
+-- a response that is done stays done
+response_stays : (u v c : Bool) → (u && c) ≡ true → ((u || v) && c) ≡ true
+response_stays true v c h = h
+response_stays false v c h = clash false h refl
+
+-- the client was given a batch, and accepted no 101 in it
+ordinary_given : (d : Duplex) (accepted upgraded done : Bool) (side side' : DownState)
+    (u : UpState) (batch rest : List HttpTask) (p p' : DownPast) (q : UpPast)
+    → accepted ≡ false → upgraded ≡ false → d.client_finished ≡ false
+    → is_response_done d.client_response ≡ false → side'.request_ended ≡ side.request_ended
+    → side'.response_done ≡ done → p'.put ≡ p.put → p'.batched ≡ p.batched ++ batch
+    → p'.closing ≡ p.closing → Ordinary (core d side u) p q
+    → Ordinary (core (with_request_done (with_response_done
+    (with_upgrade (with_responses d rest) accepted) (list_any is_end batch || done))
+    (list_any is_end batch && upgraded)) side' u) p' q
+ordinary_given d true upgraded done side side' u batch rest p p' q once plain runs open_yet ended said
+    is_put is_batched is_closing o = clash true refl once
+ordinary_given d false upgraded done side side' u batch rest p p' q once plain runs open_yet ended
+    said is_put is_batched is_closing o = record {
+      ends_last = let P : List HttpTask → Type 0 = λ xs. EndsLast xs in
+          subst P (sym is_put) o.ends_last;
+      ended = λ h. ended ∙ o.ended (ap (list_any is_end) (sym is_put) ∙ h);
+      request_done = λ h.
+          elim (done_before d.client_request (list_any is_end batch && upgraded) h) [
+            | inl before ↦ elim (o.request_done before) [
+              | inl over ↦ inl (ended ∙ over)
+              | inr closed ↦ inr closed
+            ]
+            | inr now ↦ clash upgraded (and_right (list_any is_end batch) upgraded now) plain
+          ];
+      unlost = o.unlost;
+      whole = λ h over. let w = o.whole h over in (w.0, ended ∙ w.1);
+      sent = λ h fin. let w = o.sent h fin in (w.0, ended ∙ w.1, w.2);
+      through = o.through;
+      answered = λ h. elim (or_cases d.client_response.upstream_done
+          (list_any is_end batch || done) (and_left _ d.client_response.cached_done h)) [
+            | inl before ↦ clash (is_response_done d.client_response)
+                (and_both d.client_response.upstream_done d.client_response.cached_done before
+                (and_right _ d.client_response.cached_done h)) open_yet
+            | inr now ↦ elim (or_cases (list_any is_end batch) done now) [
+              | inl end ↦ inl (ap (list_any is_end) is_batched ∙ any_right is_end p.batched batch end)
+              | inr told ↦ inr (said ∙ told)
+            ]
+          ];
+      client_done = λ fin. clash d.client_finished fin runs;
+      closed = elim o.closed [
+        | inl none ↦ inl (is_closing ∙ none)
+        | inr over ↦ clash (is_response_done d.client_response) over open_yet
+      ];
+    }
+
+-- a 101 that is not seen was not accepted
+not_accepted : (side side' : DownState) → side'.upgraded ≡ false → accepts side side' ≡ false
+not_accepted side side' plain = none (not side.upgraded) side'.upgraded plain
+  where
+    none : (a b : Bool) → b ≡ false → (a && b) ≡ false
+    none true b h = h
+    none false b h = refl
+
+pub ordinary_batch : (d : Duplex) (side side' : DownState) (u : UpState)
+    (batch rest : List HttpTask) (done : Bool) (p p' : DownPast) (q : UpPast)
+    → side'.upgraded ≡ false → d.client_finished ≡ false
+    → is_response_done d.client_response ≡ false → TakesBatch side batch side' (Ok done)
+    → p'.put ≡ p.put → p'.batched ≡ p.batched ++ batch → p'.closing ≡ p.closing
+    → Ordinary (core d side u) p q
+    → Ordinary (core (after_batch (with_responses d rest) side batch side' (Ok done)) side' u) p' q
+ordinary_batch d side side' u batch rest done p p' q plain runs open_yet takes is_put is_batched
+    is_closing o =
+    let once = not_accepted side side' plain in
+    ordinary_given d (accepts side side') side'.upgraded done side side' u batch rest p p' q once
+    plain runs open_yet
+    (ap (λ (s : DownState). s.request_ended) takes.exact
+    ∙ ap (λ (b : Bool). if b then false else side.request_ended) once)
+    (ap (λ (s : DownState). s.response_done) takes.exact) is_put is_batched is_closing o
+
+-- a task of the response was dropped
+pub ordinary_drop : (d : Duplex) (side : DownState) (u : UpState) (rest : List HttpTask)
+    (p : DownPast) (q : UpPast) → Ordinary (core d side u) p q
+    → Ordinary (core (with_responses d rest) side u) p q
+ordinary_drop d side u rest p q o = record {
+  ends_last = o.ends_last;
+  ended = o.ended;
+  request_done = o.request_done;
+  unlost = o.unlost;
+  whole = o.whole;
+  sent = o.sent;
+  through = o.through;
+  answered = o.answered;
+  client_done = o.client_done;
+  closed = o.closed;
+}
+
+-- the request is done, since its pipe was closed
+pub ordinary_closed : (d : Duplex) (side : DownState) (u : UpState) (p : DownPast) (q : UpPast)
+    → d.client_finished ≡ false → d.requests.closed ≡ true → Ordinary (core d side u) p q
+    → Ordinary (core (with_request_done d true) side u) p q
+ordinary_closed d side u p q runs closed o = record {
+  ends_last = o.ends_last;
+  ended = o.ended;
+  request_done = λ h. inr closed;
+  unlost = o.unlost;
+  whole = o.whole;
+  sent = o.sent;
+  through = o.through;
+  answered = o.answered;
+  client_done = λ fin. clash d.client_finished fin runs;
+  closed = o.closed;
+}
+
+-- the upstream gave a task
+ordinary_task : (d : Duplex) (tunnel : Bool) (side : DownState) (u u' : UpState)
+    (new : HttpTask) (p : DownPast) (q : UpPast) → tunnel ≡ false → d.upstream_finished ≡ false
+    → Ordinary (core d side u) p q → Ordinary (core (with_task_read d tunnel new) side u') p q
+ordinary_task d tunnel side u u' new p q plain runs o = record {
+  ends_last = o.ends_last;
+  ended = o.ended;
+  request_done = o.request_done;
+  unlost = o.unlost;
+  whole = λ h done. elim (or_cases d.upstream_request_done (is_end new && tunnel) done) [
+    | inl before ↦ o.whole h before
+    | inr now ↦ clash tunnel (and_right (is_end new) tunnel now) plain
+  ];
+  sent = λ h fin. clash d.upstream_finished fin runs;
+  through = λ fin. clash d.upstream_finished fin runs;
+  answered = o.answered;
+  client_done = o.client_done;
+  closed = o.closed;
+}
+
+pub ordinary_up_read : (d : Duplex) (tunnel : Bool) (side : DownState) (u u' : UpState)
+    (answer : Took HttpTask) (p : DownPast) (q : UpPast) → tunnel ≡ false
+    → d.upstream_finished ≡ false → Ordinary (core d side u) p q
+    → is_failed (after_up_read d tunnel answer).word ≡ false
+    → Ordinary (core (after_up_read d tunnel answer) side u') p q
+ordinary_up_read d tunnel side u u' (took.Item new) p q plain runs o alive =
+    ordinary_task d tunnel side u u' new p q plain runs o
+ordinary_up_read d tunnel side u u' took.More p q plain runs o alive =
+    ordinary_written d side u u' p q runs o
+ordinary_up_read d tunnel side u u' (took.Waited why) p q plain runs o alive =
+    ordinary_written d side u u' p q runs o
+ordinary_up_read d tunnel side u u' took.End p q plain runs o alive =
+    ordinary_written d side u u' p q runs o
+ordinary_up_read d tunnel side u u' (took.Failed (fail.Error error)) p q plain runs o alive =
+    ordinary_task d tunnel side u u' (task.Failed (told_error d.send_error error)) p q plain runs o
+ordinary_up_read d tunnel side u u' (took.Failed fail.OutOfMemory) p q plain runs o alive =
+    clash true refl alive
+
+-- a piece that puts an end is the last of the request
+put_by : (piece : Piece) (none : Bool)
+    → list_any is_end (option_to_list (if none then None else Some (task_of false piece))) ≡ true
+    → piece.upstream_end ≡ true
+put_by piece true h = clash false h refl
+put_by piece false h = elim (or_cases piece.upstream_end false h) [
+  | inl end ↦ end
+  | inr never ↦ clash false never refl
+]
+
+put_end : (piece : Piece) → list_any is_end (put_of false piece) ≡ true
+    → piece.upstream_end ≡ true
+put_end piece h = put_by piece (is_empty piece.bytes && not piece.upstream_end) h
+
+-- nothing was put behind the end
+none_put : (tasks more : List HttpTask) → tasks ≡ [] → more ≡ [] → tasks ++ more ≡ []
+none_put tasks more is none = ap (λ (xs : List HttpTask). xs ++ more) is ∙ none
+
+-- the client gave a piece
+ordinary_piece : (d : Duplex) (tunnel : Bool) (side side' : DownState) (u : UpState)
+    (piece : Piece) (p p' : DownPast) (q : UpPast) → side.upgraded ≡ tunnel → tunnel ≡ false
+    → d.client_finished ≡ false → GivesPiece side side' piece
+    → p'.put ≡ p.put ++ put_of tunnel piece → p'.batched ≡ p.batched → p'.closing ≡ p.closing
+    → Ordinary (core d side u) p q → Ordinary (core (with_piece_read d tunnel piece) side' u) p' q
+ordinary_piece d true side side' u piece p p' q same plain runs gives is_put is_batched is_closing o =
+    clash true refl plain
+ordinary_piece d false side side' u piece p p' q same plain runs gives is_put is_batched is_closing
+    o =
+    let stops : side.request_ended ≡ true → put_of false piece ≡ [] =
+    λ over. ap (λ (b : Bool). put_of b piece) (sym same) ∙ gives.nothing_behind over in
+    let now : side'.request_ended ≡ (side.request_ended || piece.upstream_end) =
+    ap (λ (s : DownState). s.request_ended) gives.exact in
+    let stays : side.request_ended ≡ true → side'.request_ended ≡ true =
+    λ over. now ∙ or_inl side.request_ended piece.upstream_end over in
+    let said : side'.response_done ≡ side.response_done =
+    ap (λ (s : DownState). s.response_done) gives.exact in
+    record {
+      ends_last = let P : List HttpTask → Type 0 = λ xs. EndsLast xs in
+          subst P (sym is_put)
+          (ends_more p.put (task_put_of false piece) o.ends_last (λ any. stops (o.ended any)));
+      ended = λ h. elim (any_cases is_end p.put (put_of false piece)
+          (ap (list_any is_end) (sym is_put) ∙ h)) [
+            | inl before ↦ stays (o.ended before)
+            | inr end ↦ now ∙ or_inr side.request_ended piece.upstream_end (put_end piece end)
+          ];
+      request_done = λ h. elim (done_before d.client_request piece.client_end h) [
+        | inl before ↦ elim (o.request_done before) [
+          | inl over ↦ inl (stays over)
+          | inr closed ↦ inr closed
+        ]
+        | inr end ↦ inl (gives.ends end)
+      ];
+      unlost = o.unlost;
+      whole = λ h done. let w = o.whole h done in
+          (none_put d.requests.tasks (put_of false piece) w.0 (stops w.1), stays w.1);
+      sent = λ h fin. let w = o.sent h fin in
+          (none_put d.requests.tasks (put_of false piece) w.0 (stops w.1), stays w.1, w.2);
+      through = o.through;
+      answered = λ h. elim (or_cases d.client_response.upstream_done (piece.client_end && false)
+          (and_left _ d.client_response.cached_done h)) [
+            | inl before ↦ elim (o.answered (and_both d.client_response.upstream_done
+                d.client_response.cached_done before
+                (and_right _ d.client_response.cached_done h))) [
+                  | inl given ↦ inl (ap (list_any is_end) is_batched ∙ given)
+                  | inr told ↦ inr (said ∙ told)
+                ]
+            | inr never ↦ clash false (and_right piece.client_end false never) refl
+          ];
+      client_done = λ fin. clash d.client_finished fin runs;
+      closed = elim o.closed [
+        | inl none ↦ inl (is_closing ∙ none)
+        | inr over ↦ inr (response_stays d.client_response.upstream_done
+            (piece.client_end && false) d.client_response.cached_done over)
+      ];
+    }
+
+-- the client was read, and gave nothing
+ordinary_idle : (d : Duplex) (side side' : DownState) (u : UpState) (p p' : DownPast) (q : UpPast)
+    → d.client_finished ≡ false → SameEnds side side' → p'.put ≡ p.put ++ []
+    → p'.batched ≡ p.batched → p'.closing ≡ p.closing → Ordinary (core d side u) p q
+    → Ordinary (core d side' u) p' q
+ordinary_idle d side side' u p p' q runs same is_put is_batched is_closing o =
+    ordinary_at (core d side' u) p p' q q (is_put ∙ append-nil p.put) is_batched is_closing refl
+    (ordinary_side d side side' u p q runs same o)
+
+pub ordinary_down_read : (d : Duplex) (side side' : DownState) (u : UpState)
+    (answer : Took Piece) (p p' : DownPast) (q : UpPast) → side.upgraded ≡ false
+    → d.client_finished ≡ false → ReadsPiece side side' answer
+    → p'.put ≡ p.put ++ put_in side.upgraded answer → p'.batched ≡ p.batched
+    → p'.closing ≡ p.closing → Ordinary (core d side u) p q
+    → is_failed (after_down_read d side.upgraded answer).word ≡ false
+    → Ordinary (core (after_down_read d side.upgraded answer) side' u) p' q
+ordinary_down_read d side side' u (took.Item piece) p p' q plain runs reads is_put is_batched
+    is_closing o alive =
+    ordinary_piece d side.upgraded side side' u piece p p' q refl plain runs reads is_put is_batched
+    is_closing o
+ordinary_down_read d side side' u took.More p p' q plain runs reads is_put is_batched is_closing o
+    alive =
+    ordinary_idle d side side' u p p' q runs (same_ends side side' reads) is_put is_batched
+    is_closing o
+ordinary_down_read d side side' u (took.Waited why) p p' q plain runs reads is_put is_batched
+    is_closing o alive =
+    ordinary_idle d side side' u p p' q runs
+    (record {
+      request = ap (λ (s : DownState). s.request_ended) reads;
+      response = ap (λ (s : DownState). s.response_done) reads;
+    }) is_put is_batched is_closing o
+ordinary_down_read d side side' u took.End p p' q plain runs reads is_put is_batched is_closing o
+    alive = absurd reads
+ordinary_down_read d side side' u (took.Failed why) p p' q plain runs reads is_put is_batched
+    is_closing o alive = clash true refl alive
+
+-- a pipe that holds nothing
+empty_none : (tasks : List HttpTask) → (length tasks == 0) ≡ true → tasks ≡ []
+empty_none [] h = refl
+empty_none (x ∷ xs) h =
+    let e : length (x ∷ xs) ≡ 0 = eqb-true (length (x ∷ xs)) 0 h in absurd (omega arith)
+
+-- an upstream half that is through and has no output to be sent finished: the request was taken
+-- whole, and the response has ended or the client's half has
+pub ordinary_up_finish : (d : Duplex) (side : DownState) (u : UpState) (why : Option Error)
+    (p : DownPast) (q : UpPast) → d.upstream_finished ≡ false → up_is_through d ≡ true
+    → (d.send_error ≡ None → u.pending ≡ false) → Runs d side.body_done side.upgraded
+    → Ordinary (core d side u) p q → is_failed (after_up_finish d why).word ≡ false
+    → Ordinary (core (after_up_finish d why) side u) p q
+ordinary_up_finish d side u (Some error) p q open_yet through quiet r o alive =
+    clash true refl alive
+ordinary_up_finish d side u None p q open_yet through quiet r o alive =
+    let complete : (is_complete d.word && (d.upstream_request_done || pipe.is_empty d.requests))
+    ≡ true → d.client_finished ≡ true =
+    λ both. sym r.complete ∙ and_left (is_complete d.word) _ both in
+    record {
+      ends_last = o.ends_last;
+      ended = o.ended;
+      request_done = λ h. inr refl;
+      unlost = o.unlost;
+      whole = o.whole;
+      sent = λ h fin.
+          elim (or_cases (d.upstream_request_done && d.upstream_response_done) _ through) [
+            | inl both ↦ (let w = o.whole h (and_left d.upstream_request_done _ both) in
+                (w.0, w.1, quiet h))
+            | inr both ↦
+                elim (or_cases d.upstream_request_done (pipe.is_empty d.requests)
+                (and_right (is_complete d.word) _ both)) [
+                  | inl done ↦ (let w = o.whole h done in (w.0, w.1, quiet h))
+                  | inr empty ↦ elim (o.request_done (o.client_done (complete both)).0) [
+                    | inl ended ↦ (empty_none d.requests.tasks empty, ended, quiet h)
+                    | inr closed ↦ clash d.requests.closed closed (r.requests_closed ∙ open_yet)
+                  ]
+                ]
+          ];
+      through = λ fin.
+          elim (or_cases (d.upstream_request_done && d.upstream_response_done) _ through) [
+            | inl both ↦ inl (and_right d.upstream_request_done _ both)
+            | inr both ↦ inr (complete both)
+          ];
+      answered = o.answered;
+      client_done = o.client_done;
+      closed = o.closed;
+    }
+
+-- the client's half, with its request and its response done, ended the response's body: with nothing
+-- pending it finished
+pub ordinary_down_finish : (d : Duplex) (side side' : DownState) (u : UpState) (pending : Bool)
+    (answer : Result Unit Fail) (p p' : DownPast) (q : UpPast) → side'.pending ≡ pending
+    → d.client_finished ≡ false → is_reading d.client_request ≡ false
+    → is_response_done d.client_response ≡ true → Finishes side side' answer → p'.put ≡ p.put
+    → p'.batched ≡ p.batched → Ordinary (core d side u) p q
+    → is_failed (after_down_finish d pending answer).word ≡ false
+    → Ordinary (core (after_down_finish d pending answer) side' u) p' q
+ordinary_down_finish d side side' u true (Err why) p p' q is runs request response ends is_put
+    is_batched o alive = clash true refl alive
+ordinary_down_finish d side side' u false (Err why) p p' q is runs request response ends is_put
+    is_batched o alive = clash true refl alive
+ordinary_down_finish d side side' u true (Ok done) p p' q is runs request response ends is_put
+    is_batched o alive =
+    let ended : side'.request_ended ≡ side.request_ended =
+    ap (λ (s : DownState). s.request_ended) ends.exact in
+    let said : side'.response_done ≡ side.response_done =
+    ap (λ (s : DownState). s.response_done) ends.exact in
+    record {
+      ends_last = let P : List HttpTask → Type 0 = λ xs. EndsLast xs in
+          subst P (sym is_put) o.ends_last;
+      ended = λ h. ended ∙ o.ended (ap (list_any is_end) (sym is_put) ∙ h);
+      request_done = λ h. elim (o.request_done h) [
+        | inl over ↦ inl (ended ∙ over)
+        | inr closed ↦ inr closed
+      ];
+      unlost = o.unlost;
+      whole = λ h over. let w = o.whole h over in (w.0, ended ∙ w.1);
+      sent = λ h fin. let w = o.sent h fin in (w.0, ended ∙ w.1, w.2);
+      through = o.through;
+      answered = λ h. elim (o.answered h) [
+        | inl given ↦ inl (ap (list_any is_end) is_batched ∙ given)
+        | inr told ↦ inr (said ∙ told)
+      ];
+      client_done = λ fin. clash d.client_finished fin runs;
+      closed = inr response;
+    }
+ordinary_down_finish d side side' u false (Ok done) p p' q is runs request response ends is_put
+    is_batched o alive =
+    let ended : side'.request_ended ≡ side.request_ended =
+    ap (λ (s : DownState). s.request_ended) ends.exact in
+    let said : side'.response_done ≡ side.response_done =
+    ap (λ (s : DownState). s.response_done) ends.exact in
+    record {
+      ends_last = let P : List HttpTask → Type 0 = λ xs. EndsLast xs in
+          subst P (sym is_put) o.ends_last;
+      ended = λ h. ended ∙ o.ended (ap (list_any is_end) (sym is_put) ∙ h);
+      request_done = λ h. elim (o.request_done h) [
+        | inl over ↦ inl (ended ∙ over)
+        | inr closed ↦ inr closed
+      ];
+      unlost = o.unlost;
+      whole = λ h over. let w = o.whole h over in (w.0, ended ∙ w.1);
+      sent = λ h fin. let w = o.sent h fin in (w.0, ended ∙ w.1, w.2);
+      through = λ fin. inr refl;
+      answered = λ h. elim (o.answered h) [
+        | inl given ↦ inl (ap (list_any is_end) is_batched ∙ given)
+        | inr told ↦ inr (said ∙ told)
+      ];
+      client_done = λ fin. (request, response, is);
+      closed = inr response;
+    }
+
+-- ---- whether a half failed or not
+
+-- what is done for its cause where no half failed is so too where one does
+pub steady_of : (s : State) (p : DownPast) (q : UpPast) → Ordinary s p q → Steady s p
+steady_of s p q o = record {
+  ends_last = o.ends_last;
+  ended = o.ended;
+  closed = elim o.closed [
+    | inl none ↦ inl none
+    | inr done ↦ inr (o.answered done)
+  ];
+}
+
+-- the client's side tells the same ends, and the lists of its past are as they were
+pub steady_at : (old new : State) (p p' : DownPast) → SameEnds old.down new.down
+    → p'.put ≡ p.put → p'.batched ≡ p.batched → p'.closing ≡ p.closing → Steady old p
+    → Steady new p'
+steady_at old new p p' same is_put is_batched is_closing t = record {
+  ends_last = let P : List HttpTask → Type 0 = λ xs. EndsLast xs in
+      subst P (sym is_put) t.ends_last;
+  ended = λ h. same.request ∙ t.ended (ap (list_any is_end) (sym is_put) ∙ h);
+  closed = elim t.closed [
+    | inl none ↦ inl (is_closing ∙ none)
+    | inr over ↦ elim over [
+      | inl given ↦ inr (inl (ap (list_any is_end) is_batched ∙ given))
+      | inr said ↦ inr (inr (same.response ∙ said))
+    ]
+  ];
+}
+
+-- a step that asks nothing of the client leaves its ends
+pub steady_same : (old new : State) (p : DownPast) → new.down ≡ old.down
+    → (old.down.upgraded ≡ false → Steady old p) → new.down.upgraded ≡ false → Steady new p
+steady_same old new p is steady plain =
+    steady_at old new p p (same_ends old.down new.down is) refl refl refl
+    (steady (sym (ap (λ (s : DownState). s.upgraded) is) ∙ plain))
+
+-- a write to the client leaves its ends, whatever its answer
+pub steady_down_write : (old new : State) (answer : Put) (p p' : DownPast)
+    → down.Writes old.down new.down answer → p'.put ≡ p.put → p'.batched ≡ p.batched
+    → p'.closing ≡ p.closing → Steady old p → Steady new p'
+steady_down_write old new answer p p' writes is_put is_batched is_closing t =
+    steady_at old new p p' (down_writes_ends old.down new.down answer writes) is_put is_batched
+    is_closing t
+
+-- the client was read: a piece does not fail the step, and any other answer puts nothing
+pub steady_down_read : (old new : State) (answer : Took Piece) (p p' : DownPast) (q : UpPast)
+    → ReadsPiece old.down new.down answer
+    → new.duplex ≡ after_down_read old.duplex old.down.upgraded answer
+    → is_failed old.duplex.word ≡ false → p'.put ≡ p.put ++ put_in old.down.upgraded answer
+    → p'.batched ≡ p.batched → p'.closing ≡ p.closing
+    → (is_failed new.duplex.word ≡ false → Ordinary new p' q) → Steady old p → Steady new p'
+steady_down_read old new (took.Item piece) p p' q reads is alive is_put is_batched is_closing
+    ordinary t =
+    steady_of new p' q (ordinary (ap (λ (d : Duplex). is_failed d.word) is ∙ alive))
+steady_down_read old new took.More p p' q reads is alive is_put is_batched is_closing ordinary t =
+    steady_at old new p p' (same_ends old.down new.down reads) (is_put ∙ append-nil p.put)
+    is_batched is_closing t
+steady_down_read old new (took.Waited why) p p' q reads is alive is_put is_batched is_closing
+    ordinary t =
+    steady_at old new p p'
+    (record {
+      request = ap (λ (s : DownState). s.request_ended) reads;
+      response = ap (λ (s : DownState). s.response_done) reads;
+    }) (is_put ∙ append-nil p.put) is_batched is_closing t
+steady_down_read old new took.End p p' q reads is alive is_put is_batched is_closing ordinary t =
+    absurd reads
+steady_down_read old new (took.Failed why) p p' q reads is alive is_put is_batched is_closing
+    ordinary t =
+    steady_at old new p p'
+    (record {
+      request = ap (λ (s : DownState). s.request_ended) reads;
+      response = ap (λ (s : DownState). s.response_done) reads;
+    }) (is_put ∙ append-nil p.put) is_batched is_closing t
+
+-- a batch was refused: the response is not done, so that no end of it was asked for
+pub steady_refused : (old new : State) (batch : List HttpTask) (why : Fail) (p p' : DownPast)
+    (q : UpPast) → TakesBatch old.down batch new.down (Err why)
+    → is_response_done old.duplex.client_response ≡ false → p'.put ≡ p.put
+    → p'.closing ≡ p.closing → Ordinary old p q → Steady new p'
+steady_refused old new batch why p p' q takes open_yet is_put is_closing o = record {
+  ends_last = let P : List HttpTask → Type 0 = λ xs. EndsLast xs in
+      subst P (sym is_put) o.ends_last;
+  ended = λ h. ap (λ (s : DownState). s.request_ended) takes.exact
+      ∙ o.ended (ap (list_any is_end) (sym is_put) ∙ h);
+  closed = elim o.closed [
+    | inl none ↦ inl (is_closing ∙ none)
+    | inr done ↦ clash (is_response_done old.duplex.client_response) done open_yet
+  ];
+}
+
+-- ending the response's body leaves what the client's side tells, whatever the answer
+down_ends_same : (old new : DownState) (answer : Result Unit Fail) → Finishes old new answer
+    → SameEnds old new
+down_ends_same old new (Ok done) ends = record {
+  request = ap (λ (s : DownState). s.request_ended) ends.exact;
+  response = ap (λ (s : DownState). s.response_done) ends.exact;
+}
+down_ends_same old new (Err why) ends = record {
+  request = ap (λ (s : DownState). s.request_ended) ends;
+  response = ap (λ (s : DownState). s.response_done) ends;
+}
+
+-- the response is done where an end of it is asked for
+pub steady_down_finish : (old new : State) (answer : Result Unit Fail) (p p' : DownPast)
+    (q : UpPast) → Finishes old.down new.down answer
+    → is_response_done old.duplex.client_response ≡ true → p'.put ≡ p.put
+    → p'.batched ≡ p.batched → Ordinary old p q → Steady new p'
+steady_down_finish old new answer p p' q ends response is_put is_batched o =
+    let same = down_ends_same old.down new.down answer ends in
+    record {
+      ends_last = let P : List HttpTask → Type 0 = λ xs. EndsLast xs in
+          subst P (sym is_put) o.ends_last;
+      ended = λ h. same.request ∙ o.ended (ap (list_any is_end) (sym is_put) ∙ h);
+      closed = elim (o.answered response) [
+        | inl given ↦ inr (inl (ap (list_any is_end) is_batched ∙ given))
+        | inr said ↦ inr (inr (same.response ∙ said))
+      ];
+    }

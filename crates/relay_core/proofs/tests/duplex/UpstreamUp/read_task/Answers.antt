@@ -1,0 +1,25 @@
+-- The task that was read stands behind those read before.
+use Rattle.std.proofs.Common.{refl}
+use Rattle.relay_core.proofs.tests.duplex.UpstreamUp.read_task.Goals as goal
+
+pub returns-in-Some-clause-goes : goal.returns-in-Some-clause-goes
+returns-in-Some-clause-goes c = λ s q holds. record {
+  past = record { got = q.got; sent = q.sent; read = _; taken = q.taken; lost = q.lost };
+  stands = holds;
+  is_read = refl;
+  is_taken = refl;
+  is_lost = refl;
+  keeps = λ e blamed. blamed;
+  blamed = λ e none. cc;
+}
+
+pub returns-in-None-clause-goes : goal.returns-in-None-clause-goes
+returns-in-None-clause-goes c = λ s q holds. record {
+  past = record { got = q.got; sent = q.sent; read = _; taken = q.taken; lost = q.lost };
+  stands = holds;
+  is_read = refl;
+  is_taken = refl;
+  is_lost = refl;
+  keeps = λ e blamed. blamed;
+  blamed = λ e none. cc;
+}
