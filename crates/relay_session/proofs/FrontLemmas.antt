@@ -1,5 +1,6 @@
 -- From one look at the bytes ahead, and one read behind them, to the answer of a call.
-use Rattle.std.proofs.Common.{◌≡◌, ℕ, ◌+◌, Bool, true, false, List, [], ◌∷◌, ◌++◌, length, take, drop, refl, sym, ◌∙◌, ap, subst, append_assoc, append-nil, length-append, arith}
+use Rattle.std.proofs.Common.{◌≡◌, ℕ, ◌+◌, ◌<◌, Bool, true, false, List, [], ◌∷◌, ◌++◌, length, take, drop, refl, sym, ◌∙◌, ap, subst, append_assoc, append-nil, length-append, arith}
+use Rattle.std.proofs.lemmas.List.{length-take}
 use Rattle.std.specs.Prelude.{◌||◌, Err}
 use Rattle.relay_tasks.specs.declared.error.Error.{Error}
 use Rattle.relay_tasks.specs.declared.error.ErrorSource.TheVariants.{Downstream}
@@ -16,8 +17,9 @@ use Rattle.relay_h1.specs.Move.{GrowsBy}
 use Rattle.relay_h1.specs.declared.framing.Framing.{Framing}
 use Rattle.relay_h1.specs.declared.body_reader.Cut.TheVariants as cut
 use Rattle.relay_h1.specs.declared.body_reader.State.{State}
+use Rattle.relay_h1.specs.declared.body_reader.State.TheVariants as state
 use Rattle.relay_h1.specs.Body.{BodyText, open_text, ended_text, broken_text, behind}
-use Rattle.relay_h1.specs.BodyReader.{Reads, Takes, TakesPiece, Answers, IsExact, is_done, may_end}
+use Rattle.relay_h1.specs.BodyReader.{Reads, Takes, TakesPiece, Answers, IsExact, run, is_done, may_end}
 use Rattle.relay_h1.specs.Verdict.{IsOpen, HasRequest, IsRefusedRequest, JudgesRequest, fail_from}
 use Rattle.relay_h1.proofs.BodyReaderLemmas.{Takes-append, Takes-nothing, Takes-reads, done_reads}
 use Rattle.relay_session.specs.Front.{link_fault, Gave, Comes, ReadsHead, FindsHead, end_of_head, ReadsBody, ReadsPiece, FindsPiece, StaysInBody, EndsInBody}
@@ -162,7 +164,8 @@ found_piece still_open before after old new ahead grown left came (took.Failed f
     record {
       came = came;
       comes = front.Comes.one_read came was gave;
-      takes = subst (λ (xs : List ℕ). Takes old xs [] new left) is found;
+      takes = subst (λ (xs : List ℕ). Takes old xs [] new left) is found.0;
+      inside = found.1;
     }
 found_piece still_open before after old new ahead grown left came (took.Failed (fail.Error error))
     was gave is found =
@@ -191,6 +194,26 @@ end_ahead still_open before after old new ahead left same takes answers =
     front.EndsBody.is_whole [] answers.0 (front.Comes.unasked same) (rw append-nil takes)
     (rw append-nil answers.1) (rw append-nil answers.2) answers.3
 
+-- where bytes of the body stand at the front, it has not ended
+run_inside : (at : State) (bytes : List ℕ) → 0 < length (run at bytes) → is_done at ≡ false
+run_inside state.ChunkLine bytes some = refl
+run_inside (state.Chunk left) bytes some = refl
+run_inside state.ChunkEnd bytes some = refl
+run_inside state.Trailer bytes some = refl
+run_inside (state.Length left) bytes some = grind (arith, some, length-take left bytes)
+run_inside state.UntilClose bytes some = refl
+run_inside state.Tunnel bytes some = refl
+run_inside state.Done bytes some = absurd (omega (arith, some))
+
+-- what the bytes ahead say of the body, where no piece of it can be had
+pub fails_to_cut : (old new : State) (ahead left : List ℕ) (failure : Fail)
+    → Takes old ahead [] new left → Answers old ahead new left (cut.Failed failure)
+    → FindsPiece old new ahead left (took.Failed (fail_from failure Downstream))
+fails_to_cut old new ahead left fail.OutOfMemory takes answers =
+    (takes, run_inside new left answers)
+fails_to_cut old new ahead left (fail.Error error) takes answers =
+    (ap (λ (e : Error). record e { esource = Downstream }) answers.0, takes, answers.1)
+
 -- a body that is broken ahead, or a piece for which memory is wanted
 pub failed_ahead : (still_open : Type 0) (before after : LinkState) (old new : State)
     (ahead left : List ℕ) (failure : Fail)
@@ -198,7 +221,12 @@ pub failed_ahead : (still_open : Type 0) (before after : LinkState) (old new : S
     → ReadsBody still_open before after old new ahead left
     (took.Failed (fail_from failure Downstream))
 failed_ahead still_open before after old new ahead left fail.OutOfMemory same takes answers =
-    record { came = []; comes = front.Comes.unasked same; takes = rw append-nil takes }
+    record {
+      came = [];
+      comes = front.Comes.unasked same;
+      takes = rw append-nil takes;
+      inside = run_inside new left answers;
+    }
 failed_ahead still_open before after old new ahead left (fail.Error error) same takes answers =
     front.RefusesBody.is_broken [] (front.Comes.unasked same) (rw append-nil takes)
     (rw append-nil answers.1) (ap (λ (e : Error). record e { esource = Downstream }) answers.0)
@@ -348,6 +376,7 @@ passed_on before after old mid new ahead between left (took.Failed fail.OutOfMem
       came = reads.came;
       comes = comes_open _ before after reads.came open_still reads.comes;
       takes = takes_on before after old mid new ahead between left [] reads.came passed reads.takes;
+      inside = reads.inside;
     }
 passed_on before after old mid new ahead between left (took.Failed (fail.Error error)) passed
     open_still (front.RefusesBody.is_broken came comes takes says is) =

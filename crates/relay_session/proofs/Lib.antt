@@ -2,6 +2,7 @@ pub mod AnswerLemmas
 pub mod AskedLemmas
 pub mod FrontLemmas
 pub mod GeneratedLemmas
+pub mod LinkLemmas
 pub mod ReadingLemmas
 pub mod ResponseLemmas
 pub mod SessionLemmas

@@ -211,6 +211,17 @@ head_came before after given body ahead left head ends new so_far gives is =
     }))
     (rw (is, so_far.0) (gives.len, gives.has))
 
+-- a request whose head was just consumed
+pub first_in_body : (given : List ℕ) (head : RequestHead) (f : Framing) (len : ℕ)
+    → HasRequest given head f len → IsInBody given [] (drop len given) (begun head f)
+first_in_body given head f len has = record {
+  head = head;
+  len = len;
+  has = has;
+  so_far = SoFar-first f (drop len given);
+  counted = refl;
+}
+
 -- no head is none
 nothing_some : ¬ (IsSome {T = RequestHead} None)
 nothing_some some = cc
@@ -746,7 +757,8 @@ module _
       absurd (never_by_close given body ahead old begins stays.was_open may)
   body_on (took.Failed fail.OutOfMemory) kept =
       rest_goes before after given kept.came body ahead left _ (took.Failed fail.OutOfMemory)
-      (comes_given _ before after kept.came kept.comes) (no_piece kept.came kept.takes) tt
+      (comes_given _ before after kept.came kept.comes) (no_piece kept.came kept.takes)
+      kept.inside
   body_on (took.Failed (fail.Error error)) (front.RefusesBody.is_broken came comes takes reads is) =
       rest_goes before after given came body ahead left _ (took.Failed (fail.Error error))
       (comes_given _ before after came comes) (no_piece came takes)

@@ -175,13 +175,14 @@ pub record StaysInBody
   pub was_open : still_open
   pub takes : Takes old ahead [] new left
 
--- memory was wanted: no byte of the body was taken
+-- memory was wanted: no byte of the body was taken, and it has not ended
 pub record KeepsBody
     (still_open : Type 0) (before after : LinkState) (old new : State) (ahead left : List ℕ)
     : Type 0 where
   pub came : List ℕ
   pub comes : Comes still_open before after came
   pub takes : Takes old (ahead ++ came) [] new left
+  pub inside : is_done new ≡ false
 
 -- why the body has ended: the bytes say so, or it lasts until the client ends
 pub data EndsBody
@@ -244,7 +245,8 @@ FindsPiece old new ahead left (took.Waited pause) = ⊥
 FindsPiece old new ahead left took.End =
     (n : ℕ) × Takes old ahead [] new left × Reads old ahead (ended_text [] n)
     × (n + length left ≡ length ahead) × (is_done new ≡ true)
-FindsPiece old new ahead left (took.Failed fail.OutOfMemory) = Takes old ahead [] new left
+FindsPiece old new ahead left (took.Failed fail.OutOfMemory) =
+    Takes old ahead [] new left × (is_done new ≡ false)
 FindsPiece old new ahead left (took.Failed (fail.Error error)) =
     (error ≡ body_broken) × Takes old ahead [] new left × Reads old ahead broken_text
 

@@ -1,6 +1,6 @@
 -- How far the request of a session has come, and what each call says of all that its client gave
 -- since the session began (RFC 9112, sections 2, 3, 6 and 9).
-use Rattle.std.specs.Prelude.{◌≡◌, ℕ, ◌<◌, Bool, true, false, ◌⊎◌, List, [], ◌++◌, length, drop, min, Option, Some, None, ⊤}
+use Rattle.std.specs.Prelude.{◌≡◌, ℕ, ◌<◌, ◌≤◌, Bool, true, false, ◌⊎◌, List, [], ◌++◌, length, drop, min, Option, Some, None, ⊤}
 use Rattle.relay_tasks.specs.declared.context.Context.{Context}
 use Rattle.relay_tasks.specs.declared.error.Error.{Error}
 use Rattle.relay_tasks.specs.declared.error.ErrorSource.TheVariants.{Downstream}
@@ -11,7 +11,7 @@ use Rattle.relay_tasks.specs.declared.took.Took.{Took}
 use Rattle.relay_tasks.specs.declared.took.Took.TheVariants as took
 use Rattle.relay_tasks.specs.Head.{RequestHead}
 use Rattle.relay_links.specs.Count.{last_count}
-use Rattle.relay_links.specs.Link.{LinkState, WaitsOnRead, IsSilentOnRead, EndsRead, FailsRead}
+use Rattle.relay_links.specs.Link.{LinkState, IsSound, WaitsOnRead, IsSilentOnRead, EndsRead, FailsRead}
 use Rattle.relay_links.specs.Told.{more}
 use Rattle.relay_h1.specs.declared.framing.Framing.{Framing}
 use Rattle.relay_h1.specs.Body.{BodyText, open_text, ended_text, broken, Body}
@@ -195,7 +195,8 @@ TellsBody before after given came body left new (took.Waited NotReady) =
 TellsBody before after given came body left new (took.Waited Silent) =
     SaysBody given (open_text body) × IsSilentOnRead before after
 TellsBody before after given came body left new took.End = IsWhole given body left
-TellsBody before after given came body left new (took.Failed fail.OutOfMemory) = Unit {0}
+TellsBody before after given came body left new (took.Failed fail.OutOfMemory) =
+    is_body_done new ≡ false
 TellsBody before after given came body left new (took.Failed (fail.Error error)) =
     RefusesRest before after given body error
 
@@ -233,3 +234,21 @@ pub record ReadsRest
   pub exact : still ≡ false → IsExactBody after (given ++ came) body answer
   pub watches : still ≡ true
       → IsWhole (given ++ came) body left × Watches before after ahead left answer
+
+-- ---- what a call for the body leaves
+
+-- of the link: no byte was taken, its count of faults does not fall, and a sound link stays sound;
+-- where the answer is Silent, it is silent on a read
+pub record ReadsLink (before after : LinkState) (answer : Took (List ℕ)) : Type 0 where
+  pub taken : after.taken ≡ before.taken
+  pub faults : before.faults ≤ after.faults
+  pub sound : IsSound before → IsSound after
+  pub silent : answer ≡ took.Waited Silent → after.silent_on_read ≡ true
+
+-- whether the body has ended then, by the answer: it ends with a piece or by `End` alone
+abbrev pub EndsBy : {T : Type 0} → Took T → Bool → Type 0
+EndsBy (took.Item item) done = Unit {0}
+EndsBy took.More done = done ≡ false
+EndsBy (took.Waited pause) done = done ≡ false
+EndsBy took.End done = done ≡ true
+EndsBy (took.Failed fail) done = done ≡ false

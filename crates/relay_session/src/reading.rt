@@ -1,15 +1,17 @@
 //! How the request of a client is read: its head, and its body piece by piece (RFC 9112, sections
 //! 2, 3, 6 and 7).
-ghost use Rattle.std.specs.Prelude.{◌≡◌, ◌↔◌, ℕ, List, [], ◌&&◌, true, length, min, None, Some, IsSome, IsTrue};
+ghost use Rattle.std.specs.Prelude.{◌≡◌, ◌↔◌, ℕ, List, [], ◌&&◌, ◌++◌, true, false, length, drop, min, None, Some, IsSome, IsTrue};
 ghost use Rattle.std.specs.Borrow.{sem};
 ghost use Rattle.relay_tasks.specs.Head.{RequestHead};
 ghost use Rattle.relay_links.specs.Count.{last_count};
 ghost use Rattle.relay_h1.specs.declared.framing.Framing.{Framing};
 ghost use Rattle.relay_h1.specs.BodyReader.{is_done};
 ghost use Rattle.relay_h1.specs.Framing.{request_framing};
+ghost use Rattle.relay_h1.specs.Verdict.{HasRequest};
+ghost use Rattle.relay_session.specs.Front.{Watches};
 ghost use Rattle.relay_session.specs.HeadLent.{LendsHead};
 ghost use Rattle.relay_session.specs.Summary.{without_body_fields};
-ghost use Rattle.relay_session.specs.Reading.{head_of, with_head, is_body_done, is_body_empty, received, begun, RequestSoFar, IsInBody, IsWhole, IsItem, ReadsOn, ReadsRest};
+ghost use Rattle.relay_session.specs.Reading.{head_of, with_head, is_body_done, is_body_empty, received, begun, RequestSoFar, IsInBody, IsWhole, IsItem, ReadsOn, ReadsRest, ReadsLink, EndsBy};
 
 use crate::front::{Front, ends_with_head};
 use bytes::Bytes;
@@ -44,6 +46,22 @@ impl Reading {
         ensures starts { (ahead : List ℕ) → RequestSoFar ahead [] ahead result }
     {
         Reading::Head
+    }
+
+    /// A request whose head was read, before its body is read.
+    pub(crate) fn of_request(head: RequestHeader, framing: Framing) -> Reading
+        ensures value { result ≡ Reading.Body (begun head framing) }
+        ensures starts { (given : List ℕ) (len : ℕ) → HasRequest given head framing len
+            → RequestSoFar given [] (drop len given) result }
+        ensures whole { (given : List ℕ) (len : ℕ) → HasRequest given head framing len
+            → is_body_done result ≡ true → IsWhole given [] (drop len given) }
+    {
+        Reading::Body(BegunRequest {
+            head,
+            framing,
+            body: BodyReader::new(framing),
+            received: 0,
+        })
     }
 
     /// Reads the head. `Item` once it stands, and at each later call, which does nothing; `End`
@@ -95,6 +113,11 @@ impl Reading {
             → RequestSoFar given body (F.ahead client.old) self.old
             → ReadsRest (F.state client.old) (F.state client.new) given body (F.ahead client.old)
             (F.ahead client.new) (idle && is_body_done self.old) self.new result }
+        ensures link { ReadsLink (F.state client.old) (F.state client.new) result }
+        ensures ends { idle && is_body_done self.old ≡ false
+            → EndsBy result (is_body_done self.new) }
+        ensures watches { idle && is_body_done self.old ≡ true → Watches (F.state client.old)
+            (F.state client.new) (F.ahead client.old) (F.ahead client.new) result }
         ensures head { head_of self.new ≡ head_of self.old }
         ensures empty { is_body_empty self.new ≡ is_body_empty self.old }
         ensures still { idle && is_body_done self.old ≡ true → self.new ≡ self.old }
@@ -210,12 +233,7 @@ fn begun(head: RequestHeader) -> Reading
     let Ok(framing) = request_framing(&head) else {
         unreachable!()
     };
-    Reading::Body(BegunRequest {
-        head,
-        framing,
-        body: BodyReader::new(framing),
-        received: 0,
-    })
+    Reading::of_request(head, framing)
 }
 
 impl BegunRequest {
@@ -227,6 +245,11 @@ impl BegunRequest {
             (F.ahead client.new) (idle && is_done self.old.body) (Reading.Body self.new) result }
         ensures head { self.new.head ≡ self.old.head }
         ensures framing { self.new.framing ≡ self.old.framing }
+        ensures link { ReadsLink (F.state client.old) (F.state client.new) result }
+        ensures ends { idle && is_done self.old.body ≡ false
+            → EndsBy result (is_done self.new.body) }
+        ensures watches { idle && is_done self.old.body ≡ true → Watches (F.state client.old)
+            (F.state client.new) (F.ahead client.old) (F.ahead client.new) result }
         ensures still { idle && is_done self.old.body ≡ true → self.new ≡ self.old }
         ensures start { F.start client.new ≡ F.start client.old }
     {

@@ -1,15 +1,19 @@
 //! The session of one request with its client, without the client's link (RFC 9112, section 9.2):
 //! the request that is read, and the response that answers it.
-ghost use Rattle.std.specs.Prelude.{◌≡◌, ◌↔◌, ℕ, List, [], ◌∷◌, ◌++◌, take, ◌&&◌, ◌==◌, not, true, false, length, min, Some, None, IsSome, IsTrue, IfOk, IfErr, OnOk, OnErr, IsOkUnless};
+ghost use Rattle.std.specs.Prelude.{◌≡◌, ◌↔◌, ℕ, List, [], ◌∷◌, ◌++◌, take, drop, ◌&&◌, ◌==◌, not, true, false, length, min, Some, None, IsSome, IsTrue, IfOk, IfErr, OnOk, OnErr, IsOkUnless};
 ghost use Rattle.std.specs.Borrow.{sem};
 ghost use Rattle.relay_tasks.specs.declared.task.HttpTask.{HttpTask};
 ghost use Rattle.relay_tasks.specs.Head.{RequestHead, IsStatus};
 ghost use Rattle.relay_links.specs.Count.{last_count};
+ghost use Rattle.relay_h1.specs.BodyReader.{first_state, is_done};
 ghost use Rattle.relay_h1.specs.Move.{taken};
+ghost use Rattle.relay_h1.specs.Verdict.{HasRequest};
+ghost use Rattle.relay_session.specs.Front.{Watches, ends_with_head};
+ghost use Rattle.relay_session.specs.declared.writing.Outgoing.TheVariants.{Open};
 ghost use Rattle.relay_session.specs.HeadLent.{LendsSessionHead};
-ghost use Rattle.relay_session.specs.Asked.{unread};
+ghost use Rattle.relay_session.specs.Asked.{request_of, unread};
 ghost use Rattle.relay_session.specs.Session.{AnswersRead, AnswersTo};
-ghost use Rattle.relay_session.specs.Reading.{head_of, with_head, is_body_done, is_body_empty, received, RequestSoFar, IsWhole, IsItem, ReadsOn, ReadsRest};
+ghost use Rattle.relay_session.specs.Reading.{head_of, with_head, is_body_done, is_body_empty, received, RequestSoFar, IsWhole, IsItem, ReadsOn, ReadsRest, ReadsLink, EndsBy};
 ghost use Rattle.relay_session.specs.Summary.{without_body_fields, request_summary};
 ghost use Rattle.relay_session.specs.TaskWire.{task_sent, tasks_sent};
 ghost use Rattle.relay_session.specs.Generated.{answer_tasks, body_answer_tasks, AnswersText, IsFaultOrMemory};
@@ -21,6 +25,7 @@ use crate::summary::request_summary;
 use crate::task_text::Request;
 use crate::writing::Writing;
 use bytes::Bytes;
+use relay_h1::Framing;
 use relay_links::Put;
 use relay_tasks::{Fail, RequestHeader, ResponseHeader, Result, TaskList, Took};
 use std::alloc::Global;
@@ -48,6 +53,28 @@ impl HttpSession {
         HttpSession {
             reading: Reading::new(),
             writing: Writing::new(alloc, Request::unread()),
+        }
+    }
+
+    /// The session of a client on an HTTP/1 link whose request has that head, with that framing: its
+    /// caller read it and judged it, and has consumed it. The body is to be read, unless the framing
+    /// has none. It has taken no memory.
+    pub fn begun_http1(alloc: Global, head: RequestHeader, framing: Framing) -> HttpSession
+        ensures head { head_of result.reading ≡ Some head }
+        ensures done { is_body_done result.reading ≡ is_done (first_state framing) }
+        ensures empty { is_body_empty result.reading ≡ ends_with_head framing }
+        ensures starts { (given : List ℕ) (len : ℕ) → HasRequest given head framing len
+            → RequestSoFar given [] (drop len given) result.reading }
+        ensures whole { (given : List ℕ) (len : ℕ) → HasRequest given head framing len
+            → is_body_done result.reading ≡ true → IsWhole given [] (drop len given) }
+        ensures answers { result.writing.request ≡ request_of head }
+        ensures response { Holds result.writing [] [] }
+        ensures output { result.writing.output ≡ Open [] }
+    {
+        let request = Request::of(&head);
+        HttpSession {
+            reading: Reading::of_request(head, framing),
+            writing: Writing::new(alloc, request),
         }
     }
 
@@ -117,6 +144,12 @@ impl HttpSession {
             → RequestSoFar given body (F.ahead client.old) self.old.reading
             → ReadsRest (F.state client.old) (F.state client.new) given body (F.ahead client.old)
             (F.ahead client.new) (idle && is_body_done self.old.reading) self.new.reading result }
+        ensures link { ReadsLink (F.state client.old) (F.state client.new) result }
+        ensures ends { idle && is_body_done self.old.reading ≡ false
+            → EndsBy result (is_body_done self.new.reading) }
+        ensures watches { idle && is_body_done self.old.reading ≡ true
+            → Watches (F.state client.old) (F.state client.new) (F.ahead client.old)
+            (F.ahead client.new) result }
         ensures head { head_of self.new.reading ≡ head_of self.old.reading }
         ensures empty { is_body_empty self.new.reading ≡ is_body_empty self.old.reading }
         ensures still { idle && is_body_done self.old.reading ≡ true → self.new ≡ self.old }

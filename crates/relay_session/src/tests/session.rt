@@ -1,9 +1,10 @@
+use crate::front::Front;
 use crate::session::HttpSession;
 use bytes::Bytes;
 use http_header::{CONTENT_LENGTH, HeaderValue};
-use relay_h1::Connection;
+use relay_h1::{Connection, Framing};
 use relay_links::{Put, ReadItem, ScriptLink, WriteItem};
-use relay_tasks::{HttpTask, ResponseHeader, TaskList, Took};
+use relay_tasks::{HttpTask, RequestHeader, ResponseHeader, TaskList, Took};
 use std::alloc::{AllocError, Global};
 use std::process::Abort;
 use std::str;
@@ -97,6 +98,39 @@ fn reads_a_request_and_writes_its_response(rt: HostRuntime) -> Checked {
         &mut client,
         "HTTP/1.1 200 OK\r\ncontent-length: 5\r\n\r\nhello",
     )
+}
+
+/// Reads the body behind a head that its caller read.
+fn read_begun(
+    rt: &impl Abort,
+    alloc: Global,
+    client: &mut Client,
+    head: RequestHeader,
+    framing: Framing,
+) -> Checked {
+    let mut session = HttpSession::begun_http1(alloc, head, framing);
+    assert!(rt; session.has_head() && !session.is_body_done());
+    assert!(rt;
+        matches!(
+            session.read_body_or_idle(alloc, client, false),
+            Took::Item(_)
+        )
+    );
+    assert!(rt; session.is_body_done());
+    assert_eq!(rt; session.body_bytes_received(), 3);
+    Ok(())
+}
+
+#[test]
+fn goes_on_behind_a_head_that_its_caller_read(rt: HostRuntime) -> Checked {
+    let text = b"PUT / HTTP/1.1\r\nHost: h\r\nContent-Length: 3\r\n\r\nabc";
+    let mut client = client(rt.alloc(), text)?;
+    let took = client.read_head(rt.alloc());
+    assert!(rt; matches!(&took, Took::Item(_)));
+    if let Took::Item((head, _ends)) = took {
+        read_begun(&rt, rt.alloc(), &mut client, head, Framing::Length(3))?;
+    }
+    Ok(())
 }
 
 const NOT_FOUND: &str =

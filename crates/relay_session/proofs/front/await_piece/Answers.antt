@@ -42,4 +42,5 @@ returns-in-Err-clause-answer g c =
       came = [];
       comes = front.Comes.unasked refl;
       takes = rw append-nil (Takes-nothing c.args.body.now c.args.client.now.ahead);
+      inside = c.requires;
     })
