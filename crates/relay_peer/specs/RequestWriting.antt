@@ -1,6 +1,6 @@
 -- How a request is written: what of it was queued, and how each call goes on (RFC 9112, sections 3,
 -- 6 and 7).
-use Rattle.std.specs.Prelude.{◌≡◌, ℕ, ◌==◌, Bool, true, false, not, ◌&&◌, List, [], ◌∷◌, ◌++◌, ◌⊎◌, length, unwrap_or, codes}
+use Rattle.std.specs.Prelude.{◌≡◌, ℕ, ◌==◌, Bool, true, false, not, ◌&&◌, List, [], ◌∷◌, ◌++◌, ◌⊎◌, length, Option, Some, None, unwrap_or, codes}
 use Rattle.relay_tasks.specs.Head.{RequestHead}
 use Rattle.relay_tasks.specs.declared.error.Error.{Error}
 use Rattle.relay_tasks.specs.declared.error.ErrorSource.TheVariants.{Upstream}
@@ -62,6 +62,11 @@ rest_of (request.Sending sending) = sending.body
 abbrev pub method_of : Request → List ℕ
 method_of request.NoHead = codes "GET"
 method_of (request.Sending sending) = sending.head.method
+
+-- the head of the request, once one was queued
+abbrev pub head_in : Request → Option RequestHead
+head_in request.NoHead = None
+head_in (request.Sending sending) = Some sending.head
 
 -- a head was queued
 abbrev pub has_head : Request → Bool

@@ -115,6 +115,23 @@ is_error took.End = false
 is_error (took.Failed fail.OutOfMemory) = false
 is_error (took.Failed (fail.Error error)) = true
 
+-- the answer is that the link is silent
+abbrev pub waits_silent : Took HttpTask → Bool
+waits_silent (took.Item task) = false
+waits_silent took.More = false
+waits_silent (took.Waited pause.NotReady) = false
+waits_silent (took.Waited pause.Silent) = true
+waits_silent took.End = false
+waits_silent (took.Failed fail) = false
+
+-- the answer is a task
+abbrev pub is_item : Took HttpTask → Bool
+is_item (took.Item task) = true
+is_item took.More = false
+is_item (took.Waited pause) = false
+is_item took.End = false
+is_item (took.Failed fail) = false
+
 -- a count after so many more; it stands still at its last value
 abbrev pub counted : ℕ → ℕ → ℕ
 counted count more = min (count + more) last_count
@@ -257,6 +274,13 @@ OpenAt method given told (place.InBody body) ahead =
 OpenAt method given told (place.Ended keeps) ahead = ⊥
 
 -- ---- what stands ahead
+
+-- a task was found
+abbrev pub is_task : Found → Bool
+is_task (found.Task task) = true
+is_task found.Nothing = false
+is_task found.End = false
+is_task (found.Failed fail) = false
 
 -- what was found ahead, where these bytes came so far and this was told before
 abbrev pub Finds :

@@ -1,20 +1,20 @@
 //! The peer's side of one request on an HTTP/1 link: its head and body are written, and the
 //! response is read (RFC 9112, sections 3 to 9).
-ghost use Rattle.std.specs.Prelude.{◌≡◌, ◌↔◌, ◌++◌, ◌<◌, ◌||◌, ℕ, List, [], Bool, true, false, length, take, None, unwrap_or, IfOk, IfErr, OnOk, OnErr, IsErrOf, IsOkUnless, IsTrue};
+ghost use Rattle.std.specs.Prelude.{◌≡◌, ◌↔◌, ◌++◌, ◌<◌, ◌||◌, ℕ, List, [], Bool, true, false, length, take, None, unwrap_or, IfOk, IfErr, OnOk, OnErr, IsErrOf, IsOkUnless, IsTrue, option_copied};
 ghost use Rattle.relay_tasks.specs.Error.{IsMemoryOr};
 ghost use Rattle.relay_h1.specs.BodyWire.{count_of, is_short};
 ghost use Rattle.relay_h1.specs.Framing.{request_framing};
 ghost use Rattle.relay_h1.specs.Move.{WritesOut, taken};
 ghost use Rattle.relay_h1.specs.Verdict.{refused_from};
-ghost use Rattle.relay_peer.specs.RequestWriting.{Sent, nothing, SentSoFar, with_head, with_piece, with_end, rest_of, method_of, IsSentWhole, short_request};
-ghost use Rattle.relay_peer.specs.ResponseReading.{Told, untold, ReadSoFar, ReadsTask, IsReadWhole, body_len, is_error, counted};
+ghost use Rattle.relay_peer.specs.RequestWriting.{Sent, nothing, SentSoFar, with_head, with_piece, with_end, rest_of, head_in, method_of, IsSentWhole, short_request};
+ghost use Rattle.relay_peer.specs.ResponseReading.{Told, untold, ReadSoFar, ReadsTask, IsReadWhole, is_item, is_over, body_len, is_error, counted};
 ghost use Rattle.relay_peer.specs.H1Client.{is_fault, may_keep_client};
 
 use crate::request_writing::{Request, RequestWriting};
 use crate::response_reading::ResponseReading;
 use http::Method;
 use relay_links::{ByteLink, Put};
-use relay_tasks::{Context, ErrorSource, Fail, HttpTask, RequestHeader, Result, Took};
+use relay_tasks::{Context, ErrorSource, Fail, HttpTask, Pause, RequestHeader, Result, Took};
 use std::alloc::Global;
 
 /// One request on a link to a peer: what of it was queued, and how far its response was read.
@@ -109,6 +109,16 @@ impl<L> H1Client<L> {
         self.request.finish()
     }
 
+    /// The head of the request, once one was queued.
+    pub fn request_header(&self) -> Option<&RequestHeader>
+        ensures { option_copied result ≡ head_in self.now.request.request }
+    {
+        match &self.request.request {
+            Request::NoHead => None,
+            Request::Sending(sending) => Some(&sending.head),
+        }
+    }
+
     /// Whether something is queued that the link has not taken.
     pub fn has_pending(&self) -> bool
         ensures { IsTrue result ↔ (0 < length self.now.request.unsent) }
@@ -146,15 +156,15 @@ impl<L> H1Client<L> {
     }
 }
 
-impl<L: Drop> H1Client<L> {
+impl<L> H1Client<L> {
     /// The link alone. What is queued and what was read ahead is dropped.
     pub fn into_link(self) -> L
         ensures { result ≡ self.link }
     {
         let H1Client {
             link,
-            request: _,
-            response: _,
+            request: _request,
+            response: _response,
             received: _,
             sent: _,
             failed: _,
@@ -192,8 +202,8 @@ impl<L: ByteLink> H1Client<L> {
     /// in chunks, and one that lasts until the link ends.
     ///
     /// `More`: the link gave bytes in this call, and no task, no end and no refusal stands.
-    /// `Waited`: the link answered so in this call. `End`: the response had ended; the link is not
-    /// asked. Errors are of the source `Upstream`:
+    /// `Waited`: the link answered so in this call; one that is silent stays so. `End`: the response
+    /// had ended; the link is not asked. Errors are of the source `Upstream`:
     /// - `InvalidHTTPHeader`, about `HeadTooLong`, `HeadGrammar` or `BadFraming`: a head or the
     ///   body is broken at the next place.
     /// - The error of the link's fault.
@@ -206,6 +216,10 @@ impl<L: ByteLink> H1Client<L> {
         ensures reads { ReadsTask (method_of self.old.request.request) (L.state self.old.link)
             (L.state self.new.link) self.old.response self.new.response result }
         ensures start { L.start self.new.link ≡ L.start self.old.link }
+        ensures silent { result ≡ Took.Waited Pause.Silent
+            → (L.state self.new.link).silent_on_read ≡ true }
+        ensures ends { is_item result ≡ false
+            → is_over self.new.response.place ≡ is_over self.old.response.place }
         ensures received { self.new.received ≡ counted self.old.received (body_len result) }
         ensures failed { self.new.failed ≡ (self.old.failed || is_error result) }
         ensures same { self.new ≡ record self.old {
@@ -227,6 +241,10 @@ impl<L: ByteLink> H1Client<L> {
         ensures reads { ReadsTask (method_of self.old.request.request) (L.state self.old.link)
             (L.state self.new.link) self.old.response self.new.response result }
         ensures start { L.start self.new.link ≡ L.start self.old.link }
+        ensures silent { result ≡ Took.Waited Pause.Silent
+            → (L.state self.new.link).silent_on_read ≡ true }
+        ensures ends { is_item result ≡ false
+            → is_over self.new.response.place ≡ is_over self.old.response.place }
         ensures same { self.new ≡ record self.old {
           link = self.new.link;
           response = self.new.response;

@@ -2,7 +2,7 @@
 //! piece by piece (RFC 9110, section 15.2; RFC 9112, sections 4 to 8).
 ghost use Rattle.std.specs.Prelude.{◌≡◌, ◌==◌, ℕ, List, [], Bool, true, false, length};
 ghost use Rattle.relay_h1.specs.BodyWire.{says_end};
-ghost use Rattle.relay_peer.specs.ResponseReading.{Told, ReadAt, OpenAt, IsAwaitingHead, lets_keep, is_http_11, step_over, Finds, FindsAtEnd, ReadsTask, ReadsOn, FindsAgain, EndsThere, cut_off_error, is_over, may_keep_reading};
+ghost use Rattle.relay_peer.specs.ResponseReading.{Told, ReadAt, OpenAt, IsAwaitingHead, lets_keep, is_http_11, step_over, Finds, FindsAtEnd, ReadsTask, ReadsOn, FindsAgain, EndsThere, waits_silent, is_item, is_task, cut_off_error, is_over, may_keep_reading};
 
 use http::{Method, Version};
 use relay_h1::{Ahead, BodyReader, Cut, Framing, closes, judge_response};
@@ -81,6 +81,10 @@ impl ResponseReading {
         ensures reads { ReadsTask method.now (L.state link.old) (L.state link.new) self.old
             self.new result }
         ensures start { L.start link.new ≡ L.start link.old }
+        ensures silent { result ≡ Took.Waited Pause.Silent
+            → (L.state link.new).silent_on_read ≡ true }
+        ensures ends { is_item result ≡ false
+            → is_over self.new.place ≡ is_over self.old.place }
     {
         match self.find(alloc, method) {
             Found::Task(task) => Took::Item(task),
@@ -92,6 +96,8 @@ impl ResponseReading {
 
     /// What stands ahead; a task is taken.
     fn find(&mut self, alloc: Global, method: &Method) -> Found
+        ensures ends { is_task result ≡ false
+            → is_over self.new.place ≡ is_over self.old.place }
         ensures rests { is_over self.old.place ≡ true
             → (result ≡ Found.End) × (self.new ≡ self.old) }
         ensures finds { (closed : Bool) (given : List ℕ) (told : Told)
@@ -115,6 +121,10 @@ impl ResponseReading {
         ensures reads { ReadsOn method.now (L.state link.old) (L.state link.new) self.old self.new
             result }
         ensures start { L.start link.new ≡ L.start link.old }
+        ensures silent { result ≡ Took.Waited Pause.Silent
+            → (L.state link.new).silent_on_read ≡ true }
+        ensures ends { is_item result ≡ false
+            → is_over self.new.place ≡ is_over self.old.place }
     {
         match self.ahead.read_from(link) {
             Err(_) => Took::Failed(Fail::OutOfMemory),
@@ -128,7 +138,10 @@ impl ResponseReading {
 
     /// What stands ahead after bytes came.
     fn find_again(&mut self, alloc: Global, method: &Method) -> Took<HttpTask>
-        ensures { (closed : Bool) (given : List ℕ) (told : Told)
+        ensures waits { waits_silent result ≡ false }
+        ensures stays { is_item result ≡ false
+            → is_over self.new.place ≡ is_over self.old.place }
+        ensures finds { (closed : Bool) (given : List ℕ) (told : Told)
             → ReadAt method.now closed given told self.old.place self.old.ahead
             → FindsAgain method.now closed given told self.old.place self.new result }
     {
@@ -142,7 +155,10 @@ impl ResponseReading {
 
     /// No byte comes any more, and nothing stands ahead: what lasts until the link ends has ended.
     fn end(&mut self) -> Took<HttpTask>
-        ensures { (method given : List ℕ) (told : Told)
+        ensures waits { waits_silent result ≡ false }
+        ensures stays { is_item result ≡ false
+            → is_over self.new.place ≡ is_over self.old.place }
+        ensures ends { (method given : List ℕ) (told : Told)
             → OpenAt method given told self.old.place self.old.ahead
             → EndsThere method given told self.new result }
     {
@@ -170,6 +186,7 @@ impl ResponseReading {
 
 /// What stands ahead, and the place behind it.
 fn find(alloc: Global, method: &Method, place: Place, ahead: &mut Ahead) -> Step
+    ensures ends { is_task result.found ≡ false → is_over result.place ≡ is_over place }
     ensures rests { is_over place ≡ true
         → (result ≡ record { place = place; found = Found.End }) × (ahead.new ≡ ahead.old) }
     ensures finds { (closed : Bool) (given : List ℕ) (told : Told)
@@ -190,7 +207,8 @@ fn find(alloc: Global, method: &Method, place: Place, ahead: &mut Ahead) -> Step
 /// The head that stands ahead.
 fn find_head(alloc: Global, method: &Method, place: Place, ahead: &mut Ahead) -> Step
     requires { IsAwaitingHead place }
-    ensures { (closed : Bool) (given : List ℕ) (told : Told)
+    ensures ends { is_task result.found ≡ false → is_over result.place ≡ is_over place }
+    ensures finds { (closed : Bool) (given : List ℕ) (told : Told)
         → ReadAt method.now closed given told place ahead.old
         → Finds method.now closed given told place result.place ahead.new result.found }
 {
@@ -236,7 +254,8 @@ fn step_over(head: ResponseHeader, framing: Framing) -> Step
 
 /// The piece of a body, or its end, that stands ahead.
 fn find_piece(alloc: Global, mut body: OpenBody, ahead: &mut Ahead) -> Step
-    ensures { (method : List ℕ) (closed : Bool) (given : List ℕ) (told : Told)
+    ensures ends { is_task result.found ≡ false → is_over result.place ≡ false }
+    ensures finds { (method : List ℕ) (closed : Bool) (given : List ℕ) (told : Told)
         → ReadAt method closed given told (Place.InBody body) ahead.old
         → Finds method closed given told (Place.InBody body) result.place ahead.new result.found }
 {
@@ -270,7 +289,8 @@ fn find_piece(alloc: Global, mut body: OpenBody, ahead: &mut Ahead) -> Step
 
 /// The place where a link ended, and the end or the error that follows from it.
 fn end_of_link(place: Place, none_ahead: bool) -> Step
-    ensures { (method given : List ℕ) (told : Told) (ahead : List ℕ)
+    ensures stays { is_task result.found ≡ false → is_over result.place ≡ is_over place }
+    ensures ends { (method given : List ℕ) (told : Told) (ahead : List ℕ)
         → OpenAt method given told place ahead → none_ahead ≡ (length ahead == 0)
         → FindsAtEnd method given told result.place ahead result.found }
 {
@@ -287,7 +307,8 @@ fn end_of_link(place: Place, none_ahead: bool) -> Step
 
 /// The same inside a body.
 fn end_of_body(mut body: OpenBody) -> Step
-    ensures { (method given : List ℕ) (told : Told) (ahead : List ℕ)
+    ensures stays { is_task result.found ≡ false → is_over result.place ≡ false }
+    ensures ends { (method given : List ℕ) (told : Told) (ahead : List ℕ)
         → OpenAt method given told (Place.InBody body) ahead
         → FindsAtEnd method given told result.place ahead result.found }
 {
@@ -305,7 +326,8 @@ fn end_of_body(mut body: OpenBody) -> Step
 
 /// The link ended inside the response. Another attempt may help where no byte had come.
 fn cut_off(place: Place, none_came: bool) -> Step
-    ensures { (given : List ℕ) → none_came ≡ (length given == 0)
+    ensures stays { result.place ≡ place }
+    ensures fails { (given : List ℕ) → none_came ≡ (length given == 0)
         → result ≡ record {
           place = place;
           found = Found.Failed (Fail.Error (cut_off_error given));

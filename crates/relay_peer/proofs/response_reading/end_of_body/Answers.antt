@@ -3,15 +3,15 @@ use Rattle.std.proofs.Common.{refl}
 use Rattle.relay_peer.proofs.ResponseLemmas.{ends_there, cut_there}
 use Rattle.relay_peer.proofs.response_reading.end_of_body.Goals as goal
 
-pub returns-in-Ok : goal.returns-in-Ok
-returns-in-Ok c = λ method given told ahead still. (
+pub returns-in-Ok-clause-ends : goal.returns-in-Ok-clause-ends
+returns-in-Ok-clause-ends c = λ method given told ahead still. (
   refl,
   ends_there method given told c.args.body ahead still
       (c.in-Ok.ensures.answer still.0.framing still.0.so_far.of_framing),
 )
 
-pub returns-in-Err : goal.returns-in-Err
-returns-in-Err c = λ method given told ahead still.
+pub returns-in-Err-clause-ends : goal.returns-in-Err-clause-ends
+returns-in-Err-clause-ends c = λ method given told ahead still.
     let answer = c.in-Err.ensures.answer still.0.framing still.0.so_far.of_framing in
     cut_there method given told c.args.body
     (record c.args.body { reader = c.end_of_stream.new.self })

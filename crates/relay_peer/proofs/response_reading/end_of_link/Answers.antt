@@ -4,18 +4,18 @@ use Rattle.relay_peer.specs.declared.response_reading.Place.TheVariants.{NoHead,
 use Rattle.relay_peer.proofs.ResponseLemmas.{head_cut, has_come}
 use Rattle.relay_peer.proofs.response_reading.end_of_link.Goals as goal
 
-pub returns-in-NoHead : goal.returns-in-NoHead
-returns-in-NoHead c = λ method given told ahead still none.
+pub returns-in-NoHead-clause-ends : goal.returns-in-NoHead-clause-ends
+returns-in-NoHead-clause-ends c = λ method given told ahead still none.
     let here = rw c.in-NoHead.is at still in
-    rw (c.cut_off.ensures given (none ∙ ap (λ (xs : List ℕ). length xs == 0) here.1))
+    rw (c.cut_off.ensures.fails given (none ∙ ap (λ (xs : List ℕ). length xs == 0) here.1))
     (head_cut method given told NoHead ahead tt here)
 
-pub returns-in-Informed : goal.returns-in-Informed
-returns-in-Informed c = λ method given told ahead still none.
+pub returns-in-Informed-clause-ends : goal.returns-in-Informed-clause-ends
+returns-in-Informed-clause-ends c = λ method given told ahead still none.
     let here = rw c.in-Informed.is at still in
-    rw (c.cut_off-in-Informed.ensures given (has_come given here.1))
+    rw (c.cut_off-in-Informed.ensures.fails given (has_come given here.1))
     (head_cut method given told Informed ahead tt here)
 
-pub returns-in-InBody : goal.returns-in-InBody
-returns-in-InBody c = λ method given told ahead still none.
-    c.end_of_body.ensures method given told ahead (rw c.in-InBody.is at still)
+pub returns-in-InBody-clause-ends : goal.returns-in-InBody-clause-ends
+returns-in-InBody-clause-ends c = λ method given told ahead still none.
+    c.end_of_body.ensures.ends method given told ahead (rw c.in-InBody.is at still)

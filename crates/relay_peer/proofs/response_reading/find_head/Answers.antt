@@ -11,8 +11,8 @@ consume-requires c =
     let verdict = rw c.in-Ok-Some.field-0-is at c.in-Ok-Some.ensures.verdict in
     rw c.judge_response.ensures.same (head_end-within _ _ verdict.starts.ends).1
 
-pub returns-in-Ok-Some : goal.returns-in-Ok-Some
-returns-in-Ok-Some c = λ closed given told read.
+pub returns-in-Ok-Some-clause-finds : goal.returns-in-Ok-Some-clause-finds
+returns-in-Ok-Some-clause-finds c = λ closed given told read.
     let verdict = rw c.in-Ok-Some.field-0-is at c.in-Ok-Some.ensures.verdict in
     let at =
     awaiting c.args.method.now closed given told c.args.place c.args.ahead.now c.requires read in
@@ -23,8 +23,8 @@ returns-in-Ok-Some c = λ closed given told read.
           c.in-Ok-Some.read.framing c.in-Ok-Some.read.len at verdict,
     )
 
-pub returns-in-Err : goal.returns-in-Err
-returns-in-Err c = λ closed given told read.
+pub returns-in-Err-clause-finds : goal.returns-in-Err-clause-finds
+returns-in-Err-clause-finds c = λ closed given told read.
     subst (λ (xs : List ℕ). Finds c.args.method.now closed given told c.args.place c.args.place xs
     (found.Failed c.in-Err.fail)) (sym c.judge_response.ensures.same)
     (head_refused c.args.method.now closed given told c.args.place c.args.ahead.now c.in-Err.fail

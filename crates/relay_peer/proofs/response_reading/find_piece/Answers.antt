@@ -6,8 +6,8 @@ use Rattle.relay_tasks.specs.declared.error.ErrorSource.TheVariants.{Upstream}
 use Rattle.relay_peer.proofs.ResponseLemmas.{body_ended, body_ended_here, body_goes_on, body_stays, body_open, body_broken, run_goes_on}
 use Rattle.relay_peer.proofs.response_reading.find_piece.Goals as goal
 
-pub returns-in-Piece-default-true : goal.returns-in-Piece-default-true
-returns-in-Piece-default-true c = λ method closed given told here.
+pub returns-in-Piece-default-true-clause-finds : goal.returns-in-Piece-default-true-clause-finds
+returns-in-Piece-default-true-clause-finds c = λ method closed given told here.
     let reads = drop (here.n + here.len) given in
     let so_far = c.in-Piece-default-true.ensures.keeps here.framing reads told.body here.so_far in (
       c.in-Piece-default-true.ensures.answer.some,
@@ -19,8 +19,8 @@ returns-in-Piece-default-true c = λ method closed given told here.
           c.in-Piece-default-true.field-1-test),
     )
 
-pub returns-in-Piece-default-false : goal.returns-in-Piece-default-false
-returns-in-Piece-default-false c = λ method closed given told here.
+pub returns-in-Piece-default-false-clause-finds : goal.returns-in-Piece-default-false-clause-finds
+returns-in-Piece-default-false-clause-finds c = λ method closed given told here.
     let reads = drop (here.n + here.len) given in
     let so_far =
     c.in-Piece-default-false.ensures.keeps here.framing reads told.body here.so_far in (
@@ -34,8 +34,8 @@ returns-in-Piece-default-false c = λ method closed given told here.
           refl,
     )
 
-pub returns-in-End : goal.returns-in-End
-returns-in-End c = λ method closed given told here.
+pub returns-in-End-clause-finds : goal.returns-in-End-clause-finds
+returns-in-End-clause-finds c = λ method closed given told here.
     let reads = drop (here.n + here.len) given in (
       tt,
       refl,
@@ -45,16 +45,16 @@ returns-in-End c = λ method closed given told here.
           (c.in-End.ensures.tells here.framing reads told.body here.so_far),
     )
 
-pub returns-in-More : goal.returns-in-More
-returns-in-More c = λ method closed given told here.
+pub returns-in-More-clause-finds : goal.returns-in-More-clause-finds
+returns-in-More-clause-finds c = λ method closed given told here.
     let reads = drop (here.n + here.len) given in
     body_open method given told c.args.body (record c.args.body { reader = c.take.new.self })
     c.args.ahead.now c.take.new.ahead here
     (c.in-More.ensures.keeps here.framing reads told.body here.so_far)
     (c.in-More.ensures.tells here.framing reads told.body here.so_far) refl
 
-pub returns-in-Failed-OutOfMemory : goal.returns-in-Failed-OutOfMemory
-returns-in-Failed-OutOfMemory c = λ method closed given told here.
+pub returns-in-Failed-OutOfMemory-clause-finds : goal.returns-in-Failed-OutOfMemory-clause-finds
+returns-in-Failed-OutOfMemory-clause-finds c = λ method closed given told here.
     let reads = drop (here.n + here.len) given in
     let some = rw c.in-Failed-OutOfMemory.field-0-is at c.in-Failed-OutOfMemory.ensures.answer in
     body_stays method given told c.args.body (record c.args.body { reader = c.take.new.self })
@@ -62,8 +62,8 @@ returns-in-Failed-OutOfMemory c = λ method closed given told here.
     (c.in-Failed-OutOfMemory.ensures.keeps here.framing reads told.body here.so_far)
     (run_goes_on c.take.new.self c.take.new.ahead some) refl
 
-pub returns-in-Failed-Error : goal.returns-in-Failed-Error
-returns-in-Failed-Error c = λ method closed given told here.
+pub returns-in-Failed-Error-clause-finds : goal.returns-in-Failed-Error-clause-finds
+returns-in-Failed-Error-clause-finds c = λ method closed given told here.
     let reads = drop (here.n + here.len) given in
     let answer = rw c.in-Failed-Error.field-0-is at c.in-Failed-Error.ensures.answer in
     let told_so = rw c.in-Failed-Error.field-0-is at c.in-Failed-Error.ensures.tells in

@@ -17,7 +17,7 @@ returns-in-Ok-Bytes-clause-reads g c =
     let more = rw c.in-Ok-Bytes.field-0-is at c.in-Ok-Bytes.ensures.ok in
     link_gives c.args.method.now (g.L.ByteLink.state c.args.link.now)
     (g.L.ByteLink.state c.read_from.new.link) c.args.self.now c.find_again.new.self
-    c.read_from.new.self c.in-Ok-Bytes.field-0-0 c.find_again.result more c.find_again.ensures
+    c.read_from.new.self c.in-Ok-Bytes.field-0-0 c.find_again.result more c.find_again.ensures.finds
 
 pub returns-in-Ok-NotReady-clause-reads : goal.returns-in-Ok-NotReady-clause-reads
 returns-in-Ok-NotReady-clause-reads g c =
@@ -38,7 +38,7 @@ returns-in-Ok-End-clause-reads g c =
     let more = rw c.in-Ok-End.field-0-is at c.in-Ok-End.ensures.ok in
     link_ends c.args.method.now (g.L.ByteLink.state c.args.link.now)
     (g.L.ByteLink.state c.read_from.new.link) c.args.self.now c.end.new.self c.read_from.new.self
-    c.end.result (more.0, refl) more.0.ended more.1 c.end.ensures
+    c.end.result (more.0, refl) more.0.ended more.1 c.end.ensures.ends
 
 pub returns-in-Ok-Failed-clause-reads : goal.returns-in-Ok-Failed-clause-reads
 returns-in-Ok-Failed-clause-reads g c =
