@@ -1,0 +1,89 @@
+-- What passed through the client's side: how it begins, and how lists of tasks join.
+use Rattle.std.proofs.Common.{◌≡◌, ℕ, ◌≤◌, Bool, true, false, List, [], ◌∷◌, ◌++◌, refl, sym, ◌∙◌, ap, append_assoc, inr, arith}
+use Rattle.std.specs.Prelude.{IsSome, IsTrue}
+use Rattle.relay_tasks.specs.declared.task.HttpTask.{HttpTask}
+use Rattle.relay_links.specs.Count.{Rose}
+use Rattle.relay_links.specs.Link.{LinkState}
+use Rattle.relay_session.specs.Reading.{RequestSoFar, IsWhole, head_of, is_body_done}
+use Rattle.relay_session.specs.declared.reading.Reading.{Reading}
+use Rattle.relay_session.specs.declared.reading.Reading.TheVariants as reading
+use Rattle.relay_session.specs.declared.session.HttpSession.{HttpSession}
+use Rattle.relay_session.specs.declared.writing.Outgoing.{Outgoing}
+use Rattle.relay_session.specs.declared.writing.Outgoing.TheVariants as outgoing
+use Rattle.relay_session.proofs.ReadingLemmas.{body_whole}
+use Rattle.relay_tasks.specs.declared.fault.Fault.{Fault}
+use Rattle.relay_core.specs.Past.{Origin, DownPast}
+use Rattle.relay_sides.specs.Body.{bytes_of, body_of}
+use Rattle.relay_sides.specs.Client.{HasPassed, BeginsBehind, begun_past}
+
+-- an output that is open has no fault
+pub open_is_whole : (output : Outgoing) (queue : List ℕ) (fault : Fault)
+    → output ≡ outgoing.Open queue → ¬ (output ≡ outgoing.Broken fault)
+open_is_whole output queue fault is broken = let both = sym is ∙ broken in cc
+
+-- a side that begins behind the bytes that came
+pub begins : (s : Origin) (came : List ℕ) (link : LinkState) (ahead : List ℕ)
+    (session : HttpSession) → BeginsBehind s came link ahead session
+    → HasPassed s (begun_past came) link ahead session false false
+begins s came link ahead session b = record {
+  client = record {
+    came = b.gave;
+    written = b.written;
+    faults = b.faults;
+    sound = b.sound;
+    head = b.head;
+    own = b.own;
+    framing = b.framing;
+    len = b.len;
+    has = b.has;
+    is_head = b.is_head;
+    answers = b.answers;
+    body = [];
+    request = b.request;
+    joined = refl;
+    ended = λ none. absurd (cc);
+    whole = λ done. inr refl;
+    told_whole = b.whole;
+    response = b.response;
+    broken = λ fault is.
+        absurd (open_is_whole session.writing.output [] fault b.output is);
+  };
+  over = λ done. absurd (cc);
+  unasked = λ is. refl;
+  asked = λ finished. absurd (cc);
+  closed = λ finished. absurd (cc);
+}
+
+-- a request whose body has ended is whole
+pub reading_whole : (given body ahead : List ℕ) (now : Reading) → RequestSoFar given body ahead now
+    → is_body_done now ≡ true → IsWhole given body ahead
+reading_whole given body ahead reading.Head so_far done = absurd (cc)
+reading_whole given body ahead (reading.Body request) so_far done =
+    body_whole given body ahead request so_far done
+
+-- the body that tasks bring, joined
+pub body_of-append : (tasks more : List HttpTask)
+    → body_of (tasks ++ more) ≡ body_of tasks ++ body_of more
+body_of-append [] more = refl
+body_of-append (task ∷ tasks) more =
+    ap (λ (xs : List ℕ). bytes_of task ++ xs) (body_of-append tasks more)
+    ∙ sym (append_assoc (bytes_of task) (body_of tasks) (body_of more))
+
+-- a count that rose before has risen since
+pub rose_on : (start before after : ℕ) → before ≤ after → Rose start before → Rose start after
+rose_on start before after grown rose = λ below.
+    omega (arith, grown, below, rose (omega (arith, grown, below)))
+
+-- a count that rises has risen from each earlier place
+pub rose_from : (start before after : ℕ) → start ≤ before → Rose before after → Rose start after
+rose_from start before after earlier rose = λ below. omega (arith, earlier, rose below)
+
+-- a side of which something passed has a head
+pub no_head : (s : Origin) (p : DownPast) (link : LinkState) (ahead : List ℕ)
+    (session : HttpSession) (done finished has : Bool) → has ≡ false
+    → (IsSome (head_of session.reading) → IsTrue has)
+    → ¬ (HasPassed s p link ahead session done finished)
+no_head s p link ahead session done finished has none told h =
+    let some : IsSome (head_of session.reading) = rw h.client.is_head refl in
+    let wrong = sym none ∙ told some in
+    absurd (cc)

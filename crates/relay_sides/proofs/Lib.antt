@@ -1,0 +1,10 @@
+pub mod ClientPast
+pub mod ClientRead
+pub mod ClientTasks
+pub mod ClientWrite
+pub mod FrontLemmas
+pub mod TaskLemmas
+pub mod MoveLemmas
+pub mod PeerLemmas
+pub mod SendLemmas
+pub mod SaidLemmas

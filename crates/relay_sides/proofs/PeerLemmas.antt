@@ -1,0 +1,406 @@
+-- How each call of the upstream's side goes on with what passed through it.
+use Rattle.std.proofs.Common.{◌≡◌, ◌||◌, ℕ, Bool, true, false, List, [], ◌∷◌, ◌++◌, map, refl, sym, ap, subst, ◌∙◌, append-nil, Option, Some, None}
+use Rattle.std.specs.List.{list_any}
+use Rattle.std.proofs.lemmas.List.{map-append}
+use Rattle.std.proofs.lemmas.List.Folds.{list_any-append}
+use Rattle.relay_tasks.specs.Head.{RequestHead}
+use Rattle.relay_tasks.specs.declared.error.Error.{Error}
+use Rattle.relay_tasks.specs.declared.error.Fail.{Fail}
+use Rattle.relay_tasks.specs.declared.error.Fail.TheVariants as fail
+use Rattle.relay_tasks.specs.declared.task.HttpTask.{HttpTask}
+use Rattle.relay_tasks.specs.declared.took.Took.{Took}
+use Rattle.relay_tasks.specs.declared.took.Took.TheVariants as took
+use Rattle.relay_links.specs.Link.{LinkState, LinkStart}
+use Rattle.relay_links.specs.declared.link.Got.{Got}
+use Rattle.relay_links.proofs.SinceLemmas.{Since-kept}
+use Rattle.relay_h1.specs.ClientHead.{is_informational}
+use Rattle.relay_h1.specs.Move.{taken}
+use Rattle.relay_peer.specs.declared.h1_client.H1Client.{H1Client}
+use Rattle.relay_peer.specs.declared.request_writing.Request.{Request}
+use Rattle.relay_peer.specs.declared.request_writing.Request.TheVariants as request
+use Rattle.relay_peer.specs.declared.request_writing.RequestWriting.{RequestWriting}
+use Rattle.relay_peer.specs.declared.response_reading.Place.{Place}
+use Rattle.relay_peer.specs.declared.response_reading.ResponseReading.{ResponseReading}
+use Rattle.relay_peer.specs.RequestWriting.{SentSoFar, head_in, method_of}
+use Rattle.relay_peer.specs.ResponseReading.{Told, ReadSoFar, ReadsTask, Answers, Asks, Refuses, IsResponseTask, untold, with_task, with_head, is_over, is_item, fault_error}
+use Rattle.relay_peer.specs.ResponseReading as reading
+use Rattle.relay_core.specs.Past.{Origin, UpPast, UpGoes, error_of_fail, error_of_took}
+use Rattle.relay_sides.specs.Peer.{IsPeer, IsQueued, PeerBlames, AreTasks, Withholds, is_switch, Queues, Loses, IsNew, handed, told_of, none_passed}
+use Rattle.relay_sides.specs.Peer as peer
+use Rattle.relay_sides.proofs.FrontLemmas.{own_front}
+use Rattle.relay_sides.proofs.TaskLemmas.{tasks_push, tasks_kept, final_in, lacking_final}
+use Rattle.relay_sides.proofs.MoveLemmas.{GoesOn, blames_keep, ReadMoves, read_moves}
+
+-- ---- a call
+
+-- what a side answers for, by the head of its request
+abbrev pub Blamed : {L : Type 0} → LinkStart → LinkState → H1Client L → UpPast → Error → Type 0
+Blamed start link client q e =
+    (head : RequestHead) × (head_in client.request.request ≡ Some head)
+    × PeerBlames start link head q e
+
+same_head : (a b : RequestHead) → Some a ≡ Some b → a ≡ b
+same_head a b same = cc
+
+-- a call that went on to that past
+pub goes : {L : Type 0} (o : Origin) (start started : LinkStart) (before after : LinkState)
+    (old new : H1Client L) (stopped lost : Option Fail) (q p : UpPast) (head : RequestHead)
+    (read taken : List HttpTask) (gone : Bool) (error : Option Error)
+    → started ≡ start → head_in old.request.request ≡ Some head
+    → head_in new.request.request ≡ Some head → GoesOn start before after q p
+    → IsPeer o start after new stopped lost p → p.read ≡ read → p.taken ≡ taken → p.lost ≡ gone
+    → ((e : Error) → error ≡ Some e → PeerBlames start after head p e)
+    → UpGoes (λ r. IsPeer o started after new stopped lost r) (λ r e. Blamed start before old r e)
+    (λ r e. Blamed started after new r e) q read taken gone error
+goes {L} o start started before after old new stopped lost q p head read taken gone error same was is
+    on stands reads takes loses blamed =
+    subst (λ (s : LinkStart).
+    UpGoes (λ r. IsPeer o s after new stopped lost r) (λ r e. Blamed start before old r e)
+    (λ r e. Blamed s after new r e) q read taken gone error) (sym same)
+    (record {
+      past = p;
+      stands = stands;
+      is_read = reads;
+      is_taken = takes;
+      is_lost = loses;
+      keeps = λ e blame. (
+        head,
+        is,
+        blames_keep start before after head q p e on
+            (subst (λ (h : RequestHead). PeerBlames start before h q e)
+            (same_head blame.0 head (sym blame.1 ∙ was)) blame.2),
+      );
+      blamed = λ e told. (head, is, blamed e told);
+    })
+
+-- the method of a request whose head was queued
+method_is : (at : Request) (head : RequestHead) → head_in at ≡ Some head
+    → method_of at ≡ head.method
+method_is request.NoHead head is = absurd (cc)
+method_is (request.Sending sending) head is =
+    ap (λ (h : RequestHead). h.method) (same_head sending.head head is)
+
+some_error : (a b : Error) → Some a ≡ Some b → a ≡ b
+some_error a b same = cc
+
+fail_is : (why : Fail) (e : Error) → error_of_fail why ≡ Some e → why ≡ fail.Error e
+fail_is fail.OutOfMemory e told = cc
+fail_is (fail.Error error) e told = ap fail.Error (some_error error e told)
+
+some_fail : (a b : Fail) → Some a ≡ Some b → a ≡ b
+some_fail a b same = cc
+
+-- ---- reads
+
+-- the past with the bytes that came and the tasks that were handed on
+abbrev pub after_read : UpPast → List ℕ → List HttpTask → UpPast
+after_read q came read = record q { got = q.got ++ came; read = read }
+
+read_on : (start : LinkStart) (before after : LinkState) (q : UpPast) (came : List ℕ)
+    (read : List HttpTask) (asked : Option Got) → ReadMoves start before after q.got came asked
+    → GoesOn start before after q (after_read q came read)
+read_on start before after q came read asked moves = record {
+  more = came;
+  got = refl;
+  still = moves.still;
+  taken = own_front q.taken;
+  rises = moves.rises;
+}
+
+-- a side that read on: these tasks were handed on, and these withheld
+peer_read : {L : Type 0} (o : Origin) (start : LinkStart) (before after : LinkState) (old new : H1Client L)
+    (stopped_before stopped lost : Option Fail) (q : UpPast) (came : List ℕ)
+    (read given withheld : List HttpTask) (asked : Option Got)
+    (stands : IsPeer o start before old stopped_before lost q)
+    → new.request ≡ old.request → ReadMoves start before after q.got came asked
+    → AreTasks stands.head.method after.ended (q.got ++ came) (given ++ withheld) new.response
+    → read ≡ map (handed stands.head.method) given → list_any is_switch given ≡ false
+    → (stopped ≡ None → withheld ≡ [])
+    → ((e : Error) → stopped ≡ Some (fail.Error e)
+    → PeerBlames start after stands.head (after_read q came read) e)
+    → IsPeer o start after new stopped lost (after_read q came read)
+peer_read {L} o start before after old new stopped_before stopped lost q came read given withheld
+    asked stands same moves tasks is_read unswitched goes_on why = record {
+      got = moves.given;
+      sent = Since-kept [] start.taken before.taken after.taken q.sent moves.taken stands.sent;
+      faults = moves.faults;
+      sound = moves.sound;
+      head = stands.head;
+      own = stands.own;
+      is_head = ap (λ (w : RequestWriting). head_in w.request) same ∙ stands.is_head;
+      sending = stands.sending;
+      so_far = subst (λ (w : RequestWriting). SentSoFar stands.sending q.sent w) (sym same)
+          stands.so_far;
+      queued = stands.queued;
+      given = given;
+      withheld = withheld;
+      tasks = tasks;
+      is_read = is_read;
+      none_switches = unswitched;
+      goes_on = goes_on;
+      why = why;
+      takes = stands.takes;
+      why_lost = λ e is.
+          blames_keep start before after stands.head q (after_read q came read) e
+          (read_on start before after q came read asked moves) (stands.why_lost e is);
+    }
+
+-- an answer without a task leaves what was told
+told_stays : (method : List ℕ) (closed : Bool) (had : List ℕ) (told : Told) (asked : Option Got)
+    (old : Place) (new : ResponseReading) (answer : Took HttpTask) → is_item answer ≡ false
+    → Answers method closed had told asked old new answer → ReadSoFar method closed had told new
+told_stays method closed had told asked old new (took.Item item) none answers = absurd (cc)
+told_stays method closed had told asked old new took.More none answers = answers.2
+told_stays method closed had told asked old new (took.Waited pause) none answers = answers.2
+told_stays method closed had told asked old new took.End none answers = answers.2
+told_stays method closed had told asked old new (took.Failed fail.OutOfMemory) none answers =
+    answers
+told_stays method closed had told asked old new (took.Failed (fail.Error error)) none answers =
+    answers.1
+
+-- the error of a refusal is blamed
+refusal_blamed : (start : LinkStart) (before after : LinkState) (head : RequestHead)
+    (q : UpPast) (came : List ℕ) (read : List HttpTask) (told : Told) (asked : Option Got)
+    (error : Error) → ReadMoves start before after q.got came asked
+    → Refuses head.method after.ended (q.got ++ came) told asked error
+    → PeerBlames start after head (after_read q came read) error
+refusal_blamed start before after head q came read told asked error moves
+    (reading.Refuses.is_broken why is said) =
+    peer.PeerBlames.is_broken why after.ended (q.got ++ came) told is (own_front (q.got ++ came))
+    said
+refusal_blamed start before after head q came read told asked error moves
+    (reading.Refuses.has_failed fault was is said) =
+    peer.PeerBlames.link_failed fault is (moves.failed fault was)
+refusal_blamed start before after head q came read told asked error moves
+    (reading.Refuses.is_cut_off was is said) =
+    peer.PeerBlames.is_cut_off told (moves.over was) is said
+
+answer_blamed : (start : LinkStart) (before after : LinkState) (head : RequestHead)
+    (q : UpPast) (came : List ℕ) (read : List HttpTask) (told : Told) (asked : Option Got)
+    (old : Place) (new : ResponseReading) (answer : Took HttpTask)
+    → ReadMoves start before after q.got came asked
+    → Answers head.method after.ended (q.got ++ came) told asked old new answer → (e : Error)
+    → error_of_took answer ≡ Some e → PeerBlames start after head (after_read q came read) e
+answer_blamed start before after head q came read told asked old new (took.Item item) moves
+    answers e is = absurd (cc)
+answer_blamed start before after head q came read told asked old new took.More moves answers e is =
+    absurd (cc)
+answer_blamed start before after head q came read told asked old new (took.Waited pause) moves
+    answers e is = absurd (cc)
+answer_blamed start before after head q came read told asked old new took.End moves answers e is =
+    absurd (cc)
+answer_blamed start before after head q came read told asked old new
+    (took.Failed fail.OutOfMemory) moves answers e is = absurd (cc)
+answer_blamed start before after head q came read told asked old new
+    (took.Failed (fail.Error error)) moves answers e is =
+    subst (λ (x : Error). PeerBlames start after head (after_read q came read) x)
+    (some_error error e is)
+    (refusal_blamed start before after head q came read told asked error moves answers.0)
+
+-- a read that gave no task
+pub read_none : {L : Type 0} (o : Origin) (start started : LinkStart) (before after : LinkState)
+    (old new : H1Client L) (stopped lost : Option Fail) (q : UpPast) (answer : Took HttpTask)
+    → started ≡ start → new.request ≡ old.request
+    → ReadsTask (method_of old.request.request) before after old.response new.response answer
+    → is_item answer ≡ false → is_over new.response.place ≡ is_over old.response.place
+    → IsPeer o start before old stopped lost q
+    → UpGoes (λ r. IsPeer o started after new stopped lost r) (λ r e. Blamed start before old r e)
+    (λ r e. Blamed started after new r e) q (q.read ++ []) q.taken q.lost (error_of_took answer)
+read_none {L} o start started before after old new stopped lost q answer same kept reads none over
+    stands =
+    let at = subst (λ (m : List ℕ). ReadsTask m before after old.response new.response answer)
+    (method_is old.request.request stands.head stands.is_head) reads in
+    let moves = read_moves start before after q.got at.came at.asked at.asks stands.got
+    stands.faults stands.sound in
+    let tasks = stands.given ++ stands.withheld in
+    let answers = at.answers q.got (told_of tasks) stands.tasks.so_far in
+    goes o start started before after old new stopped lost q (after_read q at.came q.read)
+    stands.head (q.read ++ []) q.taken q.lost (error_of_took answer) same stands.is_head
+    (ap (λ (w : RequestWriting). head_in w.request) kept ∙ stands.is_head)
+    (read_on start before after q at.came q.read at.asked moves)
+    (peer_read o start before after old new stopped stopped lost q at.came q.read stands.given
+    stands.withheld at.asked stands kept moves
+    (tasks_kept stands.head.method before after q.got at.came tasks old.response new.response
+    stands.tasks over
+    (told_stays stands.head.method after.ended (q.got ++ at.came) (told_of tasks) at.asked
+    old.response.place new.response answer none answers))
+    stands.is_read stands.none_switches stands.goes_on
+    (λ e is. blames_keep start before after stands.head q (after_read q at.came q.read) e
+    (read_on start before after q at.came q.read at.asked moves) (stands.why e is)))
+    (sym (append-nil q.read)) refl refl
+    (answer_blamed start before after stands.head q at.came q.read (told_of tasks) at.asked
+    old.response.place new.response answer moves answers)
+
+-- a call that answers why the side stopped, and changes nothing
+pub stopped_still : {L : Type 0} (o : Origin) (start : LinkStart) (link : LinkState) (client : H1Client L)
+    (stopped lost : Option Fail) (why : Fail) (q : UpPast) → stopped ≡ Some why
+    → IsPeer o start link client stopped lost q
+    → UpGoes (λ r. IsPeer o start link client stopped lost r) (λ r e. Blamed start link client r e)
+    (λ r e. Blamed start link client r e) q (q.read ++ []) q.taken q.lost (error_of_fail why)
+stopped_still {L} o start link client stopped lost why q is stands =
+    goes o start start link link client client stopped lost q q stands.head (q.read ++ []) q.taken
+    q.lost (error_of_fail why) refl stands.is_head stands.is_head
+    (record {
+      more = [];
+      got = sym (append-nil q.got);
+      still = λ over. (over, refl);
+      taken = own_front q.taken;
+      rises = λ rose. rose;
+    })
+    stands (sym (append-nil q.read)) refl refl
+    (λ e told. stands.why e (is ∙ ap Some (fail_is why e told)))
+
+-- ---- tasks
+
+-- a read that gave a task: what of it the side goes on with
+record Brings {L : Type 0} (o : Origin) (start : LinkStart) (before after : LinkState) (old new : H1Client L)
+    (lost : Option Fail) (q : UpPast) (item : HttpTask)
+    (stands : IsPeer o start before old None lost q) : Type 0 where
+  pub came : List ℕ
+  pub asked : Option Got
+  pub moves : ReadMoves start before after q.got came asked
+  pub told : Told
+  pub is : IsResponseTask told item
+  pub read : ReadSoFar stands.head.method after.ended (q.got ++ came) (with_task told item)
+      new.response
+  pub tasks : AreTasks stands.head.method after.ended (q.got ++ came)
+      (stands.given ++ item ∷ []) new.response
+
+never_item : (over : Bool) (item : HttpTask) → (over ≡ true → took.Item item ≡ took.End)
+    → over ≡ false
+never_item true item rests = absurd (apart (rests refl))
+  where
+    apart : took.Item item ≡ took.End → ⊥
+    apart same = cc
+never_item false item rests = refl
+
+brings : {L : Type 0} (o : Origin) (start : LinkStart) (before after : LinkState) (old new : H1Client L)
+    (lost : Option Fail) (q : UpPast) (item : HttpTask)
+    → ReadsTask (method_of old.request.request) before after old.response new.response
+    (took.Item item)
+    → (stands : IsPeer o start before old None lost q)
+    → Brings o start before after old new lost q item stands
+brings {L} o start before after old new lost q item reads stands =
+    let at = subst (λ (m : List ℕ).
+    ReadsTask m before after old.response new.response (took.Item item))
+    (method_is old.request.request stands.head stands.is_head) reads in
+    let all = ap (λ (w : List HttpTask). stands.given ++ w) (stands.goes_on refl)
+    ∙ append-nil stands.given in
+    let tasks = subst (λ (ts : List HttpTask).
+    AreTasks stands.head.method before.ended q.got ts old.response) all stands.tasks in
+    let answers = at.answers q.got (told_of stands.given) tasks.so_far in
+    record {
+      came = at.came;
+      asked = at.asked;
+      moves = read_moves start before after q.got at.came at.asked at.asks stands.got
+          stands.faults stands.sound;
+      told = told_of stands.given;
+      is = answers.0;
+      read = answers.2;
+      tasks = tasks_push stands.head.method before after q.got at.came stands.given item
+          old.response new.response tasks
+          (never_item (is_over old.response.place) item (λ over. (at.rests over).is_end)) answers.0
+          answers.1 answers.2;
+    }
+
+-- a task that is handed on
+pub read_hands : {L : Type 0} (o : Origin) (start started : LinkStart) (before after : LinkState)
+    (old new : H1Client L) (stopped lost : Option Fail) (q : UpPast) (item given : HttpTask)
+    → stopped ≡ None → started ≡ start → new.request ≡ old.request
+    → ReadsTask (method_of old.request.request) before after old.response new.response
+    (took.Item item)
+    → given ≡ handed (method_of new.request.request) item → is_switch item ≡ false
+    → IsPeer o start before old stopped lost q
+    → UpGoes (λ r. IsPeer o started after new stopped lost r) (λ r e. Blamed start before old r e)
+    (λ r e. Blamed started after new r e) q (q.read ++ given ∷ []) q.taken q.lost None
+read_hands {L} o start started before after old new stopped lost q item given open_yet same kept reads
+    is_given plain stood =
+    let stands = subst (λ (s : Option Fail). IsPeer o start before old s lost q) open_yet stood in
+    let b = brings o start before after old new lost q item reads stands in
+    let method = ap (λ (w : RequestWriting). method_of w.request) kept
+    ∙ method_is old.request.request stands.head stands.is_head in
+    let read = q.read ++ given ∷ [] in
+    subst (λ (s : Option Fail).
+    UpGoes (λ r. IsPeer o started after new s lost r) (λ r e. Blamed start before old r e)
+    (λ r e. Blamed started after new r e) q read q.taken q.lost None) (sym open_yet)
+    (goes o start started before after old new None lost q (after_read q b.came read) stands.head
+    read q.taken q.lost None same stands.is_head
+    (ap (λ (w : RequestWriting). head_in w.request) kept ∙ stands.is_head)
+    (read_on start before after q b.came read b.asked b.moves)
+    (peer_read o start before after old new None None lost q b.came read
+    (stands.given ++ item ∷ []) [] b.asked stands kept b.moves
+    (subst (λ (ts : List HttpTask).
+    AreTasks stands.head.method after.ended (q.got ++ b.came) ts new.response)
+    (sym (append-nil (stands.given ++ item ∷ []))) b.tasks)
+    (ap (λ (r : List HttpTask). r ++ given ∷ []) stands.is_read
+    ∙ ap (λ (t : HttpTask). map (handed stands.head.method) stands.given ++ t ∷ [])
+    (is_given ∙ ap (λ (m : List ℕ). handed m item) method)
+    ∙ sym (map-append (handed stands.head.method) stands.given (item ∷ [])))
+    (list_any-append is_switch stands.given (item ∷ [])
+    ∙ ap (λ (b : Bool). b || (is_switch item || false)) stands.none_switches
+    ∙ ap (λ (b : Bool). b || false) plain)
+    (λ none. refl) (λ e none. absurd (cc)))
+    refl refl refl (λ e none. absurd (cc)))
+
+-- the error for which a task is withheld is blamed
+withheld_blamed : (start : LinkStart) (after : LinkState) (head : RequestHead) (p : UpPast)
+    (told : Told) (new : ResponseReading) (item : HttpTask) (why : Fail) (closed : Bool)
+    → IsResponseTask told item → ReadSoFar head.method closed p.got (with_task told item) new
+    → Withholds head.method item why → (e : Error) → why ≡ fail.Error e
+    → PeerBlames start after head p e
+withheld_blamed start after head p told new item why closed is read
+    (peer.Withholds.switches final end at status) e because =
+    let there = final_in head.method closed p.got told final new
+    (ap (λ (n : ℕ). is_informational n) status)
+    (subst (λ (t : HttpTask). ReadSoFar head.method closed p.got (with_task told t) new) at read)
+    in
+    peer.PeerBlames.switches there.informed final there.framing there.len there.has status
+    (error_in because)
+  where
+    error_in : {a b : Error} → fail.Error a ≡ fail.Error b → b ≡ a
+    error_in same = cc
+withheld_blamed start after head p told new item why closed is read
+    (peer.Withholds.is_full final end at lacks full) e because =
+    let last = lacking_final head.method end final lacks in
+    let there = final_in head.method closed p.got told final new last.0
+    (subst (λ (t : HttpTask). ReadSoFar head.method closed p.got (with_task told t) new) at read)
+    in
+    peer.PeerBlames.is_full there.informed final there.framing there.len there.has last.1 full
+    (error_in because)
+  where
+    error_in : {a b : Error} → fail.Error a ≡ fail.Error b → b ≡ a
+    error_in same = cc
+withheld_blamed start after head p told new item why closed is read
+    (peer.Withholds.wants_memory final end at lacks) e because = absurd (cc)
+withheld_blamed start after head p told new item why closed is read
+    (peer.Withholds.tells_error error at) e because =
+    absurd (subst (λ (t : HttpTask). IsResponseTask told t) at is)
+
+-- a task that is withheld
+pub read_stops : {L : Type 0} (o : Origin) (start started : LinkStart) (before after : LinkState)
+    (old new : H1Client L) (stopped lost : Option Fail) (q : UpPast) (item : HttpTask) (why : Fail)
+    → stopped ≡ None → started ≡ start → new.request ≡ old.request
+    → ReadsTask (method_of old.request.request) before after old.response new.response
+    (took.Item item)
+    → Withholds (method_of new.request.request) item why → IsPeer o start before old stopped lost q
+    → UpGoes (λ r. IsPeer o started after new (Some why) lost r)
+    (λ r e. Blamed start before old r e) (λ r e. Blamed started after new r e) q (q.read ++ [])
+    q.taken q.lost (error_of_fail why)
+read_stops {L} o start started before after old new stopped lost q item why open_yet same kept reads
+    withholds stood =
+    let stands = subst (λ (s : Option Fail). IsPeer o start before old s lost q) open_yet stood in
+    let b = brings o start before after old new lost q item reads stands in
+    let method = ap (λ (w : RequestWriting). method_of w.request) kept
+    ∙ method_is old.request.request stands.head stands.is_head in
+    let blamed = withheld_blamed start after stands.head (after_read q b.came q.read) b.told
+    new.response item why after.ended b.is b.read
+    (subst (λ (m : List ℕ). Withholds m item why) method withholds) in
+    goes o start started before after old new (Some why) lost q (after_read q b.came q.read)
+    stands.head (q.read ++ []) q.taken q.lost (error_of_fail why) same stands.is_head
+    (ap (λ (w : RequestWriting). head_in w.request) kept ∙ stands.is_head)
+    (read_on start before after q b.came q.read b.asked b.moves)
+    (peer_read o start before after old new None (Some why) lost q b.came q.read stands.given
+    (item ∷ []) b.asked stands kept b.moves b.tasks stands.is_read stands.none_switches
+    (λ some. absurd (cc))
+    (λ e is. blamed e (some_fail why (fail.Error e) is)))
+    (sym (append-nil q.read)) refl refl (λ e told. blamed e (fail_is why e told))

@@ -1,0 +1,284 @@
+-- The tasks of a response: one more of them, and what they tell.
+use Rattle.std.proofs.Common.{◌≡◌, ℕ, ◌+◌, Bool, true, false, ◌||◌, ◌&&◌, not, List, [], ◌∷◌, ◌++◌, refl, sym, ap, subst, ◌∙◌, Some, None, if◌then◌else◌, drop, nat_le, nat_lt, ◌==◌, codes, bytes_eq}
+use Rattle.std.specs.List.{list_any}
+use Rattle.std.proofs.lemmas.List.Folds.{list_any-append}
+use Rattle.http_header.specs.HeaderMap.{RefusesInsert}
+use Rattle.relay_tasks.specs.Error.{IsMemoryOr, refused}
+use Rattle.relay_tasks.specs.Head.{ResponseHead}
+use Rattle.relay_tasks.specs.declared.context.Context.TheVariants.{HeadTooLong, Mismatch101}
+use Rattle.relay_tasks.specs.declared.error.Error.{Error}
+use Rattle.relay_tasks.specs.declared.error.ErrorSource.TheVariants.{Upstream, Internal}
+use Rattle.relay_tasks.specs.declared.error.Fail.{Fail}
+use Rattle.relay_tasks.specs.declared.error.Fail.TheVariants as fail
+use Rattle.relay_tasks.specs.declared.task.HttpTask.{HttpTask}
+use Rattle.relay_tasks.specs.declared.task.HttpTask.TheVariants as task
+use Rattle.relay_tasks.specs.Task.{is_end}
+use Rattle.relay_links.specs.Link.{LinkState}
+use Rattle.relay_h1.specs.declared.framing.Framing.{Framing}
+use Rattle.relay_h1.specs.ClientHead.{is_informational, lacks_framing}
+use Rattle.relay_h1.specs.Framing.{has_no_body, is_bodiless}
+use Rattle.relay_h1.specs.Tasks.{HasFinal, Tasks, ended}
+use Rattle.relay_h1.specs.Verdict.{HasResponse}
+use Rattle.relay_peer.specs.declared.response_reading.Place.{Place}
+use Rattle.relay_peer.specs.declared.response_reading.Place.TheVariants as place
+use Rattle.relay_peer.specs.declared.response_reading.ResponseReading.{ResponseReading}
+use Rattle.relay_peer.specs.ResponseReading.{Told, ReadSoFar, ReadAt, IsResponseTask, untold, with_task, with_head, says, is_over}
+use Rattle.relay_core.specs.Moves.{EndsLast}
+use Rattle.relay_sides.specs.Peer.{AreTasks, Follow, Withholds, inside, told_behind, told_of}
+use Rattle.relay_sides.specs.Peer as peer
+
+-- ---- one task more
+
+-- what is told with one task more
+told_push : (told : Told) (tasks : List HttpTask) (last : HttpTask)
+    → told_behind told (tasks ++ last ∷ []) ≡ with_task (told_behind told tasks) last
+told_push told [] last = refl
+told_push told (first ∷ tasks) last = told_push (with_task told first) tasks last
+
+follow_push : (told : Told) (tasks : List HttpTask) (last : HttpTask) → Follow told tasks
+    → IsResponseTask (told_behind told tasks) last → Follow told (tasks ++ last ∷ [])
+follow_push told [] last follow is = (is, tt)
+follow_push told (first ∷ tasks) last follow is =
+    (follow.0, follow_push (with_task told first) tasks last follow.1 is)
+
+none_behind : (front behind : List HttpTask) → [] ≡ front ++ behind → behind ≡ []
+none_behind [] behind same = sym same
+none_behind (first ∷ front) behind same = cc
+
+tails : (a b : HttpTask) (xs ys : List HttpTask) → a ∷ xs ≡ b ∷ ys → xs ≡ ys
+tails a b xs ys same = cc
+
+heads : (a b : HttpTask) (xs ys : List HttpTask) → a ∷ xs ≡ b ∷ ys → a ≡ b
+heads a b xs ys same = cc
+
+or_left : (a b : Bool) → (a || b) ≡ false → a ≡ false
+or_left true b none = cc
+or_left false b none = refl
+
+or_right : (a b : Bool) → (a || b) ≡ false → b ≡ false
+or_right true b none = cc
+or_right false b none = none
+
+or_second : (a b : Bool) → a ≡ false → (a || b) ≡ true → b ≡ true
+or_second true b none some = cc
+or_second false b none some = some
+
+-- behind tasks of which none is an end, one more ends last
+last_ends_at : (tasks : List HttpTask) (last : HttpTask) (front behind : List HttpTask)
+    → list_any is_end tasks ≡ false → tasks ++ last ∷ [] ≡ front ++ behind
+    → list_any is_end front ≡ true → behind ≡ []
+last_ends_at [] last [] behind none same found = cc
+last_ends_at [] last (first ∷ front) behind none same found =
+    none_behind front behind (tails last first [] (front ++ behind) same)
+last_ends_at (task ∷ tasks) last [] behind none same found = cc
+last_ends_at (task ∷ tasks) last (first ∷ front) behind none same found =
+    last_ends_at tasks last front behind (or_right (is_end task) (list_any is_end tasks) none)
+    (tails task first (tasks ++ last ∷ []) (front ++ behind) same)
+    (or_second (is_end first) (list_any is_end front)
+    (ap is_end (sym (heads task first (tasks ++ last ∷ []) (front ++ behind) same))
+    ∙ or_left (is_end task) (list_any is_end tasks) none)
+    found)
+
+last_ends : (tasks : List HttpTask) (last : HttpTask) → list_any is_end tasks ≡ false
+    → EndsLast (tasks ++ last ∷ [])
+last_ends tasks last none = λ front behind same found.
+    last_ends_at tasks last front behind none same found
+
+or_nil : (b : Bool) → (b || false) ≡ b
+or_nil true = refl
+or_nil false = refl
+
+not_over : (over : Bool) → (over ≡ true → ⊥) → over ≡ false
+not_over true never = absurd (never refl)
+not_over false never = refl
+
+-- the tasks with the one that a call gave
+pub tasks_push : (method : List ℕ) (before after : LinkState) (got came : List ℕ)
+    (tasks : List HttpTask) (last : HttpTask) (old new : ResponseReading)
+    → AreTasks method before.ended got tasks old → is_over old.place ≡ false
+    → IsResponseTask (told_of tasks) last → is_end last ≡ is_over new.place
+    → ReadSoFar method after.ended (got ++ came) (with_task (told_of tasks) last) new
+    → AreTasks method after.ended (got ++ came) (tasks ++ last ∷ []) new
+tasks_push method before after got came tasks last old new are going is ends read = record {
+  so_far = subst (λ (t : Told). ReadSoFar method after.ended (got ++ came) t new)
+      (sym (told_push untold tasks last)) read;
+  follow = follow_push untold tasks last are.follow is;
+  ended = list_any-append is_end tasks (last ∷ [])
+      ∙ ap (λ (b : Bool). b || list_any is_end (last ∷ [])) (are.ended ∙ going)
+      ∙ or_nil (is_end last) ∙ ends;
+  ends_last = last_ends tasks last (are.ended ∙ going);
+}
+
+-- the tasks where a call gave none
+pub tasks_kept : (method : List ℕ) (before after : LinkState) (got came : List ℕ)
+    (tasks : List HttpTask) (old new : ResponseReading)
+    → AreTasks method before.ended got tasks old → is_over new.place ≡ is_over old.place
+    → ReadSoFar method after.ended (got ++ came) (told_of tasks) new
+    → AreTasks method after.ended (got ++ came) tasks new
+tasks_kept method before after got came tasks old new are same read = record {
+  so_far = read;
+  follow = are.follow;
+  ended = are.ended ∙ sym same;
+  ends_last = are.ends_last;
+}
+
+never_some : (head : ResponseHead) → None ≡ Some head → ⊥
+never_some head same = cc
+
+-- no task came yet
+pub no_tasks : (method : List ℕ) (closed : Bool) (new : ResponseReading)
+    → ReadSoFar method closed [] untold new → AreTasks method closed [] [] new
+no_tasks method closed new read = record {
+  so_far = read;
+  follow = tt;
+  ended = sym (none_over new.place new.ahead read.at);
+  ends_last = λ front behind same found. none_behind front behind same;
+}
+  where
+    none_over : (at : Place) (ahead : List ℕ) → ReadAt method closed [] untold at ahead
+        → is_over at ≡ false
+    none_over place.NoHead ahead read = refl
+    none_over place.Informed ahead read = refl
+    none_over (place.InBody body) ahead read = refl
+    none_over (place.Ended keeps) ahead read = absurd (never_some read.head read.final)
+
+-- ---- final heads
+
+-- a final head that was told stands in the bytes
+pub record FinalIn (method got : List ℕ) (final : ResponseHead) : Type 0 where
+  pub informed : List ResponseHead
+  pub framing : Framing
+  pub len : ℕ
+  pub has : HasFinal method false got informed final framing len
+
+some_head : (a b : ResponseHead) → Some a ≡ Some b → a ≡ b
+some_head a b same = cc
+
+never_final : (a : ResponseHead) → Some a ≡ None → ⊥
+never_final a same = cc
+
+final_at : (method : List ℕ) (closed : Bool) (got : List ℕ) (told : Told) (final : ResponseHead)
+    (at : Place) (ahead : List ℕ) → is_informational final.status ≡ false
+    → ReadAt method closed got (record told { final = Some final }) at ahead
+    → FinalIn method got final
+final_at method closed got told final place.NoHead ahead last read =
+    absurd (never_final final read.0.no_final)
+final_at method closed got told final place.Informed ahead last read =
+    absurd (never_final final read.0.no_final)
+final_at method closed got told final (place.InBody body) ahead last read = record {
+  informed = told.informed;
+  framing = read.framing;
+  len = read.n + read.len;
+  has = record {
+    place = read.n;
+    own = read.len;
+    informs = read.informs;
+    has = subst (λ (h : ResponseHead). HasResponse method false (drop read.n got) h read.framing
+        read.len) (sym (some_head final read.head read.final)) read.has;
+    final = last;
+    ends = refl;
+  };
+}
+final_at method closed got told final (place.Ended keeps) ahead last read = record {
+  informed = told.informed;
+  framing = read.framing;
+  len = read.n + read.len;
+  has = record {
+    place = read.n;
+    own = read.len;
+    informs = read.informs;
+    has = subst (λ (h : ResponseHead). HasResponse method false (drop read.n got) h read.framing
+        read.len) (sym (some_head final read.head read.final)) read.has;
+    final = last;
+    ends = refl;
+  };
+}
+
+-- the final head that a task brought stands in the bytes
+pub final_in : (method : List ℕ) (closed : Bool) (got : List ℕ) (told : Told)
+    (final : ResponseHead) (new : ResponseReading) → is_informational final.status ≡ false
+    → ReadSoFar method closed got (with_head told final) new → FinalIn method got final
+final_in method closed got told final new last read =
+    final_at method closed got told final new.place new.ahead last
+    (subst (λ (t : Told). ReadAt method closed got t new.place new.ahead)
+    (ap (λ (b : Bool). if b then record told { informed = told.informed ++ final ∷ [] }
+    else record told { final = Some final }) last)
+    read.at)
+
+-- what lacks a framing may have a body, wherever its stream ends
+lacks_parts : (ends none length coding : Bool) → (not ends && not none && length && coding) ≡ true
+    → (none ≡ false) × ((not false && not none && length && coding) ≡ true)
+lacks_parts true none length coding is = cc
+lacks_parts false true length coding is = cc
+lacks_parts false false length coding is = (refl, is)
+
+-- a status that may have a body does not only inform
+bodiless : (low high other : Bool) (rest : Bool) → (low && high || rest) ≡ false
+    → (low && high && not other) ≡ false
+bodiless true true other rest is = cc
+bodiless true false other rest is = refl
+bodiless false high other rest is = refl
+
+-- a head that lacks a framing is final
+pub lacking_final : (method : List ℕ) (end : Bool) (head : ResponseHead)
+    → lacks_framing method end head ≡ true
+    → (is_informational head.status ≡ false) × (lacks_framing method false head ≡ true)
+unfolding lacks_framing
+lacking_final method end head lacks =
+    let parts = lacks_parts end (has_no_body method head.status) _ _ lacks in (
+      bodiless (nat_le 100 head.status) (nat_lt head.status 200) (head.status == 101)
+          (head.status == 204 || head.status == 304)
+          (or_right (bytes_eq method (codes "HEAD")) (is_bodiless head.status) parts.0),
+      parts.1,
+    )
+
+-- ---- what a head becomes
+
+-- a head that has no room for the field that makes it chunked, or wants memory for it
+pub full_withholds : (method : List ℕ) (head : ResponseHead) (end : Bool) (why out : Fail)
+    → lacks_framing method end head ≡ true → IsMemoryOr (refused HeadTooLong) why
+    → (why ≡ fail.Error (refused HeadTooLong)
+    → RefusesInsert head.fields (codes "transfer-encoding"))
+    → out ≡ inside why → Withholds method (task.Header head end) out
+full_withholds method head end fail.OutOfMemory out lacks causes full is =
+    subst (λ (f : Fail). Withholds method (task.Header head end) f) (sym is)
+    (peer.Withholds.wants_memory head end refl lacks)
+full_withholds method head end (fail.Error error) out lacks causes full is =
+    subst (λ (f : Fail). Withholds method (task.Header head end) f)
+    (sym (is ∙ ap (λ (e : Error). fail.Error (record e { esource = Internal })) causes))
+    (peer.Withholds.is_full head end refl lacks (full (ap fail.Error causes)))
+
+-- a head that switches protocols
+pub switch_withholds : (method : List ℕ) (head : ResponseHead) (end : Bool) (status : ℕ)
+    (inner outer : Error) → status ≡ head.status → status ≡ 101
+    → inner ≡ refused Mismatch101 → outer ≡ record inner { esource = Upstream }
+    → Withholds method (task.Header head end) (fail.Error outer)
+switch_withholds method head end status inner outer of is cause out =
+    subst (λ (e : Error). Withholds method (task.Header head end) (fail.Error e))
+    (sym (out ∙ ap (λ (e : Error). record e { esource = Upstream }) cause))
+    (peer.Withholds.switches head end refl (sym of ∙ is))
+
+-- ---- what tasks with an end say
+
+-- tasks that end are the response whole, with its final head
+pub record SaysWhole (method got : List ℕ) (closed : Bool) (told : Told) : Type 0 where
+  pub place : ℕ
+  pub head : ResponseHead
+  pub whole : Tasks method false got closed (says told (ended place))
+  pub final : told.final ≡ Some head
+
+whole_at : (method got : List ℕ) (closed : Bool) (told : Told) (at : Place) (ahead : List ℕ)
+    → is_over at ≡ true → ReadAt method closed got told at ahead
+    → SaysWhole method got closed told
+whole_at method got closed told place.NoHead ahead over read = absurd (cc)
+whole_at method got closed told place.Informed ahead over read = absurd (cc)
+whole_at method got closed told (place.InBody body) ahead over read = absurd (cc)
+whole_at method got closed told (place.Ended keeps) ahead over read =
+    record { place = read.place; head = read.head; whole = read.whole; final = read.final }
+
+pub ended_whole : (method got : List ℕ) (closed : Bool) (tasks : List HttpTask)
+    (client : ResponseReading) → AreTasks method closed got tasks client
+    → list_any is_end tasks ≡ true → SaysWhole method got closed (told_of tasks)
+ended_whole method got closed tasks client are ends =
+    whole_at method got closed (told_of tasks) client.place client.ahead (sym are.ended ∙ ends)
+    are.so_far.at

@@ -1,0 +1,52 @@
+-- Each answer of the session is a piece, and what passed goes on with it.
+use Rattle.std.proofs.Common.{ap}
+use Rattle.std.specs.Prelude.{◌&&◌}
+use Rattle.relay_session.specs.Reading.{is_body_done}
+use Rattle.relay_session.specs.declared.session.HttpSession.{HttpSession}
+use Rattle.relay_sides.proofs.ClientPast.{no_head}
+use Rattle.relay_sides.proofs.ClientRead.{Left, twice, reads_state, reads_silent, reads_on}
+use Rattle.relay_sides.proofs.client_side.ClientSideDown.read_piece.Given.{Over}
+use Rattle.relay_sides.proofs.client_side.ClientSideDown.read_piece.Goals as goal
+
+-- what the call of the session left
+left : (g : Over) → (c : goal.After-self-1 g)
+    → Left (g.F.Front.state c.args.client.now) (g.F.Front.state c.read_body_or_idle-took.new.client)
+    (g.F.Front.ahead c.args.client.now) (g.F.Front.ahead c.read_body_or_idle-took.new.client)
+    c.args.self.now.session c.read_body_or_idle-took.new.self c.read_body_or_idle-took.result
+left g c = record {
+  still = c.is_body_done-was_done.result && is_body_done c.args.self.now.session.reading;
+  is_still = rw c.is_body_done-was_done.ensures.value (twice _);
+  goes = c.read_body_or_idle-took.ensures.goes;
+  link = c.read_body_or_idle-took.ensures.link;
+  ends = c.read_body_or_idle-took.ensures.ends;
+  watches = c.read_body_or_idle-took.ensures.watches;
+  head = c.read_body_or_idle-took.ensures.head;
+  stays = c.read_body_or_idle-took.ensures.still;
+  response = ap (λ (x : HttpSession). x.writing) c.read_body_or_idle-took.ensures.response;
+}
+
+pub returns-clause-reads : goal.returns-clause-reads
+returns-clause-reads g c =
+    rw (c.told_read-self.ensures, c.piece_answer-piece.ensures, c.is_body_done.ensures.value)
+    (reads_state _ _ _ _ c.args.self.now.session c.read_body_or_idle-took.new.self
+    c.args.self.now.told c.args.self.now.done c.args.self.now.finished
+    c.read_body_or_idle-took.result (left g c))
+
+pub returns-clause-goes : goal.returns-clause-goes
+returns-clause-goes g c =
+    rw (c.piece_answer-piece.ensures, c.is_body_done.ensures.value)
+    (λ s p h.
+    reads_on s p _ _ _ _ c.args.self.now.session c.read_body_or_idle-took.new.self
+    c.args.self.now.done c.args.self.now.finished c.read_body_or_idle-took.result h (left g c))
+
+pub returns-clause-silent : goal.returns-clause-silent
+returns-clause-silent g c =
+    rw c.piece_answer-piece.ensures
+    (λ is.
+    reads_silent _ _ c.read_body_or_idle-took.result c.is_body_done.result
+    c.read_body_or_idle-took.ensures.link is)
+
+pub returns-then-not-has_head-clause-goes : goal.returns-then-not-has_head-clause-goes
+returns-then-not-has_head-clause-goes g c = λ s p h.
+    absurd (no_head s p _ _ c.args.self.now.session _ _ c.has_head.result c.if-not-has_head.true
+    c.has_head.ensures.1 h)

@@ -1,0 +1,46 @@
+-- All tasks were queued, or those in front of a refused one.
+use Rattle.std.proofs.Common.{ap}
+use Rattle.relay_sides.proofs.ClientTasks.{queues_state, refuses_state, queues_on, refuses_on}
+use Rattle.relay_sides.proofs.client_side.ClientSideDown.take_batch.Goals as goal
+
+pub returns-in-Ok-clause-takes : goal.returns-in-Ok-clause-takes
+returns-in-Ok-clause-takes g c =
+    rw (
+      c.either-self.ensures,
+      ap (λ x. x.told) c.queue.ensures.rest,
+      ap (λ x. x.done) c.queue.ensures.rest,
+      ap (λ x. x.finished) c.queue.ensures.rest,
+    )
+    (queues_state c.args.self.now.session c.queue.new.self.session c.args.tasks
+    c.args.self.now.told c.args.self.now.done c.args.self.now.finished c.in-Ok.over
+    c.in-Ok.ensures.queues)
+
+pub returns-in-Ok-clause-goes : goal.returns-in-Ok-clause-goes
+returns-in-Ok-clause-goes g c =
+    rw (
+      c.either-self.ensures,
+      ap (λ x. x.done) c.queue.ensures.rest,
+      ap (λ x. x.finished) c.queue.ensures.rest,
+    )
+    (λ client s p h.
+    queues_on s p _ _ c.args.self.now.session c.queue.new.self.session c.args.tasks
+    c.args.self.now.done c.args.self.now.finished c.in-Ok.over h c.in-Ok.ensures.queues)
+
+pub returns-in-Err-clause-takes : goal.returns-in-Err-clause-takes
+returns-in-Err-clause-takes g c =
+    rw (
+      c.failed-self.ensures,
+      ap (λ x. x.told) c.queue.ensures.rest,
+      ap (λ x. x.done) c.queue.ensures.rest,
+      ap (λ x. x.finished) c.queue.ensures.rest,
+    )
+    (refuses_state c.args.self.now.session c.queue.new.self.session c.args.tasks
+    c.args.self.now.told c.args.self.now.done c.args.self.now.finished c.in-Err.why
+    c.in-Err.ensures.queues)
+
+pub returns-in-Err-clause-goes : goal.returns-in-Err-clause-goes
+returns-in-Err-clause-goes g c =
+    rw (ap (λ x. x.done) c.queue.ensures.rest, ap (λ x. x.finished) c.queue.ensures.rest)
+    (λ client s p h.
+    refuses_on s p _ _ c.args.self.now.session c.queue.new.self.session c.args.tasks
+    c.args.self.now.done c.args.self.now.finished c.in-Err.why h c.in-Err.ensures.queues)

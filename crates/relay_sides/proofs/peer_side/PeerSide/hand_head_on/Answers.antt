@@ -1,0 +1,19 @@
+-- A head that is withheld: it switches protocols, or could not be chunked.
+use Rattle.std.proofs.Common.{sym, ap, ◌∙◌, arith, Err}
+use Rattle.relay_tasks.specs.declared.error.Fail.{Fail}
+use Rattle.relay_peer.specs.RequestWriting.{method_of}
+use Rattle.relay_sides.proofs.TaskLemmas.{switch_withholds, full_withholds}
+use Rattle.relay_sides.proofs.peer_side.PeerSide.hand_head_on.Goals as goal
+
+pub returns-then-status-eq101 : goal.returns-then-status-eq101
+returns-then-status-eq101 g c =
+    switch_withholds (method_of c.args.self.now.client.request.request) c.args.head c.args.end
+    c.status.result c.explain-error.result c.into_up.result c.status.ensures.value
+    (omega (arith, c.if-status-eq101.true)) c.explain-error.ensures c.into_up.ensures
+
+pub returns-in-Err : goal.returns-in-Err
+returns-in-Err g c =
+    full_withholds (method_of c.args.self.now.client.request.request) c.args.head c.args.end
+    c.in-Err.fail c.inside.result (sym c.lacks_framing.ensures ∙ c.if-not-lacks_framing.false)
+    c.in-Err.ensures.causes (λ is. c.in-Err.ensures.full.0 (ap (λ (f : Fail). Err f) is))
+    c.inside.ensures

@@ -1,0 +1,24 @@
+-- On a link that was handed out, a new side begins with the head that was queued.
+use Rattle.std.proofs.Common.{ap}
+use Rattle.relay_peer.specs.declared.h1_client.H1Client.{H1Client}
+use Rattle.relay_sides.proofs.SendLemmas.{begins_side, begins_head, on_ok}
+use Rattle.relay_sides.proofs.peer_side.PeerSide.write_request_header.Goals as goal
+
+pub returns-clause-begins : goal.returns-clause-begins
+returns-clause-begins g c =
+    on_ok _ _ c.write_request_header.result c.write_request_header.ensures.keeps
+    (λ keeps s own fresh reused out.
+    begins_side s (g.L.ByteLink.start c.args.self.now.client.link)
+    (g.L.ByteLink.start c.write_request_header.new.self.link)
+    (g.L.ByteLink.state c.args.self.now.client.link)
+    (g.L.ByteLink.state c.write_request_header.new.self.link) reused c.args.self.now
+    c.write_request_header.new.self c.args.head own
+    (ap (λ (k : H1Client _). g.L.ByteLink.start k.link) c.write_request_header.ensures.same)
+    (ap (λ (k : H1Client _). g.L.ByteLink.state k.link) c.write_request_header.ensures.same)
+    (ap (λ (k : H1Client _). k.response) c.write_request_header.ensures.same) keeps fresh out)
+
+pub returns-clause-head : goal.returns-clause-head
+returns-clause-head g c =
+    on_ok _ _ c.write_request_header.result c.write_request_header.ensures.keeps
+    (λ keeps fresh.
+    begins_head c.args.self.now c.write_request_header.new.self c.args.head keeps fresh)

@@ -1,0 +1,220 @@
+-- The client's side: what passed between a client and its session since the request began, and why
+-- the side answers with an error (RFC 9112, sections 6 and 7).
+use Rattle.std.specs.Prelude.{◌≡◌, ℕ, ◌<◌, ◌≤◌, Bool, true, false, not, ◌==◌, ◌⊎◌, List, [], ◌∷◌, ◌++◌, length, Option, Some, None, Result, Ok, Err}
+use Rattle.std.specs.List.{list_any}
+use Rattle.relay_tasks.specs.declared.error.Error.{Error}
+use Rattle.relay_tasks.specs.declared.error.Fail.{Fail}
+use Rattle.relay_tasks.specs.declared.error.Fail.TheVariants as fail
+use Rattle.relay_tasks.specs.declared.fault.Fault.{Fault}
+use Rattle.relay_tasks.specs.declared.took.Took.{Took}
+use Rattle.relay_tasks.specs.declared.took.Took.TheVariants as took
+use Rattle.relay_tasks.specs.declared.task.HttpTask.{HttpTask}
+use Rattle.relay_tasks.specs.declared.task.HttpTask.TheVariants as task
+use Rattle.relay_tasks.specs.Head.{RequestHead}
+use Rattle.relay_tasks.specs.Task.{is_end}
+use Rattle.relay_links.specs.Count.{Rose}
+use Rattle.relay_links.specs.Link.{LinkState, IsSound}
+use Rattle.relay_links.specs.Told.{Since}
+use Rattle.relay_h1.specs.declared.framing.Framing.{Framing}
+use Rattle.relay_h1.specs.Body.{open_text, broken}
+use Rattle.relay_h1.specs.Verdict.{HasRequest}
+use Rattle.relay_session.specs.Asked.{request_of}
+use Rattle.relay_session.specs.Front.{link_fault, client_closed, client_sent_more, body_broken}
+use Rattle.relay_session.specs.Reading.{head_of, is_body_done, RequestSoFar, SaysBody, IsWhole}
+use Rattle.relay_session.specs.Response.{Holds, Grows, GoesOnWith, FailsWithin, is_over, pending}
+use Rattle.relay_session.specs.TaskWire.{Sent, ends_short, task_sent, tasks_sent}
+use Rattle.relay_session.specs.declared.session.HttpSession.{HttpSession}
+use Rattle.relay_session.specs.declared.task_text.Place.{Place}
+use Rattle.relay_session.specs.declared.task_text.Place.TheVariants as place
+use Rattle.relay_session.specs.declared.writing.Outgoing.TheVariants as outgoing
+use Rattle.relay_core.specs.Down.{DownState}
+use Rattle.relay_core.specs.Past.{Origin, DownPast}
+use Rattle.relay_core.specs.declared.piece.Piece.{Piece}
+use Rattle.relay_core.specs.declared.told.Told.{Told}
+use Rattle.relay_core.specs.Told.{paused, failed}
+use Rattle.relay_sides.specs.Body.{body_of}
+
+-- the bytes of the client since its request began, those that were ahead then first
+abbrev pub given_to : Origin → DownPast → List ℕ
+given_to s p = s.ahead ++ p.came
+
+-- the tasks of the response that were queued for the client
+abbrev pub queued : DownPast → List HttpTask
+queued p = p.batched ++ p.closing
+
+-- the state of the side, whose last batch left the response done or not, and whose response's end
+-- was asked for or not
+abbrev pub state_of : HttpSession → Told → Bool → Bool → DownState
+state_of session told done finished = record {
+  request_ended = is_body_done session.reading;
+  body_done = is_body_done session.reading;
+  awaits_upgrade = false;
+  upgraded = false;
+  response_done = done;
+  body_finished = finished;
+  pending = not (length (pending session.writing.output) == 0);
+  told = told;
+}
+
+-- what passed since the request began, which is told by the client's link: the request as far as it
+-- was read, whose body the pieces are, and the response as far as it was queued
+pub record IsClient
+    (s : Origin) (p : DownPast) (link : LinkState) (ahead : List ℕ) (session : HttpSession)
+    : Type 0 where
+  pub came : Since [] s.given link.given p.came
+  pub written : Since [] s.taken link.taken p.written
+  pub faults : s.faults ≤ link.faults
+  pub sound : IsSound link
+  pub head : RequestHead
+  pub framing : Framing
+  pub len : ℕ
+  pub has : HasRequest (given_to s p) head framing len
+  pub is_head : head_of session.reading ≡ Some head
+  pub own : head ≡ s.head
+  pub answers : session.writing.request ≡ request_of head
+  pub body : List ℕ
+  pub request : RequestSoFar (given_to s p) body ahead session.reading
+  -- the pieces, joined, are the body that was given out; an end among them is the body's
+  pub joined : body_of p.put ≡ body
+  pub ended : list_any is_end p.put ≡ true → is_body_done session.reading ≡ true
+  pub whole : is_body_done session.reading ≡ true → (list_any is_end p.put ≡ true) ⊎ (p.put ≡ [])
+  pub told_whole : is_body_done session.reading ≡ true → IsWhole (given_to s p) body ahead
+  -- what was written and what waits is the text of what was queued
+  pub response : Holds session.writing (queued p) p.written
+  pub broken : (fault : Fault) → session.writing.output ≡ outgoing.Broken fault
+      → Rose s.faults link.faults
+
+-- no body of the response is open there
+abbrev pub IsClosed : Place → Type 0
+IsClosed place.NoHead = Unit {0}
+IsClosed (place.Body rest) = ⊥
+IsClosed place.Done = Unit {0}
+
+-- what passed, and how the flags of the side tell of it: a response that is done is over, and once
+-- its end was asked for no body of it is open
+pub record HasPassed
+    (s : Origin) (p : DownPast) (link : LinkState) (ahead : List ℕ) (session : HttpSession)
+    (done finished : Bool) : Type 0 where
+  pub client : IsClient s p link ahead session
+  pub over : done ≡ true → is_over session.writing.place ≡ true
+  pub unasked : finished ≡ false → p.closing ≡ []
+  pub asked : finished ≡ true → 0 < length p.closing
+  pub closed : finished ≡ true → IsClosed session.writing.place
+
+-- a session that begins behind these bytes of a client, whose head was read out of them: nothing of
+-- the body was given out, and nothing was queued or written
+pub record BeginsBehind
+    (s : Origin) (came : List ℕ) (link : LinkState) (ahead : List ℕ) (session : HttpSession)
+    : Type 0 where
+  pub gave : Since [] s.given link.given came
+  pub written : Since [] s.taken link.taken []
+  pub faults : s.faults ≤ link.faults
+  pub sound : IsSound link
+  pub head : RequestHead
+  pub framing : Framing
+  pub len : ℕ
+  pub has : HasRequest (s.ahead ++ came) head framing len
+  pub is_head : head_of session.reading ≡ Some head
+  pub own : head ≡ s.head
+  pub answers : session.writing.request ≡ request_of head
+  pub request : RequestSoFar (s.ahead ++ came) [] ahead session.reading
+  pub whole : is_body_done session.reading ≡ true → IsWhole (s.ahead ++ came) [] ahead
+  pub response : Holds session.writing [] []
+  pub output : session.writing.output ≡ outgoing.Open []
+
+-- the past of a side that begins behind these bytes
+abbrev pub begun_past : List ℕ → DownPast
+begun_past came = record { came = came; written = []; put = []; batched = []; closing = [] }
+
+-- why the side answers with that error: the client's link failed, its body is broken, it ended
+-- inside its body or behind its request, or it sent more than its request; or its response cannot
+-- end where it stands
+pub data ClientBlames (s : Origin) (p : DownPast) (link : LinkState) (e : Error) : Type 0 where
+  link_failed : (fault : Fault) → e ≡ link_fault fault → Rose s.faults link.faults
+      → ClientBlames s p link e
+  body_is_broken : (body : List ℕ)
+      → SaysBody (given_to s p) (record { bytes = body; mark = broken })
+      → e ≡ body_broken → ClientBlames s p link e
+  ends_inside : (body : List ℕ) → SaysBody (given_to s p) (open_text body) → link.ended ≡ true
+      → e ≡ client_closed → ClientBlames s p link e
+  ends_behind : (body : List ℕ) → IsWhole (given_to s p) body [] → link.ended ≡ true
+      → e ≡ client_closed → ClientBlames s p link e
+  sent_more : (body behind : List ℕ) → IsWhole (given_to s p) body behind → 0 < length behind
+      → e ≡ client_sent_more → ClientBlames s p link e
+  cannot_end : (head : RequestHead) (framing : Framing) (len : ℕ) (sent : Sent)
+      → HasRequest (given_to s p) head framing len
+      → tasks_sent (request_of head) place.NoHead (queued p) ≡ Ok sent
+      → task_sent (request_of head) sent.place task.Done ≡ Err e → ClientBlames s p link e
+
+-- why the side refuses these tasks behind those that were queued: the first of them cannot be sent,
+-- a write failed before, or the end of the response was asked for before
+pub data ClientRefuses (s : Origin) (p : DownPast) (link : LinkState) (left : List HttpTask)
+    (e : Error) : Type 0 where
+  link_failed : (fault : Fault) → e ≡ link_fault fault → Rose s.faults link.faults
+      → ClientRefuses s p link left e
+  cannot_send : (head : RequestHead) (framing : Framing) (len : ℕ) (sent : Sent) (at : HttpTask)
+      (behind : List HttpTask) → HasRequest (given_to s p) head framing len
+      → left ≡ at ∷ behind
+      → tasks_sent (request_of head) place.NoHead (queued p) ≡ Ok sent
+      → task_sent (request_of head) sent.place at ≡ Err e → ClientRefuses s p link left e
+  behind_the_end : 0 < length p.closing → e ≡ ends_short → ClientRefuses s p link left e
+
+-- the link is silent on a read or on a write
+abbrev pub IsSilent : LinkState → Type 0
+IsSilent link = (link.silent_on_read ≡ true) ⊎ (link.silent_on_write ≡ true)
+
+-- ---- what the code does between the session and the duplex
+
+-- the piece that an answer of the session is: the end comes with the last bytes, or alone
+abbrev pub piece_answer : Took (List ℕ) → Bool → Took Piece
+piece_answer (took.Item bytes) done =
+    took.Item (record { bytes = Some bytes; upstream_end = done; client_end = done })
+piece_answer took.More done = took.More
+piece_answer (took.Waited pause) done = took.Waited pause
+piece_answer took.End done =
+    took.Item (record { bytes = None; upstream_end = true; client_end = true })
+piece_answer (took.Failed why) done = took.Failed why
+
+-- one more answer of a read
+abbrev pub told_read : Took Piece → Told → Told
+told_read (took.Item piece) told = told
+told_read took.More told = told
+told_read (took.Waited pause) told = paused pause told
+told_read took.End told = told
+told_read (took.Failed why) told = failed why told
+
+-- the error of a failure in front
+abbrev pub failure_in_front : List HttpTask → Option Error
+failure_in_front [] = None
+failure_in_front (task.Header head end ∷ tasks) = None
+failure_in_front (task.Body piece end ∷ tasks) = None
+failure_in_front (task.UpgradedBody piece end ∷ tasks) = None
+failure_in_front (task.Trailer fields ∷ tasks) = None
+failure_in_front (task.Done ∷ tasks) = None
+failure_in_front (task.Failed error ∷ tasks) = Some error
+
+-- tasks were queued for the session's client
+pub record QueuesAll (old new : HttpSession) (tasks : List HttpTask) (finished over : Bool)
+    : Type 0 where
+  pub unasked : finished ≡ false
+  pub reading : new.reading ≡ old.reading
+  pub grows : Grows (tasks_sent old.writing.request old.writing.place tasks) old.writing new.writing
+  pub goes_on : GoesOnWith old.writing new.writing tasks
+  pub is_over : over ≡ is_over new.writing.place
+
+-- why not all of them were
+pub data QueuesFront (old new : HttpSession) (tasks : List HttpTask) (finished : Bool) (why : Fail)
+    : Type 0 where
+  fails : (error : Error) → failure_in_front tasks ≡ Some error → why ≡ fail.Error error
+      → new ≡ old → QueuesFront old new tasks finished why
+  is_late : failure_in_front tasks ≡ None → finished ≡ true → why ≡ fail.Error ends_short
+      → new ≡ old → QueuesFront old new tasks finished why
+  stops : failure_in_front tasks ≡ None → finished ≡ false → new.reading ≡ old.reading
+      → FailsWithin old.writing.output old.writing tasks new.writing why
+      → QueuesFront old new tasks finished why
+
+-- what queueing tasks does, by its answer
+abbrev pub Queues :
+    HttpSession → HttpSession → List HttpTask → Bool → Result Bool Fail → Type 0
+Queues old new tasks finished (Ok over) = QueuesAll old new tasks finished over
+Queues old new tasks finished (Err why) = QueuesFront old new tasks finished why

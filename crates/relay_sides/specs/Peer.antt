@@ -1,0 +1,210 @@
+-- The upstream's side: what passed between a peer and its client since the link was handed out, and
+-- why the side answers with an error (RFC 9110, section 15.2; RFC 9112, sections 3 to 8).
+use Rattle.std.specs.Prelude.{◌≡◌, ℕ, ◌≤◌, Bool, true, false, not, ◌==◌, ◌⊎◌, List, [], ◌∷◌, ◌++◌, length, map, Option, Some, None, Result, Ok, Err, if◌then◌else◌, codes}
+use Rattle.std.specs.List.{list_any, concat}
+use Rattle.http_header.specs.HeaderMap.{RefusesInsert}
+use Rattle.relay_tasks.specs.declared.context.Context.{Context}
+use Rattle.relay_tasks.specs.declared.context.Context.TheVariants.{Mismatch101, HeadTooLong}
+use Rattle.relay_tasks.specs.declared.error.Error.{Error}
+use Rattle.relay_tasks.specs.declared.error.ErrorSource.TheVariants.{Upstream, Internal}
+use Rattle.relay_tasks.specs.declared.error.Fail.{Fail}
+use Rattle.relay_tasks.specs.declared.error.Fail.TheVariants as fail
+use Rattle.relay_tasks.specs.declared.fault.Fault.{Fault}
+use Rattle.relay_tasks.specs.declared.task.HttpTask.{HttpTask}
+use Rattle.relay_tasks.specs.declared.task.HttpTask.TheVariants as task
+use Rattle.relay_tasks.specs.Head.{RequestHead, ResponseHead}
+use Rattle.relay_tasks.specs.Task.{is_end}
+use Rattle.relay_links.specs.Count.{Rose}
+use Rattle.relay_links.specs.Link.{LinkState, LinkStart, IsSound}
+use Rattle.relay_links.specs.Told.{Since}
+use Rattle.relay_h1.specs.declared.framing.Framing.{Framing}
+use Rattle.relay_h1.specs.BodyWire.{after_pieces}
+use Rattle.relay_h1.specs.BodyWire as wire
+use Rattle.relay_h1.specs.ClientHead.{lacks_framing, chunked_head}
+use Rattle.relay_h1.specs.Tasks.{HasFinal, Tasks, broken, cut_off}
+use Rattle.relay_h1.specs.Verdict.{refused_from}
+use Rattle.relay_peer.specs.declared.h1_client.H1Client.{H1Client}
+use Rattle.relay_peer.specs.declared.request_writing.RequestWriting.{RequestWriting}
+use Rattle.relay_peer.specs.RequestWriting.{Sent, nothing, SentSoFar, with_piece, sent_wire, head_in, rest_of, body_framing, short_request}
+use Rattle.relay_peer.specs.declared.response_reading.ResponseReading.{ResponseReading}
+use Rattle.relay_peer.specs.ResponseReading.{ReadSoFar, IsResponseTask, untold, with_task, says, is_over, cut_off_error, fault_error}
+use Rattle.relay_peer.specs.ResponseReading as reading
+use Rattle.relay_core.specs.Moves.{EndsLast}
+use Rattle.relay_core.specs.Past.{Origin, UpPast}
+use Rattle.relay_core.specs.Pipe.{is_failure}
+use Rattle.relay_core.specs.Up.{UpState}
+use Rattle.relay_core.specs.declared.step.UpKind.TheVariants.{H1}
+use Rattle.relay_core.specs.declared.told.Told.{Told}
+use Rattle.relay_sides.specs.declared.peer_side.PeerSide.{PeerSide}
+use Rattle.relay_sides.specs.Body.{IsFrontOf, bytes_of, body_of, sent_with, sent_as}
+
+-- ---- the response as it is handed on
+
+-- a task as it is handed on: a final head whose body would last until the link ends is chunked
+abbrev pub handed : List ℕ → HttpTask → HttpTask
+handed method (task.Header head end) =
+    task.Header (if lacks_framing method end head then chunked_head head else head) end
+handed method (task.Body piece end) = task.Body piece end
+handed method (task.UpgradedBody piece end) = task.UpgradedBody piece end
+handed method (task.Trailer fields) = task.Trailer fields
+handed method task.Done = task.Done
+handed method (task.Failed error) = task.Failed error
+
+-- what tasks tell behind what was told
+abbrev pub told_behind : reading.Told → List HttpTask → reading.Told
+told_behind told [] = told
+told_behind told (task ∷ tasks) = told_behind (with_task told task) tasks
+
+-- what the tasks of a response tell
+abbrev pub told_of : List HttpTask → reading.Told
+told_of tasks = told_behind untold tasks
+
+-- the tasks follow what was told: one final head behind those that inform, then its body
+abbrev pub Follow : reading.Told → List HttpTask → Type 0
+Follow told [] = Unit {0}
+Follow told (task ∷ tasks) = IsResponseTask told task × Follow (with_task told task) tasks
+
+-- why a task is not handed on: it is a final head that switches protocols, or one that is to be
+-- chunked and has no room for that, or wants memory for it; or it tells of an error
+pub data Withholds (method : List ℕ) (came : HttpTask) : Fail → Type 0 where
+  switches : (final : ResponseHead) (end : Bool) → came ≡ task.Header final end
+      → final.status ≡ 101
+      → Withholds method came (fail.Error (refused_from Upstream Mismatch101))
+  is_full : (final : ResponseHead) (end : Bool) → came ≡ task.Header final end
+      → lacks_framing method end final ≡ true
+      → RefusesInsert final.fields (codes "transfer-encoding")
+      → Withholds method came (fail.Error (refused_from Internal HeadTooLong))
+  wants_memory : (final : ResponseHead) (end : Bool) → came ≡ task.Header final end
+      → lacks_framing method end final ≡ true → Withholds method came fail.OutOfMemory
+  tells_error : (error : Error) → came ≡ task.Failed error
+      → Withholds method came (fail.Error error)
+
+-- a head that switches protocols
+abbrev pub is_switch : HttpTask → Bool
+is_switch (task.Header head end) = head.status == 101
+is_switch (task.Body piece end) = false
+is_switch (task.UpgradedBody piece end) = false
+is_switch (task.Trailer fields) = false
+is_switch task.Done = false
+is_switch (task.Failed error) = false
+
+-- what becomes of a task of the response
+abbrev pub HandsOn : List ℕ → HttpTask → Result HttpTask Fail → Type 0
+HandsOn method came (Ok given) =
+    (given ≡ handed method came) × (is_failure given ≡ false) × (is_switch came ≡ false)
+HandsOn method came (Err why) = Withholds method came why
+
+-- a failure as one of the relay's own
+abbrev pub inside : Fail → Fail
+inside fail.OutOfMemory = fail.OutOfMemory
+inside (fail.Error error) = fail.Error (record error { esource = Internal })
+
+-- tasks that tell what the bytes of a link say of the response to that method
+pub record AreTasks
+    (method : List ℕ) (closed : Bool) (got : List ℕ) (tasks : List HttpTask)
+    (client : ResponseReading) : Type 0 where
+  pub so_far : ReadSoFar method closed got (told_of tasks) client
+  pub follow : Follow untold tasks
+  pub ended : list_any is_end tasks ≡ is_over client.place
+  pub ends_last : EndsLast tasks
+
+-- ---- the side
+
+-- the state of the side
+abbrev pub state_of : {L : Type 0} → H1Client L → Told → UpState
+state_of client told = record {
+  kind = H1;
+  upgraded = false;
+  pending = not (length client.request.unsent == 0);
+  told = told;
+}
+
+-- what was queued of the request with that head, the pieces being these: all of them, unless one
+-- was lost
+pub record IsQueued (head : RequestHead) (taken : List HttpTask) (lost : Bool) (sent : Sent)
+    : Type 0 where
+  pub unlost : lost ≡ false → sent ≡ sent_as head taken
+  pub front : IsFrontOf (sent_wire sent) (sent_wire (sent_as head taken))
+
+-- what of a piece was queued that was lost: nothing, or its bytes without the end that it carries.
+-- It is lost for want of memory, or since the request ends short
+pub data Loses (sent : Sent) (taken : List ℕ) (task : HttpTask) (writing : RequestWriting)
+    : Fail → Type 0 where
+  unwritten : SentSoFar sent taken writing → Loses sent taken task writing fail.OutOfMemory
+  unended : is_end task ≡ true → SentSoFar (with_piece sent (bytes_of task)) taken writing
+      → Loses sent taken task writing fail.OutOfMemory
+  is_short : is_end task ≡ true → SentSoFar (with_piece sent (bytes_of task)) taken writing
+      → wire.is_short (rest_of writing.request) ≡ true
+      → Loses sent taken task writing (fail.Error short_request)
+
+-- what of a piece was queued
+abbrev pub Queues : Sent → List ℕ → HttpTask → RequestWriting → Result Unit Fail → Type 0
+Queues sent taken task writing (Ok done) = SentSoFar (sent_with sent task) taken writing
+Queues sent taken task writing (Err why) = Loses sent taken task writing why
+
+-- why the side answers with that error: the link failed, the response is cut off or broken,
+-- switches protocols or has no room for the field that frames it, or the request ended short
+pub data PeerBlames (start : LinkStart) (link : LinkState) (head : RequestHead) (q : UpPast)
+    (e : Error) : Type 0 where
+  link_failed : (fault : Fault) → e ≡ fault_error fault → Rose start.faults link.faults
+      → PeerBlames start link head q e
+  is_cut_off : (told : reading.Told) → link.ended ≡ true → e ≡ cut_off_error q.got
+      → Tasks head.method false q.got true (says told cut_off) → PeerBlames start link head q e
+  is_broken : (why : Context) (closed : Bool) (came : List ℕ) (told : reading.Told)
+      → e ≡ refused_from Upstream why → IsFrontOf came q.got
+      → Tasks head.method false came closed (says told broken) → PeerBlames start link head q e
+  switches : (informed : List ResponseHead) (final : ResponseHead) (framing : Framing) (len : ℕ)
+      → HasFinal head.method false q.got informed final framing len → final.status ≡ 101
+      → e ≡ refused_from Upstream Mismatch101 → PeerBlames start link head q e
+  is_full : (informed : List ResponseHead) (final : ResponseHead) (framing : Framing) (len : ℕ)
+      → HasFinal head.method false q.got informed final framing len
+      → lacks_framing head.method false final ≡ true
+      → RefusesInsert final.fields (codes "transfer-encoding")
+      → e ≡ refused_from Internal HeadTooLong → PeerBlames start link head q e
+  is_short_request : (front : List HttpTask) (pieces : List (List ℕ)) → IsFrontOf front q.taken
+      → list_any is_end front ≡ true → concat pieces ≡ body_of front
+      → wire.is_short (after_pieces (body_framing head) pieces) ≡ true → e ≡ short_request
+      → PeerBlames start link head q e
+
+-- what passed since the link was handed out, which the link tells: the request as far as it was
+-- queued, and the response as far as it was handed on. Once the side stopped, for a final head that
+-- it does not hand on, that head is withheld; once a piece was lost, no more of the request is
+-- queued
+pub record IsPeer {L : Type 0}
+    (o : Origin) (start : LinkStart) (link : LinkState) (client : H1Client L) (stopped lost : Option Fail)
+    (q : UpPast) : Type 0 where
+  pub got : Since [] start.given link.given q.got
+  pub sent : Since [] start.taken link.taken q.sent
+  pub faults : start.faults ≤ link.faults
+  pub sound : IsSound link
+  pub head : RequestHead
+  pub is_head : head_in client.request.request ≡ Some head
+  pub own : head ≡ o.head
+  pub sending : Sent
+  pub so_far : SentSoFar sending q.sent client.request
+  pub queued : IsQueued head q.taken q.lost sending
+  pub given : List HttpTask
+  pub withheld : List HttpTask
+  pub tasks : AreTasks head.method link.ended q.got (given ++ withheld) client.response
+  pub is_read : q.read ≡ map (handed head.method) given
+  pub none_switches : list_any is_switch given ≡ false
+  pub goes_on : stopped ≡ None → withheld ≡ []
+  pub why : (e : Error) → stopped ≡ Some (fail.Error e) → PeerBlames start link head q e
+  pub takes : lost ≡ None → q.lost ≡ false
+  pub why_lost : (e : Error) → lost ≡ Some (fail.Error e) → PeerBlames start link head q e
+
+-- a side for which nothing was queued, and which read nothing
+pub record IsNew {L : Type 0} (side : PeerSide L) : Type 0 where
+  pub sent : SentSoFar nothing [] side.client.request
+  pub read : (method : List ℕ) (closed : Bool)
+      → ReadSoFar method closed [] untold side.client.response
+  pub goes_on : side.stopped ≡ None
+  pub takes : side.lost ≡ None
+
+-- nothing passed yet
+abbrev pub none_passed : UpPast
+none_passed = record { got = []; sent = []; read = []; taken = []; lost = false }
+
+-- the link is silent on a read or on a write
+abbrev pub IsSilent : LinkState → Type 0
+IsSilent link = (link.silent_on_read ≡ true) ⊎ (link.silent_on_write ≡ true)

@@ -1,0 +1,281 @@
+//! The client's side of a duplex over its session: pieces of the request are read from the client,
+//! and the tasks of the response are queued for it (RFC 9112, sections 6, 7 and 9).
+ghost use Rattle.std.specs.Prelude.{◌≡◌, ◌||◌, List, ℕ};
+ghost use Rattle.relay_links.specs.Link.{LinkState};
+ghost use Rattle.relay_core.specs.Past.{Origin};
+ghost use Rattle.relay_session.specs.TaskWire.{ends_short};
+ghost use Rattle.relay_sides.specs.Client.{HasPassed, BeginsBehind, begun_past, ClientBlames, ClientRefuses, IsSilent, Queues, state_of, piece_answer, told_read, failure_in_front};
+
+use bytes::Bytes;
+use relay_core::{Down, Piece, Told, UpKind};
+use relay_links::Put;
+use relay_session::{Front, HttpSession};
+use relay_tasks::{Context, Error, ErrorSource, ErrorType, Fail, HttpTask, Result, TaskList, Took};
+use std::alloc::Global;
+use std::marker::PhantomData;
+
+/// The client's side over the session of one request whose head was read. The session has no link:
+/// the client, which has it, is handed to each call that reads or writes.
+///
+/// `done` says that a batch left the response over, `finished` that the response's end was asked for:
+/// no batch is queued behind it.
+#[derive(Drop)]
+pub struct ClientSide<F> {
+    alloc: Global,
+    session: HttpSession,
+    told: Told,
+    done: bool,
+    finished: bool,
+    client: PhantomData<F>,
+}
+
+/// A client's side between two turns: what it keeps, without its client.
+#[derive(Drop)]
+pub struct ClientState {
+    alloc: Global,
+    session: HttpSession,
+    told: Told,
+    done: bool,
+    finished: bool,
+}
+
+impl ClientState {
+    /// The session.
+    pub fn session(&self) -> &HttpSession
+        ensures { result.now ≡ self.now.session }
+    {
+        &self.session
+    }
+}
+
+impl<F: Front> ClientSide<F> {
+    /// The side over that session, whose head was read, with nothing told. Where the session begins
+    /// behind the bytes that came, so does the side.
+    pub fn new(alloc: Global, session: HttpSession) -> ClientSide<F>
+        ensures session { result.session ≡ session }
+        ensures told { result.told ≡ Told.NOTHING }
+        ensures begins { (s : Origin) (came : List ℕ) (link : LinkState) (ahead : List ℕ)
+            → BeginsBehind s came link ahead session
+            → HasPassed s (begun_past came) link ahead result.session result.done result.finished }
+    {
+        ClientSide {
+            alloc,
+            session,
+            told: Told::NOTHING,
+            done: false,
+            finished: false,
+            client: PhantomData,
+        }
+    }
+
+    /// The session.
+    pub fn session(&self) -> &HttpSession
+        ensures { result.now ≡ self.now.session }
+    {
+        &self.session
+    }
+
+    /// The side without its client, to be resumed over the same client.
+    pub fn suspend(self) -> ClientState
+        ensures { result ≡ record {
+          alloc = self.alloc;
+          session = self.session;
+          told = self.told;
+          done = self.done;
+          finished = self.finished;
+        } }
+    {
+        let ClientSide {
+            alloc,
+            session,
+            told,
+            done,
+            finished,
+            client: _,
+        } = self;
+        ClientState {
+            alloc,
+            session,
+            told,
+            done,
+            finished,
+        }
+    }
+
+    /// The side as it was suspended.
+    pub fn resume(state: ClientState) -> ClientSide<F>
+        ensures session { result.session ≡ state.session }
+        ensures told { result.told ≡ state.told }
+        ensures done { result.done ≡ state.done }
+        ensures finished { result.finished ≡ state.finished }
+        ensures alloc { result.alloc ≡ state.alloc }
+    {
+        let ClientState {
+            alloc,
+            session,
+            told,
+            done,
+            finished,
+        } = state;
+        ClientSide {
+            alloc,
+            session,
+            told,
+            done,
+            finished,
+            client: PhantomData,
+        }
+    }
+
+    /// Queues the tasks for the client, none behind an end of the response that was asked for. A
+    /// failure in front is answered with its error.
+    fn queue(&mut self, tasks: TaskList) -> Result<bool>
+        ensures queues { Queues self.old.session self.new.session tasks self.old.finished result }
+        ensures rest { self.new ≡ record self.old { session = self.new.session } }
+    {
+        if let Some(error) = failure_in_front(&tasks) {
+            return Err(Fail::Error(error));
+        }
+        if self.finished {
+            return Err(Fail::Error(ends_short()));
+        }
+        self.session.response_duplex_vec(tasks)
+    }
+}
+
+/// The piece that an answer of the session is: the end comes with the last bytes, or alone.
+fn piece_answer(took: Took<Bytes>, done: bool) -> Took<Piece>
+    ensures { result ≡ piece_answer took done }
+{
+    match took {
+        Took::Item(bytes) => Took::Item(Piece {
+            bytes: Some(bytes),
+            upstream_end: done,
+            client_end: done,
+        }),
+        Took::More => Took::More,
+        Took::Waited(pause) => Took::Waited(pause),
+        Took::End => Took::Item(Piece {
+            bytes: None,
+            upstream_end: true,
+            client_end: true,
+        }),
+        Took::Failed(why) => Took::Failed(why),
+    }
+}
+
+/// One more answer of a read.
+fn told_read(told: Told, took: &Took<Piece>) -> Told
+    ensures { result ≡ told_read took.now told }
+{
+    match took {
+        Took::Item(_) | Took::More | Took::End => told,
+        Took::Waited(pause) => told.paused(*pause),
+        Took::Failed(why) => told.failed(*why),
+    }
+}
+
+/// The error of a failure in front.
+fn failure_in_front(tasks: &TaskList) -> Option<Error>
+    ensures { result ≡ failure_in_front tasks.now }
+{
+    match tasks.get(0) {
+        Some(HttpTask::Failed(error)) => Some(*error),
+        Some(_) | None => None,
+    }
+}
+
+/// One of two flags stands.
+fn either(first: bool, second: bool) -> bool
+    ensures { result ≡ first || second }
+{
+    first || second
+}
+
+/// The response was ended before its last task.
+fn ends_short() -> Error
+    ensures { result ≡ ends_short }
+{
+    Error::explain(ErrorType::PrematureBodyEnd, Context::BodyShort).into_down()
+}
+
+impl<F: Front> Down for ClientSide<F> {
+    type Client = F;
+
+    ghost state = { λ side. state_of side.session side.told side.done side.finished };
+
+    ghost past = { λ side client s p. HasPassed s p (F.state client) (F.ahead client) side.session
+        side.done side.finished };
+
+    ghost blames = { λ side client s p e. ClientBlames s p (F.state client) e };
+
+    ghost refuses = { λ side client s p left e. ClientRefuses s p (F.state client) left e };
+
+    ghost is_silent = { λ client. IsSilent (F.state client) };
+
+    fn may_read(&self) -> bool {
+        true
+    }
+
+    fn body_done(&self) -> bool {
+        self.session.is_body_done()
+    }
+
+    fn upgraded(&self) -> bool {
+        false
+    }
+
+    fn read_piece(&mut self, client: &mut F, _idle: bool) -> Took<Piece> {
+        if !self.session.has_head() {
+            return Took::More;
+        }
+        let was_done = self.session.is_body_done();
+        let took = self.session.read_body_or_idle(self.alloc, client, was_done);
+        let piece = piece_answer(took, self.session.is_body_done());
+        self.told = told_read(self.told, &piece);
+        piece
+    }
+
+    fn take_batch(&mut self, tasks: TaskList, _kind: UpKind) -> Result<bool> {
+        match self.queue(tasks) {
+            Ok(over) => {
+                self.done = either(self.done, over);
+                Ok(self.done)
+            }
+            Err(why) => {
+                self.told = self.told.failed(why);
+                Err(why)
+            }
+        }
+    }
+
+    fn has_pending(&self) -> bool {
+        self.session.has_pending()
+    }
+
+    fn write_pending(&mut self, client: &mut F) -> Put {
+        let put = self.session.write_pending(client);
+        self.told = self.told.written(ErrorSource::Downstream, put);
+        put
+    }
+
+    fn finish(&mut self) -> Result<()> {
+        if self.finished {
+            return Ok(());
+        }
+        match self.session.finish_body() {
+            Ok(()) => {
+                self.finished = true;
+                Ok(())
+            }
+            Err(why) => {
+                self.told = self.told.failed(why);
+                Err(why)
+            }
+        }
+    }
+
+    fn told(&self) -> Told {
+        self.told
+    }
+}

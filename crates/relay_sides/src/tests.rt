@@ -1,0 +1,4 @@
+//! The sides over links that answer by scripts.
+
+mod client_side;
+mod peer_side;
