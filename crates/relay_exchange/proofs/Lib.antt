@@ -1,0 +1,5 @@
+pub mod SentLemmas
+pub mod ToldLemmas
+pub mod OrderLemmas
+pub mod EndLemmas
+pub mod TurnLemmas

@@ -1,0 +1,371 @@
+-- What both sides hold is in order: the order of an exchange from the pasts of its sides.
+--
+--   order_of       from HasPassed, IsPeer, what was put as what was taken and is held, ResponseHeld
+--                  and Steady: IsInOrder, whose pieces, taken, read, batched and closing are those
+--                  of the pasts, by computing
+--   order_so_far   the same from SoFar
+--   begin_order    the same from Begins
+--   told_of_sides  AreTold, from HasPassed and IsPeer
+use Rattle.std.proofs.Common.{◌≡◌, ℕ, ◌-◌, Bool, true, false, ◌||◌, ◌⊎◌, List, [], ◌∷◌, ◌++◌, length, drop, map, refl, sym, ap, subst, ◌∙◌, append-nil, inl, inr, Option, Some, None, Ok}
+use Rattle.std.specs.List.{list_any}
+use Rattle.std.proofs.lemmas.List.Folds.{list_any-append}
+use Rattle.relay_tasks.specs.declared.error.Error.{Error}
+use Rattle.relay_tasks.specs.declared.error.Fail.{Fail}
+use Rattle.relay_tasks.specs.declared.task.HttpTask.{HttpTask}
+use Rattle.relay_tasks.specs.declared.task.HttpTask.TheVariants as task
+use Rattle.relay_tasks.specs.Head.{RequestHead}
+use Rattle.relay_tasks.specs.Task.{is_end}
+use Rattle.relay_links.specs.Link.{LinkState, LinkStart}
+use Rattle.relay_h1.specs.declared.framing.Framing.{Framing}
+use Rattle.relay_h1.specs.Body.{BodyText, Body, behind, ended_text}
+use Rattle.relay_h1.specs.Body as body
+use Rattle.relay_h1.specs.BodyReader.{Reads}
+use Rattle.relay_h1.specs.declared.body_reader.State.{State}
+use Rattle.relay_h1.specs.declared.body_reader.State.TheVariants as state
+use Rattle.relay_h1.specs.Verdict.{HasRequest}
+use Rattle.relay_h1.proofs.BodyLemmas.{Body-unique, Chunked-total}
+use Rattle.relay_h1.proofs.BodyReaderLemmas.{SoFar-reads}
+use Rattle.relay_h1.proofs.VerdictLemmas.{HasRequest-unique}
+use Rattle.relay_peer.specs.declared.h1_client.H1Client.{H1Client}
+use Rattle.relay_peer.specs.RequestWriting.{sent_wire}
+use Rattle.relay_peer.specs.ResponseReading.{says}
+use Rattle.relay_session.specs.Asked.{request_of}
+use Rattle.relay_session.specs.Reading.{head_of, RequestSoFar, IsWhole}
+use Rattle.relay_session.specs.Response.{is_over}
+use Rattle.relay_session.specs.TaskWire.{tasks_sent}
+use Rattle.relay_session.specs.declared.reading.Reading.{Reading}
+use Rattle.relay_session.specs.declared.reading.Reading.TheVariants as reading
+use Rattle.relay_session.specs.declared.session.HttpSession.{HttpSession}
+use Rattle.relay_session.specs.declared.task_text.Place.TheVariants as place
+use Rattle.relay_session.specs.declared.task_text.Request.{Request}
+use Rattle.relay_core.specs.Moves.{EndsLast, ResponseHeld, SoFar, Steady, failure_task}
+use Rattle.relay_core.specs.Past.{Origin, DownPast, UpPast}
+use Rattle.relay_core.specs.Pipe.{is_failure}
+use Rattle.relay_core.specs.Table.{core}
+use Rattle.relay_core.specs.Up.{UpState}
+use Rattle.relay_core.specs.declared.duplex.Duplex.{Duplex}
+use Rattle.relay_core.specs.declared.told.Told.{Told}
+use Rattle.relay_sides.specs.Body.{IsFrontOf, body_of, sent_as}
+use Rattle.relay_sides.specs.Client.{HasPassed, IsClient, given_to, queued, state_of}
+use Rattle.relay_sides.specs.Peer.{IsPeer, AreTasks, handed}
+use Rattle.relay_sides.specs.declared.client_side.ClientState.{ClientState}
+use Rattle.relay_sides.specs.declared.peer_side.PeerSide.{PeerSide}
+use Rattle.relay_sides.proofs.FrontLemmas.{front_then}
+use Rattle.relay_sides.proofs.TaskLemmas.{ended_whole}
+use Rattle.relay_exchange.specs.Exchange.{DownHolds, UpHolds, Blames, core_of, Begins, AreTold}
+use Rattle.relay_exchange.specs.Order.{ArePieces, AreOf, IsInOrder}
+use Rattle.relay_exchange.specs.Passed.{Passed}
+use Rattle.relay_exchange.proofs.SentLemmas.{in_parts, sent_plain, IsWritten, written_of}
+use Rattle.relay_exchange.proofs.ToldLemmas.{given_follow, given_informed, given_final, given_body, given_ends_last, given_all}
+
+-- what passed, by the pasts of both sides
+abbrev pub passed_by : DownPast → UpPast → Passed
+passed_by p q =
+    record { came = p.came; written = p.written; got = q.got; sent = q.sent }
+
+-- ---- the request
+
+-- any bytes say something of a body
+some_text : (at : State) (bytes : List ℕ) → (text : BodyText) × Reads at bytes text
+some_text state.ChunkLine bytes = Chunked-total body.ChunkedPlace.at_line bytes
+some_text (state.Chunk left) bytes = Chunked-total (body.ChunkedPlace.in_chunk left) bytes
+some_text state.ChunkEnd bytes = Chunked-total body.ChunkedPlace.behind_chunk bytes
+some_text state.Trailer bytes = Chunked-total body.ChunkedPlace.in_trailer bytes
+some_text (state.Length left) bytes = (_, refl)
+some_text state.UntilClose bytes = (_, refl)
+some_text state.Tunnel bytes = (_, refl)
+some_text state.Done bytes = (_, refl)
+
+-- a text of the body, by any head that the bytes begin with
+same_body : (given : List ℕ) (a b : RequestHead) (f g : Framing) (n m : ℕ) (text : BodyText)
+    → HasRequest given a f n → HasRequest given b g m → Body f (drop n given) text
+    → Body g (drop m given) text
+same_body given a b f g n m text x y says =
+    let same = HasRequest-unique given a b f g n m x y in
+    subst (λ (k : ℕ). Body g (drop k given) text) same.2
+    (subst (λ (h : Framing). Body h (drop n given) text) same.1 says)
+
+-- the bytes say a text of the body, of which those that were given out are the front
+pub record SaysFront (framing : Framing) (bytes given_out : List ℕ) : Type 0 where
+  pub text : BodyText
+  pub says : Body framing bytes text
+  pub front : IsFrontOf given_out text.bytes
+
+-- what was given out of a body is the front of what the bytes say
+front_said : (given given_out ahead : List ℕ) (now : Reading) (head : RequestHead)
+    (framing : Framing) (len : ℕ) → head_of now ≡ Some head
+    → RequestSoFar given given_out ahead now → HasRequest given head framing len
+    → SaysFront framing (drop len given) given_out
+front_said given given_out ahead reading.Head head framing len is so_far has = absurd (cc)
+front_said given given_out ahead (reading.Body request) head framing len is so_far has =
+    let rest = some_text request.body ahead in
+    let bytes = drop so_far.len given in
+    record {
+      text = behind (length bytes - length ahead) given_out rest.0;
+      says = same_body given so_far.head head request.framing framing so_far.len len _ so_far.has
+          has
+          (SoFar-reads request.framing bytes given_out ahead request.body rest.0 so_far.so_far
+          rest.1);
+      front = record { rest = rest.0.bytes; joined = refl };
+    }
+
+-- a request whose body has ended says it
+pub ended_said : (given given_out ahead : List ℕ) (head : RequestHead) (framing : Framing)
+    (len : ℕ) → IsWhole given given_out ahead → HasRequest given head framing len
+    → (n : ℕ) × Body framing (drop len given) (ended_text given_out n)
+ended_said given given_out ahead head framing len whole has = (
+  whole.n,
+  same_body given whole.head head whole.framing framing whole.len len
+      (ended_text given_out whole.n) whole.has has whole.says,
+)
+
+module _
+    (s : Origin) (p : DownPast) (link : LinkState) (ahead : List ℕ) (session : HttpSession)
+    (c : IsClient s p link ahead session)
+  where
+    -- the bytes of the client say its body
+    said : SaysFront c.framing (drop c.len (given_to s p)) c.body
+    said = front_said (given_to s p) c.body ahead session.reading c.head c.framing c.len c.is_head
+        c.request c.has
+
+    -- the pieces are those of the client's body
+    pub pieces_said : EndsLast p.put → ArePieces c.framing (drop c.len (given_to s p)) p.put
+    pieces_said last = record {
+      text = said.text;
+      says = said.says;
+      front = subst (λ (l : List ℕ). IsFrontOf l said.text.bytes) (sym c.joined) said.front;
+      ends_last = last;
+      whole = λ ends.
+          let all = ended_said (given_to s p) c.body ahead c.head c.framing c.len
+          (c.told_whole (c.ended ends)) c.has in (
+            all.0,
+            Body-unique c.framing (drop c.len (given_to s p)) said.text
+                (ended_text (body_of p.put) all.0) said.says
+                (subst (λ (l : List ℕ).
+                Body c.framing (drop c.len (given_to s p)) (ended_text l all.0)) (sym c.joined)
+                all.1),
+          );
+    }
+
+    -- the request with its own head
+    pub own_request : HasRequest (given_to s p) s.head c.framing c.len
+    own_request =
+        subst (λ (h : RequestHead). HasRequest (given_to s p) h c.framing c.len) c.own c.has
+
+    -- what was written of the response
+    pub text_written : IsWritten session.writing (queued p) p.written
+    text_written = written_of session.writing (queued p) p.written c.response
+
+    -- the text is that of what was queued, to the request with its own head
+    pub text_says : tasks_sent (request_of s.head) place.NoHead (p.batched ++ p.closing)
+        ≡ Ok text_written.text
+    text_says =
+        subst (λ (r : Request). tasks_sent r place.NoHead (queued p) ≡ Ok text_written.text)
+        (c.answers ∙ ap request_of c.own) text_written.says
+
+-- ---- the response
+
+module _
+    {L : Type 0} (s : Origin) (start : LinkStart) (link : LinkState) (client : H1Client L)
+    (stopped lost : Option Fail) (q : UpPast) (u : IsPeer s start link client stopped lost q)
+  where
+    -- what was sent is the front of what the pieces are sent as
+    pub sent_front : IsFrontOf q.sent (sent_wire (sent_as s.head q.taken))
+    sent_front =
+        subst (λ (h : RequestHead). IsFrontOf q.sent (sent_wire (sent_as h q.taken))) u.own
+        (front_then q.sent (sent_wire u.sending) (sent_wire (sent_as u.head q.taken))
+        (record { rest = client.request.unsent; joined = u.so_far.text })
+        u.queued.front)
+
+    -- the tasks that came, handed on and withheld, for the method of the client
+    pub tasks_own : AreTasks s.head.method link.ended q.got (u.given ++ u.withheld) client.response
+    tasks_own =
+        subst (λ (h : RequestHead).
+        AreTasks h.method link.ended q.got (u.given ++ u.withheld) client.response) u.own u.tasks
+
+    -- the tasks are those of the response
+    pub tasks_of : AreOf s.head.method link.ended q.got q.read
+    tasks_of =
+        let method = s.head.method in
+        record {
+          given = u.given;
+          are = subst (λ (h : RequestHead). q.read ≡ map (handed h.method) u.given) u.own u.is_read;
+          follow = given_follow method link.ended q.got u.given u.withheld client.response
+              tasks_own;
+          informed = given_informed method link.ended q.got u.given u.withheld client.response
+              tasks_own;
+          final = λ head is.
+              let there = given_final method link.ended q.got u.given u.withheld client.response
+              tasks_own head is in
+              (there.framing, there.len, there.has);
+          body = given_body method link.ended q.got u.given u.withheld client.response tasks_own;
+          ends_last = given_ends_last method link.ended q.got u.given u.withheld client.response
+              tasks_own;
+          whole = λ ends.
+              let all = ended_whole method q.got link.ended u.given client.response
+              (given_all method link.ended q.got u.given u.withheld client.response tasks_own ends)
+              ends in
+              (all.place, all.whole);
+        }
+
+-- what a batch was given of what was read: no failure, since those are not sent
+plain_front : (read batched held : List HttpTask) (failed over ended : Bool)
+    → ResponseHeld read batched held failed over ended → list_any is_failure batched ≡ false
+    → IsFrontOf batched read
+plain_front read batched held failed over ended h none =
+    on h.refused h.is_batched
+  where
+    never : (given : List HttpTask) (error : Error)
+        → list_any is_failure (given ++ task.Failed error ∷ []) ≡ false → ⊥
+    never given error none = found (list_any is_failure given)
+        (sym (list_any-append is_failure given (task.Failed error ∷ [])) ∙ none)
+      where
+        found : (b : Bool) → (b || true) ≡ false → ⊥
+        found true wrong = absurd (cc)
+        found false wrong = absurd (cc)
+
+    on : (refused : Option Error) → batched ≡ h.given ++ failure_task refused
+        → IsFrontOf batched read
+    on None is = record {
+      rest = h.rest;
+      joined = ap (λ (l : List HttpTask). l ++ h.rest) (is ∙ append-nil h.given) ∙ sym h.front;
+    }
+    on (Some error) is =
+        absurd (never h.given error
+        (subst (λ (l : List HttpTask). list_any is_failure l ≡ false) is none))
+
+-- ---- the order
+
+-- why an end of the response was asked for
+abbrev pub ClosesLate : DownPast → Bool → Type 0
+ClosesLate p done =
+    (p.closing ≡ []) ⊎ ((list_any is_end p.batched ≡ true) ⊎ (done ≡ true))
+
+-- where an end was asked for, the response had ended or is over
+pub late : (s : Origin) (p : DownPast) (link : LinkState) (ahead : List ℕ) (session : HttpSession)
+    (done finished : Bool) (h : HasPassed s p link ahead session done finished)
+    → ClosesLate p done
+    → (p.closing ≡ []) ⊎ ((list_any is_end p.batched ≡ true)
+    ⊎ (is_over (text_written s p link ahead session h.client).text.place ≡ true))
+late s p link ahead session done finished h (inl none) = inl none
+late s p link ahead session done finished h (inr (inl ends)) = inr (inl ends)
+late s p link ahead session done finished h (inr (inr is)) =
+    inr (inr (ap is_over (text_written s p link ahead session h.client).at ∙ h.over is))
+
+-- what both sides hold is in order, where the pieces are the front of what was put, and the batches
+-- that of what was read
+abbrev pub order_with : {L : Type 0} (s : Origin) (p : DownPast) (q : UpPast) (link : LinkState)
+    (ahead : List ℕ) (session : HttpSession) (done finished : Bool) (start : LinkStart)
+    (peer_link : LinkState) (client : H1Client L) (stopped lost : Option Fail)
+    → HasPassed s p link ahead session done finished
+    → IsPeer s start peer_link client stopped lost q
+    → IsFrontOf q.taken p.put → IsFrontOf p.batched q.read → EndsLast p.put → ClosesLate p done
+    → IsInOrder s (passed_by p q) peer_link.ended
+order_with s p q link ahead session done finished start peer_link client stopped lost h u taken
+    batched last closes =
+    record {
+      asks = record {
+        framing = h.client.framing;
+        len = h.client.len;
+        has = own_request s p link ahead session h.client;
+      };
+      pieces = p.put;
+      are_pieces = pieces_said s p link ahead session h.client last;
+      taken = q.taken;
+      first_taken = taken;
+      sent = sent_front s start peer_link client stopped lost q u;
+      read = q.read;
+      are_of = tasks_of s start peer_link client stopped lost q u;
+      batched = p.batched;
+      first_batched = batched;
+      closing = p.closing;
+      text = (text_written s p link ahead session h.client).text;
+      says = text_says s p link ahead session h.client;
+      closes_late = late s p link ahead session done finished h closes;
+      written = (text_written s p link ahead session h.client).front;
+    }
+
+-- the tasks that were queued are a front of what was read
+pub batched_front : (s : Origin) (p : DownPast) (link : LinkState) (ahead : List ℕ)
+    (session : HttpSession) (read held : List HttpTask) (failed over ended : Bool)
+    → IsClient s p link ahead session → ResponseHeld read p.batched held failed over ended
+    → IsFrontOf p.batched read
+batched_front s p link ahead session read held failed over ended c h =
+    let parts = in_parts session.writing.request place.NoHead p.batched p.closing
+    (text_written s p link ahead session c).text (text_written s p link ahead session c).says in
+    plain_front read p.batched held failed over ended h
+    (sent_plain session.writing.request place.NoHead p.batched parts.mid parts.first)
+
+-- the order, from what both sides hold and what moved between them
+abbrev pub order_of : {L : Type 0} (s : Origin) (p : DownPast) (q : UpPast) (link : LinkState)
+    (ahead : List ℕ) (session : HttpSession) (told : Told) (done finished : Bool)
+    (start : LinkStart) (peer_link : LinkState) (client : H1Client L) (stopped lost : Option Fail)
+    (duplex : Duplex) (up : UpState) (held rheld : List HttpTask) (failed over ended : Bool)
+    → HasPassed s p link ahead session done finished
+    → IsPeer s start peer_link client stopped lost q
+    → p.put ≡ q.taken ++ held → ResponseHeld q.read p.batched rheld failed over ended
+    → Steady (core duplex (state_of session told done finished) up) p
+    → IsInOrder s (passed_by p q) peer_link.ended
+order_of s p q link ahead session told done finished start peer_link client stopped lost duplex up
+    held rheld failed over ended h u puts responses steady =
+    order_with s p q link ahead session done finished start peer_link client stopped lost h u
+    (record { rest = held; joined = sym puts })
+    (batched_front s p link ahead session q.read rheld failed over ended h.client responses)
+    steady.ends_last steady.closed
+
+-- nothing passed is in order
+pub none_ends_last : (tasks : List HttpTask) → tasks ≡ [] → EndsLast tasks
+none_ends_last tasks none = λ front behind same found. none_behind front behind (sym none ∙ same)
+  where
+    none_behind : (front behind : List HttpTask) → [] ≡ front ++ behind → behind ≡ []
+    none_behind [] behind same = sym same
+    none_behind (one ∷ front) behind same = absurd (cc)
+
+-- an empty list is the front of all
+pub none_front : (xs ys : List HttpTask) → xs ≡ [] → IsFrontOf xs ys
+none_front xs ys none =
+    subst (λ (l : List HttpTask). IsFrontOf l ys) (sym none) (record { rest = ys; joined = refl })
+
+module _ {L : Type 0} (state : L → LinkState) (start_at : L → LinkStart) where
+  -- the order, from the exchange so far
+  abbrev pub order_so_far : (s : Origin) (p : DownPast) (q : UpPast) (link : LinkState)
+      (ahead : List ℕ) (down : ClientState) (up : PeerSide L) (duplex : Duplex)
+      → SoFar (DownHolds link ahead down s) (UpHolds state start_at up s)
+      (Blames state start_at up s) (core_of state start_at duplex down up) p q
+      → IsInOrder s (passed_by p q) (state up.client.link).ended
+  order_so_far s p q link ahead down up duplex so_far =
+      order_with s p q link ahead down.session down.done down.finished (start_at up.client.link)
+      (state up.client.link) up.client up.stopped up.lost so_far.down so_far.up
+      (record { rest = duplex.requests.tasks; joined = sym so_far.requests })
+      (batched_front s p link ahead down.session q.read _ _ _ _ so_far.down.client
+      so_far.responses)
+      (so_far.steady refl).ends_last (so_far.steady refl).closed
+
+  -- the order of an exchange whose head is being sent
+  abbrev pub begin_order : (s : Origin) (p : DownPast) (q : UpPast) (link : LinkState)
+      (ahead : List ℕ) (down : ClientState) (up : PeerSide L)
+      → Begins state start_at s p q link ahead down up
+      → IsInOrder s (passed_by p q) (state up.client.link).ended
+  begin_order s p q link ahead down up begins =
+      order_with s p q link ahead down.session down.done down.finished (start_at up.client.link)
+      (state up.client.link) up.client up.stopped up.lost begins.down_holds begins.up_holds
+      (none_front q.taken p.put begins.none_taken)
+      (none_front p.batched q.read begins.none_batched)
+      (none_ends_last p.put begins.none_put) (inl begins.none_closing)
+
+  -- what passed is told by both links
+  pub told_of_sides : (s : Origin) (p : DownPast) (q : UpPast) (link : LinkState)
+      (ahead : List ℕ) (session : HttpSession) (done finished : Bool) (start : LinkStart)
+      (peer_link : LinkState) (client : H1Client L) (stopped lost : Option Fail)
+      → HasPassed s p link ahead session done finished
+      → IsPeer s start peer_link client stopped lost q
+      → AreTold state start_at s (passed_by p q) link peer_link start
+  told_of_sides s p q link ahead session done finished start peer_link client stopped lost h u =
+      record {
+        came = h.client.came;
+        written = h.client.written;
+        faults = h.client.faults;
+        got = u.got;
+        sent = u.sent;
+        peer_faults = u.faults;
+      }

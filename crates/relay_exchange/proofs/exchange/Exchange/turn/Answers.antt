@@ -1,0 +1,24 @@
+-- A turn by the stage: the head is being sent, or both bodies flow.
+use Rattle.std.proofs.Common.{subst}
+use Rattle.relay_exchange.specs.Exchange.{StageHolds}
+use Rattle.relay_exchange.specs.declared.exchange.Stage.{Stage}
+use Rattle.relay_exchange.proofs.exchange.Exchange.turn.Goals as goal
+
+pub returns-in-Head-clause-goes : goal.returns-in-Head-clause-goes
+returns-in-Head-clause-goes g c =
+    let link = g.F.Front.state c.args.client.now in
+    let ahead = g.F.Front.ahead c.args.client.now in
+    λ s p u.
+    let At : Stage → Type 0 = λ at.
+    StageHolds g.L.ByteLink.state g.L.ByteLink.start s u.down u.up link ahead c.args.self.client
+    c.args.self.peer at in
+    c.send_head.ensures.goes s u.down u.up link ahead (subst At c.in-Head.is u.holds)
+
+pub returns-in-Bodies-clause-goes : goal.returns-in-Bodies-clause-goes
+returns-in-Bodies-clause-goes g c =
+    λ s p u.
+    let At : Stage → Type 0 = λ at.
+    StageHolds g.L.ByteLink.state g.L.ByteLink.start s u.down u.up
+    (g.F.Front.state c.args.client.now) (g.F.Front.ahead c.args.client.now) c.args.self.client
+    c.args.self.peer at in
+    c.move_bodies.ensures.goes s u.down u.up (subst At c.in-Bodies.is u.holds)

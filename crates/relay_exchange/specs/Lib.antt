@@ -1,0 +1,4 @@
+pub mod Passed
+pub mod Order
+pub mod Exchange
+pub mod Head

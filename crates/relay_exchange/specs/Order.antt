@@ -1,0 +1,143 @@
+-- What was sent to the peer and what was written to the client, in terms of the bytes that passed
+-- (RFC 9110, section 15.2; RFC 9112, sections 3 to 8).
+use Rattle.std.specs.Prelude.{◌≡◌, ℕ, Bool, true, false, ◌⊎◌, List, [], ◌++◌, drop, map, Some, Ok}
+use Rattle.std.specs.List.{list_any}
+use Rattle.relay_tasks.specs.declared.error.Error.{Error}
+use Rattle.relay_tasks.specs.declared.task.HttpTask.{HttpTask}
+use Rattle.relay_tasks.specs.Head.{ResponseHead}
+use Rattle.relay_tasks.specs.Task.{is_end}
+use Rattle.relay_links.specs.Count.{Rose}
+use Rattle.relay_links.specs.Link.{LinkState, LinkStart}
+use Rattle.relay_h1.specs.declared.framing.Framing.{Framing}
+use Rattle.relay_h1.specs.Body.{BodyText, ended_text, Body}
+use Rattle.relay_h1.specs.Tasks.{HasFinal, Tasks, ResponseText, ended}
+use Rattle.relay_h1.specs.Verdict.{HasRequest}
+use Rattle.relay_peer.specs.RequestWriting.{sent_wire}
+use Rattle.relay_peer.specs.ResponseReading.{untold, says}
+use Rattle.relay_session.specs.Asked.{request_of}
+use Rattle.relay_session.specs.TaskWire.{Sent, tasks_sent}
+use Rattle.relay_session.specs.Response.{is_over}
+use Rattle.relay_session.specs.declared.task_text.Place.TheVariants as place
+use Rattle.relay_core.specs.Moves.{EndsLast}
+use Rattle.relay_core.specs.Past.{Origin, DownPast, UpPast}
+use Rattle.relay_sides.specs.Body.{IsFrontOf, body_of, sent_as}
+use Rattle.relay_sides.specs.Client.{ClientBlames, ClientRefuses}
+use Rattle.relay_sides.specs.Peer.{handed, told_of, Follow, PeerBlames}
+use Rattle.relay_exchange.specs.Passed.{Passed, asked}
+
+-- the client's bytes begin with the head of the request
+pub record Asks (s : Origin) (p : Passed) : Type 0 where
+  pub framing : Framing
+  pub len : ℕ
+  pub has : HasRequest (asked s p) s.head framing len
+
+-- ---- the request
+
+-- the pieces are the front of the body that the bytes say: joined they are its first bytes, and an
+-- end among them is the last of them, and the body's
+pub record ArePieces (framing : Framing) (bytes : List ℕ) (pieces : List HttpTask) : Type 0 where
+  pub text : BodyText
+  pub says : Body framing bytes text
+  pub front : IsFrontOf (body_of pieces) text.bytes
+  pub ends_last : EndsLast pieces
+  pub whole : list_any is_end pieces ≡ true
+      → (n : ℕ) × (text ≡ ended_text (body_of pieces) n)
+
+-- ---- the response
+
+-- these tasks are handed on of the response that the bytes say: its heads in order, and the first
+-- bytes of its body; an end among them is the last of them, and the response's
+pub record AreOf (method : List ℕ) (closed : Bool) (got : List ℕ) (tasks : List HttpTask)
+    : Type 0 where
+  pub given : List HttpTask
+  pub are : tasks ≡ map (handed method) given
+  pub follow : Follow untold given
+  pub informed : (text : ResponseText) → Tasks method false got closed text
+      → IsFrontOf (told_of given).informed text.informed
+  pub final : (head : ResponseHead) → (told_of given).final ≡ Some head
+      → (framing : Framing) × (len : ℕ)
+      × HasFinal method false got (told_of given).informed head framing len
+  pub body : (text : ResponseText) → Tasks method false got closed text
+      → IsFrontOf (told_of given).body text.body
+  pub ends_last : EndsLast given
+  pub whole : list_any is_end given ≡ true
+      → (n : ℕ) × Tasks method false got closed (says (told_of given) (ended n))
+
+-- ---- both
+
+-- what was sent is the front of the text of the client's head and of pieces of its body, from the
+-- first on, with the end only where the body has ended. What was written is the front of the text
+-- of the first of the tasks that the peer's bytes are; an end is asked for behind them only where
+-- one is among them, or where the response is over
+pub record IsInOrder (s : Origin) (p : Passed) (closed : Bool) : Type 0 where
+  pub asks : Asks s p
+  pub pieces : List HttpTask
+  pub are_pieces : ArePieces asks.framing (drop asks.len (asked s p)) pieces
+  pub taken : List HttpTask
+  pub first_taken : IsFrontOf taken pieces
+  pub sent : IsFrontOf p.sent (sent_wire (sent_as s.head taken))
+  pub read : List HttpTask
+  pub are_of : AreOf s.head.method closed p.got read
+  pub batched : List HttpTask
+  pub first_batched : IsFrontOf batched read
+  pub closing : List HttpTask
+  pub text : Sent
+  pub says : tasks_sent (request_of s.head) place.NoHead (batched ++ closing) ≡ Ok text
+  pub closes_late : (closing ≡ [])
+      ⊎ ((list_any is_end batched ≡ true) ⊎ (is_over text.place ≡ true))
+  pub written : IsFrontOf p.written text.text
+
+-- ---- ends
+
+-- the pasts of both sides
+abbrev pub down_past : {s : Origin} {p : Passed} {closed : Bool} → IsInOrder s p closed → DownPast
+down_past {p = p} order = record {
+  came = p.came;
+  written = p.written;
+  put = order.pieces;
+  batched = order.batched;
+  closing = order.closing;
+}
+
+abbrev pub up_past : {s : Origin} {p : Passed} {closed : Bool} → IsInOrder s p closed → Bool
+    → UpPast
+up_past {p = p} order lost = record {
+  got = p.got;
+  sent = p.sent;
+  read = order.read;
+  taken = order.taken;
+  lost = lost;
+}
+
+-- why an exchange failed with that error: the client's side answers for it, the peer's side does,
+-- or tasks that the peer gave cannot be sent to the client
+pub data FailsFor
+    (s : Origin) (p : Passed) (client link : LinkState) (start : LinkStart) (e : Error)
+    : Type 0 where
+  by_client : (order : IsInOrder s p link.ended)
+      → ClientBlames s (down_past order) client e → FailsFor s p client link start e
+  by_peer : (order : IsInOrder s p link.ended) (lost : Bool)
+      → PeerBlames start link s.head (up_past order lost) e → FailsFor s p client link start e
+  by_tasks : (order : IsInOrder s p link.ended) (left rest : List HttpTask)
+      → order.read ≡ order.batched ++ (left ++ rest)
+      → ClientRefuses s (down_past order) client left e → FailsFor s p client link start e
+
+-- the whole request was sent, with its end
+pub record SendsWhole (s : Origin) (p : Passed) (closed : Bool) (order : IsInOrder s p closed)
+    : Type 0 where
+  pub n : ℕ
+  pub body : Body order.asks.framing (drop order.asks.len (asked s p))
+      (ended_text (body_of order.pieces) n)
+  pub ended : (list_any is_end order.pieces ≡ true) ⊎ (order.pieces ≡ [])
+  pub sent : p.sent ≡ sent_wire (sent_as s.head order.pieces)
+
+-- the response is over, as its end was among its tasks or its framing takes no more bytes, and its
+-- text was written whole, unless a call of the client's link failed; and the request was sent
+-- whole, or the peer's side answers for the error with which it was not
+pub record IsRelayed (s : Origin) (p : Passed) (client link : LinkState) (start : LinkStart)
+    : Type 0 where
+  pub order : IsInOrder s p link.ended
+  pub over : is_over order.text.place ≡ true
+  pub written : (p.written ≡ order.text.text) ⊎ Rose s.faults client.faults
+  pub request : SendsWhole s p link.ended order
+      ⊎ ((e : Error) × (lost : Bool) × PeerBlames start link s.head (up_past order lost) e)

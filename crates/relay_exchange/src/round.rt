@@ -1,0 +1,75 @@
+//! One turn of a duplex: the branch that a schedule picks, and where its link is silent the next
+//! enabled ones, going round.
+ghost use Rattle.std.specs.Prelude.{◌≡◌, ◌⊎◌, false, IsTrue};
+ghost use Rattle.relay_core.specs.Causes.{Tells};
+ghost use Rattle.relay_core.specs.Moves.{SoFar, Goes};
+ghost use Rattle.relay_core.specs.Past.{Origin, DownPast, UpPast};
+ghost use Rattle.relay_core.specs.Sound.{IsSound};
+ghost use Rattle.relay_core.specs.Table.{core, is_failed, is_finished};
+
+use relay_core::{Down, Duplex, Step, Up};
+use relay_links::{BRANCHES, Branch, Schedule};
+use relay_tasks::{Fail, Pause};
+
+/// One turn. The branch is that of the answer; none where all enabled ones are silent.
+///
+/// That no branch is enabled comes only where both halves have finished or one failed, so no turn
+/// of an exchange meets it; the answer then is want of memory.
+pub(crate) fn go_round<D: Down, U: Up, H: Schedule>(
+    duplex: &mut Duplex,
+    client: &mut D::Client,
+    down: &mut D,
+    up: &mut U,
+    schedule: &mut H,
+) -> (Step, Option<Branch>)
+    // The exchange so far goes on, where neither half failed and not both have finished.
+    ensures goes { (s : Origin) (p : DownPast) (q : UpPast)
+        → SoFar (D.past down.old client.old s) (U.past up.old s) (U.blames up.old s)
+        (core duplex.old (D.state down.old) (U.state up.old)) p q
+        → is_finished duplex.old ≡ false → is_failed duplex.old.word ≡ false
+        → Goes (D.past down.new client.new s) (D.blames down.new client.new s)
+        (D.refuses down.new client.new s) (U.past up.new s) (U.blames up.new s)
+        (core duplex.new (D.state down.new) (U.state up.new)) result.0 }
+
+    // The answer says exactly whether a half failed, and whether both have finished.
+    ensures tells { IsSound (core duplex.old (D.state down.old) (U.state up.old))
+        → is_finished duplex.old ≡ false → is_failed duplex.old.word ≡ false
+        → Tells result.0 duplex.new }
+
+    // Silence is that of a link.
+    ensures silent { result.0 ≡ Step.Waited Pause.Silent
+        → D.is_silent client.new ⊎ U.is_silent up.new }
+{
+    let Some(first) = duplex.choose(down, up, schedule) else {
+        return (Step::Failed(Fail::OutOfMemory), None);
+    };
+    let step = duplex.step(client, down, up, first);
+    if !is_silent(step) {
+        return (step, Some(first));
+    }
+    for turn in 1..BRANCHES.len() {
+        let branch = BRANCHES[(first.place() as usize + turn) % BRANCHES.len()];
+        if !duplex.enabled(down, up, branch) {
+            continue;
+        }
+        let step = duplex.step(client, down, up, branch);
+        if !is_silent(step) {
+            return (step, Some(branch));
+        }
+    }
+    (Step::Waited(Pause::Silent), None)
+}
+
+/// Whether the answer is that of a silent link.
+fn is_silent(step: Step) -> bool
+    ensures yes { IsTrue result → step ≡ Step.Waited Pause.Silent }
+    ensures no { step ≡ Step.Waited Pause.Silent → IsTrue result }
+{
+    match step {
+        Step::Moved => false,
+        Step::Waited(Pause::NotReady) => false,
+        Step::Waited(Pause::Silent) => true,
+        Step::Finished => false,
+        Step::Failed(_) => false,
+    }
+}
