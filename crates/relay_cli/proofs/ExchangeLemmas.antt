@@ -19,7 +19,7 @@ use Rattle.relay_proxy.specs.declared.outcome.Outcome.{Outcome}
 use Rattle.relay_proxy.specs.declared.outcome.Outcome.TheVariants as ended
 use Rattle.relay_proxy.specs.declared.outcome.Processed.{Processed}
 use Rattle.relay_proxy.specs.declared.record.AttemptRecord.{AttemptRecord}
-use Rattle.relay_cli.specs.Exchange.{attempt_report, taken_of, sent_of, FirstStartsWithin, first_world, turn_limit, IsConnectorOf, IsRun, reported}
+use Rattle.relay_cli.specs.Exchange.{attempt_report, taken_of, sent_of, FirstStartsWithin, first_world, IsConnectorOf, IsRun, reported}
 use Rattle.relay_cli.specs.Script.{PeerSpec, ScriptSpec}
 
 -- the list from a place on begins with the item there
@@ -74,29 +74,31 @@ own_is before after own none gained = same_Some after (before ++ own) gained ∙
 
 -- a request over the links that a script makes, by the values that the code has
 pub runs_script : (made first last : ScriptLink) (connector old : ScriptConnector) (peer : PeerSpec)
-    (first_ahead ahead : List ℕ) (faults : ℕ) (after : List (Returned ScriptLink)) (processed : Processed)
+    (first_ahead ahead : List ℕ) (faults : ℕ) (after : List (Returned ScriptLink)) (turns : ℕ)
+    (processed : Processed)
     → IsConnectorOf peer connector → first ≡ made → first_ahead ≡ [] → old ≡ connector
     → Processes script_state script_start
     (start_of (world_with (script_state first) first_ahead (gets_failed old))) (world_with (script_state last) ahead faults)
-    (Some (links_returned old)) (Some after) turn_limit processed
+    (Some (links_returned old)) (Some after) turns processed
     → Processes script_state script_start (start_of (first_world made connector)) (world_with (script_state last) ahead faults)
-    (Some []) (Some after) turn_limit processed
-runs_script made first last connector old peer first_ahead ahead faults after processed offered is none same run =
+    (Some []) (Some after) turns processed
+runs_script made first last connector old peer first_ahead ahead faults after turns processed
+    offered is none same run =
     let world : world_with (script_state first) first_ahead (gets_failed old) ≡ first_world made connector =
     rw (is, none, same) in
     let unreturned : links_returned old ≡ [] = rw same offered.returned in
     subst (λ (w : World). Processes script_state script_start (start_of w) (world_with (script_state last) ahead faults)
-    (Some []) (Some after) turn_limit processed) world
+    (Some []) (Some after) turns processed) world
     (subst (λ (rs : List (Returned ScriptLink)). Processes script_state script_start
     (start_of (world_with (script_state first) first_ahead (gets_failed old))) (world_with (script_state last) ahead faults)
-    (Some rs) (Some after) turn_limit processed) unreturned run)
+    (Some rs) (Some after) turns processed) unreturned run)
 
 -- what is reported of a request over the links of a script is a run of the script
 pub is_run : (script : ScriptSpec) (made last : ScriptLink) (connector : ScriptConnector) (ahead : List ℕ) (faults : ℕ)
     (after : List (Returned ScriptLink)) (processed : Processed)
     → IsFresh made script.client script.client_write → IsConnectorOf script.peer connector
     → Processes script_state script_start (start_of (first_world made connector)) (world_with (script_state last) ahead faults)
-    (Some []) (Some after) turn_limit processed
+    (Some []) (Some after) script.turns processed
     → processed.outcome ≢ ended.OutOfMemory
     → IsRun script (reported script.peer.name processed last after)
 is_run script made last connector ahead faults after processed fresh offered run printable =

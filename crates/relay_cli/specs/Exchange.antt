@@ -15,10 +15,6 @@ use Rattle.relay_cli.specs.Report.{RequestSpec}
 use Rattle.relay_cli.specs.Script.{PeerSpec, ScriptSpec}
 use Rattle.relay_cli.specs.declared.report.AttemptReport.{AttemptReport}
 
--- how many turns the request of a script may take
-abbrev pub turn_limit : ℕ
-turn_limit = 1000000
-
 -- what is reported of an attempt at the peer of that name, whose link took those bytes
 abbrev pub attempt_report : List ℕ → List ℕ → AttemptRecord → AttemptReport
 attempt_report name sent a = record { name = name; reused = a.reused; kept = a.kept; error = a.error; sent = sent }
@@ -81,7 +77,7 @@ pub record IsRun (script : ScriptSpec) (request : RequestSpec) : Type 0 where
   pub returned : List (Returned ScriptLink)
   pub processed : Processed
   pub run : Processes script_state script_start (start_of (first_world client connector)) last_world
-      (Some []) (Some returned) turn_limit processed
+      (Some []) (Some returned) script.turns processed
   -- what is reported is the outcome and what passed
   pub printable : request.outcome ≢ OutOfMemory
   pub outcome : request.outcome ≡ processed.outcome

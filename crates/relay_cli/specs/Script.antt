@@ -13,6 +13,8 @@ use Rattle.relay_tasks.specs.declared.fault.Fault.{Fault}
 use Rattle.relay_tasks.specs.declared.fault.FaultKind.{FaultKind}
 use Rattle.relay_tasks.specs.declared.fault.FaultKind.TheVariants as kind
 use Rattle.relay_cli.specs.declared.script.PeerEntry.{PeerEntry}
+use Rattle.relay_links.specs.declared.branch.Branch.{Branch}
+use Rattle.relay_links.specs.declared.branch.Branch.TheVariants as branch
 use Rattle.relay_links.specs.declared.read_script.ReadItem.{ReadItem}
 use Rattle.relay_links.specs.declared.read_script.ReadItem.TheVariants as give
 use Rattle.relay_links.specs.declared.write_script.WriteItem.{WriteItem}
@@ -27,11 +29,14 @@ pub record PeerSpec : Type 0 where
   pub read : List ReadItem
   pub write : List WriteItem
 
--- a script without where it lies in memory: what the client's link gives and takes, and the peer
+-- a script without where it lies in memory: what the client's link gives and takes, the peer, how
+-- many turns its request may take, and its schedule
 pub record ScriptSpec : Type 0 where
   pub client : List ReadItem
   pub client_write : List WriteItem
   pub peer : PeerSpec
+  pub turns : ℕ
+  pub schedule : List Branch
 
 abbrev pub peer_spec : PeerEntry → PeerSpec
 peer_spec p = record { name = p.name; read = p.read.items; write = p.write.items }
@@ -41,6 +46,8 @@ script_spec s = record {
   client = s.client.items;
   client_write = s.client_write.items;
   peer = peer_spec s.peer;
+  turns = s.turns;
+  schedule = s.schedule.items;
 }
 
 -- what is read, and then what is read of it
@@ -233,19 +240,71 @@ abbrev pub one_peer_of : Data → Option PeerSpec
 one_peer_of (array values) = only_peer values
 one_peer_of _ = None
 
--- a script with those items of the client: its `client_write`, empty where it is not there, and
--- its `peers`
+-- how many turns a request may take where its script does not say
+abbrev pub turn_limit : ℕ
+turn_limit = 1000000
+
+-- how many turns the request of a script may take: what is at `turns`
+abbrev pub turns_of : Data → Option ℕ
+turns_of value = where_there (get (codes "turns") value) count_of (Some turn_limit)
+
+-- the branch of that name
+abbrev pub branch_named : List ℕ → Option Branch
+branch_named name =
+    if bytes_eq name (codes "UpWrite") then Some branch.UpWrite
+    else if bytes_eq name (codes "DownWrite") then Some branch.DownWrite
+    else if bytes_eq name (codes "UpTake") then Some branch.UpTake
+    else if bytes_eq name (codes "DownTake") then Some branch.DownTake
+    else if bytes_eq name (codes "DownDrop") then Some branch.DownDrop
+    else if bytes_eq name (codes "DownEnd") then Some branch.DownEnd
+    else if bytes_eq name (codes "DownClosed") then Some branch.DownClosed
+    else if bytes_eq name (codes "UpRead") then Some branch.UpRead
+    else if bytes_eq name (codes "DownRead") then Some branch.DownRead
+    else if bytes_eq name (codes "UpFinish") then Some branch.UpFinish
+    else if bytes_eq name (codes "DownFinish") then Some branch.DownFinish
+    else if bytes_eq name (codes "MessageUp") then Some branch.MessageUp
+    else if bytes_eq name (codes "MessageDown") then Some branch.MessageDown
+    else None
+
+-- a branch: its name
+abbrev pub branch_of : Data → Option Branch
+branch_of (string name) = branch_named name
+branch_of _ = None
+
+-- a list of branches
+abbrev pub branches_of : Data → Option (List Branch)
+branches_of value = list_of branch_of value
+
+-- the schedule of a script: the branches at `schedule`, and none where there is no such key
+abbrev pub schedule_of : Data → Option (List Branch)
+schedule_of value = where_there (get (codes "schedule") value) branches_of (Some [])
+
+-- a script with those items of the client: its `client_write`, empty where it is not there, its
+-- `peers`, its turns and its schedule
 abbrev pub client_script : Data → List ReadItem → Option ScriptSpec
 client_script value items =
     writes_at (codes "client_write") value >>= (λ writes.
-    option_map (λ peer. record { client = items; client_write = writes; peer = peer })
-    (where_there (get (codes "peers") value) one_peer_of None))
+    where_there (get (codes "peers") value) one_peer_of None >>= (λ peer.
+    turns_of value >>= (λ turns.
+    option_map (λ schedule. record {
+      client = items;
+      client_write = writes;
+      peer = peer;
+      turns = turns;
+      schedule = schedule;
+    }) (schedule_of value))))
 
--- a script: an object with `client` and `peers`, and `client_write` or not
+-- how many keys of a script an object has
+abbrev pub script_keys : Data → ℕ
+script_keys value =
+    has (codes "client") value + has (codes "client_write") value + has (codes "peers") value
+    + has (codes "turns") value + has (codes "schedule") value
+
+-- a script: an object with `client` and `peers`, and each of `client_write`, `turns` and `schedule`
+-- or not
 abbrev pub script_of : Data → Option ScriptSpec
 script_of value =
-    if key_count value
-    == has (codes "client") value + has (codes "client_write") value + has (codes "peers") value
+    if key_count value == script_keys value
     then where_there (get (codes "client") value) items_of None >>= client_script value
     else None
 

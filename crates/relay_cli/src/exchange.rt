@@ -18,9 +18,6 @@ use relay_proxy::{
 use relay_tasks::Purged;
 use std::alloc::{AllocError, Global};
 
-/// How many turns the request of a script may take.
-const TURNS: u64 = 1_000_000;
-
 /// How the proxy of a script is set up.
 const CONF: ServerConf = ServerConf { max_retries: 2 };
 
@@ -44,6 +41,8 @@ pub fn run_exchange(alloc: Global, script: Script) -> Result<RequestReport, Allo
         client,
         client_write,
         peer,
+        turns,
+        schedule,
     } = script;
     let name = peer.name.clone()?;
     let connector = connector_of(alloc, peer)?;
@@ -52,11 +51,11 @@ pub fn run_exchange(alloc: Global, script: Script) -> Result<RequestReport, Allo
     let purger = MemoryPurger::new(alloc, Purged::NotFound);
     let mut proxy = HttpProxy::new(alloc, NoHooks, CONF, connector, purger);
     let mut outside = Outside {
-        schedule: ListSchedule::new(Vec::new(alloc)),
+        schedule: ListSchedule::new(schedule),
         shutdown: ShutdownAt::new(None),
         delay: CountDelay::new(),
     };
-    let processed = proxy.process_new_http(&mut client, &mut outside, TURNS);
+    let processed = proxy.process_new_http(&mut client, &mut outside, turns);
     if wants_memory(processed.outcome) {
         return Err(AllocError);
     }

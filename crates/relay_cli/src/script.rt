@@ -4,14 +4,17 @@ ghost use Rattle.std.specs.Prelude.{◌≡◌, is_some, codes, if◌then◌else�
 ghost use Rattle.hex.specs.Hex.{decode_of};
 ghost use Rattle.serde_json.specs.Find.{get};
 ghost use Rattle.serde_json.specs.View.{view, items_view};
-ghost use Rattle.relay_cli.specs.Script.{Reads, script_spec, reads_script, reads_value, script_of, one_peer_of, only_peer, peer_spec, peer_of, named_peer, name_of, items_of, write_items_of, writes_at, each_of, item_of, write_item_of, item_at_key, write_item_at_key, client_script, take_item, text_item, spelt, hex_item, count_of, wait_item, after_item, end_item, read_kind, write_kind, retry_of, mark_of, fault_of, key_count, has};
+ghost use Rattle.relay_cli.specs.Script.{Reads, script_spec, reads_script, reads_value, script_of, one_peer_of, only_peer, peer_spec, peer_of, named_peer, name_of, items_of, write_items_of, writes_at, each_of, item_of, write_item_of, item_at_key, write_item_at_key, client_script, script_keys, turns_of, branch_of, branches_of, schedule_of, take_item, text_item, spelt, hex_item, count_of, wait_item, after_item, end_item, read_kind, write_kind, retry_of, mark_of, fault_of, key_count, has};
 
 use bytes::Bytes;
 use hex::FromHexError;
-use relay_links::{ReadItem, WriteItem};
+use relay_links::{Branch, ReadItem, WriteItem};
 use relay_tasks::{Fault, FaultKind, RetryType};
 use serde_json::Value;
 use std::alloc::{AllocError, AllocFailed, Global};
+
+/// How many turns a request may take where its script does not say.
+const TURNS: u64 = 1_000_000;
 
 /// The peer of a script: its name, and what its link gives and takes.
 #[derive(Drop)]
@@ -21,12 +24,15 @@ pub struct PeerEntry {
     pub write: Vec<WriteItem>,
 }
 
-/// A script: what the client's link gives and takes, and the peer.
+/// A script: what the client's link gives and takes, the peer, how many turns its request may
+/// take, and its schedule.
 #[derive(Drop)]
 pub struct Script {
     pub client: Vec<ReadItem>,
     pub client_write: Vec<WriteItem>,
     pub peer: PeerEntry,
+    pub turns: u64,
+    pub schedule: Vec<Branch>,
 }
 
 /// Why no script was read: the bytes spell none, or want of memory.
@@ -85,11 +91,22 @@ fn parse(alloc: Global, bytes: &[u8]) -> Result<Value, ScriptError>
 fn script_in(alloc: Global, value: &Value) -> Result<Script, ScriptError>
     ensures { Reads script_spec result (script_of (view value.now)) }
 {
-    if key_count(value) != has(value, "client") + has(value, "client_write") + has(value, "peers") {
+    if key_count(value) != script_keys(value) {
         return Err(ScriptError::Refused);
     }
     let client = items(alloc, required(value, "client")?)?;
     client_script(alloc, value, client)
+}
+
+/// How many keys of a script an object has.
+fn script_keys(value: &Value) -> usize
+    ensures { result ≡ script_keys (view value.now) }
+{
+    has(value, "client")
+        + has(value, "client_write")
+        + has(value, "peers")
+        + has(value, "turns")
+        + has(value, "schedule")
 }
 
 /// The script that a value is, with those items of the client.
@@ -98,11 +115,79 @@ fn client_script(alloc: Global, value: &Value, client: Vec<ReadItem>) -> Result<
 {
     let client_write = writes_at(alloc, value, "client_write")?;
     let peer = one_peer(alloc, required(value, "peers")?)?;
+    let turns = turns(value)?;
+    let schedule = schedule(alloc, value)?;
     Ok(Script {
         client,
         client_write,
         peer,
+        turns,
+        schedule,
     })
+}
+
+/// How many turns the request of a script may take.
+fn turns(value: &Value) -> Result<u64, ScriptError>
+    ensures { Reads (λ turns. turns) result (turns_of (view value.now)) }
+{
+    match value.get("turns") {
+        Some(number) => Ok(count(number)? as u64),
+        None => Ok(TURNS),
+    }
+}
+
+/// The schedule of a script, and none where there is no such key.
+fn schedule(alloc: Global, value: &Value) -> Result<Vec<Branch>, ScriptError>
+    ensures { Reads (λ branches. branches.items) result (schedule_of (view value.now)) }
+{
+    match value.get("schedule") {
+        Some(list) => branches(alloc, list),
+        None => Ok(Vec::new(alloc)),
+    }
+}
+
+/// The branches of a list.
+fn branches(alloc: Global, value: &Value) -> Result<Vec<Branch>, ScriptError>
+    ensures { Reads (λ branches. branches.items) result (branches_of (view value.now)) }
+{
+    match value.as_array() {
+        Some(values) => each_branch(alloc, values),
+        None => Err(ScriptError::Refused),
+    }
+}
+
+/// The branches that values name, in order.
+fn each_branch(alloc: Global, values: &[Value]) -> Result<Vec<Branch>, ScriptError>
+    ensures { Reads (λ branches. branches.items) result (each_of branch_of (items_view values.now)) }
+{
+    let mut branches = Vec::new(alloc);
+    for value in values {
+        let branch = branch(value)?;
+        branches.push(branch)?;
+    }
+    Ok(branches)
+}
+
+/// The branch that a value names.
+fn branch(value: &Value) -> Result<Branch, ScriptError>
+    ensures { Reads (λ branch. branch) result (branch_of (view value.now)) }
+{
+    match value.as_str() {
+        Some("UpWrite") => Ok(Branch::UpWrite),
+        Some("DownWrite") => Ok(Branch::DownWrite),
+        Some("UpTake") => Ok(Branch::UpTake),
+        Some("DownTake") => Ok(Branch::DownTake),
+        Some("DownDrop") => Ok(Branch::DownDrop),
+        Some("DownEnd") => Ok(Branch::DownEnd),
+        Some("DownClosed") => Ok(Branch::DownClosed),
+        Some("UpRead") => Ok(Branch::UpRead),
+        Some("DownRead") => Ok(Branch::DownRead),
+        Some("UpFinish") => Ok(Branch::UpFinish),
+        Some("DownFinish") => Ok(Branch::DownFinish),
+        Some("MessageUp") => Ok(Branch::MessageUp),
+        Some("MessageDown") => Ok(Branch::MessageDown),
+        Some(_) | None => Err(ScriptError::Refused),
+    }
 }
 
 /// The write items at a key, and none where there is no such key.

@@ -7,6 +7,7 @@ use std::process::Abort;
 mod exchange;
 mod heads;
 mod items;
+mod keys;
 
 /// What a run of the words over an input wrote, behind the number of its status and a space.
 fn answer(alloc: Global, words: &[&str], input: &[u8]) -> Result<String, AllocError> {
@@ -360,7 +361,7 @@ fn refuses_what_is_no_script(rt: HostRuntime) -> Result<(), AllocError> {
         "{\"client\":[],\"peers\":[{\"read\":[]}]}",
         "{\"client\":[],\"peers\":[{\"name\":7}]}",
         "{\"client\":[],\"peers\":[{\"name\":\"a\",\"kind\":\"h2\"}]}",
-        "{\"client\":[],\"peers\":[{\"name\":\"a\"}],\"turns\":1}",
+        "{\"client\":[],\"peers\":[{\"name\":\"a\"}],\"log\":1}",
         "{\"client\":{},\"peers\":[{\"name\":\"a\"}]}",
         "{\"client\":[{\"text\":\"\"}],\"peers\":[{\"name\":\"a\"}]}",
         "{\"client\":[{\"text\":1}],\"peers\":[{\"name\":\"a\"}]}",

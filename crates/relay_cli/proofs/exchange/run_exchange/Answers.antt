@@ -20,8 +20,9 @@ returns c =
     λ is. true≢false (sym (c.wants_memory.ensures.1 is) ∙ c.if-wants_memory.false) in
     let run = runs_script c.new-link.result c.new-client.result.link last.link
     c.in_ok-connector.connector c.new-proxy.result.connector script.peer c.new-client.result.ahead last.ahead (gets_failed after)
-    (links_returned after) processed c.in_ok-connector.ensures c.new-client.ensures.link c.new-client.ensures.ahead
-    c.new-proxy.ensures.connector c.process_new_http-processed.ensures.processes in
+    (links_returned after) script.turns processed c.in_ok-connector.ensures
+    c.new-client.ensures.link c.new-client.ensures.ahead c.new-proxy.ensures.connector
+    c.process_new_http-processed.ensures.processes in
     let is : IsRun script (reported script.peer.name processed last.link (links_returned after)) =
     is_run script c.new-link.result last.link c.in_ok-connector.connector last.ahead (gets_failed after) (links_returned after) processed
     c.new-link.ensures c.in_ok-connector.ensures run printable in
