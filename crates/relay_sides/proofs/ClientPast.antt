@@ -1,5 +1,5 @@
 -- What passed through the client's side: how it begins, and how lists of tasks join.
-use Rattle.std.proofs.Common.{◌≡◌, ℕ, ◌≤◌, Bool, true, false, List, [], ◌∷◌, ◌++◌, refl, sym, ◌∙◌, ap, append_assoc, inr, arith}
+use Rattle.std.proofs.Common.{◌≡◌, ℕ, ◌≤◌, Bool, true, false, List, [], ◌∷◌, ◌++◌, Option, None, refl, sym, ◌∙◌, ap, append_assoc, inr, arith}
 use Rattle.std.specs.Prelude.{IsSome, IsTrue}
 use Rattle.relay_tasks.specs.declared.task.HttpTask.{HttpTask}
 use Rattle.relay_links.specs.Count.{Rose}
@@ -24,7 +24,7 @@ open_is_whole output queue fault is broken = let both = sym is ∙ broken in cc
 -- a side that begins behind the bytes that came
 pub begins : (s : Origin) (came : List ℕ) (link : LinkState) (ahead : List ℕ)
     (session : HttpSession) → BeginsBehind s came link ahead session
-    → HasPassed s (begun_past came) link ahead session false false
+    → HasPassed s (begun_past came) link ahead session false false None
 begins s came link ahead session b = record {
   client = record {
     came = b.gave;
@@ -49,9 +49,12 @@ begins s came link ahead session b = record {
         absurd (open_is_whole session.writing.output [] fault b.output is);
   };
   over = λ done. absurd (cc);
+  place_over = λ done. absurd (cc);
   unasked = λ is. refl;
   asked = λ finished. absurd (cc);
   closed = λ finished. absurd (cc);
+  unbroken = λ none. ([], b.output);
+  fault = λ f is. absurd (cc);
 }
 
 -- a request whose body has ended is whole
@@ -80,10 +83,10 @@ rose_from start before after earlier rose = λ below. omega (arith, earlier, ros
 
 -- a side of which something passed has a head
 pub no_head : (s : Origin) (p : DownPast) (link : LinkState) (ahead : List ℕ)
-    (session : HttpSession) (done finished has : Bool) → has ≡ false
-    → (IsSome (head_of session.reading) → IsTrue has)
-    → ¬ (HasPassed s p link ahead session done finished)
-no_head s p link ahead session done finished has none told h =
+    (session : HttpSession) (done finished : Bool) (broken : Option Fault) (has : Bool)
+    → has ≡ false → (IsSome (head_of session.reading) → IsTrue has)
+    → ¬ (HasPassed s p link ahead session done finished broken)
+no_head s p link ahead session done finished broken has none told h =
     let some : IsSome (head_of session.reading) = rw h.client.is_head refl in
     let wrong = sym none ∙ told some in
     absurd (cc)

@@ -1,5 +1,5 @@
 -- A read of the client: what the piece says of its state, and how what passed goes on with it.
-use Rattle.std.proofs.Common.{◌≡◌, ℕ, ◌<◌, ◌≤◌, Bool, true, false, List, [], ◌∷◌, ◌++◌, length, Some, refl, sym, ◌∙◌, ap, subst, append-nil, append_assoc, length-append, inl, inr, arith}
+use Rattle.std.proofs.Common.{◌≡◌, ℕ, ◌<◌, ◌≤◌, Bool, true, false, List, [], ◌∷◌, ◌++◌, length, Option, Some, refl, sym, ◌∙◌, ap, subst, append-nil, append_assoc, length-append, inl, inr, arith}
 use Rattle.std.specs.Prelude.{◌||◌, ◌&&◌, ◌⊎◌, ◌==◌}
 use Rattle.std.specs.List.{list_any}
 use Rattle.std.proofs.lemmas.Bool.{cases_Bool}
@@ -7,6 +7,7 @@ use Rattle.std.proofs.lemmas.List.{length-take}
 use Rattle.std.proofs.lemmas.List.Folds.{list_any-append}
 use Rattle.relay_tasks.specs.declared.error.Error.{Error}
 use Rattle.relay_tasks.specs.declared.error.Fail.TheVariants as fail
+use Rattle.relay_tasks.specs.declared.fault.Fault.{Fault}
 use Rattle.relay_tasks.specs.declared.took.Pause.TheVariants.{NotReady, Silent}
 use Rattle.relay_tasks.specs.declared.took.Took.{Took}
 use Rattle.relay_tasks.specs.declared.took.Took.TheVariants as took
@@ -99,51 +100,52 @@ module _
       ]
 
 -- the state where the body stays as it was
-state_same : (old new : HttpSession) (told : Told) (done finished : Bool)
+state_same : (old new : HttpSession) (told : Told) (done finished : Bool) (broken : Option Fault)
     → is_body_done new.reading ≡ is_body_done old.reading → new.writing ≡ old.writing
-    → state_of new told done finished ≡ state_of old told done finished
-state_same old new told done finished same response = rw (same, response) refl
+    → state_of new told done finished broken ≡ state_of old told done finished broken
+state_same old new told done finished broken same response = rw (same, response) refl
 
 -- the state where the body has ended or goes on
-state_joined : (old new : HttpSession) (told : Told) (done finished last : Bool)
+state_joined : (old new : HttpSession) (told : Told) (done finished : Bool) (broken : Option Fault)
+    (last : Bool)
     → is_body_done new.reading ≡ is_body_done old.reading || last → new.writing ≡ old.writing
-    → state_of new told done finished ≡ record (state_of old told done finished) {
+    → state_of new told done finished broken ≡ record (state_of old told done finished broken) {
       request_ended = is_body_done old.reading || last;
       body_done = is_body_done old.reading || last;
     }
-state_joined old new told done finished last same response = rw (same, response) refl
+state_joined old new told done finished broken last same response = rw (same, response) refl
 
 -- what a read says of the state
 pub reads_state : (before after : LinkState) (ahead left : List ℕ) (old new : HttpSession)
-    (told : Told) (done finished : Bool) (answer : Took (List ℕ))
+    (told : Told) (done finished : Bool) (broken : Option Fault) (answer : Took (List ℕ))
     → Left before after ahead left old new answer
-    → ReadsPiece (state_of old told done finished)
-    (state_of new (told_read (piece_answer answer (is_body_done new.reading)) told) done finished)
-    (piece_answer answer (is_body_done new.reading))
-reads_state before after ahead left old new told done finished (took.Item bytes) l = record {
-  exact = state_joined old new told done finished (is_body_done new.reading)
+    → ReadsPiece (state_of old told done finished broken)
+    (state_of new (told_read (piece_answer answer (is_body_done new.reading)) told) done finished
+    broken) (piece_answer answer (is_body_done new.reading))
+reads_state before after ahead left old new told done finished broken (took.Item bytes) l = record {
+  exact = state_joined old new told done finished broken (is_body_done new.reading)
       (done_joins before after ahead left old new (took.Item bytes) l) l.response;
   ends = λ is. is;
   nothing_behind = λ ended. absurd (l.watches (l.is_still ∙ ended));
 }
-reads_state before after ahead left old new told done finished took.More l =
-    state_same old new told done finished
+reads_state before after ahead left old new told done finished broken took.More l =
+    state_same old new told done finished broken
     (done_same before after ahead left old new took.More l (λ is. is)) l.response
-reads_state before after ahead left old new told done finished (took.Waited pause) l =
-    state_same old new _ done finished
+reads_state before after ahead left old new told done finished broken (took.Waited pause) l =
+    state_same old new _ done finished broken
     (done_same before after ahead left old new (took.Waited pause) l (λ is. is)) l.response
-reads_state before after ahead left old new told done finished took.End l =
+reads_state before after ahead left old new told done finished broken took.End l =
     elim (cases_Bool (is_body_done old.reading)) [
       | inl was ↦ absurd (l.watches (l.is_still ∙ was))
       | inr open_still ↦ record {
-        exact = state_joined old new told done finished true
+        exact = state_joined old new told done finished broken true
             (rw open_still (l.ends (l.is_still ∙ open_still))) l.response;
         ends = λ is. l.ends (l.is_still ∙ open_still);
         nothing_behind = λ ended. absurd (l.watches (l.is_still ∙ ended));
       }
     ]
-reads_state before after ahead left old new told done finished (took.Failed why) l =
-    state_same old new _ done finished
+reads_state before after ahead left old new told done finished broken (took.Failed why) l =
+    state_same old new _ done finished broken
     (done_same before after ahead left old new (took.Failed why) l (λ is. is)) l.response
 
 -- a link that the side waits for in silence is silent
@@ -359,13 +361,14 @@ blamed s q before after given ahead left body still new (took.Failed (fail.Error
 
 -- a read of the client
 pub reads_on : (s : Origin) (p : DownPast) (before after : LinkState) (ahead left : List ℕ)
-    (old new : HttpSession) (done finished : Bool) (answer : Took (List ℕ))
-    → HasPassed s p before ahead old done finished
+    (old new : HttpSession) (done finished : Bool) (broken : Option Fault) (answer : Took (List ℕ))
+    → HasPassed s p before ahead old done finished broken
     → Left before after ahead left old new answer
-    → DownGoes (λ q. HasPassed s q after left new done finished) (λ q e. ClientBlames s q after e)
+    → DownGoes (λ q. HasPassed s q after left new done finished broken)
+    (λ q e. ClientBlames s q after e)
     (p.put ++ put_in false (piece_answer answer (is_body_done new.reading))) p.batched p.closing
     (error_of_took (piece_answer answer (is_body_done new.reading)))
-reads_on s p before after ahead left old new done finished answer h l =
+reads_on s p before after ahead left old new done finished broken answer h l =
     let r = l.goes (given_to s p) h.client.body h.client.request in
     let put = put_in false (piece_answer answer (is_body_done new.reading)) in
     let given = puts before after ahead left old new answer l in
@@ -374,9 +377,13 @@ reads_on s p before after ahead left old new done finished answer h l =
       stands = record {
         client = client_on s p before after ahead left old new answer put h.client l given r;
         over = rw l.response h.over;
+        place_over = rw l.response h.place_over;
         unasked = h.unasked;
         asked = h.asked;
         closed = rw l.response h.closed;
+        unbroken = rw l.response h.unbroken;
+        fault = λ f is.
+            rose_on s.faults before.faults after.faults l.link.faults (h.fault f is);
       };
       is_put = refl;
       is_batched = refl;

@@ -1,5 +1,5 @@
 -- Tasks for the client: what queueing them says of the state, and how what passed goes on.
-use Rattle.std.proofs.Common.{◌≡◌, ℕ, ◌<◌, Bool, true, false, List, [], ◌∷◌, ◌++◌, length, Some, None, Result, Ok, Err, refl, sym, ◌∙◌, ap, subst, append-nil, append_assoc, length-append, add-zero, inl, inr, arith}
+use Rattle.std.proofs.Common.{◌≡◌, ℕ, ◌<◌, Bool, true, false, List, [], ◌∷◌, ◌++◌, length, Option, Some, None, Result, Ok, Err, refl, sym, ◌∙◌, ap, subst, append-nil, append_assoc, length-append, add-zero, inl, inr, arith}
 use Rattle.std.specs.Prelude.{◌||◌}
 use Rattle.std.specs.List.{list_any}
 use Rattle.std.proofs.lemmas.Bool.{cases_Bool}
@@ -219,10 +219,11 @@ either_stands false b is = absurd (cc)
 
 -- all tasks were queued: the state
 pub queues_state : (old new : HttpSession) (tasks : List HttpTask) (told : Told)
-    (done finished over : Bool) → QueuesAll old new tasks finished over
-    → QueuesBatch (state_of old told done finished) tasks
-    (state_of new told (done || over) finished) (done || over)
-queues_state old new tasks told done finished over q = record {
+    (done finished : Bool) (broken : Option Fault) (over : Bool)
+    → QueuesAll old new tasks finished over
+    → QueuesBatch (state_of old told done finished broken) tasks
+    (state_of new told (done || over) finished broken) (done || over)
+queues_state old new tasks told done finished broken over q = record {
   exact = rw q.reading refl;
   upgraded_stays = λ is. absurd (cc);
   done_stays = λ is. either_stands done over is;
@@ -244,23 +245,26 @@ no_front_error tasks error alone is =
 
 -- not all were: the state
 pub refuses_state : (old new : HttpSession) (tasks : List HttpTask) (told : Told)
-    (done finished : Bool) (why : Fail) → QueuesFront old new tasks finished why
-    → RefusesBatch (state_of old told done finished) tasks
-    (state_of new (failed why told) done finished) why
-refuses_state old new tasks told done finished why (client.QueuesFront.fails found front is same) =
+    (done finished : Bool) (broken : Option Fault) (why : Fail)
+    → QueuesFront old new tasks finished why
+    → RefusesBatch (state_of old told done finished broken) tasks
+    (state_of new (failed why told) done finished broken) why
+refuses_state old new tasks told done finished broken why
+    (client.QueuesFront.fails found front is same) =
     record {
       exact = rw same refl;
       upgraded_stays = λ was. absurd (cc);
       by_failure = λ error alone. rw is (front_error tasks error found alone front);
     }
-refuses_state old new tasks told done finished why (client.QueuesFront.is_late none late is same) =
+refuses_state old new tasks told done finished broken why
+    (client.QueuesFront.is_late none late is same) =
     record {
       exact = rw same refl;
       upgraded_stays = λ was. absurd (cc);
       by_failure = λ error alone. absurd (no_front_error tasks error alone none);
     }
-refuses_state old new tasks told done finished why (client.QueuesFront.stops none unasked same
-    fails) =
+refuses_state old new tasks told done finished broken why
+    (client.QueuesFront.stops none unasked same fails) =
     record {
       exact = rw same refl;
       upgraded_stays = λ was. absurd (cc);
@@ -274,13 +278,27 @@ over_by : (done over : Bool) (old new : Place) → (done ≡ true → is_over ol
 over_by true over old new was stays is either = stays (was refl)
 over_by false over old new was stays is either = sym is ∙ either
 
+-- the batched tasks, behind which no end was asked for, left the response over where it stands so
+over_batched : (now : Writing) (batched closing : List HttpTask) (taken : List ℕ) → closing ≡ []
+    → Holds now (batched ++ closing) taken → is_over now.place ≡ true
+    → (sent : Sent) × (tasks_sent now.request place.NoHead batched ≡ Ok sent)
+    × (is_over sent.place ≡ true)
+over_batched now batched closing taken none holds over =
+    let sent = holds_sent now now.output (batched ++ closing) taken holds in (
+      sent.0,
+      subst (λ (l : List HttpTask). tasks_sent now.request place.NoHead l ≡ Ok sent.0)
+          (ap (λ (l : List HttpTask). batched ++ l) none ∙ append-nil batched) sent.1,
+      ap is_over sent.2 ∙ over,
+    )
+
 -- all tasks were queued: what passed
 pub queues_on : (s : Origin) (p : DownPast) (link : LinkState) (ahead : List ℕ)
-    (old new : HttpSession) (tasks : List HttpTask) (done finished over : Bool)
-    → HasPassed s p link ahead old done finished → QueuesAll old new tasks finished over
-    → DownGoes (λ q. HasPassed s q link ahead new (done || over) finished)
+    (old new : HttpSession) (tasks : List HttpTask) (done finished : Bool) (broken : Option Fault)
+    (over : Bool)
+    → HasPassed s p link ahead old done finished broken → QueuesAll old new tasks finished over
+    → DownGoes (λ q. HasPassed s q link ahead new (done || over) finished broken)
     (λ q e. ClientBlames s q link e) p.put (p.batched ++ tasks) p.closing None
-queues_on s p link ahead old new tasks done finished over h q = record {
+queues_on s p link ahead old new tasks done finished broken over h q = record {
   past = past_queued p (p.batched ++ tasks) p.closing;
   stands = record {
     client = requeued s p link ahead old new (p.batched ++ tasks) p.closing h.client q.reading
@@ -289,11 +307,19 @@ queues_on s p link ahead old new tasks done finished over h q = record {
         (q.goes_on (client.queued p) p.written h.client.response))
         (λ fault is. absurd (open_is_whole new.writing.output _ fault
         (ap (λ (w : Writing). w.output) q.grows.grown) is));
-    over = over_by done over old.writing.place new.writing.place h.over
+    over = λ is.
+        over_batched new.writing (p.batched ++ tasks) p.closing p.written (h.unasked q.unasked)
+        (follow new.writing p.batched p.closing tasks p.written (h.unasked q.unasked)
+        (q.goes_on (client.queued p) p.written h.client.response))
+        (over_by done over old.writing.place new.writing.place h.place_over
+        (grows_over old.writing new.writing tasks q.grows) q.is_over is);
+    place_over = over_by done over old.writing.place new.writing.place h.place_over
         (grows_over old.writing new.writing tasks q.grows) q.is_over;
     unasked = h.unasked;
     asked = h.asked;
     closed = λ is. let wrong = sym q.unasked ∙ is in absurd (cc);
+    unbroken = λ none. (_, ap (λ (w : Writing). w.output) q.grows.grown);
+    fault = h.fault;
   };
   is_put = refl;
   is_batched = refl;
@@ -318,13 +344,14 @@ fail_is why a e first next = let both = sym next ∙ first in cc
 
 -- nothing of the tasks was queued
 none_queued : (s : Origin) (p : DownPast) (link : LinkState) (ahead : List ℕ)
-    (old new : HttpSession) (tasks : List HttpTask) (done finished : Bool) (why : Fail)
-    → HasPassed s p link ahead old done finished → new ≡ old
+    (old new : HttpSession) (tasks : List HttpTask) (done finished : Bool) (broken : Option Fault)
+    (why : Fail)
+    → HasPassed s p link ahead old done finished broken → new ≡ old
     → ((e : Error) → list_any is_failure tasks ≡ false → why ≡ fail.Error e
     → ClientRefuses s p link tasks e)
-    → BatchRefused (λ q. HasPassed s q link ahead new done finished)
+    → BatchRefused (λ q. HasPassed s q link ahead new done finished broken)
     (λ q left e. ClientRefuses s q link left e) p tasks why
-none_queued s p link ahead old new tasks done finished why h same refused = record {
+none_queued s p link ahead old new tasks done finished broken why h same refused = record {
   filtered = [];
   left = tasks;
   parts = refl;
@@ -339,12 +366,12 @@ none_queued s p link ahead old new tasks done finished why h same refused = reco
 -- a call that stopped on a session whose write failed, or at a task
 module _
     (s : Origin) (p : DownPast) (link : LinkState) (ahead : List ℕ) (old new : HttpSession)
-    (tasks : List HttpTask) (done finished : Bool) (why : Fail)
-    (h : HasPassed s p link ahead old done finished) (unasked : finished ≡ false)
+    (tasks : List HttpTask) (done finished : Bool) (broken : Option Fault) (why : Fail)
+    (h : HasPassed s p link ahead old done finished broken) (unasked : finished ≡ false)
     (reading : new.reading ≡ old.reading) where
   -- the session stopped at a task
   stops_at : StopsAt old.writing tasks new.writing why
-      → BatchRefused (λ q. HasPassed s q link ahead new done finished)
+      → BatchRefused (λ q. HasPassed s q link ahead new done finished broken)
       (λ q left e. ClientRefuses s q link left e) p tasks why
   stops_at stops =
       let request = ap (λ (w : Writing). w.request) stops.grows.grown in
@@ -362,10 +389,17 @@ module _
               reading request holds
               (λ fault is. absurd (open_is_whole new.writing.output _ fault
               (ap (λ (w : Writing). w.output) stops.grows.grown) is));
-          over = λ is. grows_over old.writing new.writing stops.before stops.grows (h.over is);
+          over = λ is.
+              over_batched new.writing (p.batched ++ stops.before) p.closing p.written
+              (h.unasked unasked) holds
+              (grows_over old.writing new.writing stops.before stops.grows (h.place_over is));
+          place_over = λ is.
+              grows_over old.writing new.writing stops.before stops.grows (h.place_over is);
           unasked = h.unasked;
           asked = h.asked;
           closed = λ is. let wrong = sym unasked ∙ is in absurd (cc);
+          unbroken = λ none. (_, ap (λ (w : Writing). w.output) stops.grows.grown);
+          fault = h.fault;
         };
         is_put = refl;
         is_batched = refl;
@@ -385,11 +419,11 @@ module _
   stops_by : (output : Outgoing) → old.writing.output ≡ output
       → FailsWithin output old.writing tasks new.writing why
       → (new.writing ≡ old.writing → new ≡ old)
-      → BatchRefused (λ q. HasPassed s q link ahead new done finished)
+      → BatchRefused (λ q. HasPassed s q link ahead new done finished broken)
       (λ q left e. ClientRefuses s q link left e) p tasks why
   stops_by (outgoing.Open queue) is fails same = stops_at fails
   stops_by (outgoing.Broken fault) is fails same =
-      none_queued s p link ahead old new tasks done finished why h (same fails.1)
+      none_queued s p link ahead old new tasks done finished broken why h (same fails.1)
       (λ e plain of.
       client.ClientRefuses.link_failed fault (fail_is why (error_of fault) e fails.0 of)
       (h.client.broken fault is))
@@ -403,23 +437,24 @@ same_session old new reading writing =
 
 -- not all tasks were queued: what passed
 pub refuses_on : (s : Origin) (p : DownPast) (link : LinkState) (ahead : List ℕ)
-    (old new : HttpSession) (tasks : List HttpTask) (done finished : Bool) (why : Fail)
-    → HasPassed s p link ahead old done finished → QueuesFront old new tasks finished why
-    → BatchRefused (λ q. HasPassed s q link ahead new done finished)
+    (old new : HttpSession) (tasks : List HttpTask) (done finished : Bool) (broken : Option Fault)
+    (why : Fail)
+    → HasPassed s p link ahead old done finished broken → QueuesFront old new tasks finished why
+    → BatchRefused (λ q. HasPassed s q link ahead new done finished broken)
     (λ q left e. ClientRefuses s q link left e) p tasks why
-refuses_on s p link ahead old new tasks done finished why h
+refuses_on s p link ahead old new tasks done finished broken why h
     (client.QueuesFront.fails found front is same) =
-    none_queued s p link ahead old new tasks done finished why h same
+    none_queued s p link ahead old new tasks done finished broken why h same
     (λ e plain of. absurd (front_fails tasks found front plain))
-refuses_on s p link ahead old new tasks done finished why h
+refuses_on s p link ahead old new tasks done finished broken why h
     (client.QueuesFront.is_late none late is same) =
-    none_queued s p link ahead old new tasks done finished why h same
+    none_queued s p link ahead old new tasks done finished broken why h same
     (λ e plain of.
     client.ClientRefuses.behind_the_end (h.asked late) (fail_is why ends_short e is of))
-refuses_on s p link ahead old new tasks done finished why h
+refuses_on s p link ahead old new tasks done finished broken why h
     (client.QueuesFront.stops none unasked same fails) =
-    stops_by s p link ahead old new tasks done finished why h unasked same old.writing.output refl
-    fails (same_session old new same)
+    stops_by s p link ahead old new tasks done finished broken why h unasked same old.writing.output
+    refl fails (same_session old new same)
 
 -- ---- the end of the response
 
@@ -476,11 +511,11 @@ some_closing closing = omega (arith, length-append closing (task.Done ∷ []))
 
 -- the end was asked for again
 pub ends_again : (s : Origin) (p : DownPast) (link : LinkState) (ahead : List ℕ)
-    (session : HttpSession) (done finished : Bool)
-    → finished ≡ true → HasPassed s p link ahead session done finished
-    → DownGoes (λ q. HasPassed s q link ahead session done finished)
+    (session : HttpSession) (done finished : Bool) (broken : Option Fault)
+    → finished ≡ true → HasPassed s p link ahead session done finished broken
+    → DownGoes (λ q. HasPassed s q link ahead session done finished broken)
     (λ q e. ClientBlames s q link e) p.put p.batched (p.closing ++ task.Done ∷ []) None
-ends_again s p link ahead session done finished asked h = record {
+ends_again s p link ahead session done finished broken asked h = record {
   past = past_queued p p.batched (p.closing ++ task.Done ∷ []);
   stands = record {
     client = requeued s p link ahead session session p.batched (p.closing ++ task.Done ∷ [])
@@ -491,9 +526,12 @@ ends_again s p link ahead session done finished asked h = record {
         (h.closed asked) h.client.response))
         h.client.broken;
     over = h.over;
+    place_over = h.place_over;
     unasked = λ is. let wrong = sym asked ∙ is in absurd (cc);
     asked = λ is. some_closing p.closing;
     closed = h.closed;
+    unbroken = h.unbroken;
+    fault = h.fault;
   };
   is_put = refl;
   is_batched = refl;
@@ -503,14 +541,14 @@ ends_again s p link ahead session done finished asked h = record {
 
 -- the end was queued
 pub ends_on : (s : Origin) (p : DownPast) (link : LinkState) (ahead : List ℕ)
-    (old new : HttpSession) (done finished : Bool) → finished ≡ false
-    → HasPassed s p link ahead old done finished
+    (old new : HttpSession) (done finished : Bool) (broken : Option Fault) → finished ≡ false
+    → HasPassed s p link ahead old done finished broken
     → new.reading ≡ old.reading
     → Grows (task_sent old.writing.request old.writing.place task.Done) old.writing new.writing
     → GoesOnWith old.writing new.writing (task.Done ∷ [])
-    → DownGoes (λ q. HasPassed s q link ahead new done true)
+    → DownGoes (λ q. HasPassed s q link ahead new done true broken)
     (λ q e. ClientBlames s q link e) p.put p.batched (p.closing ++ task.Done ∷ []) None
-ends_on s p link ahead old new done finished unasked h reading g goes = record {
+ends_on s p link ahead old new done finished broken unasked h reading g goes = record {
   past = past_queued p p.batched (p.closing ++ task.Done ∷ []);
   stands = record {
     client = requeued s p link ahead old new p.batched (p.closing ++ task.Done ∷ []) h.client
@@ -521,12 +559,15 @@ ends_on s p link ahead old new done finished unasked h reading g goes = record {
         (goes (client.queued p) p.written h.client.response))
         (λ fault is. absurd (open_is_whole new.writing.output _ fault
         (ap (λ (w : Writing). w.output) g.grown) is));
-    over = λ is. rw (ap (λ (w : Writing). w.place) g.grown)
-        (piece_over old.writing.place [] true g.more (h.over is) g.is);
+    over = rw (ap (λ (w : Writing). w.request) g.grown) h.over;
+    place_over = λ is. rw (ap (λ (w : Writing). w.place) g.grown)
+        (piece_over old.writing.place [] true g.more (h.place_over is) g.is);
     unasked = λ is. absurd (cc);
     asked = λ is. some_closing p.closing;
     closed = λ is. rw (ap (λ (w : Writing). w.place) g.grown)
         (end_closes old.writing.place g.more g.is);
+    unbroken = λ none. (_, ap (λ (w : Writing). w.output) g.grown);
+    fault = h.fault;
   };
   is_put = refl;
   is_batched = refl;
@@ -558,14 +599,14 @@ end_refused s p link ahead session (outgoing.Broken fault) why e h is refused of
 
 -- the end was refused, and nothing was queued
 pub ends_refused : (s : Origin) (p : DownPast) (link : LinkState) (ahead : List ℕ)
-    (old new : HttpSession) (done finished : Bool) (why : Fail)
-    → HasPassed s p link ahead old done finished → new ≡ old
+    (old new : HttpSession) (done finished : Bool) (broken : Option Fault) (why : Fail)
+    → HasPassed s p link ahead old done finished broken → new ≡ old
     → IsFailure old.writing.output
     (task_sent old.writing.request old.writing.place task.Done) why
-    → DownGoes (λ q. HasPassed s q link ahead new done finished)
+    → DownGoes (λ q. HasPassed s q link ahead new done finished broken)
     (λ q e. ClientBlames s q link e) p.put p.batched (p.closing ++ [])
     (error_of_result {T = Unit {0}} (Err why))
-ends_refused s p link ahead old new done finished why h same refused = record {
+ends_refused s p link ahead old new done finished broken why h same refused = record {
   past = p;
   stands = rw same h;
   is_put = refl;

@@ -1,6 +1,6 @@
 -- A write to the client: what it says of the state, and how what passed goes on with it.
-use Rattle.std.proofs.Common.{◌≡◌, ℕ, ◌≤◌, Bool, true, List, [], ◌++◌, length, take, drop, Option, Some, None, refl, sym, ◌∙◌, ap, append-nil, le_refl, inl, inr, arith}
-use Rattle.std.specs.Prelude.{not, ◌==◌}
+use Rattle.std.proofs.Common.{◌≡◌, ℕ, ◌≤◌, Bool, true, false, List, [], ◌++◌, length, take, drop, Option, Some, None, refl, sym, ◌∙◌, ap, append-nil, le_refl, inl, inr, arith}
+use Rattle.std.specs.Prelude.{not, ◌==◌, ◌||◌, is_some}
 use Rattle.relay_tasks.specs.declared.error.Error.{Error}
 use Rattle.relay_tasks.specs.declared.error.ErrorSource.TheVariants.{Downstream}
 use Rattle.relay_tasks.specs.declared.fault.Fault.{Fault}
@@ -13,7 +13,7 @@ use Rattle.relay_links.specs.declared.link.Put.{Put}
 use Rattle.relay_links.specs.declared.link.Put.TheVariants as put
 use Rattle.relay_links.proofs.SinceLemmas.{Since-kept, Since-grows}
 use Rattle.relay_h1.specs.Move.{taken}
-use Rattle.relay_session.specs.Response.{Holds, MayWrite, WritesPending, LeavesOpen, pending}
+use Rattle.relay_session.specs.Response.{Holds, MayWrite, WritesPending, LeavesOpen, IsOpen, pending}
 use Rattle.relay_session.specs.declared.session.HttpSession.{HttpSession}
 use Rattle.relay_session.specs.declared.writing.Outgoing.{Outgoing}
 use Rattle.relay_session.specs.declared.writing.Outgoing.TheVariants as outgoing
@@ -22,7 +22,7 @@ use Rattle.relay_core.specs.declared.told.Told.{Told}
 use Rattle.relay_core.specs.Down.{Writes}
 use Rattle.relay_core.specs.Past.{Origin, DownPast, DownGoes, error_of_put}
 use Rattle.relay_core.specs.Told.{written, fault_of}
-use Rattle.relay_sides.specs.Client.{IsClient, HasPassed, ClientBlames, IsSilent, state_of}
+use Rattle.relay_sides.specs.Client.{IsClient, HasPassed, ClientBlames, IsSilent, fault_in, state_of}
 use Rattle.relay_sides.specs.Client as client
 use Rattle.relay_sides.proofs.ClientPast.{rose_from, open_is_whole}
 
@@ -111,6 +111,30 @@ kept_fault rest put.OutOfMemory left fault leaves is =
     absurd (open_is_whole left rest fault leaves is)
 kept_fault rest (put.Failed why) left fault leaves is = let both = sym leaves ∙ is in cc
 
+-- without a fault the session is open still
+still_open : (rest : List ℕ) (answer : Put) (left : Outgoing) → LeavesOpen rest answer left
+    → fault_in answer ≡ None → IsOpen left
+still_open rest (put.Took n) left leaves none = (rest, leaves)
+still_open rest put.NotReady left leaves none = (rest, leaves)
+still_open rest put.Silent left leaves none = (rest, leaves)
+still_open rest put.OutOfMemory left leaves none = (rest, leaves)
+still_open rest (put.Failed why) left leaves none = absurd (cc)
+
+-- a fault in an answer is that of a write that failed
+found_fault : (answer : Put) (fault : Fault) → fault_in answer ≡ Some fault
+    → answer ≡ put.Failed fault
+found_fault (put.Took n) fault is = absurd (cc)
+found_fault put.NotReady fault is = absurd (cc)
+found_fault put.Silent fault is = absurd (cc)
+found_fault put.OutOfMemory fault is = absurd (cc)
+found_fault (put.Failed why) fault is = cc
+
+-- what waits where no fault is kept
+pub waits_open : (waits : Bool) (broken : Option Fault) → broken ≡ None
+    → waits || is_some broken ≡ true → waits ≡ true
+waits_open true broken none some = refl
+waits_open false broken none some = let wrong = rw none at some in absurd (cc)
+
 -- the past behind a write of these bytes
 abbrev past_written : DownPast → List ℕ → DownPast
 past_written p bytes = record {
@@ -132,20 +156,20 @@ failed_put put.OutOfMemory e is = absurd (cc)
 
 -- a write to the client
 pub writes_on : (s : Origin) (p : DownPast) (before after : LinkState) (ahead left : List ℕ)
-    (old new : HttpSession) (done finished : Bool) (answer : Put) (output : Outgoing)
-    → HasPassed s p before ahead old done finished
+    (old new : HttpSession) (done finished : Bool) (broken : Option Fault) (answer : Put)
+    (output : Outgoing) → HasPassed s p before ahead old done finished broken
     → old.writing.output ≡ output → not (length (pending output) == 0) ≡ true
     → WritesPending output before after answer new.writing.output
     → Holds new.writing (client.queued p) (p.written ++ take (taken answer) (pending output))
     → left ≡ ahead → new.writing ≡ record old.writing { output = new.writing.output }
     → new.reading ≡ old.reading
-    → DownGoes (λ q. HasPassed s q after left new done finished) (λ q e. ClientBlames s q after e)
-    p.put p.batched p.closing (error_of_put Downstream answer)
-writes_on s p before after ahead left old new done finished answer (outgoing.Broken fault) h is some
-    writes holds kept rest reading =
+    → DownGoes (λ q. HasPassed s q after left new done finished (fault_in answer))
+    (λ q e. ClientBlames s q after e) p.put p.batched p.closing (error_of_put Downstream answer)
+writes_on s p before after ahead left old new done finished broken answer (outgoing.Broken fault) h
+    is some writes holds kept rest reading =
     absurd (nothing_waits fault some)
-writes_on s p before after ahead left old new done finished answer (outgoing.Open queue) h is some
-    writes holds kept rest reading =
+writes_on s p before after ahead left old new done finished broken answer (outgoing.Open queue) h
+    is some writes holds kept rest reading =
     let w = wrote before after queue answer writes.writes.writes in
     record {
       past = past_written p (take (taken answer) queue);
@@ -175,10 +199,15 @@ writes_on s p before after ahead left old new done finished answer (outgoing.Ope
               (w.failed fault
               (kept_fault writes.rest answer new.writing.output fault writes.leaves of));
         };
-        over = rw (ap (λ (r : Writing). r.place) rest) h.over;
+        over = rw (ap (λ (r : Writing). r.request) rest) h.over;
+        place_over = rw (ap (λ (r : Writing). r.place) rest) h.place_over;
         unasked = h.unasked;
         asked = h.asked;
         closed = rw (ap (λ (r : Writing). r.place) rest) h.closed;
+        unbroken = still_open writes.rest answer new.writing.output writes.leaves;
+        fault = λ f is.
+            rose_from s.faults before.faults after.faults h.client.faults
+            (w.failed f (found_fault answer f is));
       };
       is_put = refl;
       is_batched = refl;
@@ -189,6 +218,25 @@ writes_on s p before after ahead left old new done finished answer (outgoing.Ope
           (rose_from s.faults before.faults after.faults h.client.faults (w.failed f.0 f.1));
     }
 
+-- the answer of a write that failed before
+pub fails_again : (s : Origin) (p : DownPast) (link : LinkState) (ahead : List ℕ)
+    (session : HttpSession) (done finished : Bool) (broken : Option Fault) (fault : Fault)
+    → broken ≡ Some fault → HasPassed s p link ahead session done finished broken
+    → DownGoes (λ q. HasPassed s q link ahead session done finished broken)
+    (λ q e. ClientBlames s q link e) p.put p.batched p.closing
+    (error_of_put Downstream (put.Failed fault))
+fails_again s p link ahead session done finished broken fault is h = record {
+  past = p;
+  stands = h;
+  is_put = refl;
+  is_batched = refl;
+  is_closing = refl;
+  blamed = λ e of.
+      let f = failed_put (put.Failed fault) e of in
+      client.ClientBlames.link_failed f.0 f.2
+      (h.fault f.0 (is ∙ ap fault_in f.1));
+}
+
 -- what waits where nothing was taken
 waits_still : (queue rest : List ℕ) (left : Outgoing) → rest ≡ drop 0 queue
     → left ≡ outgoing.Open rest → pending left ≡ queue
@@ -196,17 +244,17 @@ waits_still queue rest left same leaves = rw leaves same
 
 -- the state of a side where only what waits changed
 state_written : (old new : HttpSession) (told : Told) (done finished : Bool)
-    → new.reading ≡ old.reading
-    → state_of new told done finished ≡ record (state_of old told done finished) {
-      pending = not (length (pending new.writing.output) == 0);
+    (was now : Option Fault) → new.reading ≡ old.reading
+    → state_of new told done finished now ≡ record (state_of old told done finished was) {
+      pending = not (length (pending new.writing.output) == 0) || is_some now;
     }
-state_written old new told done finished reading = rw reading refl
+state_written old new told done finished was now reading = rw reading refl
 
 -- and where not even that did
 state_waits : (old new : HttpSession) (told : Told) (done finished : Bool) (queue : List ℕ)
     → new.reading ≡ old.reading → old.writing.output ≡ outgoing.Open queue
     → pending new.writing.output ≡ queue
-    → state_of new told done finished ≡ state_of old told done finished
+    → state_of new told done finished None ≡ state_of old told done finished None
 state_waits old new told done finished queue reading was now = rw (reading, now, was) refl
 
 -- a write says this of the state
@@ -215,14 +263,14 @@ pub writes_state : (before after : LinkState) (old new : HttpSession) (told : To
     → old.writing.output ≡ output → not (length (pending output) == 0) ≡ true
     → WritesPending output before after answer new.writing.output
     → new.reading ≡ old.reading
-    → Writes (state_of old told done finished)
-    (state_of new (written Downstream answer told) done finished) answer
+    → Writes (state_of old told done finished None)
+    (state_of new (written Downstream answer told) done finished (fault_in answer)) answer
 writes_state before after old new told done finished answer (outgoing.Broken fault) is some writes
     reading =
     absurd (nothing_waits fault some)
 writes_state before after old new told done finished (put.Took n) (outgoing.Open queue) is some
     writes reading =
-    state_written old new told done finished reading
+    state_written old new told done finished None None reading
 writes_state before after old new told done finished put.NotReady (outgoing.Open queue) is some
     writes reading =
     state_waits old new _ done finished queue reading is
@@ -233,7 +281,7 @@ writes_state before after old new told done finished put.Silent (outgoing.Open q
     (waits_still queue writes.rest new.writing.output writes.writes.left writes.leaves)
 writes_state before after old new told done finished (put.Failed fault) (outgoing.Open queue) is
     some writes reading =
-    state_written old new _ done finished reading
+    state_written old new _ done finished None (Some fault) reading
 writes_state before after old new told done finished put.OutOfMemory (outgoing.Open queue) is some
     writes reading =
     state_waits old new _ done finished queue reading is

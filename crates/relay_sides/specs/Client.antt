@@ -1,6 +1,6 @@
 -- The client's side: what passed between a client and its session since the request began, and why
 -- the side answers with an error (RFC 9112, sections 6 and 7).
-use Rattle.std.specs.Prelude.{◌≡◌, ℕ, ◌<◌, ◌≤◌, Bool, true, false, not, ◌==◌, ◌⊎◌, List, [], ◌∷◌, ◌++◌, length, Option, Some, None, Result, Ok, Err}
+use Rattle.std.specs.Prelude.{◌≡◌, ℕ, ◌<◌, ◌≤◌, Bool, true, false, not, ◌||◌, ◌==◌, ◌⊎◌, List, [], ◌∷◌, ◌++◌, length, Option, Some, None, is_some, Result, Ok, Err}
 use Rattle.std.specs.List.{list_any}
 use Rattle.relay_tasks.specs.declared.error.Error.{Error}
 use Rattle.relay_tasks.specs.declared.error.Fail.{Fail}
@@ -15,13 +15,15 @@ use Rattle.relay_tasks.specs.Task.{is_end}
 use Rattle.relay_links.specs.Count.{Rose}
 use Rattle.relay_links.specs.Link.{LinkState, IsSound}
 use Rattle.relay_links.specs.Told.{Since}
+use Rattle.relay_links.specs.declared.link.Put.{Put}
+use Rattle.relay_links.specs.declared.link.Put.TheVariants as put
 use Rattle.relay_h1.specs.declared.framing.Framing.{Framing}
 use Rattle.relay_h1.specs.Body.{open_text, broken}
 use Rattle.relay_h1.specs.Verdict.{HasRequest}
 use Rattle.relay_session.specs.Asked.{request_of}
 use Rattle.relay_session.specs.Front.{link_fault, client_closed, client_sent_more, body_broken}
 use Rattle.relay_session.specs.Reading.{head_of, is_body_done, RequestSoFar, SaysBody, IsWhole}
-use Rattle.relay_session.specs.Response.{Holds, Grows, GoesOnWith, FailsWithin, is_over, pending}
+use Rattle.relay_session.specs.Response.{Holds, Grows, GoesOnWith, FailsWithin, IsOpen, is_over, pending}
 use Rattle.relay_session.specs.TaskWire.{Sent, ends_short, task_sent, tasks_sent}
 use Rattle.relay_session.specs.declared.session.HttpSession.{HttpSession}
 use Rattle.relay_session.specs.declared.task_text.Place.{Place}
@@ -43,16 +45,17 @@ abbrev pub queued : DownPast → List HttpTask
 queued p = p.batched ++ p.closing
 
 -- the state of the side, whose last batch left the response done or not, and whose response's end
--- was asked for or not
-abbrev pub state_of : HttpSession → Told → Bool → Bool → DownState
-state_of session told done finished = record {
+-- was asked for or not; `kept` is the fault of the first write that failed. That stays pending, to
+-- be answered again
+abbrev pub state_of : HttpSession → Told → Bool → Bool → Option Fault → DownState
+state_of session told done finished kept = record {
   request_ended = is_body_done session.reading;
   body_done = is_body_done session.reading;
   awaits_upgrade = false;
   upgraded = false;
   response_done = done;
   body_finished = finished;
-  pending = not (length (pending session.writing.output) == 0);
+  pending = not (length (pending session.writing.output) == 0) || is_some kept;
   told = told;
 }
 
@@ -90,16 +93,22 @@ IsClosed place.NoHead = Unit {0}
 IsClosed (place.Body rest) = ⊥
 IsClosed place.Done = Unit {0}
 
--- what passed, and how the flags of the side tell of it: a response that is done is over, and once
--- its end was asked for no body of it is open
+-- what passed, and how the flags of the side tell of it: a response that is done was over behind
+-- its batches, and is over; once its end was asked for no body of it is open; and no write failed
+-- where no fault is kept
 pub record HasPassed
     (s : Origin) (p : DownPast) (link : LinkState) (ahead : List ℕ) (session : HttpSession)
-    (done finished : Bool) : Type 0 where
+    (done finished : Bool) (kept : Option Fault) : Type 0 where
   pub client : IsClient s p link ahead session
-  pub over : done ≡ true → is_over session.writing.place ≡ true
+  pub over : done ≡ true
+      → (sent : Sent) × (tasks_sent session.writing.request place.NoHead p.batched ≡ Ok sent)
+      × (is_over sent.place ≡ true)
+  pub place_over : done ≡ true → is_over session.writing.place ≡ true
   pub unasked : finished ≡ false → p.closing ≡ []
   pub asked : finished ≡ true → 0 < length p.closing
   pub closed : finished ≡ true → IsClosed session.writing.place
+  pub unbroken : kept ≡ None → IsOpen session.writing.output
+  pub fault : (f : Fault) → kept ≡ Some f → Rose s.faults link.faults
 
 -- a session that begins behind these bytes of a client, whose head was read out of them: nothing of
 -- the body was given out, and nothing was queued or written
@@ -182,6 +191,14 @@ told_read took.More told = told
 told_read (took.Waited pause) told = paused pause told
 told_read took.End told = told
 told_read (took.Failed why) told = failed why told
+
+-- the fault of a write that failed
+abbrev pub fault_in : Put → Option Fault
+fault_in (put.Took n) = None
+fault_in put.NotReady = None
+fault_in put.Silent = None
+fault_in (put.Failed fault) = Some fault
+fault_in put.OutOfMemory = None
 
 -- the error of a failure in front
 abbrev pub failure_in_front : List HttpTask → Option Error

@@ -4,13 +4,15 @@ ghost use Rattle.std.specs.Prelude.{◌≡◌, ◌||◌, List, ℕ};
 ghost use Rattle.relay_links.specs.Link.{LinkState};
 ghost use Rattle.relay_core.specs.Past.{Origin};
 ghost use Rattle.relay_session.specs.TaskWire.{ends_short};
-ghost use Rattle.relay_sides.specs.Client.{HasPassed, BeginsBehind, begun_past, ClientBlames, ClientRefuses, IsSilent, Queues, state_of, piece_answer, told_read, failure_in_front};
+ghost use Rattle.relay_sides.specs.Client.{HasPassed, BeginsBehind, begun_past, ClientBlames, ClientRefuses, IsSilent, Queues, state_of, fault_in, piece_answer, told_read, failure_in_front};
 
 use bytes::Bytes;
 use relay_core::{Down, Piece, Told, UpKind};
 use relay_links::Put;
 use relay_session::{Front, HttpSession};
-use relay_tasks::{Context, Error, ErrorSource, ErrorType, Fail, HttpTask, Result, TaskList, Took};
+use relay_tasks::{
+    Context, Error, ErrorSource, ErrorType, Fail, Fault, HttpTask, Result, TaskList, Took,
+};
 use std::alloc::Global;
 use std::marker::PhantomData;
 
@@ -18,7 +20,8 @@ use std::marker::PhantomData;
 /// the client, which has it, is handed to each call that reads or writes.
 ///
 /// `done` says that a batch left the response over, `finished` that the response's end was asked for:
-/// no batch is queued behind it.
+/// no batch is queued behind it. `broken` is the fault of the first write that failed: it stays
+/// pending, and each later write answers it without the client.
 #[derive(Drop)]
 pub struct ClientSide<F> {
     alloc: Global,
@@ -26,6 +29,7 @@ pub struct ClientSide<F> {
     told: Told,
     done: bool,
     finished: bool,
+    broken: Option<Fault>,
     client: PhantomData<F>,
 }
 
@@ -37,6 +41,7 @@ pub struct ClientState {
     told: Told,
     done: bool,
     finished: bool,
+    broken: Option<Fault>,
 }
 
 impl ClientState {
@@ -56,7 +61,8 @@ impl<F: Front> ClientSide<F> {
         ensures told { result.told ≡ Told.NOTHING }
         ensures begins { (s : Origin) (came : List ℕ) (link : LinkState) (ahead : List ℕ)
             → BeginsBehind s came link ahead session
-            → HasPassed s (begun_past came) link ahead result.session result.done result.finished }
+            → HasPassed s (begun_past came) link ahead result.session result.done result.finished
+            result.broken }
     {
         ClientSide {
             alloc,
@@ -64,6 +70,7 @@ impl<F: Front> ClientSide<F> {
             told: Told::NOTHING,
             done: false,
             finished: false,
+            broken: None,
             client: PhantomData,
         }
     }
@@ -83,6 +90,7 @@ impl<F: Front> ClientSide<F> {
           told = self.told;
           done = self.done;
           finished = self.finished;
+          broken = self.broken;
         } }
     {
         let ClientSide {
@@ -91,6 +99,7 @@ impl<F: Front> ClientSide<F> {
             told,
             done,
             finished,
+            broken,
             client: _,
         } = self;
         ClientState {
@@ -99,6 +108,7 @@ impl<F: Front> ClientSide<F> {
             told,
             done,
             finished,
+            broken,
         }
     }
 
@@ -108,6 +118,7 @@ impl<F: Front> ClientSide<F> {
         ensures told { result.told ≡ state.told }
         ensures done { result.done ≡ state.done }
         ensures finished { result.finished ≡ state.finished }
+        ensures broken { result.broken ≡ state.broken }
         ensures alloc { result.alloc ≡ state.alloc }
     {
         let ClientState {
@@ -116,6 +127,7 @@ impl<F: Front> ClientSide<F> {
             told,
             done,
             finished,
+            broken,
         } = state;
         ClientSide {
             alloc,
@@ -123,6 +135,7 @@ impl<F: Front> ClientSide<F> {
             told,
             done,
             finished,
+            broken,
             client: PhantomData,
         }
     }
@@ -185,6 +198,16 @@ fn failure_in_front(tasks: &TaskList) -> Option<Error>
     }
 }
 
+/// The fault of a write that failed.
+fn fault_in(put: Put) -> Option<Fault>
+    ensures { result ≡ fault_in put }
+{
+    match put {
+        Put::Failed(fault) => Some(fault),
+        Put::Took(_) | Put::NotReady | Put::Silent | Put::OutOfMemory => None,
+    }
+}
+
 /// One of two flags stands.
 fn either(first: bool, second: bool) -> bool
     ensures { result ≡ first || second }
@@ -202,10 +225,10 @@ fn ends_short() -> Error
 impl<F: Front> Down for ClientSide<F> {
     type Client = F;
 
-    ghost state = { λ side. state_of side.session side.told side.done side.finished };
+    ghost state = { λ side. state_of side.session side.told side.done side.finished side.broken };
 
     ghost past = { λ side client s p. HasPassed s p (F.state client) (F.ahead client) side.session
-        side.done side.finished };
+        side.done side.finished side.broken };
 
     ghost blames = { λ side client s p e. ClientBlames s p (F.state client) e };
 
@@ -250,13 +273,23 @@ impl<F: Front> Down for ClientSide<F> {
     }
 
     fn has_pending(&self) -> bool {
-        self.session.has_pending()
+        either(self.session.has_pending(), self.broken.is_some())
     }
 
     fn write_pending(&mut self, client: &mut F) -> Put {
-        let put = self.session.write_pending(client);
-        self.told = self.told.written(ErrorSource::Downstream, put);
-        put
+        match self.broken {
+            Some(fault) => {
+                let failed = Put::Failed(fault);
+                self.told = self.told.written(ErrorSource::Downstream, failed);
+                failed
+            }
+            None => {
+                let put = self.session.write_pending(client);
+                self.told = self.told.written(ErrorSource::Downstream, put);
+                self.broken = fault_in(put);
+                put
+            }
+        }
     }
 
     fn finish(&mut self) -> Result<()> {

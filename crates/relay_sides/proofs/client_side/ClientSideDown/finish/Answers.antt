@@ -7,16 +7,17 @@ use Rattle.relay_sides.proofs.client_side.ClientSideDown.finish.Goals as goal
 pub returns-then-self-clause-goes : goal.returns-then-self-clause-goes
 returns-then-self-clause-goes g c = λ client s p h.
     ends_again s p _ _ c.args.self.now.session c.args.self.now.done c.args.self.now.finished
-    c.if-self.true h
+    c.args.self.now.broken c.if-self.true h
 
 pub returns-in-Ok-clause-goes : goal.returns-in-Ok-clause-goes
 returns-in-Ok-clause-goes g c = λ client s p h.
     ends_on s p _ _ c.args.self.now.session c.finish_body.new.self c.args.self.now.done
-    c.args.self.now.finished c.if-self.false h
+    c.args.self.now.finished c.args.self.now.broken c.if-self.false h
     (ap (λ (x : HttpSession). x.reading) c.finish_body.ensures.reading) c.in-Ok.ensures.ok
     c.in-Ok.ensures.keeps
 
 pub returns-in-Err-clause-goes : goal.returns-in-Err-clause-goes
 returns-in-Err-clause-goes g c = λ client s p h.
     ends_refused s p _ _ c.args.self.now.session c.finish_body.new.self c.args.self.now.done
-    c.args.self.now.finished c.in-Err.why h c.in-Err.ensures.kept c.in-Err.ensures.err
+    c.args.self.now.finished c.args.self.now.broken c.in-Err.why h c.in-Err.ensures.kept
+    c.in-Err.ensures.err

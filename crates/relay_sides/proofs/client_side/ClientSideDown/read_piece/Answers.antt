@@ -29,7 +29,7 @@ pub returns-clause-reads : goal.returns-clause-reads
 returns-clause-reads g c =
     rw (c.told_read-self.ensures, c.piece_answer-piece.ensures, c.is_body_done.ensures.value)
     (reads_state _ _ _ _ c.args.self.now.session c.read_body_or_idle-took.new.self
-    c.args.self.now.told c.args.self.now.done c.args.self.now.finished
+    c.args.self.now.told c.args.self.now.done c.args.self.now.finished c.args.self.now.broken
     c.read_body_or_idle-took.result (left g c))
 
 pub returns-clause-goes : goal.returns-clause-goes
@@ -37,7 +37,8 @@ returns-clause-goes g c =
     rw (c.piece_answer-piece.ensures, c.is_body_done.ensures.value)
     (λ s p h.
     reads_on s p _ _ _ _ c.args.self.now.session c.read_body_or_idle-took.new.self
-    c.args.self.now.done c.args.self.now.finished c.read_body_or_idle-took.result h (left g c))
+    c.args.self.now.done c.args.self.now.finished c.args.self.now.broken
+    c.read_body_or_idle-took.result h (left g c))
 
 pub returns-clause-silent : goal.returns-clause-silent
 returns-clause-silent g c =
@@ -48,5 +49,5 @@ returns-clause-silent g c =
 
 pub returns-then-not-has_head-clause-goes : goal.returns-then-not-has_head-clause-goes
 returns-then-not-has_head-clause-goes g c = λ s p h.
-    absurd (no_head s p _ _ c.args.self.now.session _ _ c.has_head.result c.if-not-has_head.true
+    absurd (no_head s p _ _ c.args.self.now.session _ _ _ c.has_head.result c.if-not-has_head.true
     c.has_head.ensures.1 h)

@@ -10,10 +10,11 @@ returns-in-Ok-clause-takes g c =
       ap (λ x. x.told) c.queue.ensures.rest,
       ap (λ x. x.done) c.queue.ensures.rest,
       ap (λ x. x.finished) c.queue.ensures.rest,
+      ap (λ x. x.broken) c.queue.ensures.rest,
     )
     (queues_state c.args.self.now.session c.queue.new.self.session c.args.tasks
-    c.args.self.now.told c.args.self.now.done c.args.self.now.finished c.in-Ok.over
-    c.in-Ok.ensures.queues)
+    c.args.self.now.told c.args.self.now.done c.args.self.now.finished c.args.self.now.broken
+    c.in-Ok.over c.in-Ok.ensures.queues)
 
 pub returns-in-Ok-clause-goes : goal.returns-in-Ok-clause-goes
 returns-in-Ok-clause-goes g c =
@@ -21,10 +22,12 @@ returns-in-Ok-clause-goes g c =
       c.either-self.ensures,
       ap (λ x. x.done) c.queue.ensures.rest,
       ap (λ x. x.finished) c.queue.ensures.rest,
+      ap (λ x. x.broken) c.queue.ensures.rest,
     )
     (λ client s p h.
     queues_on s p _ _ c.args.self.now.session c.queue.new.self.session c.args.tasks
-    c.args.self.now.done c.args.self.now.finished c.in-Ok.over h c.in-Ok.ensures.queues)
+    c.args.self.now.done c.args.self.now.finished c.args.self.now.broken c.in-Ok.over h
+    c.in-Ok.ensures.queues)
 
 pub returns-in-Err-clause-takes : goal.returns-in-Err-clause-takes
 returns-in-Err-clause-takes g c =
@@ -33,14 +36,20 @@ returns-in-Err-clause-takes g c =
       ap (λ x. x.told) c.queue.ensures.rest,
       ap (λ x. x.done) c.queue.ensures.rest,
       ap (λ x. x.finished) c.queue.ensures.rest,
+      ap (λ x. x.broken) c.queue.ensures.rest,
     )
     (refuses_state c.args.self.now.session c.queue.new.self.session c.args.tasks
-    c.args.self.now.told c.args.self.now.done c.args.self.now.finished c.in-Err.why
-    c.in-Err.ensures.queues)
+    c.args.self.now.told c.args.self.now.done c.args.self.now.finished c.args.self.now.broken
+    c.in-Err.why c.in-Err.ensures.queues)
 
 pub returns-in-Err-clause-goes : goal.returns-in-Err-clause-goes
 returns-in-Err-clause-goes g c =
-    rw (ap (λ x. x.done) c.queue.ensures.rest, ap (λ x. x.finished) c.queue.ensures.rest)
+    rw (
+      ap (λ x. x.done) c.queue.ensures.rest,
+      ap (λ x. x.finished) c.queue.ensures.rest,
+      ap (λ x. x.broken) c.queue.ensures.rest,
+    )
     (λ client s p h.
     refuses_on s p _ _ c.args.self.now.session c.queue.new.self.session c.args.tasks
-    c.args.self.now.done c.args.self.now.finished c.in-Err.why h c.in-Err.ensures.queues)
+    c.args.self.now.done c.args.self.now.finished c.args.self.now.broken c.in-Err.why h
+    c.in-Err.ensures.queues)
