@@ -6,6 +6,7 @@
 --   fails_tasks   the same for tasks that the client's side refuses
 --   fails_begun   from Begins and an error for which the peer's side answers: FailsFor
 use Rattle.std.proofs.Common.{◌≡◌, ℕ, Bool, true, false, not, ◌==◌, ◌⊎◌, List, [], ◌∷◌, ◌++◌, length, drop, map, refl, sym, ap, subst, ◌∙◌, append-nil, inl, inr, Option, Some, None, Ok, arith}
+use Rattle.std.specs.Prelude.{◌||◌, is_some}
 use Rattle.std.specs.List.{list_any}
 use Rattle.std.proofs.lemmas.Bool.Decides.{nat_tests}
 use Rattle.relay_tasks.specs.declared.error.Error.{Error}
@@ -14,11 +15,10 @@ use Rattle.relay_tasks.specs.declared.task.HttpTask.{HttpTask}
 use Rattle.relay_tasks.specs.declared.task.HttpTask.TheVariants as task
 use Rattle.relay_tasks.specs.Head.{RequestHead}
 use Rattle.relay_tasks.specs.Task.{is_end}
-use Rattle.relay_links.specs.Count.{Rose}
 use Rattle.relay_links.specs.Link.{LinkState, LinkStart}
 use Rattle.relay_h1.specs.Body.{Body, ended_text}
 use Rattle.relay_peer.specs.RequestWriting.{sent_wire}
-use Rattle.relay_session.specs.Response.{is_over, pending}
+use Rattle.relay_session.specs.Response.{IsOpen, is_over, pending}
 use Rattle.relay_session.specs.declared.task_text.Place.TheVariants as place
 use Rattle.relay_session.specs.declared.writing.Outgoing.TheVariants as outgoing
 use Rattle.relay_session.specs.TaskWire.{tasks_sent}
@@ -30,6 +30,7 @@ use Rattle.relay_sides.specs.Client.{ClientBlames, ClientRefuses, given_to, queu
 use Rattle.relay_sides.specs.Peer.{PeerBlames, handed}
 use Rattle.relay_sides.specs.declared.client_side.ClientState.{ClientState}
 use Rattle.relay_sides.specs.declared.peer_side.PeerSide.{PeerSide}
+use Rattle.relay_sides.proofs.ClientPast.{open_is_whole}
 use Rattle.relay_sides.proofs.TaskLemmas.{ended_whole}
 use Rattle.relay_exchange.specs.Exchange.{DownHolds, UpHolds, Blames, core_of, Begins}
 use Rattle.relay_exchange.specs.Order.{FailsFor, SendsWhole, IsRelayed}
@@ -45,6 +46,13 @@ none_waits (one ∷ waits) none =
     let some : (length (one ∷ waits) == 0) ≡ false = grind (arith, nat_tests) in
     let wrong = rw some at none in
     absurd (cc)
+
+-- neither of two stands: nothing waits, and no fault is kept
+neither : (waits : Bool) (kept : Option Fault) → waits || is_some kept ≡ false
+    → (waits ≡ false) × (kept ≡ None)
+neither false None none = (refl, refl)
+neither false (Some fault) none = absurd (cc)
+neither true kept none = absurd (cc)
 
 -- a task ends its response as it is handed on where it did before
 handed_ends : (method : List ℕ) (one : HttpTask) → is_end (handed method one) ≡ is_end one
@@ -170,18 +178,23 @@ module _ {L : Type 0} (state : L → LinkState) (start_at : L → LinkStart)
     over_by : (list_any is_end p.batched ≡ true) ⊎ (down.done ≡ true)
         → is_over text.text.place ≡ true
     over_by (inl ends) = over_by_end ends
-    over_by (inr done) = ap is_over text.at ∙ so_far.down.over done
+    over_by (inr done) = ap is_over text.at ∙ so_far.down.place_over done
 
-    -- nothing waits: all was written, unless a write failed
-    written_all : not (length (pending down.session.writing.output) == 0) ≡ false
-        → (p.written ≡ text.text.text) ⊎ Rose s.faults link.faults
-    written_all none = on (text.all (none_waits (pending down.session.writing.output) none))
+    -- nothing waits, and no fault is kept: all was written
+    written_all :
+        not (length (pending down.session.writing.output) == 0) || is_some down.broken ≡ false
+        → p.written ≡ text.text.text
+    written_all none =
+        let still = neither _ down.broken none in
+        on (text.all (none_waits (pending down.session.writing.output) still.0))
+        (so_far.down.unbroken still.1)
       where
         on : (p.written ≡ text.text.text)
             ⊎ ((fault : Fault) × (down.session.writing.output ≡ outgoing.Broken fault))
-            → (p.written ≡ text.text.text) ⊎ Rose s.faults link.faults
-        on (inl all) = inl all
-        on (inr broken) = inr (so_far.down.client.broken broken.0 broken.1)
+            → IsOpen down.session.writing.output → p.written ≡ text.text.text
+        on (inl all) is = all
+        on (inr broken) is =
+            absurd (open_is_whole down.session.writing.output is.0 broken.0 is.1 broken.1)
 
     -- where no send error is kept the request was sent whole
     sent_all : duplex.send_error ≡ None → Finishes (core_of state start_at duplex down up) p q
@@ -226,7 +239,7 @@ module _ {L : Type 0} (state : L → LinkState) (start_at : L → LinkStart)
 
     -- both directions were relayed
     pub relayed_of : Finishes (core_of state start_at duplex down up) p q
-        → IsRelayed s (passed_by p q) link (state up.client.link) (start_at up.client.link)
+        → IsRelayed s (passed_by p q) (state up.client.link) (start_at up.client.link)
     relayed_of finishes = record {
       order = order_so_far state start_at s p q link ahead down up duplex so_far;
       over = over_by finishes.ended;

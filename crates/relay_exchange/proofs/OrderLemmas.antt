@@ -11,6 +11,7 @@ use Rattle.std.specs.List.{list_any}
 use Rattle.std.proofs.lemmas.List.Folds.{list_any-append}
 use Rattle.relay_tasks.specs.declared.error.Error.{Error}
 use Rattle.relay_tasks.specs.declared.error.Fail.{Fail}
+use Rattle.relay_tasks.specs.declared.fault.Fault.{Fault}
 use Rattle.relay_tasks.specs.declared.task.HttpTask.{HttpTask}
 use Rattle.relay_tasks.specs.declared.task.HttpTask.TheVariants as task
 use Rattle.relay_tasks.specs.Head.{RequestHead}
@@ -32,7 +33,7 @@ use Rattle.relay_peer.specs.ResponseReading.{says}
 use Rattle.relay_session.specs.Asked.{request_of}
 use Rattle.relay_session.specs.Reading.{head_of, RequestSoFar, IsWhole}
 use Rattle.relay_session.specs.Response.{is_over}
-use Rattle.relay_session.specs.TaskWire.{tasks_sent}
+use Rattle.relay_session.specs.TaskWire.{Sent, tasks_sent}
 use Rattle.relay_session.specs.declared.reading.Reading.{Reading}
 use Rattle.relay_session.specs.declared.reading.Reading.TheVariants as reading
 use Rattle.relay_session.specs.declared.session.HttpSession.{HttpSession}
@@ -241,28 +242,36 @@ abbrev pub ClosesLate : DownPast → Bool → Type 0
 ClosesLate p done =
     (p.closing ≡ []) ⊎ ((list_any is_end p.batched ≡ true) ⊎ (done ≡ true))
 
--- where an end was asked for, the response had ended or is over
+-- where an end was asked for, the response had ended or was over behind its batches
 pub late : (s : Origin) (p : DownPast) (link : LinkState) (ahead : List ℕ) (session : HttpSession)
-    (done finished : Bool) (h : HasPassed s p link ahead session done finished)
-    → ClosesLate p done
+    (done finished : Bool) (broken : Option Fault)
+    (h : HasPassed s p link ahead session done finished broken) → ClosesLate p done
     → (p.closing ≡ []) ⊎ ((list_any is_end p.batched ≡ true)
-    ⊎ (is_over (text_written s p link ahead session h.client).text.place ≡ true))
-late s p link ahead session done finished h (inl none) = inl none
-late s p link ahead session done finished h (inr (inl ends)) = inr (inl ends)
-late s p link ahead session done finished h (inr (inr is)) =
-    inr (inr (ap is_over (text_written s p link ahead session h.client).at ∙ h.over is))
+    ⊎ ((sent : Sent) × (tasks_sent (request_of s.head) place.NoHead p.batched ≡ Ok sent)
+    × (is_over sent.place ≡ true)))
+late s p link ahead session done finished broken h (inl none) = inl none
+late s p link ahead session done finished broken h (inr (inl ends)) = inr (inl ends)
+late s p link ahead session done finished broken h (inr (inr is)) =
+    let behind = h.over is in
+    inr
+    (inr (
+      behind.0,
+      subst (λ (r : Request). tasks_sent r place.NoHead p.batched ≡ Ok behind.0)
+          (h.client.answers ∙ ap request_of h.client.own) behind.1,
+      behind.2,
+    ))
 
 -- what both sides hold is in order, where the pieces are the front of what was put, and the batches
 -- that of what was read
 abbrev pub order_with : {L : Type 0} (s : Origin) (p : DownPast) (q : UpPast) (link : LinkState)
-    (ahead : List ℕ) (session : HttpSession) (done finished : Bool) (start : LinkStart)
-    (peer_link : LinkState) (client : H1Client L) (stopped lost : Option Fail)
-    → HasPassed s p link ahead session done finished
+    (ahead : List ℕ) (session : HttpSession) (done finished : Bool) (broken : Option Fault)
+    (start : LinkStart) (peer_link : LinkState) (client : H1Client L) (stopped lost : Option Fail)
+    → HasPassed s p link ahead session done finished broken
     → IsPeer s start peer_link client stopped lost q
     → IsFrontOf q.taken p.put → IsFrontOf p.batched q.read → EndsLast p.put → ClosesLate p done
     → IsInOrder s (passed_by p q) peer_link.ended
-order_with s p q link ahead session done finished start peer_link client stopped lost h u taken
-    batched last closes =
+order_with s p q link ahead session done finished broken start peer_link client stopped lost h u
+    taken batched last closes =
     record {
       asks = record {
         framing = h.client.framing;
@@ -281,7 +290,7 @@ order_with s p q link ahead session done finished start peer_link client stopped
       closing = p.closing;
       text = (text_written s p link ahead session h.client).text;
       says = text_says s p link ahead session h.client;
-      closes_late = late s p link ahead session done finished h closes;
+      closes_late = late s p link ahead session done finished broken h closes;
       written = (text_written s p link ahead session h.client).front;
     }
 
@@ -299,16 +308,17 @@ batched_front s p link ahead session read held failed over ended c h =
 -- the order, from what both sides hold and what moved between them
 abbrev pub order_of : {L : Type 0} (s : Origin) (p : DownPast) (q : UpPast) (link : LinkState)
     (ahead : List ℕ) (session : HttpSession) (told : Told) (done finished : Bool)
-    (start : LinkStart) (peer_link : LinkState) (client : H1Client L) (stopped lost : Option Fail)
-    (duplex : Duplex) (up : UpState) (held rheld : List HttpTask) (failed over ended : Bool)
-    → HasPassed s p link ahead session done finished
+    (broken : Option Fault) (start : LinkStart) (peer_link : LinkState) (client : H1Client L)
+    (stopped lost : Option Fail) (duplex : Duplex) (up : UpState) (held rheld : List HttpTask)
+    (failed over ended : Bool)
+    → HasPassed s p link ahead session done finished broken
     → IsPeer s start peer_link client stopped lost q
     → p.put ≡ q.taken ++ held → ResponseHeld q.read p.batched rheld failed over ended
-    → Steady (core duplex (state_of session told done finished) up) p
+    → Steady (core duplex (state_of session told done finished broken) up) p
     → IsInOrder s (passed_by p q) peer_link.ended
-order_of s p q link ahead session told done finished start peer_link client stopped lost duplex up
-    held rheld failed over ended h u puts responses steady =
-    order_with s p q link ahead session done finished start peer_link client stopped lost h u
+order_of s p q link ahead session told done finished broken start peer_link client stopped lost
+    duplex up held rheld failed over ended h u puts responses steady =
+    order_with s p q link ahead session done finished broken start peer_link client stopped lost h u
     (record { rest = held; joined = sym puts })
     (batched_front s p link ahead session q.read rheld failed over ended h.client responses)
     steady.ends_last steady.closed
@@ -334,8 +344,9 @@ module _ {L : Type 0} (state : L → LinkState) (start_at : L → LinkStart) whe
       (Blames state start_at up s) (core_of state start_at duplex down up) p q
       → IsInOrder s (passed_by p q) (state up.client.link).ended
   order_so_far s p q link ahead down up duplex so_far =
-      order_with s p q link ahead down.session down.done down.finished (start_at up.client.link)
-      (state up.client.link) up.client up.stopped up.lost so_far.down so_far.up
+      order_with s p q link ahead down.session down.done down.finished down.broken
+      (start_at up.client.link) (state up.client.link) up.client up.stopped up.lost
+      so_far.down so_far.up
       (record { rest = duplex.requests.tasks; joined = sym so_far.requests })
       (batched_front s p link ahead down.session q.read _ _ _ _ so_far.down.client
       so_far.responses)
@@ -347,20 +358,22 @@ module _ {L : Type 0} (state : L → LinkState) (start_at : L → LinkStart) whe
       → Begins state start_at s p q link ahead down up
       → IsInOrder s (passed_by p q) (state up.client.link).ended
   begin_order s p q link ahead down up begins =
-      order_with s p q link ahead down.session down.done down.finished (start_at up.client.link)
-      (state up.client.link) up.client up.stopped up.lost begins.down_holds begins.up_holds
-      (none_front q.taken p.put begins.none_taken)
+      order_with s p q link ahead down.session down.done down.finished down.broken
+      (start_at up.client.link) (state up.client.link) up.client up.stopped up.lost
+      begins.down_holds begins.up_holds (none_front q.taken p.put begins.none_taken)
       (none_front p.batched q.read begins.none_batched)
       (none_ends_last p.put begins.none_put) (inl begins.none_closing)
 
   -- what passed is told by both links
   pub told_of_sides : (s : Origin) (p : DownPast) (q : UpPast) (link : LinkState)
-      (ahead : List ℕ) (session : HttpSession) (done finished : Bool) (start : LinkStart)
-      (peer_link : LinkState) (client : H1Client L) (stopped lost : Option Fail)
-      → HasPassed s p link ahead session done finished
+      (ahead : List ℕ) (session : HttpSession) (done finished : Bool) (broken : Option Fault)
+      (start : LinkStart) (peer_link : LinkState) (client : H1Client L)
+      (stopped lost : Option Fail)
+      → HasPassed s p link ahead session done finished broken
       → IsPeer s start peer_link client stopped lost q
       → AreTold state start_at s (passed_by p q) link peer_link start
-  told_of_sides s p q link ahead session done finished start peer_link client stopped lost h u =
+  told_of_sides s p q link ahead session done finished broken start peer_link client stopped lost h
+      u =
       record {
         came = h.client.came;
         written = h.client.written;

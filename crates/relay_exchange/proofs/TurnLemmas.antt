@@ -4,6 +4,7 @@ use Rattle.std.specs.Result.{IsErrOf}
 use Rattle.relay_tasks.specs.declared.error.Error.{Error}
 use Rattle.relay_tasks.specs.declared.error.Fail.{Fail}
 use Rattle.relay_tasks.specs.declared.error.Fail.TheVariants as fail
+use Rattle.relay_tasks.specs.declared.fault.Fault.{Fault}
 use Rattle.relay_links.specs.Link.{LinkState, LinkStart}
 use Rattle.relay_session.specs.Response.{Holds, is_over}
 use Rattle.relay_session.specs.TaskWire.{Sent, nothing_at}
@@ -98,7 +99,7 @@ module _ {L : Type 0} (state : L → LinkState) (start_at : L → LinkStart) whe
         none_read = refl;
         none_taken = refl;
         none_lost = refl;
-        open_yet = not_done x.client.done x.client.session.writing.place h.over
+        open_yet = not_done x.client.done x.client.session.writing.place h.place_over
             (begun_open x.client.session.writing h.client.response);
       } in
       let At : Stage → Type 0 = λ at.
@@ -146,7 +147,7 @@ module _ {L : Type 0} (state : L → LinkState) (start_at : L → LinkStart) whe
       → AreTold state start_at s (passed_by p q) link (state up.client.link)
       (start_at up.client.link)
   told_by s p q link ahead down up h u =
-      told_of_sides state start_at s p q link ahead down.session down.done down.finished
+      told_of_sides state start_at s p q link ahead down.session down.done down.finished down.broken
       (start_at up.client.link) (state up.client.link) up.client up.stopped up.lost h u
 
   -- a write of the head is a turn
@@ -253,21 +254,24 @@ module _ {L : Type 0} (state : L → LinkState) (start_at : L → LinkStart) whe
   -- a side that was resumed holds what it held when it was suspended
   pub resumed_so_far : (s : Origin) (p : DownPast) (q : UpPast) (link : LinkState)
       (ahead : List ℕ) (down : ClientState) (up : PeerSide L) (duplex : Duplex)
-      (session : HttpSession) (told : Told) (done finished : Bool) → session ≡ down.session
-      → told ≡ down.told → done ≡ down.done → finished ≡ down.finished
+      (session : HttpSession) (told : Told) (done finished : Bool) (broken : Option Fault)
+      → session ≡ down.session → told ≡ down.told → done ≡ down.done → finished ≡ down.finished
+      → broken ≡ down.broken
       → SoFar (DownHolds link ahead down s) (UpHolds state start_at up s)
       (Blames state start_at up s) (core_of state start_at duplex down up) p q
-      → SoFar (λ p. HasPassed s p link ahead session done finished) (UpHolds state start_at up s)
+      → SoFar (λ p. HasPassed s p link ahead session done finished broken)
+      (UpHolds state start_at up s) (Blames state start_at up s)
+      (core duplex (client.state_of session told done finished broken)
+      (peer.state_of up.client up.told)) p q
+  resumed_so_far s p q link ahead down up duplex session told done finished broken is_session
+      is_told is_done is_finished is_broken f =
+      let At : HttpSession → Told → Bool → Bool → Option Fault → Type 0 = λ a b c d e.
+      SoFar (λ p. HasPassed s p link ahead a c d e) (UpHolds state start_at up s)
       (Blames state start_at up s)
-      (core duplex (client.state_of session told done finished) (peer.state_of up.client up.told))
-      p q
-  resumed_so_far s p q link ahead down up duplex session told done finished is_session is_told
-      is_done is_finished f =
-      let At : HttpSession → Told → Bool → Bool → Type 0 = λ a b c d.
-      SoFar (λ p. HasPassed s p link ahead a c d) (UpHolds state start_at up s)
-      (Blames state start_at up s)
-      (core duplex (client.state_of a b c d) (peer.state_of up.client up.told)) p q in
-      subst (λ (a : HttpSession). At a told done finished) (sym is_session)
-      (subst (λ (b : Told). At down.session b done finished) (sym is_told)
-      (subst (λ (c : Bool). At down.session down.told c finished) (sym is_done)
-      (subst (λ (d : Bool). At down.session down.told down.done d) (sym is_finished) f)))
+      (core duplex (client.state_of a b c d e) (peer.state_of up.client up.told)) p q in
+      subst (λ (a : HttpSession). At a told done finished broken) (sym is_session)
+      (subst (λ (b : Told). At down.session b done finished broken) (sym is_told)
+      (subst (λ (c : Bool). At down.session down.told c finished broken) (sym is_done)
+      (subst (λ (d : Bool). At down.session down.told down.done d broken) (sym is_finished)
+      (subst (λ (e : Option Fault). At down.session down.told down.done down.finished e)
+      (sym is_broken) f))))

@@ -26,7 +26,8 @@ use Rattle.relay_exchange.specs.Passed.{Passed}
 
 -- the past of the client's side holds
 abbrev pub DownHolds : LinkState → List ℕ → ClientState → Origin → DownPast → Type 0
-DownHolds link ahead side s p = HasPassed s p link ahead side.session side.done side.finished
+DownHolds link ahead side s p =
+    HasPassed s p link ahead side.session side.done side.finished side.broken
 
 module _ {L : Type 0} (state : L → LinkState) (start_at : L → LinkStart) where
   -- the past of the peer's side holds
@@ -44,7 +45,7 @@ module _ {L : Type 0} (state : L → LinkState) (start_at : L → LinkStart) whe
   -- the core of an exchange that moves bodies
   abbrev pub core_of : Duplex → ClientState → PeerSide L → State
   core_of duplex down up =
-      core duplex (client.state_of down.session down.told down.done down.finished)
+      core duplex (client.state_of down.session down.told down.done down.finished down.broken)
       (peer.state_of up.client up.told)
 
   -- the head is being sent, and nothing else has passed
@@ -103,7 +104,7 @@ module _ {L : Type 0} (state : L → LinkState) (start_at : L → LinkStart) whe
   ComesTo s p link ahead x step.Moved = IsUnderWay s p link ahead x
   ComesTo s p link ahead x (step.Waited pause) = IsUnderWay s p link ahead x
   ComesTo s p link ahead x step.Finished =
-      IsRelayed s p link (state x.peer.client.link) (start_at x.peer.client.link)
+      IsRelayed s p (state x.peer.client.link) (start_at x.peer.client.link)
   ComesTo s p link ahead x (step.Failed (fail.Error e)) =
       FailsFor s p link (state x.peer.client.link) (start_at x.peer.client.link) e
   ComesTo s p link ahead x (step.Failed fail.OutOfMemory) =

@@ -6,7 +6,6 @@ use Rattle.relay_tasks.specs.declared.error.Error.{Error}
 use Rattle.relay_tasks.specs.declared.task.HttpTask.{HttpTask}
 use Rattle.relay_tasks.specs.Head.{ResponseHead}
 use Rattle.relay_tasks.specs.Task.{is_end}
-use Rattle.relay_links.specs.Count.{Rose}
 use Rattle.relay_links.specs.Link.{LinkState, LinkStart}
 use Rattle.relay_h1.specs.declared.framing.Framing.{Framing}
 use Rattle.relay_h1.specs.Body.{BodyText, ended_text, Body}
@@ -68,7 +67,7 @@ pub record AreOf (method : List ℕ) (closed : Bool) (got : List ℕ) (tasks : L
 -- what was sent is the front of the text of the client's head and of pieces of its body, from the
 -- first on, with the end only where the body has ended. What was written is the front of the text
 -- of the first of the tasks that the peer's bytes are; an end is asked for behind them only where
--- one is among them, or where the response is over
+-- one is among them, or where the response is over behind them
 pub record IsInOrder (s : Origin) (p : Passed) (closed : Bool) : Type 0 where
   pub asks : Asks s p
   pub pieces : List HttpTask
@@ -84,7 +83,9 @@ pub record IsInOrder (s : Origin) (p : Passed) (closed : Bool) : Type 0 where
   pub text : Sent
   pub says : tasks_sent (request_of s.head) place.NoHead (batched ++ closing) ≡ Ok text
   pub closes_late : (closing ≡ [])
-      ⊎ ((list_any is_end batched ≡ true) ⊎ (is_over text.place ≡ true))
+      ⊎ ((list_any is_end batched ≡ true)
+      ⊎ ((sent : Sent) × (tasks_sent (request_of s.head) place.NoHead batched ≡ Ok sent)
+      × (is_over sent.place ≡ true)))
   pub written : IsFrontOf p.written text.text
 
 -- ---- ends
@@ -132,12 +133,11 @@ pub record SendsWhole (s : Origin) (p : Passed) (closed : Bool) (order : IsInOrd
   pub sent : p.sent ≡ sent_wire (sent_as s.head order.pieces)
 
 -- the response is over, as its end was among its tasks or its framing takes no more bytes, and its
--- text was written whole, unless a call of the client's link failed; and the request was sent
--- whole, or the peer's side answers for the error with which it was not
-pub record IsRelayed (s : Origin) (p : Passed) (client link : LinkState) (start : LinkStart)
-    : Type 0 where
+-- text was written whole; and the request was sent whole, or the peer's side answers for the error
+-- with which it was not
+pub record IsRelayed (s : Origin) (p : Passed) (link : LinkState) (start : LinkStart) : Type 0 where
   pub order : IsInOrder s p link.ended
   pub over : is_over order.text.place ≡ true
-  pub written : (p.written ≡ order.text.text) ⊎ Rose s.faults client.faults
+  pub written : p.written ≡ order.text.text
   pub request : SendsWhole s p link.ended order
       ⊎ ((e : Error) × (lost : Bool) × PeerBlames start link s.head (up_past order lost) e)

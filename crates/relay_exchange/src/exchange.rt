@@ -102,10 +102,9 @@ impl<L: ByteLink> Exchange<L> {
     /// A branch whose link is silent passes the turn on to the next enabled one, going round; where
     /// all are silent the answer is `Waited(Silent)`, and nothing moved.
     ///
-    /// `Finished`: the response was written whole, unless the client's link failed, and the request
-    /// was sent whole, or the peer took no more of it. `Failed` with an error says why one of both
-    /// failed: nothing more is written or sent from then on. After `Finished` and `Failed` no turn
-    /// is to follow.
+    /// `Finished`: the response was written whole, and the request was sent whole, or the peer took
+    /// no more of it. `Failed` with an error says why one of both failed: nothing more is written or
+    /// sent from then on. After `Finished` and `Failed` no turn is to follow.
     pub fn turn<F: Front, H: Schedule>(self, client: &mut F, schedule: &mut H) -> Turn<L>
         ensures goes { (s : Origin) (p : Passed)
             → IsUnderWay L.state L.start s p (F.state client.old) (F.ahead client.old) self

@@ -18,6 +18,7 @@ returns-clause-goes g c =
       told = new.down.told;
       done = new.down.done;
       finished = new.down.finished;
+      broken = new.down.broken;
     } in
     let link = g.F.Front.state new.client in
     let ahead = g.F.Front.ahead new.client in
@@ -33,8 +34,8 @@ returns-clause-goes g c =
     c.go_round-step.result.0 in
     let f = resumed_so_far state start_at s p q (g.F.Front.state c.args.client.now)
     (g.F.Front.ahead c.args.client.now) c.args.state c.args.peer c.args.duplex old.result.session
-    old.result.told old.result.done old.result.finished old.ensures.session old.ensures.told
-    old.ensures.done old.ensures.finished flows.so_far in
+    old.result.told old.result.done old.result.finished old.result.broken old.ensures.session
+    old.ensures.told old.ensures.done old.ensures.finished old.ensures.broken flows.so_far in
     subst Comes (sym c.suspend.ensures)
     (bodies_turn state start_at s link ahead
     (record {

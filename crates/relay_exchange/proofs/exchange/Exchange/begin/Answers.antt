@@ -18,6 +18,7 @@ returns-in-Ok-clause-begins g c =
       told = side.told;
       done = side.done;
       finished = side.finished;
+      broken = side.broken;
     } in
     let peer = c.write_request_header.new.self in
     λ s came client ahead reused own behind out.
