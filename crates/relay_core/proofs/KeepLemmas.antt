@@ -24,7 +24,7 @@ use Rattle.relay_core.specs.Batch.{batch_of, rest_of}
 use Rattle.relay_core.specs.Causes.{says_failed, says_finished}
 use Rattle.relay_core.specs.Down.{DownState, ReadsPiece, TakesBatch}
 use Rattle.relay_core.specs.Ends.{can_send_on}
-use Rattle.relay_core.specs.Moves.{SoFar, Steady, Ordinary, Finishes, Refused, Goes, ResponseHeld, is_over}
+use Rattle.relay_core.specs.Moves.{SoFar, Steady, Ordinary, Finishes, Refused, Unended, HasReason, Goes, ResponseHeld, is_over}
 use Rattle.relay_core.specs.Past.{DownPast, UpPast, BatchGoes, put_in, task_in, loses, error_of_fail, error_of_took, error_of_put, error_of_result}
 use Rattle.relay_core.specs.Pipe.{places, is_failure, is_empty}
 use Rattle.relay_core.specs.Sound.{Runs, ends_with}
@@ -37,7 +37,7 @@ use Rattle.relay_core.proofs.CauseLemmas.{kept_batch, kept_up_read, kept_down_re
 use Rattle.relay_core.proofs.EndLemmas.{step_tells}
 use Rattle.relay_core.proofs.HeldLemmas.{Plain, plainly, at_last, passed_none, passed_batch, passed_front, passed_failure, passed_drop, passed_task, passed_error, passed_refused}
 use Rattle.relay_core.proofs.MoveLemmas.{batch-rest, Leaves, leaves_same, leaves_at, leaves_next, leaves_failed, leaves_response_done, leaves_request_done, leaves_up_write, leaves_down_write, leaves_piece, leaves_sent, leaves_batch, leaves_up_finish, leaves_down_finish, over_done}
-use Rattle.relay_core.proofs.OrdinaryLemmas.{ordinary_at, ordinary_up_write, ordinary_down_write, ordinary_up_take, ordinary_batch, ordinary_drop, ordinary_closed, ordinary_up_read, ordinary_down_read, ordinary_up_finish, ordinary_down_finish, steady_of, steady_same, steady_down_write, steady_down_read, steady_refused, steady_down_finish}
+use Rattle.relay_core.proofs.OrdinaryLemmas.{ordinary_at, ordinary_up_write, ordinary_down_write, ordinary_up_take, ordinary_batch, ordinary_drop, ordinary_closed, ordinary_up_read, ordinary_down_read, ordinary_up_finish, ordinary_down_finish, steady_of, steady_same, steady_down_write, steady_down_read, not_yet_asked, steady_refused, asked_when_done, steady_down_finish}
 use Rattle.relay_core.proofs.SoundLemmas.{step_sound, enabled_sound, down_writes_body, down_ends_body}
 use Rattle.relay_core.proofs.StuckLemmas.{empty_ends}
 use Rattle.relay_core.proofs.TaskLemmas.{none_left, alone_or_plain, alone_part, last_or_before}
@@ -413,14 +413,15 @@ requests_stay d tunnel (took.Failed fail.OutOfMemory) = refl
 module _
     (holds : DownPast → Type 0) (down_blames : DownPast → Error → Type 0)
     (refuses : DownPast → List HttpTask → Error → Type 0)
+    (cannot_end : DownPast → Error → Type 0)
     (up_holds : UpPast → Type 0) (up_blames : UpPast → Error → Type 0) where
   -- the exchange so far after a step, and the cause of its error, are all that is to be shown
   goes_by : (b : Branch) (old new : State) (result : Step) → enabled old b ≡ true
       → StepsTo b old new result → (p : DownPast) (q : UpPast)
       → SoFar holds up_holds up_blames new p q
       → ((e : Error) → result ≡ step.Failed (fail.Error e)
-      → down_blames p e ⊎ (up_blames q e ⊎ Refused refuses p q e))
-      → Goes holds down_blames refuses up_holds up_blames new result
+      → HasReason down_blames refuses cannot_end up_blames new.down p q e)
+      → Goes holds down_blames refuses cannot_end up_holds up_blames new result
   goes_by b old new result on by p q so_far blamed =
       let tells = step_tells b old new result on by in
       record {
@@ -473,7 +474,8 @@ module _
       (result : Step) (p : DownPast) (q : UpPast) → enabled old branch.UpWrite ≡ true
       → StepsTo branch.UpWrite old new result
       → UpWritesOn up_holds ub up_blames q old.duplex old.up new.duplex new.up result
-      → SoFar holds up ub old p q → Goes holds down_blames refuses up_holds up_blames new result
+      → SoFar holds up ub old p q
+      → Goes holds down_blames refuses cannot_end up_holds up_blames new result
   goes_up_write up ub old new result p q on by w f =
       let g = w.goes in
       let alive = enabled_sound branch.UpWrite old on in
@@ -500,7 +502,7 @@ module _
       (q : UpPast) → enabled old branch.DownWrite ≡ true → StepsTo branch.DownWrite old new result
       → DownWritesOn holds down_blames p old.duplex old.down new.duplex new.down result
       → SoFar dp up_holds up_blames old p q
-      → Goes holds down_blames refuses up_holds up_blames new result
+      → Goes holds down_blames refuses cannot_end up_holds up_blames new result
   goes_down_write dp old new result p q on by w f =
       let g = w.goes in
       let alive = enabled_sound branch.DownWrite old on in
@@ -530,7 +532,7 @@ module _
       → StepsTo branch.UpTake old new result
       → UpTakesOn up_holds ub up_blames q old.down.upgraded old.duplex old.up new.duplex new.up
       result → SoFar holds up ub old p q
-      → Goes holds down_blames refuses up_holds up_blames new result
+      → Goes holds down_blames refuses cannot_end up_holds up_blames new result
   goes_up_take up ub old new result p q on by w f =
       let d = old.duplex in
       let g = w.goes in
@@ -576,7 +578,7 @@ module _
   pub goes_down_drop : (old new : State) (result : Step) (p : DownPast) (q : UpPast)
       → enabled old branch.DownDrop ≡ true → StepsTo branch.DownDrop old new result
       → SoFar holds up_holds up_blames old p q
-      → Goes holds down_blames refuses up_holds up_blames new result
+      → Goes holds down_blames refuses cannot_end up_holds up_blames new result
   goes_down_drop old new result p q on by f =
       let d = old.duplex in
       let w = by.does in
@@ -614,7 +616,7 @@ module _
   pub goes_down_end : (old new : State) (result : Step) (p : DownPast) (q : UpPast)
       → enabled old branch.DownEnd ≡ true → StepsTo branch.DownEnd old new result
       → SoFar holds up_holds up_blames old p q
-      → Goes holds down_blames refuses up_holds up_blames new result
+      → Goes holds down_blames refuses cannot_end up_holds up_blames new result
   goes_down_end old new result p q on by f =
       let w = by.does in
       let alive = enabled_sound branch.DownEnd old on in
@@ -634,7 +636,7 @@ module _
   pub goes_down_closed : (old new : State) (result : Step) (p : DownPast) (q : UpPast)
       → enabled old branch.DownClosed ≡ true → StepsTo branch.DownClosed old new result
       → SoFar holds up_holds up_blames old p q
-      → Goes holds down_blames refuses up_holds up_blames new result
+      → Goes holds down_blames refuses cannot_end up_holds up_blames new result
   goes_down_closed old new result p q on by f =
       let d = old.duplex in
       let w = by.does in
@@ -658,7 +660,7 @@ module _
       → StepsTo branch.UpRead old new result
       → UpReadsOn up_holds ub up_blames q old.down.upgraded old.duplex old.up new.duplex new.up
       result → SoFar holds up ub old p q
-      → Goes holds down_blames refuses up_holds up_blames new result
+      → Goes holds down_blames refuses cannot_end up_holds up_blames new result
   goes_up_read up ub old new result p q on by w f =
       let d = old.duplex in
       let g = w.goes in
@@ -711,7 +713,7 @@ module _
       (q : UpPast) → enabled old branch.DownRead ≡ true → StepsTo branch.DownRead old new result
       → DownReadsOn holds down_blames p old.duplex old.down new.duplex new.down result
       → SoFar dp up_holds up_blames old p q
-      → Goes holds down_blames refuses up_holds up_blames new result
+      → Goes holds down_blames refuses cannot_end up_holds up_blames new result
   goes_down_read dp old new result p q on by w f =
       let d = old.duplex in
       let g = w.goes in
@@ -759,7 +761,7 @@ module _
   pub goes_up_finish : (old new : State) (result : Step) (p : DownPast) (q : UpPast)
       → enabled old branch.UpFinish ≡ true → StepsTo branch.UpFinish old new result
       → SoFar holds up_holds up_blames old p q
-      → Goes holds down_blames refuses up_holds up_blames new result
+      → Goes holds down_blames refuses cannot_end up_holds up_blames new result
   goes_up_finish old new result p q on by f =
       let d = old.duplex in
       let w = by.does in
@@ -789,9 +791,9 @@ module _
   pub goes_down_finish : (dp : DownPast → Type 0) (old new : State) (result : Step)
       (p : DownPast) (q : UpPast) → enabled old branch.DownFinish ≡ true
       → StepsTo branch.DownFinish old new result
-      → DownEndsOn holds down_blames p old.duplex old.down new.duplex new.down result
+      → DownEndsOn holds cannot_end p old.duplex old.down new.duplex new.down result
       → SoFar dp up_holds up_blames old p q
-      → Goes holds down_blames refuses up_holds up_blames new result
+      → Goes holds down_blames refuses cannot_end up_holds up_blames new result
   goes_down_finish dp old new result p q on by w f =
       let d = old.duplex in
       let g = w.goes in
@@ -816,8 +818,12 @@ module _
       w.ends g.is_put g.is_batched (f.ordinary alive (sym same.upgraded ∙ plain))
       (alive_then new.duplex _ w.duplex now)))
       f)
-      (λ e h. inl (g.blamed e (error_is result (step_of_down_finish d new.down.pending w.answer) _ e
-      w.step (down_finish_error d new.down.pending w.answer) h)))
+      (λ e h. inr (inr (inr (record {
+        why = g.blamed e (error_is result (step_of_down_finish d new.down.pending w.answer) _ e
+            w.step (down_finish_error d new.down.pending w.answer) h);
+        asked = λ plain. asked_when_done old new w.answer p g.past q w.ends response g.is_batched
+            (f.ordinary alive (sym same.upgraded ∙ plain));
+      }))))
 
   -- the client was given a batch: it took it, or it refused what stands behind its front
   given : (dp : DownPast → Type 0) (old new : State) (result : Step) (p : DownPast)
@@ -829,7 +835,7 @@ module _
       → result ≡ step_of_batch answer
       → BatchGoes holds down_blames refuses p (batch_of old.duplex.responses.tasks) answer
       → SoFar dp up_holds up_blames old p q
-      → Goes holds down_blames refuses up_holds up_blames new result
+      → Goes holds down_blames refuses cannot_end up_holds up_blames new result
   given dp old new result p q (Ok done) on by takes is same g f =
       let d = old.duplex in
       let held = d.responses.tasks in
@@ -895,7 +901,8 @@ module _
       (is_over (failed mid)) d.upstream_response_done in
       let goes = λ (r : R new.duplex)
       (blamed : (e : Error) → why ≡ fail.Error e
-      → up_blames q e ⊎ Refused refuses b.past q e).
+      → up_blames q e ⊎ (Refused refuses new.down.upgraded b.past q e
+      ⊎ Unended cannot_end new.down b.past e)).
       goes_by branch.DownTake old new result on by b.past q
       (record {
         down = b.stands;
@@ -947,13 +954,16 @@ module _
             (λ e is_why.
             let came = passed_refused q.read p.batched b.filtered b.left (rest_of held) held
             d.upstream_response_done parts plain' m in
-            inr (record {
+            inr (inl (record {
               left = b.left;
               rest = came.0;
               came = came.1
                   ∙ ap (λ (xs : List HttpTask). xs ++ (b.left ++ came.0)) (sym b.is_batched);
               refused = b.refused e plain is_why;
-            }))
+              unasked = λ none. not_yet_asked old p b.past q open_yet b.is_closing
+                  (f.ordinary alive (not_before old.down.upgraded new.down.upgraded
+                  takes.upgraded_stays none));
+            })))
             )
       ]
 
@@ -963,7 +973,7 @@ module _
       → StepsTo branch.DownTake old new result
       → LosesBatchOn holds p old.duplex old.down new.duplex new.down result
       → SoFar dp up_holds up_blames old p q
-      → Goes holds down_blames refuses up_holds up_blames new result
+      → Goes holds down_blames refuses cannot_end up_holds up_blames new result
   lost dp old new result p q on by w f =
       let d = old.duplex in
       let l = w.loses in
@@ -1000,7 +1010,7 @@ module _
       (q : UpPast) → enabled old branch.DownTake ≡ true → StepsTo branch.DownTake old new result
       → DownTakesOn holds down_blames refuses p old.duplex old.down new.duplex new.down result
       → SoFar dp up_holds up_blames old p q
-      → Goes holds down_blames refuses up_holds up_blames new result
+      → Goes holds down_blames refuses cannot_end up_holds up_blames new result
   goes_down_take dp old new result p q on by w f =
       elim w [
         | inl gives ↦ given dp old new result p q gives.answer on by gives.takes gives.duplex

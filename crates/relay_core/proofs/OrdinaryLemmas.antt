@@ -696,6 +696,16 @@ steady_down_read old new (took.Failed why) p p' q reads is alive is_put is_batch
       response = ap (λ (s : DownState). s.response_done) reads;
     }) (is_put ∙ append-nil p.put) is_batched is_closing t
 
+-- where the response is not done, no end of it was asked for
+pub not_yet_asked : (old : State) (p p' : DownPast) (q : UpPast)
+    → is_response_done old.duplex.client_response ≡ false → p'.closing ≡ p.closing
+    → Ordinary old p q → p'.closing ≡ []
+not_yet_asked old p p' q open_yet is_closing o =
+    elim o.closed [
+      | inl none ↦ is_closing ∙ none
+      | inr done ↦ clash (is_response_done old.duplex.client_response) done open_yet
+    ]
+
 -- a batch was refused: the response is not done, so that no end of it was asked for
 pub steady_refused : (old new : State) (batch : List HttpTask) (why : Fail) (p p' : DownPast)
     (q : UpPast) → TakesBatch old.down batch new.down (Err why)
@@ -706,10 +716,7 @@ steady_refused old new batch why p p' q takes open_yet is_put is_closing o = rec
       subst P (sym is_put) o.ends_last;
   ended = λ h. ap (λ (s : DownState). s.request_ended) takes.exact
       ∙ o.ended (ap (list_any is_end) (sym is_put) ∙ h);
-  closed = elim o.closed [
-    | inl none ↦ inl (is_closing ∙ none)
-    | inr done ↦ clash (is_response_done old.duplex.client_response) done open_yet
-  ];
+  closed = inl (not_yet_asked old p p' q open_yet is_closing o);
 }
 
 -- ending the response's body leaves what the client's side tells, whatever the answer
@@ -724,6 +731,19 @@ down_ends_same old new (Err why) ends = record {
   response = ap (λ (s : DownState). s.response_done) ends;
 }
 
+-- an end of the response is asked for only where it is done: behind an end among its tasks, or
+-- where the client's side said so, which it still says whatever the answer
+pub asked_when_done : (old new : State) (answer : Result Unit Fail) (p p' : DownPast) (q : UpPast)
+    → Finishes old.down new.down answer → is_response_done old.duplex.client_response ≡ true
+    → p'.batched ≡ p.batched → Ordinary old p q
+    → (list_any is_end p'.batched ≡ true) ⊎ (new.down.response_done ≡ true)
+asked_when_done old new answer p p' q ends response is_batched o =
+    let same = down_ends_same old.down new.down answer ends in
+    elim (o.answered response) [
+      | inl given ↦ inl (ap (list_any is_end) is_batched ∙ given)
+      | inr said ↦ inr (same.response ∙ said)
+    ]
+
 -- the response is done where an end of it is asked for
 pub steady_down_finish : (old new : State) (answer : Result Unit Fail) (p p' : DownPast)
     (q : UpPast) → Finishes old.down new.down answer
@@ -735,8 +755,5 @@ steady_down_finish old new answer p p' q ends response is_put is_batched o =
       ends_last = let P : List HttpTask → Type 0 = λ xs. EndsLast xs in
           subst P (sym is_put) o.ends_last;
       ended = λ h. same.request ∙ o.ended (ap (list_any is_end) (sym is_put) ∙ h);
-      closed = elim (o.answered response) [
-        | inl given ↦ inr (inl (ap (list_any is_end) is_batched ∙ given))
-        | inr said ↦ inr (inr (same.response ∙ said))
-      ];
+      closed = inr (asked_when_done old new answer p p' q ends response is_batched o);
     }

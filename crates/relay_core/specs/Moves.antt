@@ -11,6 +11,7 @@ use Rattle.relay_core.specs.declared.duplex.Duplex.{Duplex}
 use Rattle.relay_core.specs.declared.step.Step.{Step}
 use Rattle.relay_core.specs.declared.step.Step.TheVariants as step
 use Rattle.relay_core.specs.Ends.{can_send_on}
+use Rattle.relay_core.specs.Down.{DownState}
 use Rattle.relay_core.specs.Past.{DownPast, UpPast}
 use Rattle.relay_core.specs.Pipe.{places}
 use Rattle.relay_core.specs.Sound.{IsSound}
@@ -114,27 +115,48 @@ pub record Finishes (s : State) (p : DownPast) (q : UpPast) : Type 0 where
   pub request_ended : s.duplex.send_error ≡ None → s.down.request_ended ≡ true
   pub sent : s.duplex.send_error ≡ None → s.up.pending ≡ false
 
--- the client's side refuses tasks that the upstream gave behind those that the client was given
-pub record Refused (refuses : DownPast → List HttpTask → Error → Type 0) (p : DownPast) (q : UpPast)
-    (e : Error) : Type 0 where
+-- the client's side refuses tasks that the upstream gave behind those that the client was given;
+-- without a tunnel no end of the response was asked for before
+pub record Refused (refuses : DownPast → List HttpTask → Error → Type 0) (upgraded : Bool)
+    (p : DownPast) (q : UpPast) (e : Error) : Type 0 where
   pub left : List HttpTask
   pub rest : List HttpTask
   pub came : q.read ≡ p.batched ++ (left ++ rest)
   pub refused : refuses p left e
+  pub unasked : upgraded ≡ false → p.closing ≡ []
 
--- a step went on with the exchange. Its error is one for which a side answers, or one that tasks
--- are refused with. Without a tunnel, where it finished both directions were relayed, and where the
--- request pipe is then full and no send error is kept, the upstream half that runs can go on
+-- the response cannot end where its end was asked for. Without a tunnel that is behind an end among
+-- its tasks, or where the client's side said that the response is done
+pub record Unended (cannot_end : DownPast → Error → Type 0) (side : DownState) (p : DownPast)
+    (e : Error) : Type 0 where
+  pub why : cannot_end p e
+  pub asked : side.upgraded ≡ false
+      → (list_any is_end p.batched ≡ true) ⊎ (side.response_done ≡ true)
+
+-- why a step failed with that error: a side answers for it, tasks of the response are refused with
+-- it, or the response cannot end
+abbrev pub HasReason : (DownPast → Error → Type 0) → (DownPast → List HttpTask → Error → Type 0)
+    → (DownPast → Error → Type 0) → (UpPast → Error → Type 0) → DownState → DownPast → UpPast
+    → Error → Type 0
+HasReason down_blames refuses cannot_end up_blames side p q e =
+    down_blames p e
+    ⊎ (up_blames q e
+    ⊎ (Refused refuses side.upgraded p q e ⊎ Unended cannot_end side p e))
+
+-- a step went on with the exchange, and its error has its reason. Without a tunnel, where it
+-- finished both directions were relayed, and where the request pipe is then full and no send error
+-- is kept, the upstream half that runs can go on
 pub record Goes
     (down_past : DownPast → Type 0) (down_blames : DownPast → Error → Type 0)
     (down_refuses : DownPast → List HttpTask → Error → Type 0)
+    (down_cannot_end : DownPast → Error → Type 0)
     (up_past : UpPast → Type 0) (up_blames : UpPast → Error → Type 0) (s : State) (result : Step)
     : Type 0 where
   pub p : DownPast
   pub q : UpPast
   pub so_far : SoFar down_past up_past up_blames s p q
   pub blamed : (e : Error) → result ≡ step.Failed (fail.Error e)
-      → down_blames p e ⊎ (up_blames q e ⊎ Refused down_refuses p q e)
+      → HasReason down_blames down_refuses down_cannot_end up_blames s.down p q e
   pub finished : result ≡ step.Finished → s.down.upgraded ≡ false → Finishes s p q
   pub request_full : s.down.upgraded ≡ false → up_runs s.duplex ≡ true
       → length s.duplex.requests.tasks ≡ places → s.duplex.send_error ≡ None

@@ -19,15 +19,16 @@ use Rattle.relay_core.specs.Told.{fault_of}
 
 -- ---- the pasts
 
--- where an exchange began: with the head of its request, and where the client's link stood: the bytes
+-- where an exchange began: with the head of its request; where the client's link stood: the bytes
 -- that were read ahead from it, how many bytes it had given and taken, and how many of its calls had
--- failed
+-- failed; and whether the upstream's link had been used before
 pub record Origin : Type 0 where
   pub head : RequestHead
   pub ahead : List ℕ
   pub given : ℕ
   pub taken : ℕ
   pub faults : ℕ
+  pub reused : Bool
 
 -- what passed through the client's side since its request began: the bytes that its link gave and
 -- took; the tasks that its pieces put; the tasks that it was given; and the ends of the response

@@ -211,14 +211,14 @@ pub record DownReadsOn
 
 -- the response's body was ended
 pub record DownEndsOn
-    (holds : DownPast → Type 0) (blames : DownPast → Error → Type 0) (p : DownPast)
+    (holds : DownPast → Type 0) (cannot_end : DownPast → Error → Type 0) (p : DownPast)
     (before : Duplex) (side : DownState) (after : Duplex) (side' : DownState) (result : Step)
     : Type 0 where
   pub answer : Result Unit Fail
   pub ends : Finishes side side' answer
   pub duplex : after ≡ after_down_finish before side'.pending answer
   pub step : result ≡ step_of_down_finish before side'.pending answer
-  pub goes : DownGoes holds blames p.put p.batched (p.closing ++ closing_in answer)
+  pub goes : DownGoes holds cannot_end p.put p.batched (p.closing ++ closing_in answer)
       (error_of_result answer)
 
 -- the duplex changed so, and something moved

@@ -18,8 +18,8 @@ use relay_tasks::{Pause, Result, TaskList, Took};
 /// It also means what passed through it since its request began, by a relation: `past` holds of
 /// more than one past, since a side keeps none, and each call takes every past to one that goes on
 /// from it. `blames` says that the side answers for an error, `refuses` that it refuses these tasks
-/// behind those that it was given, and `is_silent` that the client's link is silent on what the side
-/// asked of it.
+/// behind those that it was given, `cannot_end` that the response cannot end where it stands, and
+/// `is_silent` that the client's link is silent on what the side asked of it.
 pub trait Down {
     /// The client, whose link the side reads and writes.
     type Client;
@@ -31,6 +31,8 @@ pub trait Down {
     ghost blames: { Self → Self.Client → Origin → DownPast → Error → Type 0 };
 
     ghost refuses: { Self → Self.Client → Origin → DownPast → List HttpTask → Error → Type 0 };
+
+    ghost cannot_end: { Self → Self.Client → Origin → DownPast → Error → Type 0 };
 
     ghost is_silent: { Self.Client → Type 0 };
 
@@ -85,7 +87,7 @@ pub trait Down {
         ensures ends { Finishes (state self.old) (state self.new) result }
         ensures goes { (client : Self.Client) (s : Origin) (p : DownPast)
             → past self.old client s p
-            → DownGoes (past self.new client s) (blames self.new client s)
+            → DownGoes (past self.new client s) (cannot_end self.new client s)
             p.put p.batched (p.closing ++ closing_in result) (error_of_result result) };
 
     /// What the side tells of its answers.

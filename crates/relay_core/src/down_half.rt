@@ -154,7 +154,7 @@ impl Duplex {
     pub(crate) fn down_finish<D: Down>(&mut self, down: &mut D) -> Step
         ensures exact { DownEnds self.old (D.state down.old) self.new (D.state down.new) result }
         ensures goes { (client : D.Client) (s : Origin) (p : DownPast) → D.past down.old client s p
-            → DownEndsOn (D.past down.new client s) (D.blames down.new client s) p self.old
+            → DownEndsOn (D.past down.new client s) (D.cannot_end down.new client s) p self.old
             (D.state down.old) self.new (D.state down.new) result }
     {
         match down.finish() {

@@ -261,7 +261,8 @@ impl Duplex {
             → SoFar (D.past down.old client.old s) (U.past up.old s) (U.blames up.old s)
             (core self.old (D.state down.old) (U.state up.old)) p q
             → Goes (D.past down.new client.new s) (D.blames down.new client.new s)
-            (D.refuses down.new client.new s) (U.past up.new s) (U.blames up.new s)
+            (D.refuses down.new client.new s) (D.cannot_end down.new client.new s)
+            (U.past up.new s) (U.blames up.new s)
             (core self.new (D.state down.new) (U.state up.new)) result }
         ensures silent { result ≡ Step.Waited Pause.Silent
             → D.is_silent client.new ⊎ U.is_silent up.new }
@@ -287,7 +288,8 @@ impl Duplex {
     /// side that had to wait; `Failed` marks both pipes, and no branch is enabled from then on.
     ///
     /// `Failed` with an error is one for which a side answers, the last that it told or the send
-    /// error that was kept, or one that tasks of the response are refused with.
+    /// error that was kept, one that tasks of the response are refused with, or that of a response
+    /// that is done and cannot end.
     pub fn step<D: Down, U: Up>(
         &mut self,
         client: &mut D::Client,
@@ -320,7 +322,8 @@ impl Duplex {
             → SoFar (D.past down.old client.old s) (U.past up.old s) (U.blames up.old s)
             (core self.old (D.state down.old) (U.state up.old)) p q
             → Goes (D.past down.new client.new s) (D.blames down.new client.new s)
-            (D.refuses down.new client.new s) (U.past up.new s) (U.blames up.new s)
+            (D.refuses down.new client.new s) (D.cannot_end down.new client.new s)
+            (U.past up.new s) (U.blames up.new s)
             (core self.new (D.state down.new) (U.state up.new)) result }
 
         // Silence is that of a link.

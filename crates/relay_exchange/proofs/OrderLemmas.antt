@@ -6,7 +6,7 @@
 --   order_so_far   the same from SoFar
 --   begin_order    the same from Begins
 --   told_of_sides  AreTold, from HasPassed and IsPeer
-use Rattle.std.proofs.Common.{◌≡◌, ℕ, ◌-◌, Bool, true, false, ◌||◌, ◌⊎◌, List, [], ◌∷◌, ◌++◌, length, drop, map, refl, sym, ap, subst, ◌∙◌, append-nil, inl, inr, Option, Some, None, Ok}
+use Rattle.std.proofs.Common.{All, ◌≡◌, ℕ, ◌-◌, Bool, true, false, ◌||◌, ◌⊎◌, List, [], ◌∷◌, ◌++◌, length, drop, map, refl, sym, ap, subst, ◌∙◌, append-nil, inl, inr, Option, Some, None, Ok}
 use Rattle.std.specs.List.{list_any}
 use Rattle.std.proofs.lemmas.List.Folds.{list_any-append}
 use Rattle.relay_tasks.specs.declared.error.Error.{Error}
@@ -48,7 +48,7 @@ use Rattle.relay_core.specs.declared.duplex.Duplex.{Duplex}
 use Rattle.relay_core.specs.declared.told.Told.{Told}
 use Rattle.relay_sides.specs.Body.{IsFrontOf, body_of, sent_as}
 use Rattle.relay_sides.specs.Client.{HasPassed, IsClient, given_to, queued, state_of}
-use Rattle.relay_sides.specs.Peer.{IsPeer, AreTasks, handed}
+use Rattle.relay_sides.specs.Peer.{IsPeer, AreTasks, HasRoom, handed}
 use Rattle.relay_sides.specs.declared.client_side.ClientState.{ClientState}
 use Rattle.relay_sides.specs.declared.peer_side.PeerSide.{PeerSide}
 use Rattle.relay_sides.proofs.FrontLemmas.{front_then}
@@ -185,7 +185,7 @@ module _
         AreTasks h.method link.ended q.got (u.given ++ u.withheld) client.response) u.own u.tasks
 
     -- the tasks are those of the response
-    pub tasks_of : AreOf s.head.method link.ended q.got q.read
+    abbrev pub tasks_of : AreOf s.head.method link.ended q.got q.read
     tasks_of =
         let method = s.head.method in
         record {
@@ -193,6 +193,9 @@ module _
           are = subst (λ (h : RequestHead). q.read ≡ map (handed h.method) u.given) u.own u.is_read;
           follow = given_follow method link.ended q.got u.given u.withheld client.response
               tasks_own;
+          stays = u.none_switches;
+          have_room = subst (λ (h : RequestHead). All (HasRoom h.method) u.given) u.own
+              u.have_room;
           informed = given_informed method link.ended q.got u.given u.withheld client.response
               tasks_own;
           final = λ head is.
@@ -346,7 +349,7 @@ module _ {L : Type 0} (state : L → LinkState) (start_at : L → LinkStart) whe
   order_so_far s p q link ahead down up duplex so_far =
       order_with s p q link ahead down.session down.done down.finished down.broken
       (start_at up.client.link) (state up.client.link) up.client up.stopped up.lost
-      so_far.down so_far.up
+      so_far.down so_far.up.peer
       (record { rest = duplex.requests.tasks; joined = sym so_far.requests })
       (batched_front s p link ahead down.session q.read _ _ _ _ so_far.down.client
       so_far.responses)
@@ -360,7 +363,7 @@ module _ {L : Type 0} (state : L → LinkState) (start_at : L → LinkStart) whe
   begin_order s p q link ahead down up begins =
       order_with s p q link ahead down.session down.done down.finished down.broken
       (start_at up.client.link) (state up.client.link) up.client up.stopped up.lost
-      begins.down_holds begins.up_holds (none_front q.taken p.put begins.none_taken)
+      begins.down_holds begins.up_holds.peer (none_front q.taken p.put begins.none_taken)
       (none_front p.batched q.read begins.none_batched)
       (none_ends_last p.put begins.none_put) (inl begins.none_closing)
 
@@ -370,10 +373,10 @@ module _ {L : Type 0} (state : L → LinkState) (start_at : L → LinkStart) whe
       (start : LinkStart) (peer_link : LinkState) (client : H1Client L)
       (stopped lost : Option Fail)
       → HasPassed s p link ahead session done finished broken
-      → IsPeer s start peer_link client stopped lost q
+      → IsPeer s start peer_link client stopped lost q → start.reused ≡ s.reused
       → AreTold state start_at s (passed_by p q) link peer_link start
   told_of_sides s p q link ahead session done finished broken start peer_link client stopped lost h
-      u =
+      u reused =
       record {
         came = h.client.came;
         written = h.client.written;
@@ -381,4 +384,5 @@ module _ {L : Type 0} (state : L → LinkState) (start_at : L → LinkStart) whe
         got = u.got;
         sent = u.sent;
         peer_faults = u.faults;
+        reused = reused;
       }

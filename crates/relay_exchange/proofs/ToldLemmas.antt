@@ -97,7 +97,7 @@ tasks_tell : (told : Told) (tasks : List HttpTask) → Follow told tasks
 tasks_tell told [] follow = same_tells told
 tasks_tell told (one ∷ tasks) follow =
     tells_then told (with_task told one) (told_behind (with_task told one) tasks)
-    (task_tells told one follow.0) (tasks_tell (with_task told one) tasks follow.1)
+    (task_tells told one follow.0) (tasks_tell (with_task told one) tasks follow.2)
 
 -- what is told in parts
 told_append : (told : Told) (front behind : List HttpTask)
@@ -110,8 +110,8 @@ follow_parts : (told : Told) (front behind : List HttpTask) → Follow told (fro
     → Follow told front × Follow (told_behind told front) behind
 follow_parts told [] behind follow = (tt, follow)
 follow_parts told (one ∷ front) behind follow =
-    let rest = follow_parts (with_task told one) front behind follow.1 in
-    ((follow.0, rest.0), rest.1)
+    let rest = follow_parts (with_task told one) front behind follow.2 in
+    ((follow.0, follow.1, rest.0), rest.1)
 
 -- ---- what the bytes say
 

@@ -13,7 +13,7 @@ use Rattle.relay_session.specs.declared.task_text.Place.{Place}
 use Rattle.relay_session.specs.declared.task_text.Place.TheVariants as place
 use Rattle.relay_session.specs.declared.writing.Writing.{Writing}
 use Rattle.relay_core.specs.Causes.{Tells, says_finished}
-use Rattle.relay_core.specs.Moves.{SoFar, Goes, Refused}
+use Rattle.relay_core.specs.Moves.{SoFar, Goes, HasReason}
 use Rattle.relay_core.specs.Past.{Origin, DownPast, UpPast, UpGoes}
 use Rattle.relay_core.specs.Table.{core, is_failed, is_finished}
 use Rattle.relay_core.specs.declared.duplex.Duplex.{Duplex}
@@ -21,7 +21,7 @@ use Rattle.relay_core.specs.declared.step.Step.{Step}
 use Rattle.relay_core.specs.declared.step.Step.TheVariants as step
 use Rattle.relay_core.proofs.BoolLemmas.{clash}
 use Rattle.relay_core.specs.declared.told.Told.{Told}
-use Rattle.relay_sides.specs.Client.{HasPassed, begun_past, ClientBlames, ClientRefuses}
+use Rattle.relay_sides.specs.Client.{HasPassed, begun_past, ClientBlames, ClientRefuses, CannotEnd}
 use Rattle.relay_sides.specs.Client as client
 use Rattle.relay_sides.specs.Peer as peer
 use Rattle.relay_sides.specs.Peer.{none_passed}
@@ -34,7 +34,7 @@ use Rattle.relay_exchange.specs.declared.exchange.Stage.{Stage}
 use Rattle.relay_exchange.specs.declared.exchange.Stage.TheVariants as stage
 use Rattle.relay_exchange.specs.declared.exchange.Unbegun.{Unbegun}
 use Rattle.relay_exchange.proofs.OrderLemmas.{passed_by, told_of_sides, begin_order, order_so_far}
-use Rattle.relay_exchange.proofs.EndLemmas.{relayed_of, fails_client, fails_peer, fails_tasks, fails_begun}
+use Rattle.relay_exchange.proofs.EndLemmas.{down_state, finished_of, failed_of, fails_client, fails_peer, fails_tasks, fails_ending, fails_begun}
 use Rattle.relay_exchange.proofs.SentLemmas.{written_of}
 
 -- ---- the beginning
@@ -148,7 +148,8 @@ module _ {L : Type 0} (state : L → LinkState) (start_at : L → LinkStart) whe
       (start_at up.client.link)
   told_by s p q link ahead down up h u =
       told_of_sides state start_at s p q link ahead down.session down.done down.finished down.broken
-      (start_at up.client.link) (state up.client.link) up.client up.stopped up.lost h u
+      (start_at up.client.link) (state up.client.link) up.client up.stopped up.lost h u.peer
+      u.reused
 
   -- a write of the head is a turn
   pub head_turns : (s : Origin) (p : DownPast) (q : UpPast) (link : LinkState) (ahead : List ℕ)
@@ -183,14 +184,16 @@ module _ {L : Type 0} (state : L → LinkState) (start_at : L → LinkStart) whe
       comes (step.Waited pause) unended blamed = on
       comes step.Finished unended blamed = absurd (cc)
       comes (step.Failed (fail.Error e)) unended blamed =
-          fails_begun state start_at s p q link ahead x.client x.peer e b (blamed e refl)
+          failed_of state start_at s (passed_by p q) link x e
+          (fails_begun state start_at s p q link ahead x.client x.peer e b (blamed e refl))
       comes (step.Failed fail.OutOfMemory) unended blamed = on.order
 
   -- a branch of the duplex is a turn
   pub bodies_turn : (s : Origin) (link : LinkState) (ahead : List ℕ) (x : Exchange L)
       (duplex : Duplex) (result : Step) → x.stage ≡ stage.Bodies duplex
       → Goes (DownHolds link ahead x.client s) (λ p e. ClientBlames s p link e)
-      (λ p left e. ClientRefuses s p link left e) (UpHolds state start_at x.peer s)
+      (λ p left e. ClientRefuses s p link left e)
+      (λ p e. ClientBlames s p link e ⊎ CannotEnd s p e) (UpHolds state start_at x.peer s)
       (Blames state start_at x.peer s) (core_of state start_at duplex x.client x.peer) result
       → Tells result duplex → Turns state start_at s link ahead x result
   bodies_turn s link ahead x duplex result is went tells = record {
@@ -201,7 +204,8 @@ module _ {L : Type 0} (state : L → LinkState) (start_at : L → LinkStart) whe
     where
       on : (result : Step)
           → (went : Goes (DownHolds link ahead x.client s) (λ p e. ClientBlames s p link e)
-          (λ p left e. ClientRefuses s p link left e) (UpHolds state start_at x.peer s)
+          (λ p left e. ClientRefuses s p link left e)
+          (λ p e. ClientBlames s p link e ⊎ CannotEnd s p e) (UpHolds state start_at x.peer s)
           (Blames state start_at x.peer s) (core_of state start_at duplex x.client x.peer) result)
           → is_finished duplex ≡ false → is_failed duplex.word ≡ false
           → IsUnderWay state start_at s (passed_by went.p went.q) link ahead x
@@ -224,19 +228,27 @@ module _ {L : Type 0} (state : L → LinkState) (start_at : L → LinkStart) whe
       fails : (e : Error) (p : DownPast) (q : UpPast)
           → SoFar (DownHolds link ahead x.client s) (UpHolds state start_at x.peer s)
           (Blames state start_at x.peer s) (core_of state start_at duplex x.client x.peer) p q
-          → ClientBlames s p link e ⊎ (Blames state start_at x.peer s q e
-          ⊎ Refused (λ p left e. ClientRefuses s p link left e) p q e)
+          → HasReason (λ p e. ClientBlames s p link e) (λ p left e. ClientRefuses s p link left e)
+          (λ p e. ClientBlames s p link e ⊎ CannotEnd s p e) (Blames state start_at x.peer s)
+          (down_state x.client) p q e
           → ComesTo state start_at s (passed_by p q) link ahead x (step.Failed (fail.Error e))
       fails e p q f (inl blames) =
-          fails_client state start_at s p q link ahead x.client x.peer duplex f e blames
+          failed_of state start_at s (passed_by p q) link x e
+          (fails_client state start_at s p q link ahead x.client x.peer duplex f e blames)
       fails e p q f (inr (inl blames)) =
-          fails_peer state start_at s p q link ahead x.client x.peer duplex f e blames
-      fails e p q f (inr (inr refused)) =
-          fails_tasks state start_at s p q link ahead x.client x.peer duplex f e refused
+          failed_of state start_at s (passed_by p q) link x e
+          (fails_peer state start_at s p q link ahead x.client x.peer duplex f e blames)
+      fails e p q f (inr (inr (inl refused))) =
+          failed_of state start_at s (passed_by p q) link x e
+          (fails_tasks state start_at s p q link ahead x.client x.peer duplex f e refused)
+      fails e p q f (inr (inr (inr unended))) =
+          failed_of state start_at s (passed_by p q) link x e
+          (fails_ending state start_at s p q link ahead x.client x.peer duplex f e unended)
 
       comes : (result : Step)
           → (went : Goes (DownHolds link ahead x.client s) (λ p e. ClientBlames s p link e)
-          (λ p left e. ClientRefuses s p link left e) (UpHolds state start_at x.peer s)
+          (λ p left e. ClientRefuses s p link left e)
+          (λ p e. ClientBlames s p link e ⊎ CannotEnd s p e) (UpHolds state start_at x.peer s)
           (Blames state start_at x.peer s) (core_of state start_at duplex x.client x.peer) result)
           → Tells result duplex
           → ComesTo state start_at s (passed_by went.p went.q) link ahead x result
@@ -244,7 +256,7 @@ module _ {L : Type 0} (state : L → LinkState) (start_at : L → LinkStart) whe
       comes (step.Waited pause) went tells =
           on (step.Waited pause) went (sym tells.finished) (sym tells.failed)
       comes step.Finished went tells =
-          relayed_of state start_at s went.p went.q link ahead x.client x.peer duplex went.so_far
+          finished_of state start_at s went.p went.q link ahead x duplex is went.so_far
           (went.finished refl refl)
       comes (step.Failed (fail.Error e)) went tells =
           fails e went.p went.q went.so_far (went.blamed e refl)

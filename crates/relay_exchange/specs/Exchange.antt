@@ -6,6 +6,7 @@ use Rattle.relay_tasks.specs.Head.{RequestHead}
 use Rattle.relay_links.specs.Link.{LinkState, LinkStart}
 use Rattle.relay_links.specs.Told.{Since}
 use Rattle.relay_peer.specs.RequestWriting.{head_in}
+use Rattle.relay_session.specs.Reading.{head_of, is_body_done}
 use Rattle.relay_core.specs.Moves.{SoFar}
 use Rattle.relay_core.specs.Past.{Origin, DownPast, UpPast}
 use Rattle.relay_core.specs.Table.{State, core, is_failed, is_finished}
@@ -14,15 +15,17 @@ use Rattle.relay_core.specs.declared.step.Step.{Step}
 use Rattle.relay_core.specs.declared.step.Step.TheVariants as step
 use Rattle.relay_sides.specs.Client.{HasPassed}
 use Rattle.relay_sides.specs.Client as client
-use Rattle.relay_sides.specs.Peer.{IsPeer, PeerBlames}
+use Rattle.relay_sides.specs.Peer.{IsPeerSide, PeerBlames}
 use Rattle.relay_sides.specs.Peer as peer
 use Rattle.relay_sides.specs.declared.client_side.ClientState.{ClientState}
 use Rattle.relay_sides.specs.declared.peer_side.PeerSide.{PeerSide}
 use Rattle.relay_exchange.specs.declared.exchange.Exchange.{Exchange}
 use Rattle.relay_exchange.specs.declared.exchange.Stage.{Stage}
 use Rattle.relay_exchange.specs.declared.exchange.Stage.TheVariants as stage
-use Rattle.relay_exchange.specs.Order.{IsInOrder, FailsFor, IsRelayed}
+use Rattle.relay_exchange.specs.Head.{may_keep}
+use Rattle.relay_exchange.specs.Order.{IsInOrder, FailsFor, IsRelayed, Leaves}
 use Rattle.relay_exchange.specs.Passed.{Passed}
+use Rattle.relay_exchange.specs.Valid.{IsValid}
 
 -- the past of the client's side holds
 abbrev pub DownHolds : LinkState → List ℕ → ClientState → Origin → DownPast → Type 0
@@ -33,8 +36,7 @@ module _ {L : Type 0} (state : L → LinkState) (start_at : L → LinkStart) whe
   -- the past of the peer's side holds
   abbrev pub UpHolds : PeerSide L → Origin → UpPast → Type 0
   UpHolds side s q =
-      IsPeer s (start_at side.client.link) (state side.client.link) side.client side.stopped
-      side.lost q
+      IsPeerSide s (start_at side.client.link) (state side.client.link) side q
 
   -- the peer's side answers for the error
   abbrev pub Blames : PeerSide L → Origin → UpPast → Error → Type 0
@@ -97,16 +99,28 @@ module _ {L : Type 0} (state : L → LinkState) (start_at : L → LinkStart) whe
     pub got : Since [] start.given peer_link.given p.got
     pub sent : Since [] start.taken peer_link.taken p.sent
     pub peer_faults : start.faults ≤ peer_link.faults
+    pub reused : start.reused ≡ s.reused
+
+  -- both directions were relayed, which leaves both links so
+  pub record IsFinished (s : Origin) (p : Passed) (ahead : List ℕ) (x : Exchange L) : Type 0 where
+    pub relayed : IsRelayed s p (state x.peer.client.link) (start_at x.peer.client.link)
+    pub is_head : head_of x.client.session.reading ≡ Some s.head
+    pub leaves : Leaves s p (state x.peer.client.link).ended relayed.order ahead
+        (is_body_done x.client.session.reading) x.peer.closes (may_keep x)
+
+  -- it failed for a cause, which no valid exchange has
+  pub record IsFailed (s : Origin) (p : Passed) (link : LinkState) (x : Exchange L) (e : Error)
+      : Type 0 where
+    pub why : FailsFor s p link (state x.peer.client.link) (start_at x.peer.client.link) e
+    pub invalid : ¬ (IsValid s p link (state x.peer.client.link) (start_at x.peer.client.link))
 
   -- what a turn made of it, by its answer: it goes on; both directions were relayed; or it failed,
   -- for a cause
   abbrev pub ComesTo : Origin → Passed → LinkState → List ℕ → Exchange L → Step → Type 0
   ComesTo s p link ahead x step.Moved = IsUnderWay s p link ahead x
   ComesTo s p link ahead x (step.Waited pause) = IsUnderWay s p link ahead x
-  ComesTo s p link ahead x step.Finished =
-      IsRelayed s p (state x.peer.client.link) (start_at x.peer.client.link)
-  ComesTo s p link ahead x (step.Failed (fail.Error e)) =
-      FailsFor s p link (state x.peer.client.link) (start_at x.peer.client.link) e
+  ComesTo s p link ahead x step.Finished = IsFinished s p ahead x
+  ComesTo s p link ahead x (step.Failed (fail.Error e)) = IsFailed s p link x e
   ComesTo s p link ahead x (step.Failed fail.OutOfMemory) =
       IsInOrder s p (state x.peer.client.link).ended
 

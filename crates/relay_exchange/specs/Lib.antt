@@ -1,4 +1,5 @@
 pub mod Passed
 pub mod Order
+pub mod Valid
 pub mod Exchange
 pub mod Head

@@ -1,6 +1,6 @@
 -- What was sent to the peer and what was written to the client, in terms of the bytes that passed
 -- (RFC 9110, section 15.2; RFC 9112, sections 3 to 8).
-use Rattle.std.specs.Prelude.{◌≡◌, ℕ, Bool, true, false, ◌⊎◌, List, [], ◌++◌, drop, map, Some, Ok}
+use Rattle.std.specs.Prelude.{◌≡◌, ◌↔◌, IsTrue, ℕ, All, Bool, true, false, ◌⊎◌, List, [], ◌++◌, drop, map, Some, Ok}
 use Rattle.std.specs.List.{list_any}
 use Rattle.relay_tasks.specs.declared.error.Error.{Error}
 use Rattle.relay_tasks.specs.declared.task.HttpTask.{HttpTask}
@@ -9,19 +9,24 @@ use Rattle.relay_tasks.specs.Task.{is_end}
 use Rattle.relay_links.specs.Link.{LinkState, LinkStart}
 use Rattle.relay_h1.specs.declared.framing.Framing.{Framing}
 use Rattle.relay_h1.specs.Body.{BodyText, ended_text, Body}
+use Rattle.relay_h1.specs.BodyWire.{after_pieces, body_text, is_short}
 use Rattle.relay_h1.specs.Tasks.{HasFinal, Tasks, ResponseText, ended}
 use Rattle.relay_h1.specs.Verdict.{HasRequest}
-use Rattle.relay_peer.specs.RequestWriting.{sent_wire}
-use Rattle.relay_peer.specs.ResponseReading.{untold, says}
+use Rattle.relay_h1.specs.Wire.{request_text}
+use Rattle.relay_peer.specs.RequestWriting.{body_framing, sent_wire}
+use Rattle.relay_h1.specs.Options.{closes}
+use Rattle.relay_peer.specs.ResponseReading.{untold, says, IsReadWhole}
 use Rattle.relay_session.specs.Asked.{request_of}
+use Rattle.relay_session.specs.Front.{ends_with_head}
+use Rattle.relay_session.specs.Reading.{IsWhole}
 use Rattle.relay_session.specs.TaskWire.{Sent, tasks_sent}
 use Rattle.relay_session.specs.Response.{is_over}
 use Rattle.relay_session.specs.declared.task_text.Place.TheVariants as place
 use Rattle.relay_core.specs.Moves.{EndsLast}
 use Rattle.relay_core.specs.Past.{Origin, DownPast, UpPast}
 use Rattle.relay_sides.specs.Body.{IsFrontOf, body_of, sent_as}
-use Rattle.relay_sides.specs.Client.{ClientBlames, ClientRefuses}
-use Rattle.relay_sides.specs.Peer.{handed, told_of, Follow, PeerBlames}
+use Rattle.relay_sides.specs.Client.{ClientBlames}
+use Rattle.relay_sides.specs.Peer.{handed, told_of, Follow, PeerBlames, is_switch, HasRoom, asks_to_close}
 use Rattle.relay_exchange.specs.Passed.{Passed, asked}
 
 -- the client's bytes begin with the head of the request
@@ -51,6 +56,9 @@ pub record AreOf (method : List ℕ) (closed : Bool) (got : List ℕ) (tasks : L
   pub given : List HttpTask
   pub are : tasks ≡ map (handed method) given
   pub follow : Follow untold given
+  -- none of the heads switches protocols, and one that is chunked has room for that
+  pub stays : list_any is_switch given ≡ false
+  pub have_room : All (HasRoom method) given
   pub informed : (text : ResponseText) → Tasks method false got closed text
       → IsFrontOf (told_of given).informed text.informed
   pub final : (head : ResponseHead) → (told_of given).final ≡ Some head
@@ -110,8 +118,9 @@ up_past {p = p} order lost = record {
   lost = lost;
 }
 
--- why an exchange failed with that error: the client's side answers for it, the peer's side does,
--- or tasks that the peer gave cannot be sent to the client
+-- why an exchange failed with that error: the client's side answers for it, or the peer's side
+-- does. Tasks that the peer's side gave can always be sent to the client, and the response can always
+-- end where its end is asked for
 pub data FailsFor
     (s : Origin) (p : Passed) (client link : LinkState) (start : LinkStart) (e : Error)
     : Type 0 where
@@ -119,9 +128,6 @@ pub data FailsFor
       → ClientBlames s (down_past order) client e → FailsFor s p client link start e
   by_peer : (order : IsInOrder s p link.ended) (lost : Bool)
       → PeerBlames start link s.head (up_past order lost) e → FailsFor s p client link start e
-  by_tasks : (order : IsInOrder s p link.ended) (left rest : List HttpTask)
-      → order.read ≡ order.batched ++ (left ++ rest)
-      → ClientRefuses s (down_past order) client left e → FailsFor s p client link start e
 
 -- the whole request was sent, with its end
 pub record SendsWhole (s : Origin) (p : Passed) (closed : Bool) (order : IsInOrder s p closed)
@@ -132,12 +138,40 @@ pub record SendsWhole (s : Origin) (p : Passed) (closed : Bool) (order : IsInOrd
   pub ended : (list_any is_end order.pieces ≡ true) ⊎ (order.pieces ≡ [])
   pub sent : p.sent ≡ sent_wire (sent_as s.head order.pieces)
 
--- the response is over, as its end was among its tasks or its framing takes no more bytes, and its
--- text was written whole; and the request was sent whole, or the peer's side answers for the error
--- with which it was not
+-- the response has come whole, and its text was written whole; and the request was sent whole, or
+-- the peer's side answers for the error with which it was not
 pub record IsRelayed (s : Origin) (p : Passed) (link : LinkState) (start : LinkStart) : Type 0 where
   pub order : IsInOrder s p link.ended
+  pub n : ℕ
+  pub whole : Tasks s.head.method false p.got link.ended
+      (says (told_of order.are_of.given) (ended n))
   pub over : is_over order.text.place ≡ true
   pub written : p.written ≡ order.text.text
   pub request : SendsWhole s p link.ended order
       ⊎ ((e : Error) × (lost : Bool) × PeerBlames start link s.head (up_past order lost) e)
+
+-- the request has ended: an end is among its pieces, or its head says that it has no body
+abbrev pub HasEnded : {s : Origin} {p : Passed} {closed : Bool} → IsInOrder s p closed → Type 0
+HasEnded order =
+    (list_any is_end order.pieces ≡ true) ⊎ (ends_with_head order.asks.framing ≡ true)
+
+-- the peer's link may serve another request: the request was sent whole, in these pieces; its head
+-- and the response's let the link be kept; and no byte behind the response was read (RFC 9112,
+-- section 9.3)
+pub record MayServe (s : Origin) (p : Passed) (closed : Bool) (order : IsInOrder s p closed)
+    : Type 0 where
+  pub pieces : List (List ℕ)
+  pub request : p.sent ≡ request_text s.head ++ body_text (body_framing s.head) pieces
+  pub complete : is_short (after_pieces (body_framing s.head) pieces) ≡ false
+  pub asks : closes s.head.fields ≡ false
+  pub response : IsReadWhole s.head.method closed p.got (told_of order.are_of.given)
+
+-- what a finished exchange leaves: whether its request has ended, the bytes of the client behind
+-- it, whether the response that was handed on asks to close, and whether the peer's link may be
+-- kept
+pub record Leaves (s : Origin) (p : Passed) (closed : Bool) (order : IsInOrder s p closed)
+    (ahead : List ℕ) (done asks_close keeps : Bool) : Type 0 where
+  pub ended : IsTrue done ↔ HasEnded order
+  pub behind : done ≡ true → IsWhole (asked s p) (body_of order.pieces) ahead
+  pub closes : asks_close ≡ list_any asks_to_close order.read
+  pub serves : keeps ≡ true → MayServe s p closed order

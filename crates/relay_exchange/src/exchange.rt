@@ -2,7 +2,7 @@
 //! (RFC 9112, sections 6, 7 and 9.3).
 ghost use Rattle.std.specs.Prelude.{◌≡◌, ◌↔◌, ◌&&◌, Bool, ℕ, List, [], None, false, IfOk, IfErr};
 ghost use Rattle.relay_tasks.specs.Error.{IsMemoryOr};
-ghost use Rattle.relay_links.specs.Link.{LinkState, LinkStart, IsHandedOut};
+ghost use Rattle.relay_links.specs.Link.{LinkState, IsHandedOut};
 ghost use Rattle.relay_h1.specs.Framing.{request_framing};
 ghost use Rattle.relay_h1.specs.Verdict.{refused_from};
 ghost use Rattle.relay_session.specs.Reading.{is_body_done};
@@ -68,7 +68,7 @@ impl<L: ByteLink> Exchange<L> {
         ensures begins { IfOk result (λ x. (s : Origin) (came : List ℕ) (client : LinkState)
             (ahead : List ℕ) (reused : Bool) → head ≡ s.head
             → BeginsBehind s came client ahead session
-            → IsHandedOut (L.state link) (L.start link) reused
+            → IsHandedOut (L.state link) (L.start link) reused → s.reused ≡ reused
             → IsUnderWay L.state L.start s
             (record { came = came; written = []; got = []; sent = [] }) client ahead x) }
         ensures session { IfOk result (λ x. x.client.session ≡ session) }
@@ -130,6 +130,14 @@ impl<L: ByteLink> Exchange<L> {
         ensures { result.now ≡ self.now.client.session }
     {
         self.client.session()
+    }
+
+    /// Whether a final head of the response that was handed on asks for the connection to be closed
+    /// (RFC 9112, section 9.6).
+    pub fn asks_to_close(&self) -> bool
+        ensures { result ≡ self.now.peer.closes }
+    {
+        self.peer.asks_to_close()
     }
 
     /// Whether the link may be kept for a next request: not while the head is being sent, and then

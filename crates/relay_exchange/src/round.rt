@@ -28,7 +28,8 @@ pub(crate) fn go_round<D: Down, U: Up, H: Schedule>(
         (core duplex.old (D.state down.old) (U.state up.old)) p q
         → is_finished duplex.old ≡ false → is_failed duplex.old.word ≡ false
         → Goes (D.past down.new client.new s) (D.blames down.new client.new s)
-        (D.refuses down.new client.new s) (U.past up.new s) (U.blames up.new s)
+        (D.refuses down.new client.new s) (D.cannot_end down.new client.new s)
+        (U.past up.new s) (U.blames up.new s)
         (core duplex.new (D.state down.new) (U.state up.new)) result.0 }
 
     // The answer says exactly whether a half failed, and whether both have finished.

@@ -18,7 +18,7 @@ use Rattle.relay_links.proofs.SinceLemmas.{Since-kept, Since-grows}
 use Rattle.relay_h1.proofs.VerdictLemmas.{HasRequest-append}
 use Rattle.relay_h1.specs.Verdict.{HasRequest}
 use Rattle.relay_session.specs.Front as front
-use Rattle.relay_session.specs.Front.{Watches}
+use Rattle.relay_session.specs.Front.{Watches, ends_with_head}
 use Rattle.relay_session.specs.Reading as says
 use Rattle.relay_session.specs.Reading.{RequestSoFar, SaysBody, IsWhole, ReadsRest, ReadsLink, EndsBy, RefusesRest, piece_of, head_of, is_body_done}
 use Rattle.relay_session.specs.Response.{Holds}
@@ -251,7 +251,8 @@ module _
 
   -- it is put where the body has ended
   whole_on : is_body_done new.reading ≡ true
-      → (list_any is_end (p.put ++ put) ≡ true) ⊎ (p.put ++ put ≡ [])
+      → (list_any is_end (p.put ++ put) ≡ true)
+      ⊎ ((p.put ++ put ≡ []) × (ends_with_head h.framing ≡ true))
   whole_on done =
       elim (cases_Bool (is_body_done old.reading)) [
         | inl was ↦ rw (puts.none was, append-nil) (h.whole was)
@@ -266,7 +267,6 @@ module _
     came = Since-grows [] s.given before.given after.given p.came r.came r.grown h.came;
     written = Since-kept [] s.taken before.taken after.taken p.written l.link.taken h.written;
     faults = omega (arith, h.faults, l.link.faults);
-    sound = l.link.sound h.sound;
     head = h.head;
     own = h.own;
     framing = h.framing;
@@ -281,6 +281,7 @@ module _
         ∙ ap (λ (xs : List ℕ). h.body ++ xs) puts.body;
     ended = ended_on;
     whole = whole_on;
+    headed = λ has_none. done_stays before after ahead left old new answer l (h.headed has_none);
     told_whole = reading_whole (given_to s (past_read p r.came put)) (h.body ++ piece_of answer)
         left new.reading request_on;
     response = subst (λ (w : Writing). Holds w (client.queued p) p.written) (sym l.response)

@@ -1,6 +1,6 @@
 -- Tasks for the client: what queueing them says of the state, and how what passed goes on.
 use Rattle.std.proofs.Common.{◌≡◌, ℕ, ◌<◌, Bool, true, false, List, [], ◌∷◌, ◌++◌, length, Option, Some, None, Result, Ok, Err, refl, sym, ◌∙◌, ap, subst, append-nil, append_assoc, length-append, add-zero, inl, inr, arith}
-use Rattle.std.specs.Prelude.{◌||◌}
+use Rattle.std.specs.Prelude.{◌||◌, ◌⊎◌}
 use Rattle.std.specs.List.{list_any}
 use Rattle.std.proofs.lemmas.Bool.{cases_Bool}
 use Rattle.relay_tasks.specs.declared.error.Error.{Error}
@@ -31,7 +31,7 @@ use Rattle.relay_core.specs.Down.{QueuesBatch, RefusesBatch}
 use Rattle.relay_core.specs.Past.{Origin, DownPast, DownGoes, BatchRefused, error_of_result}
 use Rattle.relay_core.specs.Pipe.{is_failure}
 use Rattle.relay_core.specs.Told.{failed}
-use Rattle.relay_sides.specs.Client.{IsClient, IsClosed, HasPassed, ClientBlames, ClientRefuses, QueuesAll, QueuesFront, failure_in_front, state_of}
+use Rattle.relay_sides.specs.Client.{IsClient, IsClosed, HasPassed, ClientBlames, ClientRefuses, CannotEnd, QueuesAll, QueuesFront, failure_in_front, state_of}
 use Rattle.relay_sides.specs.Client as client
 use Rattle.relay_sides.proofs.ClientPast.{open_is_whole}
 
@@ -185,7 +185,6 @@ requeued s p link ahead old new batched closing h reading request holds broken =
   came = h.came;
   written = h.written;
   faults = h.faults;
-  sound = h.sound;
   head = h.head;
   own = h.own;
   framing = h.framing;
@@ -198,6 +197,7 @@ requeued s p link ahead old new batched closing h reading request holds broken =
   joined = h.joined;
   ended = rw reading h.ended;
   whole = rw reading h.whole;
+  headed = rw reading h.headed;
   told_whole = rw reading h.told_whole;
   response = holds;
   broken = broken;
@@ -514,7 +514,8 @@ pub ends_again : (s : Origin) (p : DownPast) (link : LinkState) (ahead : List �
     (session : HttpSession) (done finished : Bool) (broken : Option Fault)
     → finished ≡ true → HasPassed s p link ahead session done finished broken
     → DownGoes (λ q. HasPassed s q link ahead session done finished broken)
-    (λ q e. ClientBlames s q link e) p.put p.batched (p.closing ++ task.Done ∷ []) None
+    (λ q e. ClientBlames s q link e ⊎ CannotEnd s q e) p.put p.batched
+    (p.closing ++ task.Done ∷ []) None
 ends_again s p link ahead session done finished broken asked h = record {
   past = past_queued p p.batched (p.closing ++ task.Done ∷ []);
   stands = record {
@@ -547,7 +548,8 @@ pub ends_on : (s : Origin) (p : DownPast) (link : LinkState) (ahead : List ℕ)
     → Grows (task_sent old.writing.request old.writing.place task.Done) old.writing new.writing
     → GoesOnWith old.writing new.writing (task.Done ∷ [])
     → DownGoes (λ q. HasPassed s q link ahead new done true broken)
-    (λ q e. ClientBlames s q link e) p.put p.batched (p.closing ++ task.Done ∷ []) None
+    (λ q e. ClientBlames s q link e ⊎ CannotEnd s q e) p.put p.batched
+    (p.closing ++ task.Done ∷ []) None
 ends_on s p link ahead old new done finished broken unasked h reading g goes = record {
   past = past_queued p p.batched (p.closing ++ task.Done ∷ []);
   stands = record {
@@ -585,17 +587,24 @@ end_refused : (s : Origin) (p : DownPast) (link : LinkState) (ahead : List ℕ)
     (session : HttpSession) (output : Outgoing) (why : Fail) (e : Error)
     → IsClient s p link ahead session → session.writing.output ≡ output
     → IsFailure output (task_sent session.writing.request session.writing.place task.Done) why
-    → why ≡ fail.Error e → ClientBlames s p link e
+    → why ≡ fail.Error e → ClientBlames s p link e ⊎ CannotEnd s p e
 end_refused s p link ahead session (outgoing.Open queue) why e h is refused of =
     let sent = holds_sent session.writing session.writing.output (client.queued p) p.written
     h.response in
-    client.ClientBlames.cannot_end h.head h.framing h.len sent.0 h.has (rw (← h.answers) sent.1)
-    (rw sent.2
-    (subst (λ (f : Fail). IsRefusal
-    (task_sent session.writing.request session.writing.place task.Done) f) of refused))
+    inr (record {
+      head = h.head;
+      framing = h.framing;
+      len = h.len;
+      sent = sent.0;
+      has = h.has;
+      stands = rw (← h.answers) sent.1;
+      refused = rw sent.2
+          (subst (λ (f : Fail). IsRefusal
+          (task_sent session.writing.request session.writing.place task.Done) f) of refused);
+    })
 end_refused s p link ahead session (outgoing.Broken fault) why e h is refused of =
-    client.ClientBlames.link_failed fault (fail_is why (error_of fault) e refused of)
-    (h.broken fault is)
+    inl (client.ClientBlames.link_failed fault (fail_is why (error_of fault) e refused of)
+    (h.broken fault is))
 
 -- the end was refused, and nothing was queued
 pub ends_refused : (s : Origin) (p : DownPast) (link : LinkState) (ahead : List ℕ)
@@ -604,7 +613,7 @@ pub ends_refused : (s : Origin) (p : DownPast) (link : LinkState) (ahead : List 
     → IsFailure old.writing.output
     (task_sent old.writing.request old.writing.place task.Done) why
     → DownGoes (λ q. HasPassed s q link ahead new done finished broken)
-    (λ q e. ClientBlames s q link e) p.put p.batched (p.closing ++ [])
+    (λ q e. ClientBlames s q link e ⊎ CannotEnd s q e) p.put p.batched (p.closing ++ [])
     (error_of_result {T = Unit {0}} (Err why))
 ends_refused s p link ahead old new done finished broken why h same refused = record {
   past = p;

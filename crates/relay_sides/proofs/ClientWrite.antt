@@ -7,7 +7,7 @@ use Rattle.relay_tasks.specs.declared.fault.Fault.{Fault}
 use Rattle.std.proofs.lemmas.Bool.{cases_lt}
 use Rattle.relay_links.specs.Count.{Rose, last_count}
 use Rattle.relay_links.specs.Link as link
-use Rattle.relay_links.specs.Link.{LinkState, IsSound}
+use Rattle.relay_links.specs.Link.{LinkState}
 use Rattle.relay_links.specs.Told.{more}
 use Rattle.relay_links.specs.declared.link.Put.{Put}
 use Rattle.relay_links.specs.declared.link.Put.TheVariants as put
@@ -36,7 +36,6 @@ record Wrote (before after : LinkState) (queue : List ℕ) (answer : Put) : Type
   given : after.given ≡ before.given
   taken : after.taken ≡ more before.taken (take (taken answer) queue)
   faults : before.faults ≤ after.faults
-  sound : IsSound after
   failed : (fault : Fault) → answer ≡ put.Failed fault → Rose before.faults after.faults
 
 -- a list of which nothing is taken gains nothing
@@ -62,35 +61,30 @@ wrote before after queue (put.Took n) w = record {
   given = w.given;
   taken = w.taken;
   faults = rw w.faults (le_refl before.faults);
-  sound = w.sound;
   failed = λ fault is. cc;
 }
 wrote before after queue put.NotReady w = record {
   given = w.given;
   taken = gains_nothing before after queue w.taken;
   faults = rw w.faults (le_refl before.faults);
-  sound = w.sound;
   failed = λ fault is. cc;
 }
 wrote before after queue put.Silent w = rw w.same (record {
   given = refl;
   taken = gains_nothing before before queue refl;
   faults = le_refl before.faults;
-  sound = w.sound;
   failed = λ fault is. cc;
 })
 wrote before after queue (put.Failed why) w = record {
   given = w.given;
   taken = gains_nothing before after queue w.taken;
   faults = not_fallen before.faults after.faults w.sound_before.faults_fit w.faults;
-  sound = w.sound;
   failed = λ fault is. w.faults;
 }
 wrote before after queue put.OutOfMemory w = record {
   given = ap (λ (l : LinkState). l.given) w.same;
   taken = gains_nothing before after queue (ap (λ (l : LinkState). l.taken) w.same);
   faults = rw (ap (λ (l : LinkState). l.faults) w.same) (le_refl before.faults);
-  sound = w.sound;
   failed = λ fault is. cc;
 }
 
@@ -179,7 +173,6 @@ writes_on s p before after ahead left old new done finished broken answer (outgo
           written = Since-grows [] s.taken before.taken after.taken p.written
               (take (taken answer) queue) w.taken h.client.written;
           faults = omega (arith, h.client.faults, w.faults);
-          sound = w.sound;
           head = h.client.head;
           own = h.client.own;
           framing = h.client.framing;
@@ -192,6 +185,7 @@ writes_on s p before after ahead left old new done finished broken answer (outgo
           joined = h.client.joined;
           ended = rw reading h.client.ended;
           whole = rw reading h.client.whole;
+          headed = rw reading h.client.headed;
           told_whole = rw (reading, kept) h.client.told_whole;
           response = holds;
           broken = λ fault of.

@@ -1,7 +1,8 @@
 -- How each call of the upstream's side goes on with what passed through it.
 use Rattle.std.proofs.Common.{◌≡◌, ◌||◌, ℕ, Bool, true, false, List, [], ◌∷◌, ◌++◌, map, refl, sym, ap, subst, ◌∙◌, append-nil, Option, Some, None}
-use Rattle.std.specs.List.{list_any}
+use Rattle.std.specs.List.{All, list_any}
 use Rattle.std.proofs.lemmas.List.{map-append}
+use Rattle.std.proofs.lemmas.List.Elements.{All-push}
 use Rattle.std.proofs.lemmas.List.Folds.{list_any-append}
 use Rattle.relay_tasks.specs.Head.{RequestHead}
 use Rattle.relay_tasks.specs.declared.error.Error.{Error}
@@ -25,7 +26,8 @@ use Rattle.relay_peer.specs.RequestWriting.{SentSoFar, head_in, method_of}
 use Rattle.relay_peer.specs.ResponseReading.{Told, ReadSoFar, ReadsTask, Answers, Asks, Refuses, IsResponseTask, untold, with_task, with_head, is_over, is_item, fault_error}
 use Rattle.relay_peer.specs.ResponseReading as reading
 use Rattle.relay_core.specs.Past.{Origin, UpPast, UpGoes, error_of_fail, error_of_took}
-use Rattle.relay_sides.specs.Peer.{IsPeer, IsQueued, PeerBlames, AreTasks, Withholds, is_switch, Queues, Loses, IsNew, handed, told_of, none_passed}
+use Rattle.relay_sides.specs.declared.peer_side.PeerSide.{PeerSide}
+use Rattle.relay_sides.specs.Peer.{IsPeer, IsPeerSide, IsQueued, PeerBlames, AreTasks, HasRoom, Withholds, asks_to_close, is_switch, Queues, Loses, IsNew, handed, told_of, none_passed}
 use Rattle.relay_sides.specs.Peer as peer
 use Rattle.relay_sides.proofs.FrontLemmas.{own_front}
 use Rattle.relay_sides.proofs.TaskLemmas.{tasks_push, tasks_kept, final_in, lacking_final}
@@ -115,12 +117,13 @@ peer_read : {L : Type 0} (o : Origin) (start : LinkStart) (before after : LinkSt
     → new.request ≡ old.request → ReadMoves start before after q.got came asked
     → AreTasks stands.head.method after.ended (q.got ++ came) (given ++ withheld) new.response
     → read ≡ map (handed stands.head.method) given → list_any is_switch given ≡ false
+    → All (HasRoom stands.head.method) given
     → (stopped ≡ None → withheld ≡ [])
     → ((e : Error) → stopped ≡ Some (fail.Error e)
     → PeerBlames start after stands.head (after_read q came read) e)
     → IsPeer o start after new stopped lost (after_read q came read)
 peer_read {L} o start before after old new stopped_before stopped lost q came read given withheld
-    asked stands same moves tasks is_read unswitched goes_on why = record {
+    asked stands same moves tasks is_read unswitched roomy goes_on why = record {
       got = moves.given;
       sent = Since-kept [] start.taken before.taken after.taken q.sent moves.taken stands.sent;
       faults = moves.faults;
@@ -137,6 +140,7 @@ peer_read {L} o start before after old new stopped_before stopped lost q came re
       tasks = tasks;
       is_read = is_read;
       none_switches = unswitched;
+      have_room = roomy;
       goes_on = goes_on;
       why = why;
       takes = stands.takes;
@@ -224,7 +228,7 @@ read_none {L} o start started before after old new stopped lost q answer same ke
     stands.tasks over
     (told_stays stands.head.method after.ended (q.got ++ at.came) (told_of tasks) at.asked
     old.response.place new.response answer none answers))
-    stands.is_read stands.none_switches stands.goes_on
+    stands.is_read stands.none_switches stands.have_room stands.goes_on
     (λ e is. blames_keep start before after stands.head q (after_read q at.came q.read) e
     (read_on start before after q at.came q.read at.asked moves) (stands.why e is)))
     (sym (append-nil q.read)) refl refl
@@ -310,11 +314,12 @@ pub read_hands : {L : Type 0} (o : Origin) (start started : LinkStart) (before a
     → ReadsTask (method_of old.request.request) before after old.response new.response
     (took.Item item)
     → given ≡ handed (method_of new.request.request) item → is_switch item ≡ false
+    → HasRoom (method_of new.request.request) item
     → IsPeer o start before old stopped lost q
     → UpGoes (λ r. IsPeer o started after new stopped lost r) (λ r e. Blamed start before old r e)
     (λ r e. Blamed started after new r e) q (q.read ++ given ∷ []) q.taken q.lost None
 read_hands {L} o start started before after old new stopped lost q item given open_yet same kept reads
-    is_given plain stood =
+    is_given plain room stood =
     let stands = subst (λ (s : Option Fail). IsPeer o start before old s lost q) open_yet stood in
     let b = brings o start before after old new lost q item reads stands in
     let method = ap (λ (w : RequestWriting). method_of w.request) kept
@@ -339,6 +344,8 @@ read_hands {L} o start started before after old new stopped lost q item given op
     (list_any-append is_switch stands.given (item ∷ [])
     ∙ ap (λ (b : Bool). b || (is_switch item || false)) stands.none_switches
     ∙ ap (λ (b : Bool). b || false) plain)
+    (All-push (HasRoom stands.head.method) stands.given item stands.have_room
+    (subst (λ (m : List ℕ). HasRoom m item) method room))
     (λ none. refl) (λ e none. absurd (cc)))
     refl refl refl (λ e none. absurd (cc)))
 
@@ -401,6 +408,71 @@ read_stops {L} o start started before after old new stopped lost q item why open
     (read_on start before after q b.came q.read b.asked b.moves)
     (peer_read o start before after old new None (Some why) lost q b.came q.read stands.given
     (item ∷ []) b.asked stands kept b.moves b.tasks stands.is_read stands.none_switches
+    stands.have_room
     (λ some. absurd (cc))
     (λ e is. blamed e (some_fail why (fail.Error e) is)))
     (sym (append-nil q.read)) refl refl (λ e told. blamed e (fail_is why e told))
+
+-- ---- the side
+
+-- a call goes on with the side too, which keeps whether its link was used before; and what it says
+-- of the response that asks to close is told of the tasks
+pub side_goes : {L : Type 0} (o : Origin) (start started : LinkStart) (before after : LinkState)
+    (old : H1Client L) (new : PeerSide L) (q : UpPast) (read taken : List HttpTask) (gone : Bool)
+    (error : Option Error) → started ≡ start → start.reused ≡ o.reused
+    → new.closes ≡ list_any asks_to_close read
+    → UpGoes (λ r. IsPeer o started after new.client new.stopped new.lost r)
+    (λ r e. Blamed start before old r e) (λ r e. Blamed started after new.client r e) q read taken
+    gone error
+    → UpGoes (λ r. IsPeerSide o started after new r) (λ r e. Blamed start before old r e)
+    (λ r e. Blamed started after new.client r e) q read taken gone error
+side_goes {L} o start started before after old new q read taken gone error same reused closes went =
+    record {
+      past = went.past;
+      stands = record {
+        peer = went.stands;
+        reused = ap (λ (s : LinkStart). s.reused) same ∙ reused;
+        closes = closes ∙ ap (λ (ts : List HttpTask). list_any asks_to_close ts)
+            (sym went.is_read);
+      };
+      is_read = went.is_read;
+      is_taken = went.is_taken;
+      is_lost = went.is_lost;
+      keeps = went.keeps;
+      blamed = went.blamed;
+    }
+
+-- a call that handed no task on
+pub side_stays : {L : Type 0} (o : Origin) (start started : LinkStart) (before after : LinkState)
+    (old new : PeerSide L) (q : UpPast) (read taken : List HttpTask) (gone : Bool)
+    (error : Option Error) → started ≡ start → new.closes ≡ old.closes → read ≡ q.read
+    → IsPeerSide o start before old q
+    → UpGoes (λ r. IsPeer o started after new.client new.stopped new.lost r)
+    (λ r e. Blamed start before old.client r e) (λ r e. Blamed started after new.client r e) q read
+    taken gone error
+    → UpGoes (λ r. IsPeerSide o started after new r) (λ r e. Blamed start before old.client r e)
+    (λ r e. Blamed started after new.client r e) q read taken gone error
+side_stays {L} o start started before after old new q read taken gone error same stays none stands =
+    side_goes o start started before after old.client new q read taken gone error same stands.reused
+    (stays ∙ stands.closes ∙ ap (λ (ts : List HttpTask). list_any asks_to_close ts) (sym none))
+
+-- a call that handed one on
+pub side_hands : {L : Type 0} (o : Origin) (start started : LinkStart) (before after : LinkState)
+    (old new : PeerSide L) (q : UpPast) (given : HttpTask) (taken : List HttpTask) (gone : Bool)
+    (error : Option Error) → started ≡ start
+    → new.closes ≡ old.closes || asks_to_close given → IsPeerSide o start before old q
+    → UpGoes (λ r. IsPeer o started after new.client new.stopped new.lost r)
+    (λ r e. Blamed start before old.client r e) (λ r e. Blamed started after new.client r e) q
+    (q.read ++ given ∷ []) taken gone error
+    → UpGoes (λ r. IsPeerSide o started after new r) (λ r e. Blamed start before old.client r e)
+    (λ r e. Blamed started after new.client r e) q (q.read ++ given ∷ []) taken gone error
+side_hands {L} o start started before after old new q given taken gone error same one_more stands =
+    side_goes o start started before after old.client new q (q.read ++ given ∷ []) taken gone error
+    same stands.reused
+    (one_more ∙ ap (λ (b : Bool). b || asks_to_close given) stands.closes
+    ∙ ap (λ (b : Bool). list_any asks_to_close q.read || b) (sym (or_none (asks_to_close given)))
+    ∙ sym (list_any-append asks_to_close q.read (given ∷ [])))
+  where
+    or_none : (b : Bool) → (b || false) ≡ b
+    or_none true = refl
+    or_none false = refl

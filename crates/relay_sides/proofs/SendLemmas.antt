@@ -1,6 +1,7 @@
 -- How a piece that is taken, a write and the head of the request go on with what passed.
 use Rattle.std.proofs.Common.{◌≡◌, ℕ, Bool, true, false, ◌||◌, List, [], ◌∷◌, ◌++◌, take, refl, sym, ap, subst, ◌∙◌, append-nil, arith, Option, Some, None, Result, Ok, Err, OnOk, OnErr, IfErr, IsErrOf, IsTrue, ◌↔◌, if◌then◌else◌}
 use Rattle.std.specs.List.{list_any, concat}
+use Rattle.std.proofs.lemmas.List.Elements.{All-nil}
 use Rattle.std.proofs.lemmas.List.Folds.{list_any-append, concat-append}
 use Rattle.relay_tasks.specs.Error.{IsMemoryOr}
 use Rattle.relay_tasks.specs.Head.{RequestHead}
@@ -28,7 +29,7 @@ use Rattle.relay_peer.specs.RequestWriting as writing
 use Rattle.relay_core.specs.Past.{Origin, UpPast, UpGoes, error_of_fail, error_of_put}
 use Rattle.relay_sides.specs.Body.{IsFrontOf, bytes_of, body_of, sent_with, sent_as}
 use Rattle.relay_sides.specs.declared.peer_side.PeerSide.{PeerSide}
-use Rattle.relay_sides.specs.Peer.{IsPeer, IsQueued, PeerBlames, AreTasks, Queues, Loses, IsNew, none_passed}
+use Rattle.relay_sides.specs.Peer.{IsPeer, IsPeerSide, IsQueued, PeerBlames, AreTasks, HasRoom, Queues, Loses, IsNew, none_passed}
 use Rattle.relay_sides.specs.Peer as peer
 use Rattle.relay_sides.proofs.FrontLemmas.{own_front, same_front, front_more, front_then, bytes_front, task_front, sent_behind-push, head_of, stands_head, piece_head, task_head, begun_body, body_push}
 use Rattle.relay_sides.proofs.TaskLemmas.{no_tasks}
@@ -88,6 +89,7 @@ peer_take {L} o start link old new stopped lost_before lost q piece gone sending
           stands.tasks;
       is_read = stands.is_read;
       none_switches = stands.none_switches;
+      have_room = stands.have_room;
       goes_on = stands.goes_on;
       why = λ e is.
           blames_keep start link link stands.head q (after_take q piece gone) e
@@ -390,6 +392,7 @@ write_goes {L} o start started before after old new stopped lost q answer same k
           (sym kept) stands.tasks);
       is_read = stands.is_read;
       none_switches = stands.none_switches;
+      have_room = stands.have_room;
       goes_on = stands.goes_on;
       why = λ e is. blames_keep start before after stands.head q p e on (stands.why e is);
       takes = stands.takes;
@@ -427,6 +430,7 @@ begins {L} o start link reused old new head own fresh out same so_far = record {
       (no_tasks head.method link.ended old.client.response (fresh.read head.method link.ended));
   is_read = refl;
   none_switches = refl;
+  have_room = All-nil (HasRoom head.method);
   goes_on = λ none. refl;
   why = λ e is. absurd (apart e (sym is ∙ fresh.goes_on));
   takes = λ none. refl;
@@ -437,19 +441,36 @@ begins {L} o start link reused old new head own fresh out same so_far = record {
     apart e same = cc
 
 -- the same, where the call gave its facts
-pub begins_side : {L : Type 0} (o : Origin) (start started : LinkStart) (before after : LinkState)
+begins_peer : {L : Type 0} (o : Origin) (start started : LinkStart) (before after : LinkState)
     (reused : Bool) (old : PeerSide L) (new : H1Client L) (head : RequestHead) → head ≡ o.head
     → started ≡ start → after ≡ before → new.response ≡ old.client.response
     → ((sent : Sent) (had : List ℕ) → SentSoFar sent had old.client.request
     → SentSoFar (writing.with_head sent head) had new.request)
     → IsNew old → IsHandedOut before start reused
     → IsPeer o started after new old.stopped old.lost none_passed
-begins_side {L} o start started before after reused old new head own same unmoved kept keeps fresh
+begins_peer {L} o start started before after reused old new head own same unmoved kept keeps fresh
     out =
     subst (λ (s : LinkStart). IsPeer o s after new old.stopped old.lost none_passed) (sym same)
     (subst (λ (l : LinkState). IsPeer o start l new old.stopped old.lost none_passed) (sym unmoved)
     (begins o start before reused old new head own fresh out kept
     (keeps writing.Sent.nothing [] fresh.sent)))
+
+-- and the side with it
+pub begins_side : {L : Type 0} (o : Origin) (start started : LinkStart) (before after : LinkState)
+    (reused : Bool) (old : PeerSide L) (new : H1Client L) (head : RequestHead) → head ≡ o.head
+    → started ≡ start → after ≡ before → new.response ≡ old.client.response
+    → ((sent : Sent) (had : List ℕ) → SentSoFar sent had old.client.request
+    → SentSoFar (writing.with_head sent head) had new.request)
+    → IsNew old → IsHandedOut before start reused
+    → o.reused ≡ reused → IsPeerSide o started after (record old { client = new }) none_passed
+begins_side {L} o start started before after reused old new head own same unmoved kept keeps fresh
+    out used =
+    record {
+      peer = begins_peer o start started before after reused old new head own same unmoved kept
+          keeps fresh out;
+      reused = ap (λ (s : LinkStart). s.reused) same ∙ out.marked ∙ sym used;
+      closes = fresh.stays;
+    }
 
 -- and its head is the one that was queued
 pub begins_head : {L : Type 0} (old : PeerSide L) (new : H1Client L) (head : RequestHead)

@@ -1,5 +1,5 @@
 -- The tasks of a response: one more of them, and what they tell.
-use Rattle.std.proofs.Common.{◌≡◌, ℕ, ◌+◌, Bool, true, false, ◌||◌, ◌&&◌, not, List, [], ◌∷◌, ◌++◌, refl, sym, ap, subst, ◌∙◌, Some, None, if◌then◌else◌, drop, nat_le, nat_lt, ◌==◌, codes, bytes_eq}
+use Rattle.std.proofs.Common.{◌≡◌, ℕ, ◌+◌, ◌<◌, Bool, true, false, ◌||◌, ◌&&◌, not, List, [], ◌∷◌, ◌++◌, length, length-append, arith, refl, sym, ap, subst, ◌∙◌, Option, Some, None, is_some, if◌then◌else◌, drop, nat_le, nat_lt, ◌==◌, codes, bytes_eq}
 use Rattle.std.specs.List.{list_any}
 use Rattle.std.proofs.lemmas.List.Folds.{list_any-append}
 use Rattle.http_header.specs.HeaderMap.{RefusesInsert}
@@ -24,7 +24,7 @@ use Rattle.relay_peer.specs.declared.response_reading.Place.TheVariants as place
 use Rattle.relay_peer.specs.declared.response_reading.ResponseReading.{ResponseReading}
 use Rattle.relay_peer.specs.ResponseReading.{Told, ReadSoFar, ReadAt, IsResponseTask, untold, with_task, with_head, says, is_over}
 use Rattle.relay_core.specs.Moves.{EndsLast}
-use Rattle.relay_sides.specs.Peer.{AreTasks, Follow, Withholds, inside, told_behind, told_of}
+use Rattle.relay_sides.specs.Peer.{AreTasks, Follow, HasRoom, StandsBehind, Withholds, inside, told_behind, told_of}
 use Rattle.relay_sides.specs.Peer as peer
 
 -- ---- one task more
@@ -36,10 +36,44 @@ told_push told [] last = refl
 told_push told (first ∷ tasks) last = told_push (with_task told first) tasks last
 
 follow_push : (told : Told) (tasks : List HttpTask) (last : HttpTask) → Follow told tasks
-    → IsResponseTask (told_behind told tasks) last → Follow told (tasks ++ last ∷ [])
-follow_push told [] last follow is = (is, tt)
-follow_push told (first ∷ tasks) last follow is =
-    (follow.0, follow_push (with_task told first) tasks last follow.1 is)
+    → IsResponseTask (told_behind told tasks) last → StandsBehind (told_behind told tasks) last
+    → Follow told (tasks ++ last ∷ [])
+follow_push told [] last follow is stands = (is, stands, tt)
+follow_push told (first ∷ tasks) last follow is stands =
+    (follow.0, follow.1, follow_push (with_task told first) tasks last follow.2 is stands)
+
+-- a piece has some bytes, also behind others
+some_piece : (body piece : List ℕ) → 0 < length piece → ¬ (body ++ piece ≡ [])
+some_piece body piece some none =
+    let empty : length (body ++ piece) ≡ 0 = ap (λ (xs : List ℕ). length xs) none in
+    omega (arith, length-append body piece, empty, some)
+
+-- a piece that was told stands behind the final head: before that no body is told
+piece_behind : (method : List ℕ) (closed : Bool) (got : List ℕ) (told : Told) (piece : List ℕ)
+    (at : Place) (ahead : List ℕ) → 0 < length piece
+    → ReadAt method closed got (record told { body = told.body ++ piece }) at ahead
+    → is_some told.final ≡ true
+piece_behind method closed got told piece place.NoHead ahead some read =
+    absurd (some_piece told.body piece some read.0.no_body)
+piece_behind method closed got told piece place.Informed ahead some read =
+    absurd (some_piece told.body piece some read.0.no_body)
+piece_behind method closed got told piece (place.InBody body) ahead some read =
+    ap (λ (h : Option ResponseHead). is_some h) read.final
+piece_behind method closed got told piece (place.Ended keeps) ahead some read =
+    ap (λ (h : Option ResponseHead). is_some h) read.final
+
+-- so does each task that a call gave
+stands_behind : (method : List ℕ) (closed : Bool) (got : List ℕ) (told : Told) (last : HttpTask)
+    (new : ResponseReading) → IsResponseTask told last
+    → ReadSoFar method closed got (with_task told last) new → StandsBehind told last
+stands_behind method closed got told (task.Header head end) new is read = tt
+stands_behind method closed got told (task.Body None end) new is read = absurd is
+stands_behind method closed got told (task.Body (Some piece) end) new is read =
+    piece_behind method closed got told piece new.place new.ahead is read.at
+stands_behind method closed got told (task.UpgradedBody piece end) new is read = tt
+stands_behind method closed got told (task.Trailer fields) new is read = tt
+stands_behind method closed got told task.Done new is read = tt
+stands_behind method closed got told (task.Failed error) new is read = tt
 
 none_behind : (front behind : List HttpTask) → [] ≡ front ++ behind → behind ≡ []
 none_behind [] behind same = sym same
@@ -102,7 +136,8 @@ pub tasks_push : (method : List ℕ) (before after : LinkState) (got came : List
 tasks_push method before after got came tasks last old new are going is ends read = record {
   so_far = subst (λ (t : Told). ReadSoFar method after.ended (got ++ came) t new)
       (sym (told_push untold tasks last)) read;
-  follow = follow_push untold tasks last are.follow is;
+  follow = follow_push untold tasks last are.follow is
+      (stands_behind method after.ended (got ++ came) (told_of tasks) last new is read);
   ended = list_any-append is_end tasks (last ∷ [])
       ∙ ap (λ (b : Bool). b || list_any is_end (last ∷ [])) (are.ended ∙ going)
       ∙ or_nil (is_end last) ∙ ends;

@@ -13,7 +13,7 @@ use Rattle.relay_tasks.specs.declared.task.HttpTask.TheVariants as task
 use Rattle.relay_tasks.specs.Head.{RequestHead}
 use Rattle.relay_tasks.specs.Task.{is_end}
 use Rattle.relay_links.specs.Count.{Rose}
-use Rattle.relay_links.specs.Link.{LinkState, IsSound}
+use Rattle.relay_links.specs.Link.{LinkState}
 use Rattle.relay_links.specs.Told.{Since}
 use Rattle.relay_links.specs.declared.link.Put.{Put}
 use Rattle.relay_links.specs.declared.link.Put.TheVariants as put
@@ -21,7 +21,7 @@ use Rattle.relay_h1.specs.declared.framing.Framing.{Framing}
 use Rattle.relay_h1.specs.Body.{open_text, broken}
 use Rattle.relay_h1.specs.Verdict.{HasRequest}
 use Rattle.relay_session.specs.Asked.{request_of}
-use Rattle.relay_session.specs.Front.{link_fault, client_closed, client_sent_more, body_broken}
+use Rattle.relay_session.specs.Front.{link_fault, client_closed, client_sent_more, body_broken, ends_with_head}
 use Rattle.relay_session.specs.Reading.{head_of, is_body_done, RequestSoFar, SaysBody, IsWhole}
 use Rattle.relay_session.specs.Response.{Holds, Grows, GoesOnWith, FailsWithin, IsOpen, is_over, pending}
 use Rattle.relay_session.specs.TaskWire.{Sent, ends_short, task_sent, tasks_sent}
@@ -67,7 +67,6 @@ pub record IsClient
   pub came : Since [] s.given link.given p.came
   pub written : Since [] s.taken link.taken p.written
   pub faults : s.faults ≤ link.faults
-  pub sound : IsSound link
   pub head : RequestHead
   pub framing : Framing
   pub len : ℕ
@@ -80,7 +79,10 @@ pub record IsClient
   -- the pieces, joined, are the body that was given out; an end among them is the body's
   pub joined : body_of p.put ≡ body
   pub ended : list_any is_end p.put ≡ true → is_body_done session.reading ≡ true
-  pub whole : is_body_done session.reading ≡ true → (list_any is_end p.put ≡ true) ⊎ (p.put ≡ [])
+  pub whole : is_body_done session.reading ≡ true
+      → (list_any is_end p.put ≡ true) ⊎ ((p.put ≡ []) × (ends_with_head framing ≡ true))
+  -- a request without a body has ended from its head on
+  pub headed : ends_with_head framing ≡ true → is_body_done session.reading ≡ true
   pub told_whole : is_body_done session.reading ≡ true → IsWhole (given_to s p) body ahead
   -- what was written and what waits is the text of what was queued
   pub response : Holds session.writing (queued p) p.written
@@ -118,7 +120,6 @@ pub record BeginsBehind
   pub gave : Since [] s.given link.given came
   pub written : Since [] s.taken link.taken []
   pub faults : s.faults ≤ link.faults
-  pub sound : IsSound link
   pub head : RequestHead
   pub framing : Framing
   pub len : ℕ
@@ -127,6 +128,7 @@ pub record BeginsBehind
   pub own : head ≡ s.head
   pub answers : session.writing.request ≡ request_of head
   pub request : RequestSoFar (s.ahead ++ came) [] ahead session.reading
+  pub done : is_body_done session.reading ≡ ends_with_head framing
   pub whole : is_body_done session.reading ≡ true → IsWhole (s.ahead ++ came) [] ahead
   pub response : Holds session.writing [] []
   pub output : session.writing.output ≡ outgoing.Open []
@@ -136,8 +138,7 @@ abbrev pub begun_past : List ℕ → DownPast
 begun_past came = record { came = came; written = []; put = []; batched = []; closing = [] }
 
 -- why the side answers with that error: the client's link failed, its body is broken, it ended
--- inside its body or behind its request, or it sent more than its request; or its response cannot
--- end where it stands
+-- inside its body or behind its request, or it sent more than its request
 pub data ClientBlames (s : Origin) (p : DownPast) (link : LinkState) (e : Error) : Type 0 where
   link_failed : (fault : Fault) → e ≡ link_fault fault → Rose s.faults link.faults
       → ClientBlames s p link e
@@ -150,10 +151,16 @@ pub data ClientBlames (s : Origin) (p : DownPast) (link : LinkState) (e : Error)
       → e ≡ client_closed → ClientBlames s p link e
   sent_more : (body behind : List ℕ) → IsWhole (given_to s p) body behind → 0 < length behind
       → e ≡ client_sent_more → ClientBlames s p link e
-  cannot_end : (head : RequestHead) (framing : Framing) (len : ℕ) (sent : Sent)
-      → HasRequest (given_to s p) head framing len
-      → tasks_sent (request_of head) place.NoHead (queued p) ≡ Ok sent
-      → task_sent (request_of head) sent.place task.Done ≡ Err e → ClientBlames s p link e
+
+-- the response cannot end where it stands, with that error
+pub record CannotEnd (s : Origin) (p : DownPast) (e : Error) : Type 0 where
+  pub head : RequestHead
+  pub framing : Framing
+  pub len : ℕ
+  pub sent : Sent
+  pub has : HasRequest (given_to s p) head framing len
+  pub stands : tasks_sent (request_of head) place.NoHead (queued p) ≡ Ok sent
+  pub refused : task_sent (request_of head) sent.place task.Done ≡ Err e
 
 -- why the side refuses these tasks behind those that were queued: the first of them cannot be sent,
 -- a write failed before, or the end of the response was asked for before

@@ -1,6 +1,6 @@
 -- The upstream's side: what passed between a peer and its client since the link was handed out, and
 -- why the side answers with an error (RFC 9110, section 15.2; RFC 9112, sections 3 to 8).
-use Rattle.std.specs.Prelude.{◌≡◌, ℕ, ◌≤◌, Bool, true, false, not, ◌==◌, ◌⊎◌, List, [], ◌∷◌, ◌++◌, length, map, Option, Some, None, Result, Ok, Err, if◌then◌else◌, codes}
+use Rattle.std.specs.Prelude.{◌≡◌, ℕ, All, ◌≤◌, Bool, true, false, not, ◌&&◌, ◌==◌, ◌⊎◌, List, [], ◌∷◌, ◌++◌, length, map, Option, Some, None, is_some, Result, Ok, Err, if◌then◌else◌, codes}
 use Rattle.std.specs.List.{list_any, concat}
 use Rattle.http_header.specs.HeaderMap.{RefusesInsert}
 use Rattle.relay_tasks.specs.declared.context.Context.{Context}
@@ -20,7 +20,8 @@ use Rattle.relay_links.specs.Told.{Since}
 use Rattle.relay_h1.specs.declared.framing.Framing.{Framing}
 use Rattle.relay_h1.specs.BodyWire.{after_pieces}
 use Rattle.relay_h1.specs.BodyWire as wire
-use Rattle.relay_h1.specs.ClientHead.{lacks_framing, chunked_head}
+use Rattle.relay_h1.specs.ClientHead.{is_informational, lacks_framing, chunked_head}
+use Rattle.relay_h1.specs.Options.{closes}
 use Rattle.relay_h1.specs.Tasks.{HasFinal, Tasks, broken, cut_off}
 use Rattle.relay_h1.specs.Verdict.{refused_from}
 use Rattle.relay_peer.specs.declared.h1_client.H1Client.{H1Client}
@@ -59,10 +60,20 @@ told_behind told (task ∷ tasks) = told_behind (with_task told task) tasks
 abbrev pub told_of : List HttpTask → reading.Told
 told_of tasks = told_behind untold tasks
 
+-- a piece of the body stands behind the final head
+abbrev pub StandsBehind : reading.Told → HttpTask → Type 0
+StandsBehind told (task.Header head end) = Unit {0}
+StandsBehind told (task.Body piece end) = is_some told.final ≡ true
+StandsBehind told (task.UpgradedBody piece end) = Unit {0}
+StandsBehind told (task.Trailer fields) = Unit {0}
+StandsBehind told task.Done = Unit {0}
+StandsBehind told (task.Failed error) = Unit {0}
+
 -- the tasks follow what was told: one final head behind those that inform, then its body
 abbrev pub Follow : reading.Told → List HttpTask → Type 0
 Follow told [] = Unit {0}
-Follow told (task ∷ tasks) = IsResponseTask told task × Follow (with_task told task) tasks
+Follow told (task ∷ tasks) =
+    IsResponseTask told task × StandsBehind told task × Follow (with_task told task) tasks
 
 -- why a task is not handed on: it is a final head that switches protocols, or one that is to be
 -- chunked and has no room for that, or wants memory for it; or it tells of an error
@@ -88,10 +99,22 @@ is_switch (task.Trailer fields) = false
 is_switch task.Done = false
 is_switch (task.Failed error) = false
 
+-- a head that is to be chunked has room for the field that says so
+abbrev pub HasRoom : List ℕ → HttpTask → Type 0
+HasRoom method (task.Header head end) =
+    lacks_framing method end head ≡ true
+    → ¬ (RefusesInsert head.fields (codes "transfer-encoding"))
+HasRoom method (task.Body piece end) = Unit {0}
+HasRoom method (task.UpgradedBody piece end) = Unit {0}
+HasRoom method (task.Trailer fields) = Unit {0}
+HasRoom method task.Done = Unit {0}
+HasRoom method (task.Failed error) = Unit {0}
+
 -- what becomes of a task of the response
 abbrev pub HandsOn : List ℕ → HttpTask → Result HttpTask Fail → Type 0
 HandsOn method came (Ok given) =
     (given ≡ handed method came) × (is_failure given ≡ false) × (is_switch came ≡ false)
+    × HasRoom method came
 HandsOn method came (Err why) = Withholds method came why
 
 -- a failure as one of the relay's own
@@ -171,8 +194,8 @@ pub data PeerBlames (start : LinkStart) (link : LinkState) (head : RequestHead) 
 -- it does not hand on, that head is withheld; once a piece was lost, no more of the request is
 -- queued
 pub record IsPeer {L : Type 0}
-    (o : Origin) (start : LinkStart) (link : LinkState) (client : H1Client L) (stopped lost : Option Fail)
-    (q : UpPast) : Type 0 where
+    (o : Origin) (start : LinkStart) (link : LinkState) (client : H1Client L)
+    (stopped lost : Option Fail) (q : UpPast) : Type 0 where
   pub got : Since [] start.given link.given q.got
   pub sent : Since [] start.taken link.taken q.sent
   pub faults : start.faults ≤ link.faults
@@ -188,10 +211,30 @@ pub record IsPeer {L : Type 0}
   pub tasks : AreTasks head.method link.ended q.got (given ++ withheld) client.response
   pub is_read : q.read ≡ map (handed head.method) given
   pub none_switches : list_any is_switch given ≡ false
+  pub have_room : All (HasRoom head.method) given
   pub goes_on : stopped ≡ None → withheld ≡ []
   pub why : (e : Error) → stopped ≡ Some (fail.Error e) → PeerBlames start link head q e
   pub takes : lost ≡ None → q.lost ≡ false
   pub why_lost : (e : Error) → lost ≡ Some (fail.Error e) → PeerBlames start link head q e
+
+-- a final head that asks for the connection to be closed (RFC 9112, section 9.6)
+abbrev pub asks_to_close : HttpTask → Bool
+asks_to_close (task.Header head end) =
+    not (is_informational head.status) && closes head.fields
+asks_to_close (task.Body piece end) = false
+asks_to_close (task.UpgradedBody piece end) = false
+asks_to_close (task.Trailer fields) = false
+asks_to_close task.Done = false
+asks_to_close (task.Failed error) = false
+
+-- what passed over a link that had been used before or not, and whether a final head that was
+-- handed on asks to close
+pub record IsPeerSide {L : Type 0}
+    (o : Origin) (start : LinkStart) (link : LinkState) (side : PeerSide L) (q : UpPast)
+    : Type 0 where
+  pub peer : IsPeer o start link side.client side.stopped side.lost q
+  pub reused : start.reused ≡ o.reused
+  pub closes : side.closes ≡ list_any asks_to_close q.read
 
 -- a side for which nothing was queued, and which read nothing
 pub record IsNew {L : Type 0} (side : PeerSide L) : Type 0 where
@@ -200,6 +243,7 @@ pub record IsNew {L : Type 0} (side : PeerSide L) : Type 0 where
       → ReadSoFar method closed [] untold side.client.response
   pub goes_on : side.stopped ≡ None
   pub takes : side.lost ≡ None
+  pub stays : side.closes ≡ false
 
 -- nothing passed yet
 abbrev pub none_passed : UpPast

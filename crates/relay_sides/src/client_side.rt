@@ -1,10 +1,10 @@
 //! The client's side of a duplex over its session: pieces of the request are read from the client,
 //! and the tasks of the response are queued for it (RFC 9112, sections 6, 7 and 9).
-ghost use Rattle.std.specs.Prelude.{◌≡◌, ◌||◌, List, ℕ};
+ghost use Rattle.std.specs.Prelude.{◌≡◌, ◌||◌, ◌⊎◌, List, ℕ};
 ghost use Rattle.relay_links.specs.Link.{LinkState};
 ghost use Rattle.relay_core.specs.Past.{Origin};
 ghost use Rattle.relay_session.specs.TaskWire.{ends_short};
-ghost use Rattle.relay_sides.specs.Client.{HasPassed, BeginsBehind, begun_past, ClientBlames, ClientRefuses, IsSilent, Queues, state_of, fault_in, piece_answer, told_read, failure_in_front};
+ghost use Rattle.relay_sides.specs.Client.{HasPassed, BeginsBehind, begun_past, ClientBlames, ClientRefuses, CannotEnd, IsSilent, Queues, state_of, fault_in, piece_answer, told_read, failure_in_front};
 
 use bytes::Bytes;
 use relay_core::{Down, Piece, Told, UpKind};
@@ -19,9 +19,9 @@ use std::marker::PhantomData;
 /// The client's side over the session of one request whose head was read. The session has no link:
 /// the client, which has it, is handed to each call that reads or writes.
 ///
-/// `done` says that a batch left the response over, `finished` that the response's end was asked for:
-/// no batch is queued behind it. `broken` is the fault of the first write that failed: it stays
-/// pending, and each later write answers it without the client.
+/// `done` says that a batch left the response over, `finished` that the response's end was asked
+/// for: no batch is queued behind it. `broken` is the fault of the first write that failed: it
+/// stays pending, and each later write answers it without the client.
 #[derive(Drop)]
 pub struct ClientSide<F> {
     alloc: Global,
@@ -209,7 +209,7 @@ fn fault_in(put: Put) -> Option<Fault>
 }
 
 /// One of two flags stands.
-fn either(first: bool, second: bool) -> bool
+pub(crate) fn either(first: bool, second: bool) -> bool
     ensures { result ≡ first || second }
 {
     first || second
@@ -233,6 +233,10 @@ impl<F: Front> Down for ClientSide<F> {
     ghost blames = { λ side client s p e. ClientBlames s p (F.state client) e };
 
     ghost refuses = { λ side client s p left e. ClientRefuses s p (F.state client) left e };
+
+    // A write failed before, or the response cannot end where it stands.
+    ghost cannot_end = { λ side client s p e.
+        ClientBlames s p (F.state client) e ⊎ CannotEnd s p e };
 
     ghost is_silent = { λ client. IsSilent (F.state client) };
 

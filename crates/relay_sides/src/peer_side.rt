@@ -14,11 +14,12 @@ ghost use Rattle.relay_peer.specs.ResponseReading as reading;
 ghost use Rattle.relay_core.specs.declared.told.TheConstants.Told.{NOTHING};
 ghost use Rattle.relay_core.specs.Past.{Origin};
 ghost use Rattle.relay_sides.specs.Body.{bytes_of};
-ghost use Rattle.relay_sides.specs.Peer.{IsPeer, PeerBlames, IsSilent, IsNew, HandsOn, Queues, inside, none_passed, state_of};
+ghost use Rattle.relay_sides.specs.Peer.{IsPeerSide, PeerBlames, asks_to_close, IsSilent, IsNew, HandsOn, Queues, inside, none_passed, state_of};
 
-use http::Method;
+use crate::client_side::either;
+use http::{Method, Version};
 use relay_core::{Told, Up, UpKind};
-use relay_h1::{add_chunked, lacks_framing};
+use relay_h1::{add_chunked, closes, is_sent_to, lacks_framing};
 use relay_links::{ByteLink, Put};
 use relay_peer::H1Client;
 use relay_tasks::{
@@ -37,6 +38,8 @@ pub struct PeerSide<L> {
     stopped: Option<Fail>,
     // Why no more of the request is queued, once a piece was lost.
     lost: Option<Fail>,
+    // Whether a final head that was handed on asks to close.
+    closes: bool,
 }
 
 impl<L> PeerSide<L> {
@@ -52,7 +55,16 @@ impl<L> PeerSide<L> {
             told: Told::NOTHING,
             stopped: None,
             lost: None,
+            closes: false,
         }
+    }
+
+    /// Whether a final head of the response that was handed on asks for the connection to be closed
+    /// (RFC 9112, section 9.6).
+    pub fn asks_to_close(&self) -> bool
+        ensures { result ≡ self.now.closes }
+    {
+        self.closes
     }
 
     /// Whether the link may be kept for a next request, as in `H1Client::may_keep`.
@@ -127,6 +139,7 @@ impl<L> PeerSide<L> {
             told: _,
             stopped: _,
             lost: _,
+            closes: _,
         } = self;
         client.into_link()
     }
@@ -141,8 +154,9 @@ impl<L: ByteLink> PeerSide<L> {
         ensures begins { OnOk result ((s : Origin) → head ≡ s.head → IsNew self.old
             → (reused : Bool)
             → IsHandedOut (L.state self.old.client.link) (L.start self.old.client.link) reused
-            → IsPeer s (L.start self.new.client.link) (L.state self.new.client.link) self.new.client
-            self.new.stopped self.new.lost none_passed) }
+            → s.reused ≡ reused
+            → IsPeerSide s (L.start self.new.client.link) (L.state self.new.client.link) self.new
+            none_passed) }
         ensures head { OnOk result (IsNew self.old
             → head_in self.new.client.request.request ≡ Some head) }
         ensures refused { IsErrOf result
@@ -166,6 +180,23 @@ fn inside(fail: Fail) -> Fail
     match fail {
         Fail::OutOfMemory => Fail::OutOfMemory,
         Fail::Error(error) => Fail::Error(error.into_in()),
+    }
+}
+
+/// Whether a task is a final head that asks for the connection to be closed.
+fn asks_to_close(task: &HttpTask) -> bool
+    ensures { result ≡ asks_to_close task.now }
+{
+    match task {
+        // HTTP/1.0 is sent final heads alone.
+        HttpTask::Header(head, _) => {
+            is_sent_to(Version::HTTP_10, head) && closes(head.headers())
+        }
+        HttpTask::Body(_, _)
+        | HttpTask::UpgradedBody(_, _)
+        | HttpTask::Trailer(_)
+        | HttpTask::Done
+        | HttpTask::Failed(_) => false,
     }
 }
 
@@ -209,8 +240,7 @@ impl<L: ByteLink> Up for PeerSide<L> {
     ghost state = { λ side. state_of side.client side.told };
 
     ghost past = { λ side s q.
-        IsPeer s (L.start side.client.link) (L.state side.client.link) side.client side.stopped
-        side.lost q };
+        IsPeerSide s (L.start side.client.link) (L.state side.client.link) side q };
 
     ghost blames = { λ side s q e. (head : RequestHead)
         × (head_in side.client.request.request ≡ Some head)
@@ -234,7 +264,10 @@ impl<L: ByteLink> Up for PeerSide<L> {
             }
             None => match self.client.read_response_task(self.alloc) {
                 Took::Item(task) => match self.hand_on(task) {
-                    Ok(task) => Took::Item(task),
+                    Ok(task) => {
+                        self.closes = either(self.closes, asks_to_close(&task));
+                        Took::Item(task)
+                    }
                     Err(why) => {
                         self.stopped = Some(why);
                         self.told = self.told.failed(why);

@@ -203,6 +203,8 @@ impl Down for Client {
 
     ghost refuses = { λ c client s p tasks e. ⊥ };
 
+    ghost cannot_end = { λ c client s p e. c.told.last ≡ Some e };
+
     ghost is_silent = { λ client. ⊥ };
 
     fn may_read(&self) -> bool {

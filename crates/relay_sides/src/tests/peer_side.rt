@@ -156,6 +156,23 @@ fn chunks_a_response_that_lasts_until_the_link_ends(rt: HostRuntime) -> Checked 
     Ok(())
 }
 
+/// Whether a response asks to close, by its side, which was asked so often.
+fn closes(alloc: Global, text: &'static [u8], calls: u8) -> relay_tasks::Result<bool> {
+    let mut side = asking_side(alloc, text)?;
+    let _told = answers(alloc, &mut side, calls)?;
+    Ok(side.asks_to_close())
+}
+
+#[test]
+fn tells_that_a_final_head_asks_to_close(rt: HostRuntime) -> Checked {
+    let text = b"HTTP/1.1 200 OK\r\nconnection: close\r\ncontent-length: 0\r\n\r\n";
+    assert!(rt; !closes(rt.alloc(), text, 0)?);
+    assert!(rt; closes(rt.alloc(), text, 2)?);
+    let text = b"HTTP/1.1 103 Early Hints\r\nconnection: close\r\n\r\nHTTP/1.1 200 OK\r\n\r\n";
+    assert!(rt; !closes(rt.alloc(), text, 3)?);
+    Ok(())
+}
+
 #[test]
 fn hands_no_switch_of_protocols_on(rt: HostRuntime) -> Checked {
     let mut side = asking_side(rt.alloc(), b"HTTP/1.1 101 Switching Protocols\r\n\r\n")?;

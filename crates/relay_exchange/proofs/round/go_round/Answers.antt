@@ -20,7 +20,8 @@ loop-turn-preserved g c =
     let t = c.step-step-in-loop-turn in
     let On : Origin → Step → Type 0 = λ s r.
     Goes (g.D.Down.past t.new.down t.new.client s) (g.D.Down.blames t.new.down t.new.client s)
-    (g.D.Down.refuses t.new.down t.new.client s) (g.U.Up.past t.new.up s)
+    (g.D.Down.refuses t.new.down t.new.client s)
+    (g.D.Down.cannot_end t.new.down t.new.client s) (g.U.Up.past t.new.up s)
     (g.U.Up.blames t.new.up s)
     (core t.new.self (g.D.Down.state t.new.down) (g.U.Up.state t.new.up)) r in
     let Says : Step → Type 0 = λ r. Tells r t.new.self in

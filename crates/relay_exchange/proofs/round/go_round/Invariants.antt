@@ -15,7 +15,8 @@ invariant-loop-turn g l =
     (g.U.Up.blames l.fn.up s)
     (core l.fn.duplex (g.D.Down.state l.fn.down) (g.U.Up.state l.fn.up)) p q
     → Goes (g.D.Down.past l.down l.client s) (g.D.Down.blames l.down l.client s)
-    (g.D.Down.refuses l.down l.client s) (g.U.Up.past l.up s) (g.U.Up.blames l.up s)
+    (g.D.Down.refuses l.down l.client s) (g.D.Down.cannot_end l.down l.client s)
+    (g.U.Up.past l.up s) (g.U.Up.blames l.up s)
     (core l.duplex (g.D.Down.state l.down) (g.U.Up.state l.up))
     (step.Waited pause.Silent))
     × Tells (step.Waited pause.Silent) l.duplex

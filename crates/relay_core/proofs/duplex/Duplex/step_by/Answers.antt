@@ -23,6 +23,7 @@ returns-in-UpWrite-clause-goes g c =
     goes_up_write (g.D.Down.past c.args.down.now c.args.client.now s)
     (g.D.Down.blames c.args.down.now c.args.client.now s)
     (g.D.Down.refuses c.args.down.now c.args.client.now s)
+    (g.D.Down.cannot_end c.args.down.now c.args.client.now s)
     (g.U.Up.past c.up_write.new.up s) (g.U.Up.blames c.up_write.new.up s)
     (g.U.Up.past c.args.up.now s) (g.U.Up.blames c.args.up.now s) old new c.up_write.result p q (subst On c.in-UpWrite.is c.requires)
     (record { does = c.up_write.ensures.exact; down = refl }) (c.up_write.ensures.goes s q f.up) f
@@ -44,6 +45,7 @@ returns-in-DownWrite-clause-goes g c =
     goes_down_write (g.D.Down.past c.down_write.new.down c.down_write.new.client s)
     (g.D.Down.blames c.down_write.new.down c.down_write.new.client s)
     (g.D.Down.refuses c.down_write.new.down c.down_write.new.client s)
+    (g.D.Down.cannot_end c.down_write.new.down c.down_write.new.client s)
     (g.U.Up.past c.args.up.now s) (g.U.Up.blames c.args.up.now s)
     (g.D.Down.past c.args.down.now c.args.client.now s) old new c.down_write.result p q (subst On c.in-DownWrite.is c.requires)
     (record { does = c.down_write.ensures.exact; up = refl }) (c.down_write.ensures.goes s p f.down) f
@@ -71,6 +73,7 @@ returns-in-UpTake-clause-goes g c =
     goes_up_take (g.D.Down.past c.args.down.now c.args.client.now s)
     (g.D.Down.blames c.args.down.now c.args.client.now s)
     (g.D.Down.refuses c.args.down.now c.args.client.now s)
+    (g.D.Down.cannot_end c.args.down.now c.args.client.now s)
     (g.U.Up.past c.up_take.new.up s) (g.U.Up.blames c.up_take.new.up s)
     (g.U.Up.past c.args.up.now s) (g.U.Up.blames c.args.up.now s) old new c.up_take.result p q (subst On c.in-UpTake.is c.requires)
     (record { does = subst T c.upgraded.ensures c.up_take.ensures.exact; down = refl }) (subst W c.upgraded.ensures (c.up_take.ensures.goes s q f.up)) f
@@ -92,6 +95,7 @@ returns-in-DownTake-clause-goes g c =
     goes_down_take (g.D.Down.past c.down_take.new.down c.args.client.now s)
     (g.D.Down.blames c.down_take.new.down c.args.client.now s)
     (g.D.Down.refuses c.down_take.new.down c.args.client.now s)
+    (g.D.Down.cannot_end c.down_take.new.down c.args.client.now s)
     (g.U.Up.past c.args.up.now s) (g.U.Up.blames c.args.up.now s)
     (g.D.Down.past c.args.down.now c.args.client.now s) old new c.down_take.result p q (subst On c.in-DownTake.is c.requires)
     (record { does = c.down_take.ensures.exact; up = refl }) (c.down_take.ensures.goes c.args.client.now s p f.down) f
@@ -113,6 +117,7 @@ returns-in-DownDrop-clause-goes g c =
     goes_down_drop (g.D.Down.past c.args.down.now c.args.client.now s)
     (g.D.Down.blames c.args.down.now c.args.client.now s)
     (g.D.Down.refuses c.args.down.now c.args.client.now s)
+    (g.D.Down.cannot_end c.args.down.now c.args.client.now s)
     (g.U.Up.past c.args.up.now s) (g.U.Up.blames c.args.up.now s)
     old new c.down_drop.result p q (subst On c.in-DownDrop.is c.requires)
     (record { does = c.down_drop.ensures; down = refl; up = refl }) f
@@ -134,6 +139,7 @@ returns-in-DownEnd-clause-goes g c =
     goes_down_end (g.D.Down.past c.args.down.now c.args.client.now s)
     (g.D.Down.blames c.args.down.now c.args.client.now s)
     (g.D.Down.refuses c.args.down.now c.args.client.now s)
+    (g.D.Down.cannot_end c.args.down.now c.args.client.now s)
     (g.U.Up.past c.args.up.now s) (g.U.Up.blames c.args.up.now s)
     old new c.down_end.result p q (subst On c.in-DownEnd.is c.requires)
     (record { does = c.down_end.ensures; down = refl; up = refl }) f
@@ -155,6 +161,7 @@ returns-in-DownClosed-clause-goes g c =
     goes_down_closed (g.D.Down.past c.args.down.now c.args.client.now s)
     (g.D.Down.blames c.args.down.now c.args.client.now s)
     (g.D.Down.refuses c.args.down.now c.args.client.now s)
+    (g.D.Down.cannot_end c.args.down.now c.args.client.now s)
     (g.U.Up.past c.args.up.now s) (g.U.Up.blames c.args.up.now s)
     old new c.down_closed.result p q (subst On c.in-DownClosed.is c.requires)
     (record { does = c.down_closed.ensures; down = refl; up = refl }) f
@@ -182,6 +189,7 @@ returns-in-UpRead-clause-goes g c =
     goes_up_read (g.D.Down.past c.args.down.now c.args.client.now s)
     (g.D.Down.blames c.args.down.now c.args.client.now s)
     (g.D.Down.refuses c.args.down.now c.args.client.now s)
+    (g.D.Down.cannot_end c.args.down.now c.args.client.now s)
     (g.U.Up.past c.up_read.new.up s) (g.U.Up.blames c.up_read.new.up s)
     (g.U.Up.past c.args.up.now s) (g.U.Up.blames c.args.up.now s) old new c.up_read.result p q (subst On c.in-UpRead.is c.requires)
     (record { does = subst T c.upgraded-in-UpRead.ensures c.up_read.ensures.exact; down = refl }) (subst W c.upgraded-in-UpRead.ensures (c.up_read.ensures.goes s q f.up)) f
@@ -203,6 +211,7 @@ returns-in-DownRead-clause-goes g c =
     goes_down_read (g.D.Down.past c.down_read.new.down c.down_read.new.client s)
     (g.D.Down.blames c.down_read.new.down c.down_read.new.client s)
     (g.D.Down.refuses c.down_read.new.down c.down_read.new.client s)
+    (g.D.Down.cannot_end c.down_read.new.down c.down_read.new.client s)
     (g.U.Up.past c.args.up.now s) (g.U.Up.blames c.args.up.now s)
     (g.D.Down.past c.args.down.now c.args.client.now s) old new c.down_read.result p q (subst On c.in-DownRead.is c.requires)
     (record { does = c.down_read.ensures.exact; up = refl }) (c.down_read.ensures.goes s p f.down) f
@@ -224,6 +233,7 @@ returns-in-UpFinish-clause-goes g c =
     goes_up_finish (g.D.Down.past c.args.down.now c.args.client.now s)
     (g.D.Down.blames c.args.down.now c.args.client.now s)
     (g.D.Down.refuses c.args.down.now c.args.client.now s)
+    (g.D.Down.cannot_end c.args.down.now c.args.client.now s)
     (g.U.Up.past c.args.up.now s) (g.U.Up.blames c.args.up.now s)
     old new c.up_finish.result p q (subst On c.in-UpFinish.is c.requires)
     (record { does = c.up_finish.ensures; down = refl; up = refl }) f
@@ -245,6 +255,7 @@ returns-in-DownFinish-clause-goes g c =
     goes_down_finish (g.D.Down.past c.down_finish.new.down c.args.client.now s)
     (g.D.Down.blames c.down_finish.new.down c.args.client.now s)
     (g.D.Down.refuses c.down_finish.new.down c.args.client.now s)
+    (g.D.Down.cannot_end c.down_finish.new.down c.args.client.now s)
     (g.U.Up.past c.args.up.now s) (g.U.Up.blames c.args.up.now s)
     (g.D.Down.past c.args.down.now c.args.client.now s) old new c.down_finish.result p q (subst On c.in-DownFinish.is c.requires)
     (record { does = c.down_finish.ensures.exact; up = refl }) (c.down_finish.ensures.goes c.args.client.now s p f.down) f

@@ -21,7 +21,7 @@ returns-in-Ok-clause-begins g c =
       broken = side.broken;
     } in
     let peer = c.write_request_header.new.self in
-    λ s came client ahead reused own behind out.
+    λ s came client ahead reused own behind out used.
     let At : ClientState → Type 0 = λ d.
     IsUnderWay state start_at s (record { came = came; written = []; got = []; sent = [] }) client
     ahead (record { alloc = c.args.alloc; client = d; peer = peer; stage = stage.Head }) in
@@ -30,7 +30,8 @@ returns-in-Ok-clause-begins g c =
     (record { alloc = c.args.alloc; client = down; peer = peer; stage = stage.Head }) refl
     (c.new-side.ensures.begins s came client ahead behind)
     (c.in-Ok.ensures.begins s own c.new-peer.ensures.fresh reused
-    (subst (λ l. IsHandedOut (state l) (start_at l) reused) (sym c.new-peer.ensures.link) out)))
+    (subst (λ l. IsHandedOut (state l) (start_at l) reused) (sym c.new-peer.ensures.link) out)
+    used))
 
 pub returns-in-Err-clause-refused : goal.returns-in-Err-clause-refused
 returns-in-Err-clause-refused g c =

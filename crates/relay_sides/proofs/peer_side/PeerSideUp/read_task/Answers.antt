@@ -1,78 +1,92 @@
 -- Each answer of a read: the side goes on with the bytes that came, and with its task.
-use Rattle.std.proofs.Common.{refl, ap}
+use Rattle.std.proofs.Common.{Bool, ◌||◌, refl, ap, ◌∙◌, append-nil}
 use Rattle.relay_peer.specs.declared.h1_client.H1Client.{H1Client}
 use Rattle.relay_tasks.specs.declared.took.Took.TheVariants as took
-use Rattle.relay_sides.proofs.PeerLemmas.{stopped_still, read_none, read_hands, read_stops}
+use Rattle.relay_sides.proofs.PeerLemmas.{stopped_still, read_none, read_hands, read_stops, side_stays, side_hands}
 use Rattle.relay_sides.proofs.peer_side.PeerSideUp.read_task.Goals as goal
 
 pub returns-in-Some-clause-goes : goal.returns-in-Some-clause-goes
 returns-in-Some-clause-goes g c = λ s q stands.
-    stopped_still s (g.L.ByteLink.start c.args.self.now.client.link)
+    side_stays s _ _ _ _ c.args.self.now _ q _ _ _ _ refl refl (append-nil q.read) stands
+    (stopped_still s (g.L.ByteLink.start c.args.self.now.client.link)
     (g.L.ByteLink.state c.args.self.now.client.link) c.args.self.now.client
-    c.args.self.now.stopped c.args.self.now.lost c.in-Some.why q c.in-Some.is stands
+    c.args.self.now.stopped c.args.self.now.lost c.in-Some.why q c.in-Some.is stands.peer)
 
 pub returns-in-Ok-clause-goes : goal.returns-in-Ok-clause-goes
 returns-in-Ok-clause-goes g c = λ s q stands.
-    read_hands s (g.L.ByteLink.start c.args.self.now.client.link)
+    side_hands s _ _ _ _ c.args.self.now _ q c.in-Ok.task _ _ _ c.read_response_task.ensures.start
+    (c.either-self.ensures
+    ∙ ap (λ (b : Bool). c.args.self.now.closes || b) c.asks_to_close.ensures) stands
+    (read_hands s (g.L.ByteLink.start c.args.self.now.client.link)
     (g.L.ByteLink.start c.read_response_task.new.self.link)
     (g.L.ByteLink.state c.args.self.now.client.link)
     (g.L.ByteLink.state c.read_response_task.new.self.link) c.args.self.now.client
     c.read_response_task.new.self c.args.self.now.stopped c.args.self.now.lost q c.in-Item.task
     c.in-Ok.task c.in-None.is c.read_response_task.ensures.start
     (ap (λ (k : H1Client _). k.request) c.read_response_task.ensures.same)
-    c.in-Item.ensures.reads c.in-Ok.ensures.0 c.in-Ok.ensures.2 stands
+    c.in-Item.ensures.reads c.in-Ok.ensures.0 c.in-Ok.ensures.2 c.in-Ok.ensures.3 stands.peer)
 
 pub returns-in-Err-clause-goes : goal.returns-in-Err-clause-goes
 returns-in-Err-clause-goes g c = λ s q stands.
-    read_stops s (g.L.ByteLink.start c.args.self.now.client.link)
+    side_stays s _ _ _ _ c.args.self.now _ q _ _ _ _ c.read_response_task.ensures.start refl
+    (append-nil q.read) stands
+    (read_stops s (g.L.ByteLink.start c.args.self.now.client.link)
     (g.L.ByteLink.start c.read_response_task.new.self.link)
     (g.L.ByteLink.state c.args.self.now.client.link)
     (g.L.ByteLink.state c.read_response_task.new.self.link) c.args.self.now.client
     c.read_response_task.new.self c.args.self.now.stopped c.args.self.now.lost q c.in-Item.task
     c.in-Err.why c.in-None.is c.read_response_task.ensures.start
     (ap (λ (k : H1Client _). k.request) c.read_response_task.ensures.same)
-    c.in-Item.ensures.reads c.in-Err.ensures stands
+    c.in-Item.ensures.reads c.in-Err.ensures stands.peer)
 
 pub returns-in-More-clause-goes : goal.returns-in-More-clause-goes
 returns-in-More-clause-goes g c = λ s q stands.
-    read_none s (g.L.ByteLink.start c.args.self.now.client.link)
+    side_stays s _ _ _ _ c.args.self.now _ q _ _ _ _ c.read_response_task.ensures.start refl
+    (append-nil q.read) stands
+    (read_none s (g.L.ByteLink.start c.args.self.now.client.link)
     (g.L.ByteLink.start c.read_response_task.new.self.link)
     (g.L.ByteLink.state c.args.self.now.client.link)
     (g.L.ByteLink.state c.read_response_task.new.self.link) c.args.self.now.client
     c.read_response_task.new.self c.args.self.now.stopped c.args.self.now.lost q
     took.More c.read_response_task.ensures.start
     (ap (λ (k : H1Client _). k.request) c.read_response_task.ensures.same)
-    c.in-More.ensures.reads refl (c.in-More.ensures.ends refl) stands
+    c.in-More.ensures.reads refl (c.in-More.ensures.ends refl) stands.peer)
 
 pub returns-in-End-clause-goes : goal.returns-in-End-clause-goes
 returns-in-End-clause-goes g c = λ s q stands.
-    read_none s (g.L.ByteLink.start c.args.self.now.client.link)
+    side_stays s _ _ _ _ c.args.self.now _ q _ _ _ _ c.read_response_task.ensures.start refl
+    (append-nil q.read) stands
+    (read_none s (g.L.ByteLink.start c.args.self.now.client.link)
     (g.L.ByteLink.start c.read_response_task.new.self.link)
     (g.L.ByteLink.state c.args.self.now.client.link)
     (g.L.ByteLink.state c.read_response_task.new.self.link) c.args.self.now.client
     c.read_response_task.new.self c.args.self.now.stopped c.args.self.now.lost q
     took.End c.read_response_task.ensures.start
     (ap (λ (k : H1Client _). k.request) c.read_response_task.ensures.same)
-    c.in-End.ensures.reads refl (c.in-End.ensures.ends refl) stands
+    c.in-End.ensures.reads refl (c.in-End.ensures.ends refl) stands.peer)
 
 pub returns-in-Waited-clause-goes : goal.returns-in-Waited-clause-goes
 returns-in-Waited-clause-goes g c = λ s q stands.
-    read_none s (g.L.ByteLink.start c.args.self.now.client.link)
+    side_stays s _ _ _ _ c.args.self.now _ q _ _ _ _ c.read_response_task.ensures.start refl
+    (append-nil q.read) stands
+    (read_none s (g.L.ByteLink.start c.args.self.now.client.link)
     (g.L.ByteLink.start c.read_response_task.new.self.link)
     (g.L.ByteLink.state c.args.self.now.client.link)
     (g.L.ByteLink.state c.read_response_task.new.self.link) c.args.self.now.client
     c.read_response_task.new.self c.args.self.now.stopped c.args.self.now.lost q
     (took.Waited c.in-Waited.pause) c.read_response_task.ensures.start
     (ap (λ (k : H1Client _). k.request) c.read_response_task.ensures.same)
-    c.in-Waited.ensures.reads refl (c.in-Waited.ensures.ends refl) stands
+    c.in-Waited.ensures.reads refl (c.in-Waited.ensures.ends refl) stands.peer)
 
 pub returns-in-Failed-clause-goes : goal.returns-in-Failed-clause-goes
 returns-in-Failed-clause-goes g c = λ s q stands.
-    read_none s (g.L.ByteLink.start c.args.self.now.client.link)
+    side_stays s _ _ _ _ c.args.self.now _ q _ _ _ _ c.read_response_task.ensures.start refl
+    (append-nil q.read) stands
+    (read_none s (g.L.ByteLink.start c.args.self.now.client.link)
     (g.L.ByteLink.start c.read_response_task.new.self.link)
     (g.L.ByteLink.state c.args.self.now.client.link)
     (g.L.ByteLink.state c.read_response_task.new.self.link) c.args.self.now.client
     c.read_response_task.new.self c.args.self.now.stopped c.args.self.now.lost q
     (took.Failed c.in-Failed.why) c.read_response_task.ensures.start
     (ap (λ (k : H1Client _). k.request) c.read_response_task.ensures.same)
-    c.in-Failed.ensures.reads refl (c.in-Failed.ensures.ends refl) stands
+    c.in-Failed.ensures.reads refl (c.in-Failed.ensures.ends refl) stands.peer)

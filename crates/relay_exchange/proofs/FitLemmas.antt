@@ -1,0 +1,885 @@
+-- What a client is sent of a response fits: the tasks, as the peer's side hands them on, are never
+-- refused by the client's writer, and where their text is over the response has come whole.
+--
+--   never_refused   no task is refused behind the front of them that was sent
+--   over_is_whole   a front that is sent as a text that is over tells the response whole
+use Rattle.std.proofs.Common.{◌≡◌, ℕ, ◌+◌, ◌-◌, ◌≤◌, nat_le, Bool, true, false, ◌||◌, ◌⊎◌, List, [], ◌∷◌, ◌++◌, length, take, drop, map, codes, refl, sym, ap, subst, ◌∙◌, append-nil, length-append, length-take, arith, inl, inr, Option, Some, None, is_some, Result, Ok, Err, option_map, MatchOption, if◌then◌else◌, eqb-true, leb-true, le-leb}
+use Rattle.std.specs.List.{list_any}
+use Rattle.std.proofs.lemmas.Bool.{cases_Bool}
+use Rattle.http_header.specs.FieldValue.{FieldValue}
+use Rattle.http_header.specs.HeaderMap.{append, append_all, index_of, update, remove, remove_at, entry_at, IsUnique}
+use Rattle.http_header.specs.Places.{IsAt, IsAbsent}
+use Rattle.http_header.proofs.BucketsLemmas.{IsUnique-push, IsUnique-with_values, IsUnique-swap_remove}
+use Rattle.http_header.proofs.PlacesLemmas.{index_of_cases}
+use Rattle.relay_tasks.specs.declared.error.Error.{Error}
+use Rattle.relay_tasks.specs.declared.task.HttpTask.{HttpTask}
+use Rattle.relay_tasks.specs.declared.task.HttpTask.TheVariants as task
+use Rattle.relay_tasks.specs.Head.{Fields, RequestHead, ResponseHead}
+use Rattle.relay_tasks.specs.Task.{is_end}
+use Rattle.relay_h1.specs.declared.framing.Framing.{Framing}
+use Rattle.relay_h1.specs.declared.framing.Framing.TheVariants as framing
+use Rattle.relay_h1.specs.Body.{BodyText, Body, ended_text, of_length}
+use Rattle.relay_h1.specs.BodyWire.{after_piece, is_full, is_short}
+use Rattle.relay_h1.specs.ClientHead.{is_informational, client_framing, client_head, framing_for, lacks_framing, chunked_head}
+use Rattle.relay_h1.specs.Framing.{is_http_10, response_framing}
+use Rattle.relay_h1.specs.Head.{kept_field}
+use Rattle.relay_h1.specs.Tasks.{HasFinal, Tasks, ResponseText, ResponseMark, ended, open_mark, mark_of}
+use Rattle.relay_h1.specs.Tasks as texts
+use Rattle.relay_h1.specs.Verdict.{HasResponse, settled}
+use Rattle.relay_h1.specs.Wire.{response_text}
+use Rattle.relay_h1.proofs.ClientHeadLemmas.{finds_framing, added_is_chunked}
+use Rattle.relay_peer.specs.ResponseReading.{Told, untold, with_task, with_head, with_piece, says}
+use Rattle.relay_peer.proofs.ExactLemmas.{Tasks-unique}
+use Rattle.relay_session.specs.Asked.{method_of, asks_of, request_of}
+use Rattle.relay_session.specs.Response.{is_over}
+use Rattle.relay_session.specs.TaskWire.{Sent, nothing_at, joined, in_front, followed, informed, only_piece, only_end, piece_sent, with_text, framed_head_sent, final_head_sent, head_sent, task_sent, tasks_sent}
+use Rattle.relay_session.specs.declared.task_text.Place.{Place}
+use Rattle.relay_session.specs.declared.task_text.Place.TheVariants as place
+use Rattle.relay_session.specs.declared.task_text.Request.{Request}
+use Rattle.relay_session.proofs.AskedLemmas.{same_framing}
+use Rattle.relay_core.specs.Moves.{EndsLast}
+use Rattle.relay_sides.specs.Body.{IsFrontOf}
+use Rattle.relay_sides.specs.Peer.{handed, told_behind, told_of}
+use Rattle.relay_sides.specs.Peer.{Follow}
+use Rattle.relay_exchange.specs.Order.{AreOf}
+
+-- ---- the fields of a head that came
+
+-- a name with other values stands once still
+updated_unique : (m : Fields) (name : List ℕ) (f : List FieldValue → List FieldValue)
+    → IsUnique m → IsUnique (update m name f)
+updated_unique m name f unique = on (index_of m name) (index_of_cases m name)
+  where
+    on : (o : Option ℕ) → MatchOption o (IsAbsent m name) (IsAt m name)
+        → IsUnique (update m name f)
+    on None x =
+        subst IsUnique (sym (x.updates f)) (IsUnique-push m (name, f []) x.absent unique)
+    on (Some i) x =
+        subst IsUnique (sym (x.updates f))
+        (IsUnique-with_values m i (f (entry_at m i).1) x.within unique)
+
+-- so does a name that is left
+removed_unique : (m : Fields) (name : List ℕ) → IsUnique m → IsUnique (remove m name)
+removed_unique m name unique = on (index_of m name) (index_of_cases m name)
+  where
+    on : (o : Option ℕ) → MatchOption o (IsAbsent m name) (IsAt m name)
+        → IsUnique (remove_at m o)
+    on None x = unique
+    on (Some i) x = IsUnique-swap_remove m i x.within unique
+
+-- no name of fields that came one after the other stands twice
+appended_unique : (m : Fields) (items : List (List ℕ × FieldValue)) → IsUnique m
+    → IsUnique (append_all m items)
+appended_unique m [] unique = unique
+appended_unique m (item ∷ items) unique =
+    appended_unique (append m item.0 item.1) items
+    (updated_unique m item.0 (λ values. values ++ item.1 ∷ []) unique)
+
+-- a field less, where the head is settled
+settled_unique : (f : Framing) (head : ResponseHead) → IsUnique head.fields
+    → IsUnique (settled f head).fields
+settled_unique framing.Empty head unique = unique
+settled_unique (framing.Length n) head unique = unique
+settled_unique framing.Chunked head unique =
+    removed_unique head.fields (codes "content-length") unique
+settled_unique framing.UntilClose head unique = unique
+settled_unique framing.Tunnel head unique = unique
+
+-- a client of HTTP/1.1 gets any framing as it is
+same_for : (f : Framing) → framing_for false f ≡ f
+same_for framing.Empty = refl
+same_for (framing.Length n) = refl
+same_for framing.Chunked = refl
+same_for framing.UntilClose = refl
+same_for framing.Tunnel = refl
+
+-- a head that came is framed as it is read
+came_framed : (method bytes : List ℕ) (head : ResponseHead) (f : Framing) (len : ℕ)
+    → HasResponse method false bytes head f len → response_framing method false head ≡ Some f
+came_framed method bytes head f len has =
+    let none : IsUnique {X = FieldValue} [] = λ i j within other same. omega arith in
+    let unique = subst (λ (h : ResponseHead). IsUnique h.fields) (sym has.starts.reads.is)
+    (appended_unique [] (map kept_field has.starts.reads.form.fields) none) in
+    subst (λ (h : ResponseHead). response_framing method false h ≡ Some f) (sym has.is)
+    (finds_framing method false false has.given f has.framed unique
+    (settled_unique f has.given unique)
+    ∙ ap Some (same_for f))
+
+-- ---- the framing towards the client
+
+-- a head as it is handed on
+abbrev handed_head : List ℕ → Bool → ResponseHead → ResponseHead
+handed_head method ends head =
+    if lacks_framing method ends head then chunked_head head else head
+
+-- a head that is handed on is framed as it came, or chunked
+abbrev IsHandedAs : Framing → Framing → Type 0
+IsHandedAs f g = (g ≡ f) ⊎ (g ≡ framing.Chunked)
+
+-- how a head is framed that is handed on
+record HandsOver (method : List ℕ) (ends : Bool) (head : ResponseHead) (f : Framing)
+    : Type 0 where
+  pub g : Framing
+  pub framed : response_framing method false (handed_head method ends head) ≡ Some g
+  pub comes : IsHandedAs f g
+
+-- a framed head is handed on framed
+hands_over : (method : List ℕ) (ends : Bool) (head : ResponseHead) (f : Framing)
+    → response_framing method false head ≡ Some f → HandsOver method ends head f
+hands_over method ends head f is =
+    elim (cases_Bool (lacks_framing method ends head)) [
+      | inl lacks ↦
+          record {
+            g = framing.Chunked;
+            framed = rw lacks (added_is_chunked method false ends head lacks);
+            comes = inr refl;
+          }
+      | inr has ↦ record { g = f; framed = rw has is; comes = inl refl }
+    ]
+
+-- the status stays
+handed_status : (method : List ℕ) (ends : Bool) (head : ResponseHead)
+    → (handed_head method ends head).status ≡ head.status
+handed_status method ends head = on (lacks_framing method ends head)
+  where
+    on : (chunked : Bool) → (if chunked then chunked_head head else head).status ≡ head.status
+    on true = refl
+    on false = refl
+
+-- the client's framing is that of the head, as its version takes it
+client_framed : (head : RequestHead) (response : ResponseHead) (g : Framing)
+    → response_framing head.method false response ≡ Some g
+    → client_framing (method_of (asks_of head.method)) head.version false response
+    ≡ Some (framing_for (is_http_10 head.version) g)
+unfolding client_framing
+client_framed head response g is =
+    same_framing head.method head.version false response
+    ∙ ap (λ (f : Option Framing). option_map (framing_for (is_http_10 head.version)) f) is
+
+-- ---- what is left of a body
+
+-- no bytes leave it as it is
+after_none : (rest : Framing) → after_piece rest [] ≡ rest
+after_none framing.Empty = refl
+after_none (framing.Length n) = ap framing.Length (less_none n)
+  where
+    less_none : (k : ℕ) → k - 0 ≡ k
+    less_none k = omega arith
+after_none framing.Chunked = refl
+after_none framing.UntilClose = refl
+after_none framing.Tunnel = refl
+
+-- two pieces are as one
+after_two : (rest : Framing) (a b : List ℕ)
+    → after_piece (after_piece rest a) b ≡ after_piece rest (a ++ b)
+after_two framing.Empty a b = refl
+after_two (framing.Length n) a b = ap framing.Length (less_two n)
+  where
+    less_two : (k : ℕ) → k - length a - length b ≡ k - length (a ++ b)
+    less_two k = omega (arith, length-append a b)
+after_two framing.Chunked a b = refl
+after_two framing.UntilClose a b = refl
+after_two framing.Tunnel a b = refl
+
+-- what is sent in chunks, or up to the close, is never short
+chunked_fits : (old : Bool) (body : List ℕ)
+    → is_short (after_piece (framing_for old framing.Chunked) body) ≡ false
+chunked_fits true body = refl
+chunked_fits false body = refl
+
+-- nor full
+chunked_open : (old : Bool) (body : List ℕ)
+    → is_full (after_piece (framing_for old framing.Chunked) body) ≡ false
+chunked_open true body = refl
+chunked_open false body = refl
+
+-- a whole body is not short
+whole_fits : (old : Bool) (f : Framing) (body : List ℕ)
+    → ((k : ℕ) → f ≡ framing.Length k → length body ≡ k)
+    → is_short (after_piece (framing_for old f) body) ≡ false
+whole_fits old framing.Empty body whole = refl
+whole_fits old (framing.Length k) body whole =
+    let none : k - length body ≡ 0 = omega (arith, whole k refl) in rw none refl
+whole_fits old framing.Chunked body whole = chunked_fits old body
+whole_fits old framing.UntilClose body whole = refl
+whole_fits old framing.Tunnel body whole = refl
+
+-- nor is it towards the client
+handed_fits : (old : Bool) (f g : Framing) (body : List ℕ) → IsHandedAs f g
+    → ((k : ℕ) → f ≡ framing.Length k → length body ≡ k)
+    → is_short (after_piece (framing_for old g) body) ≡ false
+handed_fits old f g body (inl same) whole =
+    subst (λ (x : Framing). is_short (after_piece (framing_for old x) body) ≡ false) (sym same)
+    (whole_fits old f body whole)
+handed_fits old f g body (inr chunked) whole =
+    subst (λ (x : Framing). is_short (after_piece (framing_for old x) body) ≡ false)
+    (sym chunked) (chunked_fits old body)
+
+-- ---- what is sent
+
+-- it is sent, and the response stands there behind it
+record Goes (result : Result Sent Error) (at : Place) : Type 0 where
+  pub sent : Sent
+  pub is : result ≡ Ok sent
+  pub leads : sent.place ≡ at
+
+-- where a response stands behind a piece that leaves so much
+abbrev behind_piece : Bool → Framing → Place
+behind_piece ends rest = if ends then place.Done else place.Body rest
+
+-- a piece is sent, unless the body ends short with it
+piece_goes : (rest : Framing) (piece : List ℕ) (ends : Bool)
+    → (ends ≡ true → is_short (after_piece rest piece) ≡ false)
+    → Goes (piece_sent rest piece ends) (behind_piece ends (after_piece rest piece))
+piece_goes rest piece false fits =
+    record { sent = only_piece rest piece; is = refl; leads = refl }
+piece_goes rest piece true fits = record {
+  sent = joined (only_piece rest piece) (only_end (after_piece rest piece));
+  is = rw (fits refl) refl;
+  leads = refl;
+}
+
+-- so is a text in front of it
+text_goes : (text : List ℕ) (result : Result Sent Error) (at : Place) → Goes result at
+    → Goes (with_text text result) at
+text_goes text result at goes =
+    subst (λ (r : Result Sent Error). Goes (with_text text r) at) (sym goes.is)
+    (record {
+      sent = record goes.sent { text = text ++ goes.sent.text };
+      is = refl;
+      leads = goes.leads;
+    })
+
+-- a head that is framed is sent, unless the body ends short with it
+framed_goes : (head : ResponseHead) (ends : Bool) (g : Framing) (found : Option Framing)
+    → found ≡ Some g → (ends ≡ true → is_short (after_piece g []) ≡ false)
+    → Goes (framed_head_sent head ends found) (behind_piece ends (after_piece g []))
+framed_goes head ends g found is fits =
+    subst
+    (λ (o : Option Framing).
+    Goes (framed_head_sent head ends o) (behind_piece ends (after_piece g [])))
+    (sym is)
+    (text_goes (response_text head) (piece_sent g [] ends)
+    (behind_piece ends (after_piece g [])) (piece_goes g [] ends fits))
+
+-- a head that informs is sent as such
+informing_sent : (request : Request) (head : ResponseHead) (ends : Bool)
+    → is_informational head.status ≡ true
+    → head_sent request head ends ≡ Ok (informed request head)
+informing_sent request head ends is = rw is refl
+
+-- and any other as a final one
+final_goes : (request : Request) (head : ResponseHead) (ends : Bool) (at : Place)
+    → is_informational head.status ≡ false → Goes (final_head_sent request head ends) at
+    → Goes (head_sent request head ends) at
+final_goes request head ends at is goes = rw is goes
+
+-- one thing was sent
+same_sent : (result : Result Sent Error) (a b : Sent) → result ≡ Ok a → result ≡ Ok b → a ≡ b
+same_sent result a b x y = let same = sym x ∙ y in cc
+
+-- and then the next
+then_sent : (first : Result Sent Error) (next : Place → Result Sent Error) (sent rest : Sent)
+    → first ≡ Ok sent → next sent.place ≡ Ok rest → followed first next ≡ Ok (joined sent rest)
+then_sent first next sent rest is behind =
+    ap (λ (r : Result Sent Error). followed r next) is
+    ∙ ap (λ (r : Result Sent Error). in_front sent r) behind
+
+-- ---- what is told
+
+-- a head that informs tells no final one
+told_informs : (told : Told) (head : ResponseHead) → is_informational head.status ≡ true
+    → with_head told head ≡ record told { informed = told.informed ++ head ∷ [] }
+told_informs told head is = rw is refl
+
+-- and any other does
+told_final : (told : Told) (head : ResponseHead) → is_informational head.status ≡ false
+    → with_head told head ≡ record told { final = Some head }
+told_final told head is = rw is refl
+
+-- a head tells no byte of the body
+head_body : (told : Told) (head : ResponseHead) → (with_head told head).body ≡ told.body
+head_body told head = on (is_informational head.status)
+  where
+    on : (informs : Bool) → (if informs then record told { informed = told.informed ++ head ∷ [] }
+        else record told { final = Some head }).body ≡ told.body
+    on true = refl
+    on false = refl
+
+-- no final head was told where one is to come
+never_both : {A : Type 0} (told : Option ResponseHead) (head : ResponseHead) → told ≡ None
+    → told ≡ Some head → A
+never_both told head none some = let both = sym none ∙ some in absurd (cc)
+
+-- a final head that was told stays
+final_stays : (told : Told) (tasks : List HttpTask) (head : ResponseHead) → Follow told tasks
+    → told.final ≡ Some head → (told_behind told tasks).final ≡ Some head
+final_stays told [] head follow is = is
+final_stays told (task.Header other end ∷ tasks) head follow is =
+    never_both told.final head follow.0 is
+final_stays told (task.Body None end ∷ tasks) head follow is = absurd follow.0
+final_stays told (task.Body (Some piece) end ∷ tasks) head follow is =
+    final_stays (with_piece told (Some piece)) tasks head follow.2 is
+final_stays told (task.UpgradedBody piece end ∷ tasks) head follow is = absurd follow.0
+final_stays told (task.Trailer fields ∷ tasks) head follow is = absurd follow.0
+final_stays told (task.Done ∷ tasks) head follow is = final_stays told tasks head follow.2 is
+final_stays told (task.Failed error ∷ tasks) head follow is = absurd follow.0
+
+-- one task takes no byte back
+one_grows : (told : Told) (one : HttpTask) → length told.body ≤ length (with_task told one).body
+one_grows told (task.Header head end) =
+    omega (arith, ap (λ (l : List ℕ). length l) (head_body told head))
+one_grows told (task.Body None end) = omega arith
+one_grows told (task.Body (Some piece) end) = omega (arith, length-append told.body piece)
+one_grows told (task.UpgradedBody piece end) = omega arith
+one_grows told (task.Trailer fields) = omega arith
+one_grows told task.Done = omega arith
+one_grows told (task.Failed error) = omega arith
+
+-- nor do tasks in order
+body_grows : (told : Told) (tasks : List HttpTask)
+    → length told.body ≤ length (told_behind told tasks).body
+body_grows told [] = omega arith
+body_grows told (one ∷ tasks) =
+    omega (arith, one_grows told one, body_grows (with_task told one) tasks)
+
+-- ---- what the bytes say
+
+-- a text of a response by its parts
+abbrev text_of : List ResponseHead → Option ResponseHead → List ℕ → ResponseMark → ResponseText
+text_of heads final body mark =
+    record { informed = heads; final = final; body = body; mark = mark }
+
+-- equal parts, one text
+same_text : (heads : List ResponseHead) (f g : Option ResponseHead) (a b : List ℕ)
+    (m n : ResponseMark) → f ≡ g → a ≡ b → m ≡ n → text_of heads f a m ≡ text_of heads g b n
+same_text heads f g a b m n finals bodies marks =
+    ap (λ (x : Option ResponseHead). text_of heads x a m) finals
+    ∙ ap (λ (x : List ℕ). text_of heads g x m) bodies
+    ∙ ap (λ (x : ResponseMark). text_of heads g b x) marks
+
+-- a response that is not whole has not ended
+open_is_none : {A : Type 0} (closed : Bool) (n : ℕ) → ended n ≡ open_mark closed → A
+open_is_none true n is = absurd (cc)
+open_is_none false n is = absurd (cc)
+
+-- a body of some length that has ended has that length
+ended_length : (k n begins all : ℕ) (closed : Bool) (bytes body : List ℕ)
+    → body ≡ take k bytes
+    → ended n ≡ mark_of (framing.Length k) begins all closed (of_length k bytes).mark
+    → length body ≡ k
+ended_length k n begins all closed bytes body is mark =
+    elim (cases_Bool (nat_le k (length bytes))) [
+      | inl whole ↦
+          omega (
+            arith,
+            ap (λ (l : List ℕ). length l) is,
+            length-take k bytes,
+            leb-true k (length bytes) whole,
+          )
+      | inr some ↦ open_is_none closed n (rw some at mark)
+    ]
+
+-- the front of a list that is no shorter is that list
+front_is_all : (xs ys : List ℕ) → IsFrontOf xs ys → length ys ≤ length xs → xs ≡ ys
+front_is_all xs ys front long =
+    let size = length-append xs front.rest in
+    let whole = ap (λ (l : List ℕ). length l) front.joined in
+    let none = none_left front.rest (omega arith) in
+    sym (append-nil xs) ∙ ap (λ (l : List ℕ). xs ++ l) (sym none) ∙ front.joined
+  where
+    none_left : (l : List ℕ) → length l ≤ 0 → l ≡ []
+    none_left [] few = refl
+    none_left (x ∷ l) few = absurd (omega arith)
+
+-- ---- parts of what was handed on
+
+-- the tasks that were handed on as a front, and as what follows it
+record Parts (method : List ℕ) (given front rest : List HttpTask) : Type 0 where
+  pub first : List HttpTask
+  pub next : List HttpTask
+  pub joined : given ≡ first ++ next
+  pub are_first : map (handed method) first ≡ front
+  pub are_next : map (handed method) next ≡ rest
+
+-- one task and those behind it
+cons_parts : (x y : HttpTask) (xs ys : List HttpTask)
+    → (let l : List HttpTask = x ∷ xs in l ≡ y ∷ ys) → (x ≡ y) × (xs ≡ ys)
+cons_parts x y xs ys is = (cc, cc)
+
+-- what was handed on comes from parts of what was given
+parts_of : (method : List ℕ) (given front rest : List HttpTask)
+    → map (handed method) given ≡ front ++ rest → Parts method given front rest
+parts_of method given [] rest is =
+    record { first = []; next = given; joined = refl; are_first = refl; are_next = is }
+parts_of method [] (x ∷ front) rest is = absurd (cc)
+parts_of method (one ∷ given) (x ∷ front) rest is =
+    let both = cons_parts (handed method one) x (map (handed method) given) (front ++ rest) is in
+    let later = parts_of method given front rest both.1 in
+    record {
+      first = one ∷ later.first;
+      next = later.next;
+      joined = ap (λ (l : List HttpTask). one ∷ l) later.joined;
+      are_first = ap (λ (t : HttpTask). t ∷ map (handed method) later.first) both.0
+          ∙ ap (λ (l : List HttpTask). x ∷ l) later.are_first;
+      are_next = later.are_next;
+    }
+
+-- the first of what follows
+record Heads (method : List ℕ) (given : List HttpTask) (at : HttpTask) : Type 0 where
+  pub one : HttpTask
+  pub behind : List HttpTask
+  pub is : given ≡ one ∷ behind
+  pub handed_on : handed method one ≡ at
+
+-- what was handed on as one task and more has a first
+heads_of : (method : List ℕ) (given : List HttpTask) (at : HttpTask) (behind : List HttpTask)
+    → map (handed method) given ≡ at ∷ behind → Heads method given at
+heads_of method [] at behind is = absurd (cc)
+heads_of method (one ∷ given) at behind is =
+    let both = cons_parts (handed method one) at (map (handed method) given) behind is in
+    record { one = one; behind = given; is = refl; handed_on = both.0 }
+
+-- a test that passes on a list passes on a longer one
+later_passes : (a b : Bool) → b ≡ true → (a || b) ≡ true
+later_passes true b is = refl
+later_passes false b is = is
+
+-- ---- the response
+
+module _
+    (head : RequestHead) (closed : Bool) (got : List ℕ) (tasks : List HttpTask)
+    (are : AreOf head.method closed got tasks)
+  where
+    -- whether the client is of HTTP/1.0
+    abbrev old : Bool
+    old = is_http_10 head.version
+
+    -- what the whole of the tasks tells
+    abbrev all : Told
+    all = told_of are.given
+
+    -- this final head is told, with the framing in which it came
+    record IsFinal (final : ResponseHead) (f : Framing) : Type 0 where
+      pub told : all.final ≡ Some final
+      pub len : ℕ
+      pub has : HasFinal head.method false got all.informed final f len
+
+    -- where the response stands behind what was told: no final head, or what it leaves of the body
+    -- behind the bytes that were told, or the end, which is among the tasks
+    data Stands (told : Told) (at : Place) : Type 0 where
+      none_yet : told.final ≡ None → told.body ≡ [] → at ≡ place.NoHead → Stands told at
+      in_body : (final : ResponseHead) (f g : Framing) → told.final ≡ Some final
+          → IsFinal final f → IsHandedAs f g
+          → at ≡ place.Body (after_piece (framing_for old g) told.body) → Stands told at
+      is_done : (final : ResponseHead) → told.final ≡ Some final
+          → list_any is_end are.given ≡ true → at ≡ place.Done → Stands told at
+
+    -- the tasks that are left behind what was told
+    record Left (told : Told) (rest : List HttpTask) : Type 0 where
+      pub follow : Follow told rest
+      pub tells : told_behind told rest ≡ all
+      pub ends_last : EndsLast rest
+      pub ends : list_any is_end rest ≡ true → list_any is_end are.given ≡ true
+
+    -- at first all are left
+    all_left : Left untold are.given
+    all_left = record {
+      follow = are.follow;
+      tells = refl;
+      ends_last = are.ends_last;
+      ends = λ is. is;
+    }
+
+    -- behind one of them
+    one_less : (told : Told) (one : HttpTask) (rest : List HttpTask) → Left told (one ∷ rest)
+        → Left (with_task told one) rest
+    one_less told one rest left = record {
+      follow = left.follow.2;
+      tells = left.tells;
+      ends_last = λ front behind same found.
+          left.ends_last (one ∷ front) behind (ap (λ (l : List HttpTask). one ∷ l) same)
+          (later_passes (is_end one) (list_any is_end front) found);
+      ends = λ is. left.ends (later_passes (is_end one) (list_any is_end rest) is);
+    }
+
+    -- an end is the last of them
+    record EndsAll (told : Told) : Type 0 where
+      pub among : list_any is_end are.given ≡ true
+      pub tells : all ≡ told
+
+    -- so what was told with it is all
+    ends_all : (told : Told) (one : HttpTask) (rest : List HttpTask) → Left told (one ∷ rest)
+        → is_end one ≡ true → EndsAll (with_task told one)
+    ends_all told one rest left is =
+        let none = left.ends_last (one ∷ []) rest refl (rw is refl) in
+        record {
+          among = left.ends (rw is refl);
+          tells = sym left.tells
+              ∙ ap (λ (l : List HttpTask). told_behind (with_task told one) l) none;
+        }
+
+    -- what the bytes say of the response, by its final head
+    all_said : (final : ResponseHead) (f : Framing) (is : IsFinal final f) (text : BodyText)
+        → Body f (drop is.len got) text
+        → Tasks head.method false got closed
+        (text_of all.informed (Some final) text.bytes
+        (mark_of f is.len (length got) closed text.mark))
+    all_said final f is text said =
+        subst
+        (λ (k : ℕ). Tasks head.method false got closed
+        (text_of all.informed (Some final) text.bytes
+        (mark_of f k (length got) closed text.mark)))
+        (sym is.has.ends)
+        (texts.Tasks.has_final all.informed is.has.place final f is.has.own text is.has.informs
+        is.has.has is.has.final
+        (subst (λ (k : ℕ). Body f (drop k got) text) is.has.ends said))
+
+    -- a body of some length that has ended was told whole
+    length_told : list_any is_end are.given ≡ true → (final : ResponseHead) (f : Framing)
+        → IsFinal final f → (k : ℕ) → f ≡ framing.Length k → length all.body ≡ k
+    length_told ends final f is k same =
+        let there = subst (λ (x : Framing). IsFinal final x) same is in
+        let text = of_length k (drop there.len got) in
+        let whole = are.whole ends in
+        let said = all_said final (framing.Length k) there text refl in
+        let one = Tasks-unique head.method false got closed (says all (ended whole.0))
+        (text_of all.informed (Some final) text.bytes
+        (mark_of (framing.Length k) there.len (length got) closed text.mark)) whole.1 said in
+        ended_length k whole.0 there.len (length got) closed (drop there.len got) all.body
+        (ap (λ (t : ResponseText). t.body) one) (ap (λ (t : ResponseText). t.mark) one)
+
+    -- at an end the body is not short
+    end_fits : (told : Told) (one : HttpTask) (rest : List HttpTask) → Left told (one ∷ rest)
+        → (final : ResponseHead) (f g : Framing) → IsFinal final f → IsHandedAs f g
+        → is_end one ≡ true
+        → is_short (after_piece (framing_for old g) (with_task told one).body) ≡ false
+    end_fits told one rest left final f g is comes ends =
+        let here = ends_all told one rest left ends in
+        handed_fits old f g (with_task told one).body comes
+        (λ k same. subst (λ (t : Told). length t.body ≡ k) here.tells
+        (length_told here.among final f is k same))
+
+    -- ---- one task
+
+    -- a task is sent, and where the response stands behind it
+    record Steps (told : Told) (at : Place) (one : HttpTask) : Type 0 where
+      pub sent : Sent
+      pub is : task_sent (request_of head) at (handed head.method one) ≡ Ok sent
+      pub stands : Stands (with_task told one) sent.place
+
+    -- where it stands behind a piece, which may be the last
+    stands_behind : (told : Told) (at : Place) (ends : Bool) (rest : Framing)
+        (final : ResponseHead) (f g : Framing) → told.final ≡ Some final → IsFinal final f
+        → IsHandedAs f g → (ends ≡ true → list_any is_end are.given ≡ true)
+        → rest ≡ after_piece (framing_for old g) told.body → at ≡ behind_piece ends rest
+        → Stands told at
+    stands_behind told at true rest final f g tells is comes among same leads =
+        is_done final tells (among refl) leads
+    stands_behind told at false rest final f g tells is comes among same leads =
+        in_body final f g tells is comes (leads ∙ ap place.Body same)
+
+    -- a final head
+    final_steps : (told : Told) (given : ResponseHead) (ends : Bool) (rest : List HttpTask)
+        → Left told (task.Header given ends ∷ rest) → told.body ≡ []
+        → is_informational given.status ≡ false
+        → Steps told place.NoHead (task.Header given ends)
+    final_steps told given ends rest left none final =
+        let one = task.Header given ends in
+        let tells : (with_task told one).final ≡ Some given =
+        ap (λ (t : Told). t.final) (told_final told given final) in
+        let bare : (with_task told one).body ≡ [] = head_body told given ∙ none in
+        let in_all : all.final ≡ Some given =
+        ap (λ (t : Told). t.final) (sym left.tells)
+        ∙ final_stays (with_task told one) rest given left.follow.2 tells in
+        let found = are.final given in_all in
+        let f = found.0 in
+        let is : IsFinal given f = record { told = in_all; len = found.1; has = found.2 } in
+        let over = hands_over head.method ends given f
+        (came_framed head.method (drop is.has.place got) given f is.has.own is.has.has) in
+        let g = over.g in
+        let out = handed_head head.method ends given in
+        let goes = final_goes (request_of head) out ends
+        (behind_piece ends (after_piece (framing_for old g) []))
+        (ap is_informational (handed_status head.method ends given) ∙ final)
+        (framed_goes (client_head (method_of (asks_of head.method)) head.version false out) ends
+        (framing_for old g)
+        (client_framing (method_of (asks_of head.method)) head.version false out)
+        (client_framed head out g over.framed)
+        (λ last. subst
+        (λ (l : List ℕ). is_short (after_piece (framing_for old g) l) ≡ false) bare
+        (end_fits told one rest left given f g is over.comes last))) in
+        record {
+          sent = goes.sent;
+          is = goes.is;
+          stands = stands_behind (with_task told one) goes.sent.place ends
+              (after_piece (framing_for old g) []) given f g tells is over.comes
+              (λ last. (ends_all told one rest left last).among)
+              (ap (λ (l : List ℕ). after_piece (framing_for old g) l) (sym bare)) goes.leads;
+        }
+
+    -- a head that informs
+    informs_steps : (told : Told) (given : ResponseHead) (ends : Bool) → told.final ≡ None
+        → told.body ≡ [] → is_informational given.status ≡ true
+        → Steps told place.NoHead (task.Header given ends)
+    informs_steps told given ends none bare informs =
+        let out = handed_head head.method ends given in
+        record {
+          sent = informed (request_of head) out;
+          is = informing_sent (request_of head) out ends
+              (ap is_informational (handed_status head.method ends given) ∙ informs);
+          stands = subst (λ (t : Told). Stands t place.NoHead)
+              (sym (told_informs told given informs)) (none_yet none bare refl);
+        }
+
+    -- where no final head was sent
+    from_none : (told : Told) (one : HttpTask) (rest : List HttpTask) → Left told (one ∷ rest)
+        → told.final ≡ None → told.body ≡ [] → Steps told place.NoHead one
+    from_none told (task.Header given ends) rest left none bare =
+        elim (cases_Bool (is_informational given.status)) [
+          | inl informs ↦ informs_steps told given ends none bare informs
+          | inr final ↦ final_steps told given ends rest left bare final
+        ]
+    from_none told (task.Body piece ends) rest left none bare =
+        let wrong : false ≡ true =
+        subst (λ (o : Option ResponseHead). is_some o ≡ true) none left.follow.1 in absurd (cc)
+    from_none told (task.UpgradedBody piece ends) rest left none bare = absurd left.follow.0
+    from_none told (task.Trailer fields) rest left none bare = absurd left.follow.0
+    from_none told task.Done rest left none bare =
+        record { sent = nothing_at place.NoHead; is = refl; stands = none_yet none bare refl }
+    from_none told (task.Failed error) rest left none bare = absurd left.follow.0
+
+    -- a piece of the body
+    piece_steps : (told : Told) (one : HttpTask) (rest : List HttpTask)
+        → Left told (one ∷ rest) → (final : ResponseHead) (f g : Framing)
+        → told.final ≡ Some final → IsFinal final f → IsHandedAs f g → (piece : List ℕ)
+        → (with_task told one).final ≡ told.final
+        → (with_task told one).body ≡ told.body ++ piece
+        → (sent : Sent)
+        × (piece_sent (after_piece (framing_for old g) told.body) piece (is_end one) ≡ Ok sent)
+        × Stands (with_task told one) sent.place
+    piece_steps told one rest left final f g tells is comes piece same grows =
+        let left_of : after_piece (after_piece (framing_for old g) told.body) piece
+        ≡ after_piece (framing_for old g) (with_task told one).body =
+        after_two (framing_for old g) told.body piece
+        ∙ ap (λ (l : List ℕ). after_piece (framing_for old g) l) (sym grows) in
+        let goes = piece_goes (after_piece (framing_for old g) told.body) piece (is_end one)
+        (λ last. ap is_short left_of ∙ end_fits told one rest left final f g is comes last) in (
+          goes.sent,
+          goes.is,
+          stands_behind (with_task told one) goes.sent.place (is_end one)
+              (after_piece (after_piece (framing_for old g) told.body) piece) final f g
+              (same ∙ tells) is comes
+              (λ last. (ends_all told one rest left last).among) left_of goes.leads,
+        )
+
+    -- inside the body
+    from_body : (told : Told) (one : HttpTask) (rest : List HttpTask) → Left told (one ∷ rest)
+        → (final : ResponseHead) (f g : Framing) → told.final ≡ Some final → IsFinal final f
+        → IsHandedAs f g
+        → Steps told (place.Body (after_piece (framing_for old g) told.body)) one
+    from_body told (task.Header given ends) rest left final f g tells is comes =
+        never_both told.final final left.follow.0 tells
+    from_body told (task.Body None ends) rest left final f g tells is comes = absurd left.follow.0
+    from_body told (task.Body (Some piece) ends) rest left final f g tells is comes =
+        let goes = piece_steps told (task.Body (Some piece) ends) rest left final f g tells is comes
+        piece refl refl in
+        record { sent = goes.0; is = goes.1; stands = goes.2 }
+    from_body told (task.UpgradedBody piece ends) rest left final f g tells is comes =
+        absurd left.follow.0
+    from_body told (task.Trailer fields) rest left final f g tells is comes = absurd left.follow.0
+    from_body told task.Done rest left final f g tells is comes =
+        let goes = piece_steps told task.Done rest left final f g tells is comes [] refl
+        (sym (append-nil told.body)) in
+        record { sent = goes.0; is = goes.1; stands = goes.2 }
+    from_body told (task.Failed error) rest left final f g tells is comes = absurd left.follow.0
+
+    -- behind the end
+    from_done : (told : Told) (one : HttpTask) (rest : List HttpTask) → Left told (one ∷ rest)
+        → (final : ResponseHead) → told.final ≡ Some final
+        → list_any is_end are.given ≡ true → Steps told place.Done one
+    from_done told (task.Header given ends) rest left final tells among =
+        never_both told.final final left.follow.0 tells
+    from_done told (task.Body None ends) rest left final tells among = absurd left.follow.0
+    from_done told (task.Body (Some piece) ends) rest left final tells among =
+        record {
+          sent = nothing_at place.Done;
+          is = refl;
+          stands = is_done final tells among refl;
+        }
+    from_done told (task.UpgradedBody piece ends) rest left final tells among =
+        absurd left.follow.0
+    from_done told (task.Trailer fields) rest left final tells among = absurd left.follow.0
+    from_done told task.Done rest left final tells among =
+        record {
+          sent = nothing_at place.Done;
+          is = refl;
+          stands = is_done final tells among refl;
+        }
+    from_done told (task.Failed error) rest left final tells among = absurd left.follow.0
+
+    -- from wherever it stands
+    steps : (told : Told) (at : Place) (one : HttpTask) (rest : List HttpTask)
+        → Left told (one ∷ rest) → Stands told at → Steps told at one
+    steps told at one rest left (none_yet none bare there) =
+        subst (λ (p : Place). Steps told p one) (sym there)
+        (from_none told one rest left none bare)
+    steps told at one rest left (in_body final f g tells is comes there) =
+        subst (λ (p : Place). Steps told p one) (sym there)
+        (from_body told one rest left final f g tells is comes)
+    steps told at one rest left (is_done final tells among there) =
+        subst (λ (p : Place). Steps told p one) (sym there)
+        (from_done told one rest left final tells among)
+
+    -- ---- tasks in order
+
+    -- a front of them is sent, and where the response stands behind it
+    record Walks (told : Told) (at : Place) (front rest : List HttpTask) : Type 0 where
+      pub sent : Sent
+      pub is : tasks_sent (request_of head) at (map (handed head.method) front) ≡ Ok sent
+      pub stands : Stands (told_behind told front) sent.place
+      pub left : Left (told_behind told front) rest
+
+    -- every front is, from wherever the response stands
+    walks : (told : Told) (at : Place) (front rest : List HttpTask) → Left told (front ++ rest)
+        → Stands told at → Walks told at front rest
+    walks told at [] rest left stands =
+        record { sent = nothing_at at; is = refl; stands = stands; left = left }
+    walks told at (one ∷ front) rest left stands =
+        let first = steps told at one (front ++ rest) left stands in
+        let later = walks (with_task told one) first.sent.place front rest
+        (one_less told one (front ++ rest) left) first.stands in
+        record {
+          sent = joined first.sent later.sent;
+          is = then_sent (task_sent (request_of head) at (handed head.method one))
+              (λ next. tasks_sent (request_of head) next (map (handed head.method) front))
+              first.sent later.sent first.is later.is;
+          stands = later.stands;
+          left = later.left;
+        }
+
+    -- the front that was sent, by the tasks that it was handed on from
+    record SendsFront (front rest : List HttpTask) (sent : Sent) : Type 0 where
+      pub told : Told
+      pub next : List HttpTask
+      pub are_next : map (handed head.method) next ≡ rest
+      pub stands : Stands told sent.place
+      pub left : Left told next
+
+    -- from the first task on
+    sends_front : (front rest : List HttpTask) → tasks ≡ front ++ rest → (sent : Sent)
+        → tasks_sent (request_of head) place.NoHead front ≡ Ok sent → SendsFront front rest sent
+    sends_front front rest same sent is =
+        let parts = parts_of head.method are.given front rest (sym are.are ∙ same) in
+        let walk = walks untold place.NoHead parts.first parts.next
+        (subst (λ (l : List HttpTask). Left untold l) parts.joined all_left)
+        (none_yet refl refl refl) in
+        let one = same_sent (tasks_sent (request_of head) place.NoHead front) walk.sent sent
+        (subst
+        (λ (l : List HttpTask).
+        tasks_sent (request_of head) place.NoHead l ≡ Ok walk.sent)
+        parts.are_first walk.is)
+        is in
+        record {
+          told = told_of parts.first;
+          next = parts.next;
+          are_next = parts.are_next;
+          stands = subst (λ (s : Sent). Stands (told_of parts.first) s.place) one walk.stands;
+          left = walk.left;
+        }
+
+    -- no task of the response is refused by the client's writer
+    pub never_refused : (front behind : List HttpTask) (at : HttpTask)
+        → tasks ≡ front ++ at ∷ behind → (sent : Sent)
+        → tasks_sent (request_of head) place.NoHead front ≡ Ok sent → (e : Error)
+        → task_sent (request_of head) sent.place at ≡ Err e → ⊥
+    never_refused front behind at same sent is e refused =
+        let there = sends_front front (at ∷ behind) same sent is in
+        let next = heads_of head.method there.next at behind there.are_next in
+        let step = steps there.told sent.place next.one next.behind
+        (subst (λ (l : List HttpTask). Left there.told l) next.is there.left) there.stands in
+        never (task_sent (request_of head) sent.place at) step.sent e
+        (subst
+        (λ (t : HttpTask). task_sent (request_of head) sent.place t ≡ Ok step.sent)
+        next.handed_on step.is)
+        refused
+      where
+        never : (result : Result Sent Error) (more : Sent) (error : Error) → result ≡ Ok more
+            → result ≡ Err error → ⊥
+        never result more error x y = let both = sym x ∙ y in cc
+
+    -- ---- the whole response
+
+    -- what was told of the response, with its end
+    abbrev IsTold : Type 0
+    IsTold = (n : ℕ) × Tasks head.method false got closed (says all (ended n))
+
+    -- what the bytes say is what was told
+    is_told : (final : ResponseHead) (f : Framing) (is : IsFinal final f) (text : BodyText) (n : ℕ)
+        → Body f (drop is.len got) text → text.bytes ≡ all.body
+        → mark_of f is.len (length got) closed text.mark ≡ ended n → IsTold
+    is_told final f is text n said bytes mark = (
+      n,
+      subst (λ (t : ResponseText). Tasks head.method false got closed t)
+          (same_text all.informed (Some final) all.final text.bytes all.body
+          (mark_of f is.len (length got) closed text.mark) (ended n) (sym is.told) bytes mark)
+          (all_said final f is text said),
+    )
+
+    -- a body of some length of which all was told has ended
+    length_whole : (final : ResponseHead) (k : ℕ) → IsFinal final (framing.Length k)
+        → k ≤ length all.body → IsTold
+    length_whole final k is long =
+        let bytes = drop is.len got in
+        let size = length-take k bytes in
+        let front = are.body _ (all_said final (framing.Length k) is (of_length k bytes) refl) in
+        let shorter = length-append all.body front.rest in
+        let whole = ap (λ (l : List ℕ). length l) front.joined in
+        let fits : nat_le k (length bytes) ≡ true = le-leb k (length bytes) (omega arith) in
+        is_told final (framing.Length k) is (of_length k bytes) (is.len + k) refl
+        (sym (front_is_all all.body (take k bytes) front (omega arith)))
+        (rw fits refl)
+
+    -- a body that takes no more bytes has ended
+    full_whole : (told : Told) (rest : List HttpTask) → Left told rest → (final : ResponseHead)
+        (f : Framing) → IsFinal final f
+        → is_full (after_piece (framing_for old f) told.body) ≡ true → IsTold
+    full_whole told rest left final framing.Empty is full =
+        let front = are.body _ (all_said final framing.Empty is (ended_text [] 0) refl) in
+        is_told final framing.Empty is (ended_text [] 0) (is.len + 0) refl
+        (sym (front_is_all all.body [] front (omega arith))) refl
+    full_whole told rest left final (framing.Length k) is full =
+        let none = eqb-true (k - length told.body) 0 full in
+        let grows = body_grows told rest in
+        let same = ap (λ (t : Told). length t.body) left.tells in
+        length_whole final k is (omega arith)
+    full_whole told rest left final framing.Chunked is full =
+        let wrong = sym full ∙ chunked_open old told.body in absurd (cc)
+    full_whole told rest left final framing.UntilClose is full = absurd (cc)
+    full_whole told rest left final framing.Tunnel is full = absurd (cc)
+
+    -- where the response is over, all of it was told
+    over_told : (told : Told) (rest : List HttpTask) (at : Place) → Left told rest
+        → Stands told at → is_over at ≡ true → IsTold
+    over_told told rest at left (none_yet none bare there) over =
+        let wrong : false ≡ true = subst (λ (p : Place). is_over p ≡ true) there over in
+        absurd (cc)
+    over_told told rest at left (in_body final f g tells is (inl same) there) over =
+        full_whole told rest left final f is
+        (subst (λ (x : Framing). is_full (after_piece (framing_for old x) told.body) ≡ true) same
+        (subst (λ (p : Place). is_over p ≡ true) there over))
+    over_told told rest at left (in_body final f g tells is (inr chunked) there) over =
+        let full = subst
+        (λ (x : Framing). is_full (after_piece (framing_for old x) told.body) ≡ true) chunked
+        (subst (λ (p : Place). is_over p ≡ true) there over) in
+        let wrong = sym full ∙ chunked_open old told.body in absurd (cc)
+    over_told told rest at left (is_done final tells among there) over = are.whole among
+
+    -- where the text of a front of the tasks is over, the response has come whole
+    pub over_is_whole : (front rest : List HttpTask) → tasks ≡ front ++ rest → (sent : Sent)
+        → tasks_sent (request_of head) place.NoHead front ≡ Ok sent
+        → is_over sent.place ≡ true
+        → (n : ℕ) × Tasks head.method false got closed (says (told_of are.given) (ended n))
+    over_is_whole front rest same sent is over =
+        let there = sends_front front rest same sent is in
+        over_told there.told there.next sent.place there.left there.stands over

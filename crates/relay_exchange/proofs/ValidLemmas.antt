@@ -1,0 +1,398 @@
+-- In a valid exchange neither side answers for an error.
+--
+--   client_blameless  the client's side: its request is whole, the client is still, and no call of
+--                     its link failed
+--   peer_blameless    the peer's side: its response is whole and is relayed, and no call of its
+--                     link failed; and no request ends short
+use Rattle.std.proofs.Common.{◌≡◌, ℕ, ◌+◌, ◌-◌, ◌<◌, Bool, true, false, if◌then◌else◌, List, [], ◌∷◌, ◌++◌, length, drop, refl, sym, ap, subst, ◌∙◌, arith, append-nil, inl, inr, Option, Some, None, nat_le}
+use Rattle.std.specs.Prelude.{unwrap_or}
+use Rattle.std.specs.List.{list_any, concat}
+use Rattle.std.proofs.lemmas.Bool.{cases_lt}
+use Rattle.std.proofs.lemmas.Bool.Decides.{nat_tests}
+use Rattle.std.proofs.lemmas.List.{length-append, length-drop, length-take-le, drop-append-le}
+use Rattle.relay_tasks.specs.declared.error.Error.{Error}
+use Rattle.relay_tasks.specs.declared.task.HttpTask.{HttpTask}
+use Rattle.relay_tasks.specs.Head.{RequestHead, ResponseHead}
+use Rattle.relay_tasks.specs.Task.{is_end}
+use Rattle.relay_links.specs.Link.{LinkState, LinkStart}
+use Rattle.relay_h1.specs.declared.framing.Framing.{Framing}
+use Rattle.relay_h1.specs.declared.framing.Framing.TheVariants as framing
+use Rattle.relay_h1.specs.Body.{BodyText, BodyMark, Body, ended_text, of_length}
+use Rattle.relay_h1.specs.Body as body
+use Rattle.relay_h1.specs.BodyReader.{may_end}
+use Rattle.relay_h1.specs.BodyWire.{after_piece, after_pieces, is_short}
+use Rattle.relay_h1.specs.Framing.{request_framing}
+use Rattle.relay_h1.specs.Tasks.{HasFinal, Tasks, ResponseText, mark_of, open_mark, still_open, ended, broken, cut_off}
+use Rattle.relay_h1.specs.Tasks as tasks
+use Rattle.relay_h1.specs.Verdict.{HasRequest}
+use Rattle.relay_h1.proofs.BodyLemmas.{Body-unique}
+use Rattle.relay_h1.proofs.BodyStays.{Body-ended-append, Body-broken-append}
+use Rattle.relay_h1.proofs.HeadEndLemmas.{head_end-within}
+use Rattle.relay_h1.proofs.TasksLemmas.{HasFinal-within, HasFinal-append, HasFinal-unique, HasFinal-IsOpenBehind, HasFinal-IsRefusedBehind, IsRefusedBehind-append}
+use Rattle.relay_h1.proofs.VerdictLemmas.{HasRequest-unique, HasRequest-append}
+use Rattle.relay_peer.specs.RequestWriting.{body_framing}
+use Rattle.relay_peer.specs.ResponseReading.{Told, says}
+use Rattle.relay_peer.proofs.ExactLemmas.{Tasks-unique}
+use Rattle.relay_session.specs.Reading.{SaysBody, IsWhole}
+use Rattle.relay_core.specs.Past.{Origin, DownPast}
+use Rattle.relay_sides.specs.Body.{IsFrontOf, body_of}
+use Rattle.relay_sides.specs.Client.{ClientBlames, given_to}
+use Rattle.relay_sides.specs.Client as client_side
+use Rattle.relay_sides.specs.Peer.{PeerBlames}
+use Rattle.relay_sides.specs.Peer as peer_side
+use Rattle.relay_sides.proofs.FrontLemmas.{front_then}
+use Rattle.relay_exchange.specs.Order.{IsInOrder, up_past}
+use Rattle.relay_exchange.specs.Passed.{Passed, asked}
+use Rattle.relay_exchange.specs.Valid.{IsRequest, IsRelayedHead, IsResponse, IsValid}
+
+-- a flag is not both
+never_both : {flag : Bool} → flag ≡ true → flag ≡ false → ⊥
+never_both on off = apart (sym on ∙ off)
+  where
+    apart : true ≡ false → ⊥
+    apart same = cc
+
+-- ---- the client's side
+
+-- what the front of a request says of its body is said of the request: it is the body's text
+request_says : (head other : RequestHead) (given rest : List ℕ) (given_framing : Framing) (len : ℕ)
+    (text : BodyText) (request : IsRequest head (given ++ rest))
+    → HasRequest given other given_framing len → Body given_framing (drop len given ++ rest) text
+    → (len ≡ request.len) × (text ≡ ended_text request.body request.n)
+request_says head other given rest given_framing len text request has reads =
+    let all = given ++ rest in
+    let same = HasRequest-unique all other head given_framing request.framing len request.len
+    (HasRequest-append given rest other given_framing len has) request.has in
+    let inside = (head_end-within given len has.starts.ends).1 in (
+      same.2,
+      Body-unique request.framing (drop request.len all) text (ended_text request.body request.n)
+          (subst (λ (k : ℕ). Body request.framing (drop k all) text) same.2
+          (subst (λ (f : Framing). Body f (drop len all) text) same.1
+          (subst (λ (xs : List ℕ). Body given_framing xs text)
+          (sym (drop-append-le len given rest inside)) reads)))
+          request.says,
+    )
+
+-- the body of a request is not broken
+body_unbroken : (head : RequestHead) (given rest bytes : List ℕ) → IsRequest head (given ++ rest)
+    → SaysBody given (record { bytes = bytes; mark = body.BodyMark.broken }) → ⊥
+body_unbroken head given rest bytes request said =
+    apart (ap (λ (t : BodyText). t.mark)
+    (request_says head said.head given rest said.framing said.len
+    (record { bytes = bytes; mark = body.BodyMark.broken }) request said.has
+    (Body-broken-append said.framing (drop said.len given) rest bytes said.says)).1)
+  where
+    apart : body.BodyMark.broken ≡ body.BodyMark.ended request.n → ⊥
+    apart same = cc
+
+-- one place where a body ended
+one_end : (n m : ℕ) → body.BodyMark.ended n ≡ body.BodyMark.ended m → n ≡ m
+one_end n m same = cc
+
+-- nothing stands behind a request
+nothing_more : (head : RequestHead) (given rest bytes behind : List ℕ)
+    → IsRequest head (given ++ rest) → IsWhole given bytes behind → 0 < length behind → ⊥
+nothing_more head given rest bytes behind request whole some =
+    let said = request_says head whole.head given rest whole.framing whole.len
+    (ended_text bytes whole.n) request whole.has
+    (Body-ended-append whole.framing (drop whole.len given) rest bytes whole.n whole.says) in
+    let places = one_end whole.n request.n (ap (λ (t : BodyText). t.mark) said.1) in
+    let none : length (drop request.n (drop request.len (given ++ rest))) ≡ 0 =
+    ap (λ (xs : List ℕ). length xs) request.nothing_behind in
+    omega (
+      arith,
+      some,
+      none,
+      places,
+      said.0,
+      ap (λ (xs : List ℕ). length xs) whole.behind_it,
+      length-drop whole.n (drop whole.len given),
+      length-drop whole.len given,
+      length-drop request.n (drop request.len (given ++ rest)),
+      length-drop request.len (given ++ rest),
+      length-append given rest,
+    )
+
+-- the client's bytes are the front of a request
+request_given : (s : Origin) (p : Passed) (client link : LinkState) (start : LinkStart)
+    (valid : IsValid s p client link start) (past : DownPast) → past.came ≡ p.came
+    → IsRequest s.head (given_to s past ++ valid.asks.gives.rest)
+request_given s p client link start valid past came =
+    subst (λ (xs : List ℕ). IsRequest s.head xs)
+    (sym (ap (λ (xs : List ℕ). (s.ahead ++ xs) ++ valid.asks.gives.rest) came
+    ∙ valid.asks.gives.joined)) valid.asks.is_request
+
+-- the client's side answers for no error
+pub client_blameless : (s : Origin) (p : Passed) (client link : LinkState) (start : LinkStart)
+    → IsValid s p client link start → (past : DownPast) → past.came ≡ p.came
+    → (e : Error) → ClientBlames s past client e → ⊥
+client_blameless s p client link start valid past came e
+    (client_side.ClientBlames.link_failed fault is rose) = valid.client_faultless rose
+client_blameless s p client link start valid past came e
+    (client_side.ClientBlames.body_is_broken bytes said is) =
+    body_unbroken s.head (given_to s past) valid.asks.gives.rest bytes
+    (request_given s p client link start valid past came) said
+client_blameless s p client link start valid past came e
+    (client_side.ClientBlames.ends_inside bytes said gone is) = never_both gone valid.asks.stays
+client_blameless s p client link start valid past came e
+    (client_side.ClientBlames.ends_behind bytes whole gone is) = never_both gone valid.asks.stays
+client_blameless s p client link start valid past came e
+    (client_side.ClientBlames.sent_more bytes behind whole some is) =
+    nothing_more s.head (given_to s past) valid.asks.gives.rest bytes behind
+    (request_given s p client link start valid past came) whole some
+
+-- ---- the peer's side: its response
+
+-- a response is not broken where its mark is open
+open_unbroken : (closed : Bool) → open_mark closed ≡ broken → ⊥
+open_unbroken true same = cc
+open_unbroken false same = cc
+
+-- a response is broken behind its head where its body is
+broken_body : (given : Framing) (begins all : ℕ) (closed : Bool) (mark : BodyMark)
+    → mark_of given begins all closed mark ≡ broken → mark ≡ body.BodyMark.broken
+broken_body given begins all closed body.BodyMark.still_open is =
+    absurd (on (may_end given) closed is)
+  where
+    on : (may closed : Bool)
+        → (if may then (if closed then ended all else still_open) else open_mark closed) ≡ broken
+        → ⊥
+    on true true same = cc
+    on true false same = cc
+    on false closed same = open_unbroken closed same
+broken_body given begins all closed (body.BodyMark.ended n) is = absurd (cc)
+broken_body given begins all closed body.BodyMark.broken is = refl
+
+-- the bytes say a broken response
+record SaysBroken (method bytes : List ℕ) (closed : Bool) : Type 0 where
+  pub text : ResponseText
+  pub mark : text.mark ≡ broken
+  pub reads : Tasks method false bytes closed text
+
+-- a response that is broken stays broken, whatever comes and whether or not its link ends then
+broken_stays : (method bytes more : List ℕ) (closed later : Bool) (text : ResponseText)
+    → text.mark ≡ broken → Tasks method false bytes closed text
+    → SaysBroken method (bytes ++ more) later
+broken_stays method bytes more closed later _ is (tasks.Tasks.head_open heads n informs still) =
+    absurd (open_unbroken closed is)
+broken_stays method bytes more closed later _ is
+    (tasks.Tasks.head_refused heads n why informs refused) =
+    let there = IsRefusedBehind-append method false bytes more heads why
+    (record { place = n; informs = informs; refused = refused }) in
+    record {
+      text = record { informed = heads; final = None; body = []; mark = broken };
+      mark = refl;
+      reads = tasks.Tasks.head_refused heads there.place why there.informs there.refused;
+    }
+broken_stays method bytes more closed later _ is
+    (tasks.Tasks.has_final heads n head given len text informs has final reads) =
+    let own : HasFinal method false bytes heads head given (n + len) =
+    record { place = n; own = len; informs = informs; has = has; final = final; ends = refl } in
+    let there = HasFinal-append method false bytes more heads head given (n + len) own in
+    let inside = (HasFinal-within method false bytes heads head given (n + len) own).1 in
+    let said : BodyText = record { bytes = text.bytes; mark = body.BodyMark.broken } in
+    let stays = Body-broken-append given (drop (n + len) bytes) more text.bytes
+    (subst (λ (m : BodyMark). Body given (drop (n + len) bytes)
+    (record { bytes = text.bytes; mark = m }))
+    (broken_body given (n + len) (length bytes) closed text.mark is) reads) in
+    record {
+      text = record {
+        informed = heads;
+        final = Some head;
+        body = text.bytes;
+        mark = mark_of given (there.place + there.own) (length (bytes ++ more)) later
+            body.BodyMark.broken;
+      };
+      mark = refl;
+      reads = tasks.Tasks.has_final heads there.place head given there.own said there.informs
+          there.has there.final
+          (subst (λ (k : ℕ). Body given (drop k (bytes ++ more)) said) there.ends
+          (subst (λ (xs : List ℕ). Body given xs said)
+          (sym (drop-append-le (n + len) bytes more inside)) stays));
+    }
+
+-- no front of a response is broken
+response_unbroken : (method came response : List ℕ) (closed : Bool) (told : Told)
+    → IsResponse method response → IsFrontOf came response
+    → Tasks method false came closed (says told broken) → ⊥
+response_unbroken method came response closed told is front reads =
+    let there = broken_stays method came front.rest closed true (says told broken) refl reads in
+    let same = Tasks-unique method false response true there.text is.said
+    (subst (λ (xs : List ℕ). Tasks method false xs true there.text) front.joined there.reads)
+    is.says in
+    apart (sym there.mark ∙ ap (λ (t : ResponseText). t.mark) same ∙ is.whole)
+  where
+    apart : broken ≡ ended is.n → ⊥
+    apart same = cc
+
+-- a whole response is not cut off
+response_uncut : (method response : List ℕ) (told : Told) → IsResponse method response
+    → Tasks method false response true (says told cut_off) → ⊥
+response_uncut method response told is reads =
+    apart (ap (λ (t : ResponseText). t.mark)
+    (Tasks-unique method false response true (says told cut_off) is.said reads is.says) ∙ is.whole)
+  where
+    apart : cut_off ≡ ended is.n → ⊥
+    apart same = cc
+
+-- a final head is that of what the bytes say
+final_said : (method bytes : List ℕ) (closed : Bool) (text : ResponseText)
+    (informed : List ResponseHead) (final : ResponseHead) (given : Framing) (len : ℕ)
+    → Tasks method false bytes closed text → HasFinal method false bytes informed final given len
+    → text.final ≡ Some final
+final_said method bytes closed _ informed final given len
+    (tasks.Tasks.head_open heads n informs still) has =
+    absurd (HasFinal-IsOpenBehind method false bytes informed heads final given len has
+    (record { place = n; informs = informs; is_open = still }))
+final_said method bytes closed _ informed final given len
+    (tasks.Tasks.head_refused heads n why informs refused) has =
+    absurd (HasFinal-IsRefusedBehind method false bytes informed heads final given len why has
+    (record { place = n; informs = informs; refused = refused }))
+final_said method bytes closed _ informed final given len
+    (tasks.Tasks.has_final heads n head own_framing own text informs own_head is_final reads) has =
+    ap (λ (h : ResponseHead). Some h)
+    (HasFinal-unique method false bytes heads informed head final own_framing given (n + own) len
+    (record {
+      place = n;
+      own = own;
+      informs = informs;
+      has = own_head;
+      final = is_final;
+      ends = refl;
+    }) has).head
+
+-- a final head in the front of a response is relayed
+head_relayed : (method got response : List ℕ) (informed : List ResponseHead) (final : ResponseHead)
+    (given : Framing) (len : ℕ) → IsResponse method response → IsFrontOf got response
+    → HasFinal method false got informed final given len → IsRelayedHead method final
+head_relayed method got response informed final given len is front has =
+    is.relayed final
+    (final_said method response true is.said informed final given len is.says
+    (subst (λ (xs : List ℕ). HasFinal method false xs informed final given len) front.joined
+    (HasFinal-append method false got front.rest informed final given len has)))
+
+-- ---- the peer's side: its request
+
+-- what is left of a length behind pieces
+after_length : (n : ℕ) (pieces : List (List ℕ))
+    → after_pieces (framing.Length n) pieces ≡ framing.Length (n - length (concat pieces))
+after_length n [] = ap (λ (k : ℕ). framing.Length k) (none n)
+  where
+    none : (k : ℕ) → k ≡ k - 0
+    none k = omega arith
+after_length n (piece ∷ pieces) =
+    after_length (n - length piece) pieces
+    ∙ ap (λ (k : ℕ). framing.Length k)
+    (parts n (length piece) (length (concat pieces)) (length (piece ++ concat pieces))
+    (length-append piece (concat pieces)))
+  where
+    parts : (k a b all : ℕ) → all ≡ a + b → k - a - b ≡ k - all
+    parts k a b all sum = omega arith
+
+-- a framing that a piece leaves as it is stays
+stays_framed : (given : Framing) → ((piece : List ℕ) → after_piece given piece ≡ given)
+    → (pieces : List (List ℕ)) → after_pieces given pieces ≡ given
+stays_framed given keeps [] = refl
+stays_framed given keeps (piece ∷ pieces) =
+    ap (λ (f : Framing). after_pieces f pieces) (keeps piece) ∙ stays_framed given keeps pieces
+
+-- so it is not short where it was not
+stays_unshort : (given : Framing) → ((piece : List ℕ) → after_piece given piece ≡ given)
+    → is_short given ≡ false → (pieces : List (List ℕ))
+    → is_short (after_pieces given pieces) ≡ false
+stays_unshort given keeps unshort pieces =
+    ap (λ (f : Framing). is_short f) (stays_framed given keeps pieces) ∙ unshort
+
+-- a whole body with a length has that many bytes
+length_whole : (n m : ℕ) (bytes whole : List ℕ) → ended_text whole m ≡ of_length n bytes
+    → length whole ≡ n
+length_whole n m bytes whole is =
+    elim (cases_lt (length bytes) n) [
+      | inl few ↦
+          let open_here : nat_le n (length bytes) ≡ false = grind (arith, nat_tests) in
+          let mark : (of_length n bytes).mark ≡ body.BodyMark.still_open = rw open_here refl in
+          absurd (apart (ap (λ (t : BodyText). t.mark) is ∙ mark))
+      | inr enough ↦
+          ap (λ (t : BodyText). length t.bytes) is ∙ length-take-le n bytes (omega arith)
+    ]
+  where
+    apart : body.BodyMark.ended m ≡ body.BodyMark.still_open → ⊥
+    apart same = cc
+
+-- a length of which nothing is missing is not short
+none_missing : (n : ℕ) → n ≡ 0 → is_short (framing.Length n) ≡ false
+none_missing n none = ap (λ (k : ℕ). is_short (framing.Length k)) none
+
+-- a whole body does not end short
+whole_unshort : (given : Framing) (bytes whole : List ℕ) (n : ℕ) (pieces : List (List ℕ))
+    → Body given bytes (ended_text whole n) → concat pieces ≡ whole
+    → is_short (after_pieces given pieces) ≡ false
+whole_unshort framing.Empty bytes whole n pieces reads joined =
+    stays_unshort framing.Empty (λ piece. refl) refl pieces
+whole_unshort (framing.Length m) bytes whole n pieces reads joined =
+    ap (λ (f : Framing). is_short f) (after_length m pieces)
+    ∙ none_missing (m - length (concat pieces))
+    (omega (
+      arith,
+      length_whole m n bytes whole reads,
+      ap (λ (xs : List ℕ). length xs) joined,
+    ))
+whole_unshort framing.Chunked bytes whole n pieces reads joined =
+    stays_unshort framing.Chunked (λ piece. refl) refl pieces
+whole_unshort framing.UntilClose bytes whole n pieces reads joined =
+    stays_unshort framing.UntilClose (λ piece. refl) refl pieces
+whole_unshort framing.Tunnel bytes whole n pieces reads joined =
+    stays_unshort framing.Tunnel (λ piece. refl) refl pieces
+
+-- the framing of a head that has one
+framing_is : (head : RequestHead) (given : Framing) → request_framing head ≡ Some given
+    → body_framing head ≡ given
+unfolding body_framing
+framing_is head given framed = ap (λ (f : Option Framing). unwrap_or f framing.Empty) framed
+
+-- a request in order does not end short
+request_unshort : (s : Origin) (p : Passed) (closed : Bool) (order : IsInOrder s p closed)
+    (front : List HttpTask) (pieces : List (List ℕ)) → IsFrontOf front order.taken
+    → list_any is_end front ≡ true → concat pieces ≡ body_of front
+    → is_short (after_pieces (body_framing s.head) pieces) ≡ false
+request_unshort s p closed order front pieces first found joined =
+    let said = order.are_pieces in
+    let among = front_then front order.taken order.pieces first order.first_taken in
+    let none = said.ends_last front among.rest (sym among.joined) found in
+    let same : front ≡ order.pieces =
+    sym (append-nil front) ∙ ap (λ (l : List HttpTask). front ++ l) (sym none) ∙ among.joined in
+    let whole = said.whole (subst (λ (l : List HttpTask). list_any is_end l ≡ true) same found) in
+    let bytes = drop order.asks.len (asked s p) in
+    ap (λ (f : Framing). is_short (after_pieces f pieces))
+    (framing_is s.head order.asks.framing order.asks.has.let_in.framed)
+    ∙ whole_unshort order.asks.framing bytes (body_of order.pieces) whole.0 pieces
+    (subst (λ (t : BodyText). Body order.asks.framing bytes t) whole.1 said.says)
+    (joined ∙ ap body_of same)
+
+-- the peer's side answers for no error
+pub peer_blameless : (s : Origin) (p : Passed) (client link : LinkState) (start : LinkStart)
+    → IsValid s p client link start → (order : IsInOrder s p link.ended) (lost : Bool) → (e : Error)
+    → PeerBlames start link s.head (up_past order lost) e → ⊥
+peer_blameless s p client link start valid order lost e
+    (peer_side.PeerBlames.link_failed fault is rose) = valid.link_faultless rose
+peer_blameless s p client link start valid order lost e
+    (peer_side.PeerBlames.is_cut_off told gone is reads) =
+    response_uncut s.head.method valid.answers.response told valid.answers.is_response
+    (subst (λ (xs : List ℕ). Tasks s.head.method false xs true (says told cut_off))
+    (valid.answers.ends gone) reads)
+peer_blameless s p client link start valid order lost e
+    (peer_side.PeerBlames.is_broken why closed came told is front reads) =
+    response_unbroken s.head.method came valid.answers.response closed told
+    valid.answers.is_response
+    (front_then came p.got valid.answers.response front valid.answers.gives) reads
+peer_blameless s p client link start valid order lost e
+    (peer_side.PeerBlames.switches informed final given len has is_switch is) =
+    (head_relayed s.head.method p.got valid.answers.response informed final given len
+    valid.answers.is_response valid.answers.gives has).stays is_switch
+peer_blameless s p client link start valid order lost e
+    (peer_side.PeerBlames.is_full informed final given len has lacks refuses is) =
+    (head_relayed s.head.method p.got valid.answers.response informed final given len
+    valid.answers.is_response valid.answers.gives has).room lacks refuses
+peer_blameless s p client link start valid order lost e
+    (peer_side.PeerBlames.is_short_request front pieces first found joined short is) =
+    never_both short (request_unshort s p link.ended order front pieces first found joined)
