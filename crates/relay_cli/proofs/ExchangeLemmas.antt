@@ -12,7 +12,8 @@ use Rattle.relay_links.specs.declared.write_script.WriteItem.{WriteItem}
 use Rattle.relay_links.specs.declared.script_connector.ScriptConnector.{ScriptConnector}
 use Rattle.relay_links.specs.declared.script_link.ScriptLink.{ScriptLink}
 use Rattle.relay_proxy.specs.Endings.{EndsUnlinked, EndsWith}
-use Rattle.relay_proxy.specs.Passed.{Passed, Waited, World, Start, start_of}
+use Rattle.relay_exchange.specs.Passed.{Passed}
+use Rattle.relay_proxy.specs.Passed.{World, Start, start_of}
 use Rattle.relay_proxy.specs.Request.{Processes}
 use Rattle.relay_proxy.specs.Turn.{world_with}
 use Rattle.relay_proxy.specs.declared.outcome.Outcome.{Outcome}
@@ -55,18 +56,18 @@ unlinked_sent s p w ended.TurnLimit ends = sym ends.sent
 unlinked_sent s p w ended.OutOfMemory ends = sym ends.sent
 
 -- the bytes that the links of a request took are those that were sent
-sent_is : (s : Start) (p : Passed) (v : Waited) (w : World) (own : List (Returned ScriptLink)) (records : List AttemptRecord) (outcome : Outcome)
-    → EndsWith script_state script_start s p v w own records outcome → sent_of own ≡ p.sent
-sent_is s p v w [] records outcome ends = unlinked_sent s p w outcome ends.0
-sent_is s p v w (r ∷ []) records outcome ends = ends.tells.sent.1
-sent_is s p v w (r ∷ q ∷ rest) records outcome ends = absurd ends
+sent_is : (s : Start) (p : Passed) (w : World) (own : List (Returned ScriptLink)) (records : List AttemptRecord) (outcome : Outcome)
+    → EndsWith script_state script_start s p w own records outcome → sent_of own ≡ p.sent
+sent_is s p w [] records outcome ends = unlinked_sent s p w outcome ends.0
+sent_is s p w (r ∷ []) records outcome ends = ends.tells.sent.1
+sent_is s p w (r ∷ q ∷ rest) records outcome ends = absurd ends
 
 -- the first link of a request starts within what it took
-pub starts_within : (s : Start) (p : Passed) (v : Waited) (w : World) (own : List (Returned ScriptLink)) (records : List AttemptRecord) (outcome : Outcome)
-    → EndsWith script_state script_start s p v w own records outcome → FirstStartsWithin own
-starts_within s p v w [] records outcome ends = tt
-starts_within s p v w (r ∷ []) records outcome ends = ends.tells.sent.0
-starts_within s p v w (r ∷ q ∷ rest) records outcome ends = absurd ends
+pub starts_within : (s : Start) (p : Passed) (w : World) (own : List (Returned ScriptLink)) (records : List AttemptRecord) (outcome : Outcome)
+    → EndsWith script_state script_start s p w own records outcome → FirstStartsWithin own
+starts_within s p w [] records outcome ends = tt
+starts_within s p w (r ∷ []) records outcome ends = ends.tells.sent.0
+starts_within s p w (r ∷ q ∷ rest) records outcome ends = absurd ends
 
 -- the links that an unused connector has at the end are those that came back
 own_is : (before after own : List (Returned ScriptLink)) → before ≡ [] → Some after ≡ more (Some before) own → after ≡ own
@@ -116,7 +117,7 @@ is_run script made last connector ahead faults after processed fresh offered run
       outcome = refl;
       written = since_start _ (taken_of last) run.passed.written (fresh_taken made script.client script.client_write fresh) run.ended.tells.written;
       attempts = ap (λ sent. map (attempt_report script.peer.name sent) processed.history.attempts)
-          (ap sent_of own ∙ sent_is _ run.passed run.waited _ run.own processed.history.attempts processed.outcome run.ended.ends);
+          (ap sent_of own ∙ sent_is _ run.passed _ run.own processed.history.attempts processed.outcome run.ended.ends);
     }
 
 -- the first link that came back starts within what it took
@@ -124,4 +125,4 @@ pub first_starts_within : (s : Start) (w : World) (before after : List (Returned
     → before ≡ [] → Processes script_state script_start s w (Some before) (Some after) turns processed → FirstStartsWithin after
 first_starts_within s w before after turns processed none run =
     let own : after ≡ run.own = own_is before after run.own none run.gained in
-    subst FirstStartsWithin (sym own) (starts_within s run.passed run.waited w run.own processed.history.attempts processed.outcome run.ended.ends)
+    subst FirstStartsWithin (sym own) (starts_within s run.passed w run.own processed.history.attempts processed.outcome run.ended.ends)

@@ -4,10 +4,12 @@ use relay_links::{SliceSource, VecSink};
 use std::alloc::{AllocError, Global};
 use std::process::Abort;
 
+mod duplex;
 mod exchange;
 mod heads;
 mod items;
 mod keys;
+mod support;
 
 /// What a run of the words over an input wrote, behind the number of its status and a space.
 fn answer(alloc: Global, words: &[&str], input: &[u8]) -> Result<String, AllocError> {
@@ -167,11 +169,6 @@ fn assert_left(
 fn leaves_alone_what_it_does_not_relay(rt: HostRuntime) -> Result<(), AllocError> {
     let inside = "{\"text\":\"GET / HT\"},{\"end\":true}";
     assert_left(&rt, rt.alloc(), inside, "ConnectionClosed Downstream false")?;
-    let body = head(
-        rt.alloc(),
-        &["POST /c HTTP/1.1", "Host: h.example", "Content-Length: 1"],
-    )?;
-    assert_left(&rt, rt.alloc(), body.as_str(), "Custom(1) Downstream false")?;
     let absolute = head(rt.alloc(), &["GET http://h.example/ HTTP/1.1", HOST])?;
     assert_left(
         &rt,

@@ -1,9 +1,7 @@
 pub mod Tells
 pub mod HeadSteps
-pub mod ExchangeSteps
-pub mod BodySteps
+pub mod ConnectSteps
+pub mod RelaySteps
 pub mod StepLemmas
-pub mod UnderWay
 pub mod ExactLemmas
-pub mod ResponseSteps
-pub mod StreamSteps
+pub mod UnderWay

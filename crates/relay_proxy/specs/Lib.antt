@@ -1,11 +1,11 @@
 pub mod Built
+pub mod Passed
 pub mod Endings
 pub mod Offer
-pub mod Passed
 pub mod Phases
-pub mod Turn
 pub mod Work
+pub mod Turn
 pub mod Closing
-pub mod Request
 pub mod Exact
-pub mod Stream
+pub mod Request
+pub mod Reuse

@@ -5,7 +5,8 @@ ghost use Rattle.relay_h1.specs.Verdict.{IsOpen, HasRequest};
 ghost use Rattle.relay_h1.specs.Wire.{generated};
 ghost use Rattle.relay_proxy.specs.Built.{IsConnect};
 ghost use Rattle.relay_proxy.specs.Endings.{IsTurnedDown, ended_outcome};
-ghost use Rattle.relay_proxy.specs.Passed.{World, Start, Passed, Waited, asked};
+ghost use Rattle.relay_exchange.specs.Passed.{Passed};
+ghost use Rattle.relay_proxy.specs.Passed.{World, Start};
 ghost use Rattle.relay_proxy.specs.Phases.{RunSoFar};
 ghost use Rattle.relay_proxy.specs.Turn.{world_of, DoesWork, is_over, is_end, links_held, Advances};
 
@@ -16,9 +17,10 @@ use crate::outcome::Outcome;
 use crate::pending::{Offered, Pending};
 use crate::record::AttemptList;
 use crate::work::Work;
-use relay_h1::{Connection, Output, RequestRead, write_generated, write_request_head};
-use relay_links::{ByteLink, Got, Pause};
-use relay_tasks::{Context, Error, ErrorType, Fail};
+use relay_h1::{Connection, Output, RequestRead, write_generated};
+use relay_links::{ByteLink, Got};
+use relay_session::HttpSession;
+use relay_tasks::{Context, Error, ErrorType, Fail, Pause};
 use std::alloc::Global;
 
 /// The client's head: judged where it stands, else its link is read once.
@@ -27,9 +29,9 @@ pub(crate) fn read_head<SV: ProxyHttp, D: ByteLink, U, L: ByteLink>(
     hooks: &SV,
     client: &mut Connection<D, U>,
 ) -> Next<L, SV::CTX>
-    ensures run { (s : Start) (p : Passed) (v : Waited) (faults : ℕ)
-        → RunSoFar {C = SV.CTX} L.state L.start s p v (world_of D.state client.old faults) [] (Phase.ReadHead)
-        → Advances L.state L.start s p v (world_of D.state client.new faults) (Phase.ReadHead)
+    ensures run { (s : Start) (p : Passed) (faults : ℕ)
+        → RunSoFar {C = SV.CTX} L.state L.start s p (world_of D.state client.old faults) [] (Phase.ReadHead)
+        → Advances L.state L.start s (world_of D.state client.new faults)
         result.phase result.step }
     ensures work { DoesWork result.step result.work }
     ensures over { is_over result.phase ≡ is_end result.step }
@@ -53,10 +55,10 @@ fn await_head<D: ByteLink, U, L: ByteLink, C>(
     alloc: Global,
     client: &mut Connection<D, U>,
 ) -> Next<L, C>
-    ensures run { (s : Start) (p : Passed) (v : Waited) (faults : ℕ)
-        → RunSoFar {C = C} L.state L.start s p v (world_of D.state client.old faults) [] (Phase.ReadHead)
+    ensures run { (s : Start) (p : Passed) (faults : ℕ)
+        → RunSoFar {C = C} L.state L.start s p (world_of D.state client.old faults) [] (Phase.ReadHead)
         → IsOpen client.old.ahead
-        → Advances L.state L.start s p v (world_of D.state client.new faults) (Phase.ReadHead)
+        → Advances L.state L.start s (world_of D.state client.new faults)
         result.phase result.step }
     ensures work { DoesWork result.step result.work }
     ensures over { is_over result.phase ≡ is_end result.step }
@@ -125,10 +127,10 @@ fn take_head<SV: ProxyHttp, D: ByteLink, U, L: ByteLink>(
     read: RequestRead,
 ) -> Next<L, SV::CTX>
     requires { read.len ≤ length client.old.ahead }
-    ensures run { (s : Start) (p : Passed) (v : Waited) (faults : ℕ)
-        → RunSoFar {C = SV.CTX} L.state L.start s p v (world_of D.state client.old faults) [] (Phase.ReadHead)
+    ensures run { (s : Start) (p : Passed) (faults : ℕ)
+        → RunSoFar {C = SV.CTX} L.state L.start s p (world_of D.state client.old faults) [] (Phase.ReadHead)
         → HasRequest client.old.ahead read.head read.framing read.len
-        → Advances L.state L.start s p v (world_of D.state client.new faults) (Phase.ReadHead)
+        → Advances L.state L.start s (world_of D.state client.new faults)
         result.phase result.step }
     ensures work { DoesWork result.step result.work }
     ensures over { is_over result.phase ≡ is_end result.step }
@@ -141,7 +143,8 @@ fn take_head<SV: ProxyHttp, D: ByteLink, U, L: ByteLink>(
     accept_head(alloc, hooks, client, read)
 }
 
-/// A head that is no request for a tunnel: it is taken from what is ahead, and its text is made.
+/// A head that is no request for a tunnel: it is taken from what is ahead, and a session begins
+/// behind it.
 fn accept_head<SV: ProxyHttp, D: ByteLink, U, L: ByteLink>(
     alloc: Global,
     hooks: &SV,
@@ -149,18 +152,18 @@ fn accept_head<SV: ProxyHttp, D: ByteLink, U, L: ByteLink>(
     read: RequestRead,
 ) -> Next<L, SV::CTX>
     requires { read.len ≤ length client.old.ahead }
-    ensures run { (s : Start) (p : Passed) (v : Waited) (faults : ℕ)
-        → RunSoFar {C = SV.CTX} L.state L.start s p v (world_of D.state client.old faults) [] (Phase.ReadHead)
+    ensures run { (s : Start) (p : Passed) (faults : ℕ)
+        → RunSoFar {C = SV.CTX} L.state L.start s p (world_of D.state client.old faults) [] (Phase.ReadHead)
         → HasRequest client.old.ahead read.head read.framing read.len
         → ¬ (IsConnect read.head)
-        → Advances L.state L.start s p v (world_of D.state client.new faults) (Phase.ReadHead)
+        → Advances L.state L.start s (world_of D.state client.new faults)
         result.phase result.step }
     ensures work { DoesWork result.step result.work }
     ensures over { is_over result.phase ≡ is_end result.step }
     ensures unlinked { links_held L.state L.start result.phase ≡ 0 }
     ensures kept { client.new.kept ≡ client.old.kept }
 {
-    if !is_built_request(&read.head, read.framing) {
+    if !is_built_request(&read.head) {
         let error = Error::new_down(ErrorType::Custom(1));
         return Next {
             phase: Phase::Ended(
@@ -171,20 +174,10 @@ fn accept_head<SV: ProxyHttp, D: ByteLink, U, L: ByteLink>(
             work: Work::ENDED,
         };
     }
-    let mut text = Vec::new(alloc);
-    let Ok(()) = write_request_head(&mut text, &read.head) else {
-        return Next {
-            phase: Phase::Ended(Outcome::OutOfMemory, AttemptList::new(alloc)),
-            step: RunStep::Ended,
-            work: Work::ENDED,
-        };
-    };
-    let Some(text) = Pending::new(Output::new(text)) else {
-        unreachable!()
-    };
     client.consume(read.len);
+    let session = HttpSession::begun_http1(alloc, read.head, read.framing);
     Next {
-        phase: Phase::Connect(hooks.new_ctx(), read.head, text),
+        phase: Phase::Connect(hooks.new_ctx(), session),
         step: RunStep::Moved,
         work: Work::ENDED,
     }
@@ -193,10 +186,10 @@ fn accept_head<SV: ProxyHttp, D: ByteLink, U, L: ByteLink>(
 /// A head that is refused or asks for a tunnel: the generated answer with that status is made.
 fn give_answer<L: ByteLink, C>(alloc: Global, status: u16, error: Option<Error>) -> Next<L, C>
     requires { IsStatus status }
-    ensures run { (s : Start) (p : Passed) (v : Waited) (w : World)
-        → RunSoFar {C = C} L.state L.start s p v w [] (Phase.ReadHead)
+    ensures run { (s : Start) (p : Passed) (w : World)
+        → RunSoFar {C = C} L.state L.start s p w [] (Phase.ReadHead)
         → IsTurnedDown w.ahead (generated status) error
-        → Advances L.state L.start s p v w (Phase.ReadHead)
+        → Advances L.state L.start s w
         result.phase result.step }
     ensures work { DoesWork result.step result.work }
     ensures over { is_over result.phase ≡ is_end result.step }
@@ -227,9 +220,9 @@ pub(crate) fn write_refusal<D: ByteLink, U, L: ByteLink, C>(
     answer: Pending,
     error: Option<Error>,
 ) -> Next<L, C>
-    ensures run { (s : Start) (p : Passed) (v : Waited) (faults : ℕ)
-        → RunSoFar {C = C} L.state L.start s p v (world_of D.state client.old faults) [] (Phase.Refuse answer error)
-        → Advances L.state L.start s p v (world_of D.state client.new faults) (Phase.Refuse answer error)
+    ensures run { (s : Start) (p : Passed) (faults : ℕ)
+        → RunSoFar {C = C} L.state L.start s p (world_of D.state client.old faults) [] (Phase.Refuse answer error)
+        → Advances L.state L.start s (world_of D.state client.new faults)
         result.phase result.step }
     ensures work { DoesWork result.step result.work }
     ensures over { is_over result.phase ≡ is_end result.step }

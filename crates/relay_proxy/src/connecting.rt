@@ -1,20 +1,22 @@
-//! The connector: asked once for a link, which the request's one attempt then has.
-ghost use Rattle.std.specs.Prelude.{◌≡◌, ◌+◌, ◌≤◌, [], ℕ, List};
-ghost use Rattle.relay_proxy.specs.Endings.{IsAskedPeer};
-ghost use Rattle.relay_proxy.specs.Passed.{Start, Passed, Waited};
+//! The connector: asked once for a link, over which the request's one attempt then goes.
+ghost use Rattle.std.specs.Prelude.{◌≡◌, ◌+◌, ◌≤◌, [], ℕ, List, Some, IfSome};
+ghost use Rattle.relay_links.specs.Link.{LinkState, IsHandedOut};
+ghost use Rattle.relay_exchange.specs.Passed.{Passed};
+ghost use Rattle.relay_session.specs.Reading.{head_of};
+ghost use Rattle.relay_proxy.specs.Endings.{IsAskedPeer, outcome_of};
+ghost use Rattle.relay_proxy.specs.Passed.{World, Start};
 ghost use Rattle.relay_proxy.specs.Phases.{RunSoFar};
 ghost use Rattle.relay_proxy.specs.Turn.{world_with, DoesWork, is_over, is_end, links_held, Advances};
-ghost use Rattle.relay_links.specs.Link.{LinkState};
 
-use crate::machine::{Attempt, Next, Phase, RunStep};
+use crate::machine::{Attempt, Lease, Next, Phase, RunStep};
 use crate::outcome::Outcome;
-use crate::pending::Pending;
 use crate::record::{AttemptList, AttemptRecord, AttemptRoom};
 use crate::work::Work;
 use bytes::Bytes;
-use relay_h1::Connection;
-use relay_links::Connector;
-use relay_tasks::{Error, Peer, RequestHeader};
+use relay_exchange::{Exchange, Unbegun};
+use relay_links::{ByteLink, Connector};
+use relay_session::{Front, HttpSession};
+use relay_tasks::{Error, Fail, Peer, RequestHeader};
 use std::alloc::Global;
 
 /// The peer that each attempt asks for: the connector's only one.
@@ -28,20 +30,32 @@ pub(crate) fn asked_peer() -> Peer
     }
 }
 
-/// Asks the connector for a link. Room for the attempt's record is taken first.
-pub(crate) fn connect<K: Connector, C: Drop>(
+/// A request that ended without a link, for want of memory.
+fn out_of_memory<L, C>(alloc: Global) -> Next<L, C>
+    ensures phase { result.phase ≡ Phase.Ended Outcome.OutOfMemory [] }
+    ensures step { result.step ≡ RunStep.Ended }
+    ensures work { result.work ≡ Work.ENDED }
+{
+    Next {
+        phase: Phase::Ended(Outcome::OutOfMemory, AttemptList::new(alloc)),
+        step: RunStep::Ended,
+        work: Work::ENDED,
+    }
+}
+
+/// Asks the connector for a link. Room for the attempt's record and the head that is to be sent are
+/// made first.
+pub(crate) fn connect<K: Connector, F: Front, C: Drop>(
     alloc: Global,
     connector: &mut K,
     context: C,
-    request: RequestHeader,
-    text: Pending,
+    session: HttpSession,
 ) -> Next<K::Byte, C>
-    ensures run { (s : Start) (p : Passed) (v : Waited) (client : LinkState) (ahead : List ℕ)
-        → RunSoFar {C = C} K.Byte.state K.Byte.start s p v
-        (world_with client ahead (K.fault_count connector.old)) [] (Phase.Connect context request text)
-        → Advances K.Byte.state K.Byte.start s p v
-        (world_with client ahead (K.fault_count connector.new)) (Phase.Connect context request text)
-        result.phase result.step }
+    ensures run { (s : Start) (p : Passed) (client : LinkState) (ahead : List ℕ)
+        → RunSoFar {C = C} K.Byte.state K.Byte.start s p
+        (world_with client ahead (K.fault_count connector.old)) [] (Phase.Connect context session)
+        → Advances {C = C} K.Byte.state K.Byte.start s
+        (world_with client ahead (K.fault_count connector.new)) result.phase result.step }
     ensures work { DoesWork result.step result.work }
     ensures over { is_over result.phase ≡ is_end result.step }
     ensures out { K.out connector.new
@@ -50,29 +64,16 @@ pub(crate) fn connect<K: Connector, C: Drop>(
     ensures faults { K.fault_count connector.old ≤ K.fault_count connector.new }
 {
     let Ok(room) = AttemptRoom::new(alloc) else {
-        return Next {
-            phase: Phase::Ended(Outcome::OutOfMemory, AttemptList::new(alloc)),
-            step: RunStep::Ended,
-            work: Work::ENDED,
-        };
+        return out_of_memory(alloc);
+    };
+    let Some(head) = copied_head(&session) else {
+        return out_of_memory(alloc);
     };
     let peer = asked_peer();
     match connector.get(&peer) {
         Ok((link, reused)) => {
-            let connection = Connection::new(alloc, link);
-            let attempt = Attempt {
-                request,
-                connection,
-                peer,
-                reused,
-                room,
-                context,
-            };
-            Next {
-                phase: Phase::SendHead(attempt, text),
-                step: RunStep::Moved,
-                work: Work::MOVED,
-            }
+            let lease = Lease { peer, reused, room };
+            begin::<K::Byte, F, C>(alloc, context, session, head, link, lease)
         }
         Err(fault) => {
             let error = Some(Error::of_fault(fault).into_up());
@@ -94,5 +95,65 @@ pub(crate) fn connect<K: Connector, C: Drop>(
                 work: Work::ENDED,
             }
         }
+    }
+}
+
+/// A copy of the session's head; none where there is no memory, or no head.
+fn copied_head(session: &HttpSession) -> Option<RequestHeader>
+    ensures { IfSome result (λ head. head_of session.now.reading ≡ Some head) }
+{
+    if !session.has_head() {
+        return None;
+    }
+    session.req_header().copy().ok()
+}
+
+/// Begins the attempt's exchange over a link that was just handed out.
+fn begin<L: ByteLink, F: Front, C: Drop>(
+    alloc: Global,
+    context: C,
+    session: HttpSession,
+    head: RequestHeader,
+    link: L,
+    lease: Lease,
+) -> Next<L, C>
+    ensures run { (s : Start) (p : Passed) (w : World)
+        → RunSoFar {C = C} L.state L.start s p w [] (Phase.Connect context session)
+        → head_of session.reading ≡ Some head
+        → IsHandedOut (L.state link) (L.start link) lease.reused → IsAskedPeer lease.peer
+        → Advances {C = C} L.state L.start s w result.phase result.step }
+    ensures work { DoesWork result.step result.work }
+    ensures over { is_over result.phase ≡ is_end result.step }
+    ensures linked { links_held L.state L.start result.phase ≡ 1 }
+{
+    match Exchange::begin::<F>(alloc, session, link, head) {
+        Ok(exchange) => Next {
+            phase: Phase::Relay(Attempt {
+                exchange,
+                lease,
+                context,
+            }),
+            step: RunStep::Moved,
+            work: Work::MOVED,
+        },
+        Err(Unbegun { link, why }) => Next {
+            phase: Phase::Close(link, lease, false, outcome_of(why)),
+            step: RunStep::Ended,
+            work: Work::ENDED,
+        },
+    }
+}
+
+/// How a request ends whose exchange failed. No head that was read and framed is refused where an
+/// exchange begins.
+pub(crate) fn outcome_of(why: Fail) -> Outcome
+    ensures { result ≡ outcome_of why }
+{
+    match why {
+        Fail::OutOfMemory => Outcome::OutOfMemory,
+        Fail::Error(error) => Outcome::Served {
+            error: Some(error),
+            reuse: false,
+        },
     }
 }

@@ -4,7 +4,7 @@ ghost use Rattle.relay_proxy.specs.Closing.{HandsBack, Settles, GivesLinkUp, Fin
 ghost use Rattle.relay_proxy.specs.Turn.{links_held, is_over};
 
 use crate::connecting::asked_peer;
-use crate::machine::{Attempt, Phase};
+use crate::machine::{Attempt, Lease, Phase};
 use crate::outcome::Outcome;
 use crate::record::{AttemptList, AttemptRecord};
 use relay_links::Connector;
@@ -17,28 +17,22 @@ pub(crate) struct Ending {
     pub(crate) attempts: AttemptList,
 }
 
-/// Hands the attempt's link back with that mark, and records the attempt. It takes no memory.
-fn release<K: Connector, C: Drop>(
+/// Hands a link back with that mark, and records its attempt. It takes no memory.
+fn release<K: Connector>(
     connector: &mut K,
-    attempt: Attempt<K::Byte, C>,
+    link: K::Byte,
+    lease: Lease,
     keep: bool,
     outcome: Outcome,
 ) -> AttemptList
     requires { 0 < K.out connector.old }
-    ensures back { HandsBack attempt keep outcome (K.returned connector.old)
+    ensures back { HandsBack link lease keep outcome (K.returned connector.old)
         (K.returned connector.new) result }
     ensures out { K.out connector.new + 1 ≡ K.out connector.old }
     ensures faults { K.fault_count connector.new ≡ K.fault_count connector.old }
 {
-    let Attempt {
-        request: _request,
-        connection,
-        peer,
-        reused,
-        room,
-        context: _,
-    } = attempt;
-    connector.release(peer, connection.into_link(), keep);
+    let Lease { peer, reused, room } = lease;
+    connector.release(peer, link, keep);
     room.fill(AttemptRecord {
         peer: asked_peer(),
         reused,
@@ -62,19 +56,10 @@ pub(crate) fn settle<K: Connector, C: Drop>(
     match phase {
         Phase::ReadHead => Phase::ReadHead,
         Phase::Refuse(answer, error) => Phase::Refuse(answer, error),
-        Phase::Connect(context, request, text) => Phase::Connect(context, request, text),
-        Phase::SendHead(attempt, text) => Phase::SendHead(attempt, text),
-        Phase::ReadResponse(attempt, heard) => Phase::ReadResponse(attempt, heard),
-        Phase::WriteInformed(attempt, text) => Phase::WriteInformed(attempt, text),
-        Phase::WriteHead(attempt, reply, text, left) => {
-            Phase::WriteHead(attempt, reply, text, left)
-        }
-        Phase::RelayBody(attempt, reply, left) => Phase::RelayBody(attempt, reply, left),
-        Phase::WriteChunks(attempt, stream, text) => Phase::WriteChunks(attempt, stream, text),
-        Phase::ReadChunks(attempt, stream) => Phase::ReadChunks(attempt, stream),
-        Phase::WriteLast(attempt, stream, text) => Phase::WriteLast(attempt, stream, text),
-        Phase::Close(attempt, keep, outcome) => {
-            let attempts = release(connector, attempt, keep, outcome);
+        Phase::Connect(context, session) => Phase::Connect(context, session),
+        Phase::Relay(attempt) => Phase::Relay(attempt),
+        Phase::Close(link, lease, keep, outcome) => {
+            let attempts = release(connector, link, lease, keep, outcome);
             Phase::Ended(outcome, attempts)
         }
         Phase::Ended(outcome, attempts) => Phase::Ended(outcome, attempts),
@@ -93,15 +78,16 @@ fn give_up(alloc: Global) -> Ending
 }
 
 /// A request that has a link gives up: the link goes back and is not kept.
-fn give_link_up<K: Connector, C: Drop>(connector: &mut K, attempt: Attempt<K::Byte, C>) -> Ending
+fn give_link_up<K: Connector>(connector: &mut K, link: K::Byte, lease: Lease) -> Ending
     requires { 0 < K.out connector.old }
-    ensures gives { GivesLinkUp attempt (K.returned connector.old) (K.returned connector.new) result }
+    ensures gives { GivesLinkUp link lease (K.returned connector.old) (K.returned connector.new)
+        result }
     ensures out { K.out connector.new + 1 ≡ K.out connector.old }
     ensures faults { K.fault_count connector.new ≡ K.fault_count connector.old }
 {
     Ending {
         outcome: Outcome::TurnLimit,
-        attempts: release(connector, attempt, false, Outcome::TurnLimit),
+        attempts: release(connector, link, lease, false, Outcome::TurnLimit),
     }
 }
 
@@ -121,18 +107,17 @@ pub(crate) fn finish<K: Connector, C: Drop>(
     match phase {
         Phase::ReadHead => give_up(alloc),
         Phase::Refuse(_answer, _error) => give_up(alloc),
-        Phase::Connect(_context, _request, _text) => give_up(alloc),
-        Phase::SendHead(attempt, _text) => give_link_up(connector, attempt),
-        Phase::ReadResponse(attempt, _heard) => give_link_up(connector, attempt),
-        Phase::WriteInformed(attempt, _text) => give_link_up(connector, attempt),
-        Phase::WriteHead(attempt, _reply, _text, _left) => give_link_up(connector, attempt),
-        Phase::RelayBody(attempt, _reply, _left) => give_link_up(connector, attempt),
-        Phase::WriteChunks(attempt, _stream, _text) => give_link_up(connector, attempt),
-        Phase::ReadChunks(attempt, _stream) => give_link_up(connector, attempt),
-        Phase::WriteLast(attempt, _stream, _text) => give_link_up(connector, attempt),
-        Phase::Close(attempt, keep, outcome) => Ending {
+        Phase::Connect(_context, _session) => give_up(alloc),
+        Phase::Relay(
+            Attempt {
+                exchange,
+                lease,
+                context: _,
+            },
+        ) => give_link_up(connector, exchange.into_link(), lease),
+        Phase::Close(link, lease, keep, outcome) => Ending {
             outcome,
-            attempts: release(connector, attempt, keep, outcome),
+            attempts: release(connector, link, lease, keep, outcome),
         },
         Phase::Ended(outcome, attempts) => Ending { outcome, attempts },
     }

@@ -4,7 +4,6 @@
 mod built;
 mod client_head;
 mod connecting;
-mod exchange;
 mod finish;
 mod hooks;
 mod machine;
@@ -12,8 +11,7 @@ mod outcome;
 mod pending;
 mod proxy;
 mod record;
-mod response;
-mod stream;
+mod relaying;
 mod turn;
 mod work;
 

@@ -1,26 +1,22 @@
 //! The machine of one request: its phases, and what a turn makes of one.
 //!
 //! ```text
-//! ReadHead -> Connect -> SendHead -> ReadResponse -> WriteHead -> RelayBody -> Close -> Ended
-//!    |           |          |             |             |            |
-//!    +-> Refuse  +-> Ended  +-------------+-------------+------------+--> Close (the attempt failed)
+//! ReadHead -> Connect -> Relay -> Close -> Ended
+//!    |           |
+//!    |           +-> Ended (no link was given)
+//!    +-> Refuse -> Ended (a generated answer)
 //!    +-> Ended (nothing asked, nothing relayed)
-//!
-//! ReadResponse <-> WriteInformed (heads that only inform)
-//! ReadResponse -> WriteChunks <-> ReadChunks -> WriteLast -> Close (a body that is sent piece by
-//!                                      |                            piece, as it comes)
-//!                                      +-> Close (to HTTP/1.0, where no text ends it)
 //! ```
 
-ghost use Rattle.std.specs.Prelude.{◌<◌, ◌≡◌};
+ghost use Rattle.std.specs.Prelude.{◌≡◌};
 
 use crate::outcome::Outcome;
 use crate::pending::Pending;
 use crate::record::{AttemptList, AttemptRoom};
 use crate::work::Work;
-use relay_h1::{BodyReader, Connection, Framing};
-use relay_links::Pause;
-use relay_tasks::{Error, Peer, RequestHeader, ResponseHeader};
+use relay_exchange::Exchange;
+use relay_session::HttpSession;
+use relay_tasks::{Error, Pause, Peer};
 use std::mem;
 
 /// What one turn of a request did.
@@ -28,43 +24,26 @@ use std::mem;
 pub enum RunStep {
     /// Something moved.
     Moved,
-    /// Nothing moved: the link that was asked is not ready, or is silent.
+    /// Nothing moved: the link that was asked is not ready, or all that were asked are silent.
     Waited(Pause),
     /// The request has ended.
     Ended,
 }
 
-/// An attempt at a request whose link is held.
-pub(crate) struct Attempt<L, C> {
-    pub(crate) request: RequestHeader,
-    pub(crate) connection: Connection<L, ()>,
+/// What is known of a link that the connector gave, beside the link: for whom it was asked, whether
+/// it had been used before, and room for the record of its attempt.
+#[derive(Drop)]
+pub(crate) struct Lease {
     pub(crate) peer: Peer,
     pub(crate) reused: bool,
     pub(crate) room: AttemptRoom,
+}
+
+/// An attempt at a request: its exchange, which has the link.
+pub(crate) struct Attempt<L, C> {
+    pub(crate) exchange: Exchange<L>,
+    pub(crate) lease: Lease,
     pub(crate) context: C,
-}
-
-/// Whether heads that only inform came before the response's head.
-#[derive(Clone, Copy)]
-pub(crate) enum Heard {
-    Nothing,
-    Informed,
-}
-
-/// A response whose body is sent piece by piece: its head as the client gets it, the framing of its
-/// body on the link, and where that body is read.
-#[derive(Drop)]
-pub(crate) struct Stream {
-    pub(crate) head: ResponseHeader,
-    pub(crate) framing: Framing,
-    pub(crate) reader: BodyReader,
-}
-
-/// How many bytes of a body are still to come: at least one.
-#[derive(Clone, Copy)]
-pub(crate) struct BodyLeft {
-    pub(crate) bytes: u64,
-    ghost some: { 0 < bytes },
 }
 
 /// Where a request stands.
@@ -73,27 +52,12 @@ pub(crate) enum Phase<L, C> {
     ReadHead,
     /// The client is given a generated answer, with that error.
     Refuse(Pending, Option<Error>),
-    /// The head was accepted, and a link is wanted for its text.
-    Connect(C, RequestHeader, Pending),
-    /// The head's text is written to the link.
-    SendHead(Attempt<L, C>, Pending),
-    /// The response's head is read.
-    ReadResponse(Attempt<L, C>, Heard),
-    /// The text of a head that only informs is written; the response's head is to follow.
-    WriteInformed(Attempt<L, C>, Pending),
-    /// The text of the response's head is written; a body of that length follows.
-    WriteHead(Attempt<L, C>, ResponseHeader, Pending, u64),
-    /// The body of that response is relayed.
-    RelayBody(Attempt<L, C>, ResponseHeader, BodyLeft),
-    /// The text of a response that is sent piece by piece is written, as far as it was cut; more is
-    /// to come.
-    WriteChunks(Attempt<L, C>, Stream, Pending),
-    /// All that was cut of that response was written.
-    ReadChunks(Attempt<L, C>, Stream),
-    /// The body of that response has ended, and the last of its text is written.
-    WriteLast(Attempt<L, C>, Stream, Pending),
+    /// The head was accepted, and a link is wanted for the session that begins behind it.
+    Connect(C, HttpSession),
+    /// The request is sent, and the response comes back, over the attempt's link.
+    Relay(Attempt<L, C>),
     /// The request has ended, and its link is to be handed back.
-    Close(Attempt<L, C>, bool, Outcome),
+    Close(L, Lease, bool, Outcome),
     /// The request has ended.
     Ended(Outcome, AttemptList),
 }
@@ -128,16 +92,9 @@ impl<L, C> Phase<L, C> {
         match mem::replace(self, phase) {
             Phase::ReadHead => {}
             Phase::Refuse(_answer, _error) => unreachable!(),
-            Phase::Connect(_context, _request, _text) => unreachable!(),
-            Phase::SendHead(_attempt, _text) => unreachable!(),
-            Phase::ReadResponse(_attempt, _heard) => unreachable!(),
-            Phase::WriteInformed(_attempt, _text) => unreachable!(),
-            Phase::WriteHead(_attempt, _reply, _text, _left) => unreachable!(),
-            Phase::RelayBody(_attempt, _reply, _left) => unreachable!(),
-            Phase::WriteChunks(_attempt, _stream, _text) => unreachable!(),
-            Phase::ReadChunks(_attempt, _stream) => unreachable!(),
-            Phase::WriteLast(_attempt, _stream, _text) => unreachable!(),
-            Phase::Close(_attempt, _keep, _outcome) => unreachable!(),
+            Phase::Connect(_context, _session) => unreachable!(),
+            Phase::Relay(_attempt) => unreachable!(),
+            Phase::Close(_link, _lease, _keep, _outcome) => unreachable!(),
             Phase::Ended(_outcome, _attempts) => unreachable!(),
         }
     }

@@ -2,6 +2,7 @@
 
 ghost use Rattle.std.specs.Prelude.{◌≡◌};
 ghost use Rattle.relay_proxy.specs.Endings.{error_of};
+ghost use Rattle.relay_proxy.specs.Request.{ended_after};
 
 use crate::record::RunRecord;
 use relay_tasks::Error;
@@ -34,6 +35,16 @@ impl Outcome {
             Outcome::Refused { error } => *error,
             Outcome::Served { error, reuse: _ } => *error,
         }
+    }
+}
+
+/// The requests that ended so far, and one more, where its client was served or refused.
+pub(crate) fn count_ended(ended: u64, outcome: Outcome) -> u64
+    ensures { result ≡ ended_after ended outcome }
+{
+    match outcome {
+        Outcome::NoRequest | Outcome::TurnLimit | Outcome::OutOfMemory => ended,
+        Outcome::Refused { .. } | Outcome::Served { .. } => ended.saturating_add(1),
     }
 }
 

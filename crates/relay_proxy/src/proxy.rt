@@ -1,21 +1,23 @@
 //! The proxy: requests are begun, stepped and ended, or processed in one call.
-ghost use Rattle.std.specs.Prelude.{◌≡◌, ◌⊎◌, ◌+◌, ◌≤◌, ℕ, [], List, None, true, false};
-ghost use Rattle.relay_links.specs.Count.{Rose, up};
-ghost use Rattle.relay_proxy.specs.Passed.{Start, Passed, Waited, start_of, nothing, unwaited};
-ghost use Rattle.relay_proxy.specs.Request.{is_stop, Counts, IsRunning, StepsOn, ComesToEnd, Processes};
+ghost use Rattle.std.specs.Prelude.{◌≡◌, ◌⊎◌, ◌+◌, ◌≤◌, [], List, None, true, false};
+ghost use Rattle.relay_links.specs.Count.{Rose};
+ghost use Rattle.relay_exchange.specs.Passed.{Passed};
+ghost use Rattle.relay_proxy.specs.Passed.{Start, start_of, nothing};
+ghost use Rattle.relay_proxy.specs.Phases.{RunSoFar};
+ghost use Rattle.relay_proxy.specs.Request.{is_stop, ended_after, Counts, StepsOn, ComesToEnd, Processes};
 ghost use Rattle.relay_proxy.specs.Turn.{world_of, links_held, is_over, is_end};
 ghost use Rattle.relay_proxy.specs.Work.{total_work, Grows};
 
 use crate::finish::{finish, settle};
 use crate::hooks::ProxyHttp;
 use crate::machine::{Machine, Next, Phase, RunStep};
-use crate::outcome::{Outcome, Processed};
+use crate::outcome::{Outcome, Processed, count_ended};
 use crate::record::RunRecord;
 use crate::turn::take_turn;
 use crate::work::{Work, count_turn};
 use relay_h1::Connection;
-use relay_links::{ByteLink, Connector, Delay, Pause, Purger, Schedule, ShutdownWatch};
-use relay_tasks::PhaseLog;
+use relay_links::{ByteLink, Connector, Delay, Purger, Schedule, ShutdownWatch};
+use relay_tasks::{Pause, PhaseLog};
 use std::alloc::Global;
 use std::mem;
 
@@ -42,6 +44,7 @@ pub struct HttpProxy<SV, K, P> {
     conf: ServerConf,
     connector: K,
     purger: P,
+    requests_ended: u64,
 }
 
 /// A request under way. It holds the link of its attempt, so it is given to `end`.
@@ -58,6 +61,7 @@ impl<SV: ProxyHttp, K: Connector, P: Purger> HttpProxy<SV, K, P> {
         ensures inner { result.inner ≡ inner }
         ensures conf { result.conf ≡ conf }
         ensures purger { result.purger ≡ purger }
+        ensures none_ended { result.requests_ended ≡ 0 }
     {
         HttpProxy {
             alloc,
@@ -65,6 +69,7 @@ impl<SV: ProxyHttp, K: Connector, P: Purger> HttpProxy<SV, K, P> {
             conf,
             connector,
             purger,
+            requests_ended: 0,
         }
     }
 
@@ -73,6 +78,14 @@ impl<SV: ProxyHttp, K: Connector, P: Purger> HttpProxy<SV, K, P> {
         ensures { result.now ≡ self.now.connector }
     {
         &self.connector
+    }
+
+    /// How many requests of this proxy ended with the outcome `Served` or `Refused`. The number
+    /// stands still at its last value.
+    pub fn requests_ended(&self) -> u64
+        ensures { result ≡ self.now.requests_ended }
+    {
+        self.requests_ended
     }
 
     /// The purger.
@@ -89,10 +102,10 @@ impl<SV: ProxyHttp, K: Connector, P: Purger> HttpProxy<SV, K, P> {
         client: &mut Connection<D, SV::Kept>,
         kept: Option<SV::Kept>,
     ) -> RequestMachine<SV, K>
-        ensures running { IsRunning K.Byte.state K.Byte.start
+        ensures run { RunSoFar K.Byte.state K.Byte.start
             (start_of (world_of D.state client.old (K.fault_count self.now.connector)))
-            nothing unwaited (world_of D.state client.new (K.fault_count self.now.connector)) []
-            result.machine }
+            nothing (world_of D.state client.new (K.fault_count self.now.connector)) []
+            result.machine.phase }
         ensures no_turns { result.machine.turns ≡ 0 }
         ensures going { is_over result.machine.phase ≡ false }
         ensures no_link { links_held K.Byte.state K.Byte.start result.machine.phase ≡ 0 }
@@ -105,7 +118,11 @@ impl<SV: ProxyHttp, K: Connector, P: Purger> HttpProxy<SV, K, P> {
         }
     }
 
-    /// Takes one turn of a request.
+    /// Takes one turn of a request: one call of the link that it waits for, one verdict on a head,
+    /// one call of the connector, or one branch of the duplex. In the duplex the schedule picks the
+    /// branch; where it names none or one that cannot be taken, the first that can is taken. A branch
+    /// whose link is silent passes the turn on to the next, going round; where all are silent the
+    /// answer is `Waited(Silent)`.
     ///
     /// Where the machine holds a link, the connector's number of links that are out is not 0, and
     /// the client is as the machine's last call left it.
@@ -113,19 +130,19 @@ impl<SV: ProxyHttp, K: Connector, P: Purger> HttpProxy<SV, K, P> {
         &mut self,
         machine: &mut RequestMachine<SV, K>,
         client: &mut Connection<D, SV::Kept>,
-        _outside: &mut Outside<H, W, Y>,
+        outside: &mut Outside<H, W, Y>,
     ) -> RunStep
         requires { links_held K.Byte.state K.Byte.start machine.old.machine.phase
             ≤ K.out self.old.connector }
         // The run so far goes on, and these links were handed back.
-        ensures steps { (s : Start) (p : Passed) (v : Waited) (own : List _)
-            → IsRunning K.Byte.state K.Byte.start s p v
+        ensures steps { (s : Start) (p : Passed) (own : List _)
+            → RunSoFar K.Byte.state K.Byte.start s p
             (world_of D.state client.old (K.fault_count self.old.connector)) own
-            machine.old.machine
-            → StepsOn K.Byte.state K.Byte.start s p v
+            machine.old.machine.phase
+            → StepsOn K.Byte.state K.Byte.start s p
             (world_of D.state client.new (K.fault_count self.new.connector)) own
             (K.returned self.old.connector) (K.returned self.new.connector)
-            machine.old.machine machine.new.machine result }
+            machine.old.machine.phase machine.new.machine.phase result }
         // A step that moved did some work.
         ensures progress { result ≡ RunStep.Moved
             → Rose (total_work machine.old.machine.work) (total_work machine.new.machine.work) }
@@ -153,8 +170,14 @@ impl<SV: ProxyHttp, K: Connector, P: Purger> HttpProxy<SV, K, P> {
         ensures same { self.new ≡ record self.old { connector = self.new.connector } }
     {
         let phase = mem::replace(&mut machine.machine.phase, Phase::ReadHead);
-        let next = take_turn(self.alloc, &self.inner, &mut self.connector, client, phase);
-        let Next { phase, step, work } = next;
+        let Next { phase, step, work } = take_turn(
+            self.alloc,
+            &self.inner,
+            &mut self.connector,
+            client,
+            &mut outside.schedule,
+            phase,
+        );
         machine.machine.turns = count_turn(machine.machine.turns, work);
         machine.machine.work = machine.machine.work.plus(work);
         let settled = settle(&mut self.connector, phase);
@@ -175,13 +198,14 @@ impl<SV: ProxyHttp, K: Connector, P: Purger> HttpProxy<SV, K, P> {
     ) -> (Processed, Option<SV::Kept>)
         requires { links_held K.Byte.state K.Byte.start machine.machine.phase
             ≤ K.out self.old.connector }
-        ensures ends { (s : Start) (p : Passed) (v : Waited) (own : List _)
-            → IsRunning K.Byte.state K.Byte.start s p v
-            (world_of D.state client.old (K.fault_count self.old.connector)) own machine.machine
-            → ComesToEnd K.Byte.state K.Byte.start s p v
+        ensures ends { (s : Start) (p : Passed) (own : List _)
+            → RunSoFar K.Byte.state K.Byte.start s p
+            (world_of D.state client.old (K.fault_count self.old.connector)) own
+            machine.machine.phase
+            → ComesToEnd K.Byte.state K.Byte.start s p
             (world_of D.state client.new (K.fault_count self.new.connector)) own
             (K.returned self.old.connector) (K.returned self.new.connector)
-            machine.machine result.0 }
+            machine.machine.phase result.0 }
         // It has not ended exactly where it gives `TurnLimit`.
         ensures limit { is_over machine.machine.phase ≡ false → result.0.outcome ≡ Outcome.TurnLimit }
         ensures turns { result.0.history.turns_taken ≡ machine.machine.turns }
@@ -196,7 +220,10 @@ impl<SV: ProxyHttp, K: Connector, P: Purger> HttpProxy<SV, K, P> {
             ≡ K.out self.old.connector }
         ensures kept { result.1 ≡ None }
         ensures client { client.new ≡ client.old }
-        ensures same { self.new ≡ record self.old { connector = self.new.connector } }
+        ensures same { self.new ≡ record self.old {
+          connector = self.new.connector;
+          requests_ended = ended_after self.old.requests_ended result.0.outcome;
+        } }
     {
         let RequestMachine {
             machine,
@@ -213,6 +240,7 @@ impl<SV: ProxyHttp, K: Connector, P: Purger> HttpProxy<SV, K, P> {
             sides_ended: work.ended,
         };
         let outcome = ending.outcome;
+        self.requests_ended = count_ended(self.requests_ended, outcome);
         (Processed { outcome, history }, None)
     }
 
@@ -239,7 +267,10 @@ impl<SV: ProxyHttp, K: Connector, P: Purger> HttpProxy<SV, K, P> {
         ensures kept { client.new.kept ≡ None }
         // No hook is called yet.
         ensures log { result.history.log ≡ [] }
-        ensures same { self.new ≡ record self.old { connector = self.new.connector } }
+        ensures same { self.new ≡ record self.old {
+          connector = self.new.connector;
+          requests_ended = ended_after self.old.requests_ended result.outcome;
+        } }
     {
         let kept = client.take_kept();
         let mut machine = self.begin(client, kept);
@@ -260,13 +291,14 @@ impl<SV: ProxyHttp, K: Connector, P: Purger> HttpProxy<SV, K, P> {
     ) -> Processed
         requires { links_held K.Byte.state K.Byte.start machine.machine.phase
             ≤ K.out self.old.connector }
-        ensures ends { (s : Start) (p : Passed) (v : Waited) (own : List _)
-            → IsRunning K.Byte.state K.Byte.start s p v
-            (world_of D.state client.old (K.fault_count self.old.connector)) own machine.machine
-            → ComesToEnd K.Byte.state K.Byte.start s p v
+        ensures ends { (s : Start) (p : Passed) (own : List _)
+            → RunSoFar K.Byte.state K.Byte.start s p
+            (world_of D.state client.old (K.fault_count self.old.connector)) own
+            machine.machine.phase
+            → ComesToEnd K.Byte.state K.Byte.start s p
             (world_of D.state client.new (K.fault_count self.new.connector)) own
             (K.returned self.old.connector) (K.returned self.new.connector)
-            machine.machine result }
+            machine.machine.phase result }
         ensures turns { result.history.turns_taken ≡ machine.machine.turns }
         ensures moved { result.history.tasks_moved ≡ machine.machine.work.moved }
         ensures used { result.history.items_used ≡ machine.machine.work.used }
@@ -278,7 +310,10 @@ impl<SV: ProxyHttp, K: Connector, P: Purger> HttpProxy<SV, K, P> {
         ensures client { client.new ≡ client.old }
         // No hook is called yet.
         ensures log { result.history.log ≡ [] }
-        ensures same { self.new ≡ record self.old { connector = self.new.connector } }
+        ensures same { self.new ≡ record self.old {
+          connector = self.new.connector;
+          requests_ended = ended_after self.old.requests_ended result.outcome;
+        } }
     {
         let (processed, kept) = self.end(machine, client);
         if let Some(value) = kept {

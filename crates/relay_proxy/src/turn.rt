@@ -1,35 +1,35 @@
 //! One turn of a request, by the phase in which it stands.
-ghost use Rattle.std.specs.Prelude.{◌≡◌, ◌+◌, ◌≤◌, ℕ, []};
+ghost use Rattle.std.specs.Prelude.{◌≡◌, ◌+◌, ◌≤◌, []};
+ghost use Rattle.relay_exchange.specs.Passed.{Passed};
 ghost use Rattle.relay_proxy.specs.Closing.{Rests, TurnOf};
-ghost use Rattle.relay_proxy.specs.Passed.{Start, Passed, Waited};
+ghost use Rattle.relay_proxy.specs.Passed.{Start};
 ghost use Rattle.relay_proxy.specs.Phases.{RunSoFar};
 ghost use Rattle.relay_proxy.specs.Turn.{world_of, links_held, is_over, is_end, WorksIn};
 
 use crate::client_head::{read_head, write_refusal};
 use crate::connecting::connect;
-use crate::exchange::{relay_body, send_head, write_head};
 use crate::hooks::ProxyHttp;
 use crate::machine::{Next, Phase, RunStep};
-use crate::response::{read_response, write_informed};
-use crate::stream::{read_chunks, write_chunks, write_last};
+use crate::relaying::relay;
 use crate::work::Work;
 use relay_h1::Connection;
-use relay_links::{ByteLink, Connector};
+use relay_links::{ByteLink, Connector, Schedule};
 use std::alloc::Global;
 
-/// One turn: one call of one link or of the connector, or one verdict on a head.
-pub(crate) fn take_turn<SV: ProxyHttp, K: Connector, D: ByteLink, U>(
+/// One turn: one call of one link or of the connector, one verdict on a head, or one branch of the
+/// duplex.
+pub(crate) fn take_turn<SV: ProxyHttp, K: Connector, D: ByteLink, U: Drop, H: Schedule>(
     alloc: Global,
     hooks: &SV,
     connector: &mut K,
     client: &mut Connection<D, U>,
+    schedule: &mut H,
     phase: Phase<K::Byte, SV::CTX>,
 ) -> Next<K::Byte, SV::CTX>
-    ensures turn { (s : Start) (p : Passed) (v : Waited)
-        → RunSoFar {C = SV.CTX} K.Byte.state K.Byte.start s p v
+    ensures turn { (s : Start) (p : Passed)
+        → RunSoFar {C = SV.CTX} K.Byte.state K.Byte.start s p
         (world_of D.state client.old (K.fault_count connector.old)) [] phase
-        → TurnOf K.Byte.state K.Byte.start s p v
-        (world_of D.state client.old (K.fault_count connector.old))
+        → TurnOf K.Byte.state K.Byte.start s
         (world_of D.state client.new (K.fault_count connector.new))
         phase result.phase result.step }
     ensures rests { Rests (world_of D.state client.old (K.fault_count connector.old))
@@ -45,21 +45,12 @@ pub(crate) fn take_turn<SV: ProxyHttp, K: Connector, D: ByteLink, U>(
     match phase {
         Phase::ReadHead => read_head(alloc, hooks, client),
         Phase::Refuse(answer, error) => write_refusal(alloc, client, answer, error),
-        Phase::Connect(context, request, text) => {
-            connect(alloc, connector, context, request, text)
+        Phase::Connect(context, session) => {
+            connect::<K, Connection<D, U>, SV::CTX>(alloc, connector, context, session)
         }
-        Phase::SendHead(attempt, text) => send_head(attempt, text),
-        Phase::ReadResponse(attempt, heard) => read_response(alloc, client, attempt, heard),
-        Phase::WriteInformed(attempt, text) => write_informed(client, attempt, text),
-        Phase::WriteHead(attempt, reply, text, left) => {
-            write_head(client, attempt, reply, text, left)
-        }
-        Phase::RelayBody(attempt, reply, left) => relay_body(client, attempt, reply, left),
-        Phase::WriteChunks(attempt, stream, text) => write_chunks(client, attempt, stream, text),
-        Phase::ReadChunks(attempt, stream) => read_chunks(alloc, client, attempt, stream),
-        Phase::WriteLast(attempt, stream, text) => write_last(client, attempt, stream, text),
-        Phase::Close(attempt, keep, outcome) => Next {
-            phase: Phase::Close(attempt, keep, outcome),
+        Phase::Relay(attempt) => relay(client, schedule, attempt),
+        Phase::Close(link, lease, keep, outcome) => Next {
+            phase: Phase::Close(link, lease, keep, outcome),
             step: RunStep::Ended,
             work: Work::NONE,
         },

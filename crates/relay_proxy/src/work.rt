@@ -1,6 +1,8 @@
 //! How much work a turn was, and a request so far.
 ghost use Rattle.std.specs.Prelude.{◌<◌, ◌≡◌, ◌↔◌, IsTrue};
-ghost use Rattle.relay_proxy.specs.Work.{turns_after};
+ghost use Rattle.relay_proxy.specs.Work.{turns_after, total_work};
+
+use relay_links::Branch;
 
 /// How much work a turn was.
 #[derive(Clone, Copy)]
@@ -78,5 +80,21 @@ pub(crate) fn count_turn(turns: u64, work: Work) -> u64
         turns.saturating_add(1)
     } else {
         turns
+    }
+}
+
+/// The work of a turn of an exchange that moved, by the branch that was taken; none where the
+/// request's head was being sent. A branch that reads or writes counts as one answer of its link.
+pub(crate) fn work_of(branch: Option<Branch>) -> Work
+    ensures { total_work result ≡ 1 }
+{
+    match branch {
+        None => Work::USED,
+        Some(Branch::UpWrite | Branch::DownWrite | Branch::UpRead | Branch::DownRead) => Work::USED,
+        Some(Branch::UpTake | Branch::DownTake | Branch::DownDrop) => Work::MOVED,
+        Some(Branch::MessageUp | Branch::MessageDown) => Work::MOVED,
+        Some(Branch::DownEnd | Branch::DownClosed | Branch::UpFinish | Branch::DownFinish) => {
+            Work::ENDED
+        }
     }
 }

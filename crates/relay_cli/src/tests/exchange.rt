@@ -1,13 +1,10 @@
 //! One GET over links that give and take it in any pieces, and that fail at any call.
+use super::support::{Ran, run};
 use bytes::Bytes;
-use relay_h1::Connection;
-use relay_links::{
-    CountDelay, ListSchedule, MemoryPurger, PeerScript, ReadItem, ScriptConnector, ScriptLink,
-    ShutdownAt, WriteItem,
-};
-use relay_proxy::{HttpProxy, Outcome, Outside, ProxyHttp, ServerConf};
-use relay_tasks::{ErrorSource, ErrorType, Fault, FaultKind, Purged, RetryType};
-use std::alloc::{AllocError, Global};
+use relay_links::{ListSchedule, ReadItem, ScriptLink, WriteItem};
+use relay_proxy::Outcome;
+use relay_tasks::{ErrorSource, ErrorType, Fault, FaultKind, RetryType};
+use std::alloc::Global;
 use std::process::Abort;
 use std::test::Fail;
 
@@ -19,55 +16,9 @@ const SENT: &[u8] = b"GET /a HTTP/1.1\r\nhost: h.example\r\n\r\n";
 
 const WRITTEN: &[u8] = b"HTTP/1.1 200 OK\r\ncontent-length: 2\r\n\r\nhi";
 
-#[derive(Drop)]
-struct NoHooks;
-
-impl ProxyHttp for NoHooks {
-    type CTX = ();
-
-    type Kept = ();
-
-    fn new_ctx(&self) {}
-}
-
-/// What an exchange came to.
-#[derive(Drop)]
-struct Exchanged {
-    outcome: Outcome,
-    written: Vec<u8>,
-    sent: Vec<u8>,
-}
-
-/// Runs one request between these links.
-fn exchange(alloc: Global, client: ScriptLink, peer: ScriptLink) -> Result<Exchanged, Fail> {
-    let mut entries = Vec::new(alloc);
-    entries.push(PeerScript {
-        name: Bytes::from_static(b"a"),
-        link: peer,
-        connect: None,
-    })?;
-    let connector = ScriptConnector::new(alloc, entries)
-        .ok()
-        .ok_or("no memory")?;
-    let purger = MemoryPurger::new(alloc, Purged::NotFound);
-    let conf = ServerConf { max_retries: 1 };
-    let mut proxy = HttpProxy::new(alloc, NoHooks, conf, connector, purger);
-    let mut outside = Outside {
-        schedule: ListSchedule::new(Vec::new(alloc)),
-        shutdown: ShutdownAt::new(None),
-        delay: CountDelay::new(),
-    };
-    let mut client = Connection::new(alloc, client);
-    let processed = proxy.process_new_http(&mut client, &mut outside, 1_000);
-    let sent = match proxy.connector().returned().first() {
-        Some(returned) => Vec::from_slice(alloc, returned.link.taken())?,
-        None => Vec::new(alloc),
-    };
-    Ok(Exchanged {
-        outcome: processed.outcome,
-        written: Vec::from_slice(alloc, client.link().taken())?,
-        sent,
-    })
+/// Runs one request between these links. The schedule names no branch.
+fn exchange(alloc: Global, client: ScriptLink, peer: ScriptLink) -> Result<Ran, Fail> {
+    run(alloc, client, peer, ListSchedule::new(Vec::new(alloc)))
 }
 
 /// Three items that give these bytes, cut at these places.
@@ -251,7 +202,7 @@ fn fault(kind: FaultKind) -> Fault {
 /// Checks that an exchange failed by this type on this side, and passed no wrong byte.
 fn assert_failed(
     rt: &impl Abort,
-    ran: &Exchanged,
+    ran: &Ran,
     kind: ErrorType,
     side: ErrorSource,
 ) -> Result<(), Fail> {

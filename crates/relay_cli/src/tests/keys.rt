@@ -51,8 +51,8 @@ const ANSWERED: &str = "0 request 1\noutcome TurnLimit\nerror -\nreuse no\n\
     attempt 1 a reused no kept no error -\n\
     sent GET /a HTTP/1.1\\r\\nhost: h.example\\r\\n\\r\\n\n";
 
-// A read and a verdict on the head, the connector, a write of the head; a read and a verdict on the
-// response's head, a write of it and one of the body.
+// A read and a verdict on the head, the connector, a write of the head; then the response's head is
+// read, taken and written, and so is its body; and both halves finish.
 #[test]
 fn stops_where_its_turns_are_used_up(rt: HostRuntime) -> Result<(), AllocError> {
     for (turns, report) in [
@@ -63,7 +63,8 @@ fn stops_where_its_turns_are_used_up(rt: HostRuntime) -> Result<(), AllocError> 
         ("4", SENT),
         ("6", SENT),
         ("7", ANSWERED),
-        ("8", REPORT),
+        ("9", ANSWERED),
+        ("12", REPORT),
         ("4294967295", REPORT),
     ] {
         let found = run_with(rt.alloc(), "turns", turns)?;

@@ -5,7 +5,7 @@ use Rattle.relay_proxy.proofs.HeadSteps.{turned_down}
 use Rattle.relay_proxy.proofs.client_head.give_answer.Goals as goal
 
 pub returns-clause-run : goal.returns-clause-run
-returns-clause-run g c = λ s p v w run why.
-    turned_down g.L.ByteLink.state g.L.ByteLink.start s p v w _ _ _ why
+returns-clause-run g c = λ s p w run why.
+    turned_down g.L.ByteLink.state g.L.ByteLink.start s p w _ _ _ why
     (c.in-Some.ensures ∙ c.new-2.ensures ∙ c.in-Ok.ensures.ok
     ∙ ap (λ (xs : List ℕ). xs ++ generated c.args.status) c.new-text.ensures.items) run

@@ -1,20 +1,19 @@
 -- The verdict is on the client's bytes as they stood.
-use Rattle.std.proofs.Common.{Some, ap, refl}
-use Rattle.relay_tasks.specs.declared.Error.{Error}
+use Rattle.std.proofs.Common.{refl}
 use Rattle.relay_h1.proofs.HeadEndLemmas.{head_end-within}
 use Rattle.relay_proxy.specs.Endings as endings
 use Rattle.relay_proxy.specs.Turn.{world_of}
 use Rattle.relay_proxy.proofs.client_head.read_head.Goals as goal
 
-pub returns-in-Err-Error-clause-run : goal.returns-in-Err-Error-clause-run
-returns-in-Err-Error-clause-run g c = λ s p v faults run.
-    let verdict = rw c.in-Err-Error.field-0-is at c.in-Err-Error.ensures.verdict in
-    rw c.judge_request.ensures.same (c.give_answer.ensures.run s p v
-    (world_of g.D.ByteLink.state c.args.client.now faults) run
-    (endings.IsTurnedDown.has_bad_head verdict.0 verdict.2 refl
-    (ap (λ (e : Error). Some e) verdict.1)))
-
 pub take_head-requires : goal.take_head-requires
 take_head-requires g c =
     let verdict = rw c.in-Ok-Some.field-0-is at c.in-Ok-Some.ensures.verdict in
     rw c.judge_request.ensures.same (head_end-within _ _ verdict.starts.ends).1
+
+pub returns-in-Err-Error-clause-run : goal.returns-in-Err-Error-clause-run
+returns-in-Err-Error-clause-run g c = λ s p faults run.
+    let verdict = rw c.in-Err-Error.field-0-is at c.in-Err-Error.ensures.verdict in
+    rw c.judge_request.ensures.same (c.give_answer.ensures.run s p
+    (world_of g.D.ByteLink.state c.args.client.now faults) run
+    (endings.IsTurnedDown.has_bad_head verdict.0 verdict.2 refl
+    (rw verdict.1 refl)))

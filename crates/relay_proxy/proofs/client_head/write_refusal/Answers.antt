@@ -1,29 +1,41 @@
 -- Each answer of the one write is a turn of the refusal.
-use Rattle.std.proofs.Common.{refl}
+use Rattle.std.proofs.Common.{refl, ap, ◌∙◌}
+use Rattle.relay_links.specs.Link.{LinkState}
 use Rattle.relay_proxy.proofs.Tells.{sided}
 use Rattle.relay_proxy.proofs.HeadSteps.{refusal_whole, refusal_part, refusal_waits, refusal_fails, refusal_memory}
 use Rattle.relay_proxy.proofs.client_head.write_refusal.Goals as goal
 
 pub returns-in-Whole-clause-run : goal.returns-in-Whole-clause-run
-returns-in-Whole-clause-run g c = λ s p v faults run.
-    refusal_whole g.L.ByteLink.state g.L.ByteLink.start s p v _ _ _ _ _ refl c.in-Whole.ensures.offers
-    c.new.ensures run
+returns-in-Whole-clause-run g c = λ s p faults run.
+    refusal_whole g.L.ByteLink.state g.L.ByteLink.start s p _ _ _ _ _ refl
+    c.in-Whole.ensures.offers c.new.ensures run
 
 pub returns-in-Left-clause-run : goal.returns-in-Left-clause-run
-returns-in-Left-clause-run g c = λ s p v faults run.
-    refusal_part g.L.ByteLink.state g.L.ByteLink.start s p v _ _ _ _ _ refl c.in-Left.ensures.offers run
+returns-in-Left-clause-run g c = λ s p faults run.
+    refusal_part g.L.ByteLink.state g.L.ByteLink.start s p _ _ _ _ _ refl
+    c.in-Left.ensures.offers run
 
 pub returns-in-NotReady-clause-run : goal.returns-in-NotReady-clause-run
-returns-in-NotReady-clause-run g c = λ s p v faults run.
-    refusal_waits g.L.ByteLink.state g.L.ByteLink.start s p v _ _ _ _ _ refl
-    c.in-NotReady.ensures.offers.0 c.in-NotReady.ensures.offers.1 run
+returns-in-NotReady-clause-run g c = λ s p faults run.
+    let (waits, kept) = c.in-NotReady.ensures.offers in
+    refusal_waits g.L.ByteLink.state g.L.ByteLink.start s p _ _ _ _ _ _ refl waits.given
+    waits.taken waits.faults (λ silent. cc) kept run
+
+pub returns-in-Silent-clause-run : goal.returns-in-Silent-clause-run
+returns-in-Silent-clause-run g c = λ s p faults run.
+    let (silent, kept) = c.in-Silent.ensures.offers in
+    refusal_waits g.L.ByteLink.state g.L.ByteLink.start s p _ _ _ _ _ _ refl
+    (ap (λ (l : LinkState). l.given) silent.same) (ap (λ (l : LinkState). l.taken) silent.same)
+    (ap (λ (l : LinkState). l.faults) silent.same)
+    (λ _. ap (λ (l : LinkState). l.silent_on_write) silent.same ∙ silent.silent) kept run
 
 pub returns-in-Failed-clause-run : goal.returns-in-Failed-clause-run
-returns-in-Failed-clause-run g c = λ s p v faults run.
-    refusal_fails g.L.ByteLink.state g.L.ByteLink.start s p v _ _ _ _ _ _ _ refl c.in-Failed.ensures.offers
-    (sided _ _ _ _ c.of_fault.ensures c.into_down-error.ensures) c.new-in-Failed.ensures run
+returns-in-Failed-clause-run g c = λ s p faults run.
+    refusal_fails g.L.ByteLink.state g.L.ByteLink.start s p _ _ _ _ _ _ _ refl
+    c.in-Failed.ensures.offers (sided _ _ _ _ c.of_fault.ensures c.into_down-error.ensures)
+    c.new-in-Failed.ensures run
 
 pub returns-in-OutOfMemory-clause-run : goal.returns-in-OutOfMemory-clause-run
-returns-in-OutOfMemory-clause-run g c = λ s p v faults run.
-    refusal_memory g.L.ByteLink.state g.L.ByteLink.start s p v _ _ _ _ _ refl c.in-OutOfMemory.ensures.offers
-    c.new-in-OutOfMemory.ensures run
+returns-in-OutOfMemory-clause-run g c = λ s p faults run.
+    refusal_memory g.L.ByteLink.state g.L.ByteLink.start s p _ _ _ _ _ refl
+    c.in-OutOfMemory.ensures.offers c.new-in-OutOfMemory.ensures run

@@ -1,32 +1,23 @@
 -- The steps add up to the whole request.
-use Rattle.std.proofs.Common.{◌≡◌, ℕ, ◌∙◌, ◌+◌, ◌≤◌, arith, refl, ap, sym, inl, inr}
+use Rattle.std.proofs.Common.{◌≡◌, ◌∙◌, ◌+◌, ◌≤◌, arith, refl, ap, sym}
 use Rattle.relay_links.specs.Count.{last_count}
-use Rattle.relay_links.specs.declared.Pause.TheVariants.{NotReady, Silent}
 use Rattle.relay_proxy.specs.Passed.{start_of}
-use Rattle.relay_proxy.specs.Request.{Counts}
 use Rattle.relay_proxy.specs.Turn.{world_of}
-use Rattle.relay_proxy.specs.declared.machine.RunStep.{RunStep}
-use Rattle.relay_proxy.specs.declared.machine.RunStep.TheVariants as did
 use Rattle.relay_proxy.specs.declared.proxy.HttpProxy.{HttpProxy}
 use Rattle.relay_proxy.proofs.UnderWay.{begun, goes_on, all_taken, stopped, one_more, no_end, stops_at}
 use Rattle.relay_proxy.proofs.proxy.HttpProxy.process_new_http.Goals as goal
 
--- a step is counted as one turn at most
-one_at_most : (before after : ℕ) (step : RunStep) → Counts before after step → after ≤ before + 1
-one_at_most before after did.Moved counts = omega (arith, counts)
-one_at_most before after (did.Waited NotReady) counts = omega (arith, counts)
-one_at_most before after (did.Waited Silent) counts = omega (arith, counts)
-one_at_most before after did.Ended (inl one) = omega (arith, one)
-one_at_most before after did.Ended (inr none) = omega (arith, none)
-
 pub loop-turn-init : goal.loop-turn-init
 loop-turn-init g c =
     let faults = g.K.Connector.fault_count c.args.self.now.connector in (
-      begun g.K.Byte.ByteLink.state g.K.Byte.ByteLink.start (world_of g.D.ByteLink.state c.args.client.now faults)
-          (world_of g.D.ByteLink.state c.begin-machine.new.client faults) _ _ c.begin-machine.result.machine refl
-          (rw c.take_kept-kept.ensures.after at c.begin-machine.ensures.running) c.begin-machine.ensures.no_turns,
+      begun g.K.Byte.ByteLink.state g.K.Byte.ByteLink.start
+          (world_of g.D.ByteLink.state c.args.client.now faults)
+          (world_of g.D.ByteLink.state c.begin-machine.new.client faults) _ _
+          c.begin-machine.result.machine refl
+          (rw c.take_kept-kept.ensures.after at c.begin-machine.ensures.run)
+          c.begin-machine.ensures.no_turns,
       omega (arith, c.begin-machine.ensures.no_link),
-      ap (λ k. k.kept) (c.begin-machine.ensures.client ∙ c.take_kept-kept.ensures.after),
+      rw (c.begin-machine.ensures.client, c.take_kept-kept.ensures.after) refl,
       c.begin-machine.ensures.going,
       refl,
       omega (arith, c.begin-machine.ensures.no_turns),
@@ -37,34 +28,44 @@ returns-then-is_stop-clause-processes g c =
     let state = g.K.Byte.ByteLink.state in
     let start = g.K.Byte.ByteLink.start in
     let under = c.loop-turn.invariant.0 in
-    let s = start_of (world_of g.D.ByteLink.state c.args.client.now (g.K.Connector.fault_count c.args.self.now.connector)) in
-    let steps = c.step-step.ensures.steps s under.passed under.waited under.own under.running in
-    let ends = c.close.ensures.ends s steps.passed steps.waited _ steps.running in
-    stopped state start s _ _ _ _ _ _ _ c.loop-turn.machine.machine c.step-step.new.machine.machine _ _ c.step-step.result
-    c.close.result under steps ends
-    (stops_at state start under.passed steps.passed under.waited steps.waited
-    (world_of g.D.ByteLink.state c.step-step.new.client (g.K.Connector.fault_count c.step-step.new.self.connector))
-    (world_of g.D.ByteLink.state c.close.new.client (g.K.Connector.fault_count c.close.new.self.connector))
-    _ _ c.step-step.result c.close.result
-    (sym c.is_stop.ensures ∙ c.if-is_stop.true) steps.spends c.step-step.ensures.ended
-    (rw (c.close.ensures.client, c.close.ensures.faults) refl) ends.over c.loop-turn.invariant.3)
+    let s = start_of
+    (world_of g.D.ByteLink.state c.args.client.now
+    (g.K.Connector.fault_count c.args.self.now.connector)) in
+    let steps = c.step-step.ensures.steps s under.passed under.own under.run in
+    let ends = c.close.ensures.ends s steps.passed _ steps.run in
+    stopped state start s _ _ _ _ _ _ _ c.loop-turn.machine.machine
+    c.step-step.new.machine.machine _ _ c.step-step.result c.close.result under steps ends
+    (stops_at state start
+    (world_of g.D.ByteLink.state c.step-step.new.client
+    (g.K.Connector.fault_count c.step-step.new.self.connector))
+    (world_of g.D.ByteLink.state c.close.new.client
+    (g.K.Connector.fault_count c.close.new.self.connector)) _ c.step-step.result c.close.result
+    (sym c.is_stop.ensures ∙ c.if-is_stop.true) steps.stalled c.step-step.ensures.ended
+    (rw (c.close.ensures.client, c.close.ensures.faults) (refl
+    {a = world_of g.D.ByteLink.state c.step-step.new.client
+    (g.K.Connector.fault_count c.step-step.new.self.connector)})) ends.over)
 
 pub loop-turn-preserved : goal.loop-turn-preserved
 loop-turn-preserved g c =
     let state = g.K.Byte.ByteLink.state in
     let start = g.K.Byte.ByteLink.start in
     let under = c.loop-turn.invariant.0 in
-    let s = start_of (world_of g.D.ByteLink.state c.args.client.now (g.K.Connector.fault_count c.args.self.now.connector)) in
-    let steps = c.step-step.ensures.steps s under.passed under.waited under.own under.running in
+    let s = start_of
+    (world_of g.D.ByteLink.state c.args.client.now
+    (g.K.Connector.fault_count c.args.self.now.connector)) in
+    let steps = c.step-step.ensures.steps s under.passed under.own under.run in
     let goes = sym c.is_stop.ensures ∙ c.if-is_stop.false in
-    let few : c.loop-turn._turn + 1 ≤ last_count = omega (arith, c.loop-turn-test.true, c.ranges.turns.fits) in (
-      goes_on state start s _ _ _ _ _ c.loop-turn.machine.machine c.step-step.new.machine.machine _ c.step-step.result under steps
+    let few : c.loop-turn._turn + 1 ≤ last_count =
+    omega (arith, c.loop-turn-test.true, c.ranges.turns.fits) in (
+      goes_on state start s _ _ _ _ _ c.loop-turn.machine.machine
+          c.step-step.new.machine.machine _ c.step-step.result under steps
           (one_more _ _ c.step-step.result c.step-step.ensures.counted goes) few,
       omega (arith, c.step-step.ensures.out, c.loop-turn.invariant.1),
       c.step-step.ensures.kept ∙ c.loop-turn.invariant.2,
       c.step-step.ensures.ended ∙ no_end c.step-step.result goes,
       c.step-step.ensures.same
-          ∙ ap (λ (k : HttpProxy g.row.SV.Denot g.row.K.Denot g.row.P.Denot). record k { connector = c.step-step.new.self.connector }) c.loop-turn.invariant.4,
+          ∙ ap (λ (k : HttpProxy g.row.SV.Denot g.row.K.Denot g.row.P.Denot).
+          record k { connector = c.step-step.new.self.connector }) c.loop-turn.invariant.4,
       c.step-step.ensures.worked c.loop-turn.invariant.5,
     )
 
@@ -73,62 +74,11 @@ returns-clause-processes g c =
     let state = g.K.Byte.ByteLink.state in
     let start = g.K.Byte.ByteLink.start in
     let under = c.loop-turn.invariant.0 in
-    let s = start_of (world_of g.D.ByteLink.state c.args.client.now (g.K.Connector.fault_count c.args.self.now.connector)) in
-    let ends = c.close-2.ensures.ends s under.passed under.waited under.own under.running in
-    let all : c.args.turns ≡ c.loop-turn._turn = omega (arith, c.loop-turn-test.false, c.loop-turn.auto._turn-end) in
-    all_taken state start s _ _ _ _ _ c.loop-turn.machine.machine _ _ c.close-2.result under all ends c.close-2.ensures.turns
-
--- no more turns were taken than were given
-pub returns-then-is_stop-clause-within : goal.returns-then-is_stop-clause-within
-returns-then-is_stop-clause-within g c =
-    omega (
-      arith,
-      c.close.ensures.turns,
-      c.loop-turn.invariant.0.counted,
-      c.loop-turn-test.true,
-      one_at_most _ _ c.step-step.result c.step-step.ensures.counted,
-    )
-
-pub returns-clause-within : goal.returns-clause-within
-returns-clause-within g c =
-    omega (
-      arith,
-      c.close-2.ensures.turns,
-      c.loop-turn.invariant.0.counted,
-      c.loop-turn.auto._turn-end,
-    )
-
--- each turn that was counted did some work
-pub returns-then-is_stop-clause-worked : goal.returns-then-is_stop-clause-worked
-returns-then-is_stop-clause-worked g c =
-    omega (
-      arith,
-      c.close.ensures.turns,
-      c.close.ensures.used,
-      c.close.ensures.moved,
-      c.close.ensures.sides,
-      c.step-step.ensures.worked c.loop-turn.invariant.5,
-    )
-
-pub returns-clause-worked : goal.returns-clause-worked
-returns-clause-worked g c =
-    omega (
-      arith,
-      c.close-2.ensures.turns,
-      c.close-2.ensures.used,
-      c.close-2.ensures.moved,
-      c.close-2.ensures.sides,
-      c.loop-turn.invariant.5,
-    )
-
--- the proxy is as before, but for its connector
-pub returns-then-is_stop-clause-same : goal.returns-then-is_stop-clause-same
-returns-then-is_stop-clause-same g c =
-    c.close.ensures.same
-    ∙ ap (λ (k : HttpProxy g.row.SV.Denot g.row.K.Denot g.row.P.Denot). record k { connector = c.close.new.self.connector }) c.step-step.ensures.same
-    ∙ ap (λ (k : HttpProxy g.row.SV.Denot g.row.K.Denot g.row.P.Denot). record k { connector = c.close.new.self.connector }) c.loop-turn.invariant.4
-
-pub returns-clause-same : goal.returns-clause-same
-returns-clause-same g c =
-    c.close-2.ensures.same
-    ∙ ap (λ (k : HttpProxy g.row.SV.Denot g.row.K.Denot g.row.P.Denot). record k { connector = c.close-2.new.self.connector }) c.loop-turn.invariant.4
+    let s = start_of
+    (world_of g.D.ByteLink.state c.args.client.now
+    (g.K.Connector.fault_count c.args.self.now.connector)) in
+    let ends = c.close-2.ensures.ends s under.passed under.own under.run in
+    let all : c.args.turns ≡ c.loop-turn._turn =
+    omega (arith, c.loop-turn-test.false, c.loop-turn.auto._turn-end) in
+    all_taken state start s _ _ _ _ _ c.loop-turn.machine.machine _ _ c.close-2.result under all
+    ends c.close-2.ensures.turns

@@ -1,3 +1,4 @@
+-- What holds between two steps of the call.
 use Rattle.std.proofs.Common.{◌≡◌, ◌+◌, ◌≤◌, None, false}
 use Rattle.relay_proxy.specs.Passed.{start_of}
 use Rattle.relay_proxy.specs.Turn.{world_of, links_held, is_over}
@@ -8,7 +9,8 @@ use Rattle.relay_proxy.proofs.proxy.HttpProxy.process_new_http.Given as goal
 abbrev pub invariant-loop-turn : goal.invariant-loop-turn
 invariant-loop-turn g l =
     IsUnderWay g.K.Byte.ByteLink.state g.K.Byte.ByteLink.start
-    (start_of (world_of g.D.ByteLink.state l.fn.client (g.K.Connector.fault_count l.fn.self.connector)))
+    (start_of
+    (world_of g.D.ByteLink.state l.fn.client (g.K.Connector.fault_count l.fn.self.connector)))
     (world_of g.D.ByteLink.state l.client (g.K.Connector.fault_count l.self.connector))
     (g.K.Connector.returned l.fn.self.connector) (g.K.Connector.returned l.self.connector)
     l.machine.machine l._turn

@@ -1,0 +1,208 @@
+//! What the tests by the top call share: links from texts, and one request between two links.
+use bytes::Bytes;
+use relay_h1::Connection;
+use relay_links::{
+    Branch, ByteLink, CountDelay, ListSchedule, MemoryPurger, PeerScript, ReadItem,
+    ScriptConnector, ScriptLink, ShutdownAt,
+};
+use relay_proxy::{HttpProxy, Outcome, Outside, ProxyHttp, ServerConf};
+use relay_tasks::{ErrorSource, ErrorType, Purged};
+use std::alloc::{AllocError, Global};
+use std::process::Abort;
+use std::str;
+use std::test::Fail;
+
+#[derive(Drop)]
+struct NoHooks;
+
+impl ProxyHttp for NoHooks {
+    type CTX = ();
+
+    type Kept = ();
+
+    fn new_ctx(&self) {}
+}
+
+/// What a request came to: its outcome, what the client and the peer took, whether the peer's link
+/// was kept, and how many calls of both links failed.
+#[derive(Drop)]
+pub(super) struct Ran {
+    pub(super) outcome: Outcome,
+    pub(super) written: Vec<u8>,
+    pub(super) sent: Vec<u8>,
+    pub(super) kept: bool,
+    pub(super) client_faults: u64,
+    pub(super) peer_faults: u64,
+}
+
+impl Ran {
+    /// What the client took, as a text.
+    pub(super) fn written(&self) -> &str {
+        str::from_utf8(&self.written).unwrap_or("no text")
+    }
+
+    /// What the peer took, as a text.
+    pub(super) fn sent(&self) -> &str {
+        str::from_utf8(&self.sent).unwrap_or("no text")
+    }
+
+    /// The type and the side of the error that the outcome gives.
+    pub(super) fn failure(&self) -> Option<(ErrorType, ErrorSource)> {
+        let error = self.outcome.error()?;
+        Some((error.etype, error.esource))
+    }
+
+    /// Whether it was served without an error, the client goes back, and the link was kept.
+    pub(super) fn is_whole(&self) -> bool {
+        let whole = Outcome::Served {
+            error: None,
+            reuse: true,
+        };
+        self.outcome == whole && self.kept
+    }
+}
+
+/// A connector to one peer, over that link.
+fn connector_to(alloc: Global, peer: ScriptLink) -> Result<ScriptConnector, Fail> {
+    let mut entries = Vec::new(alloc);
+    entries.push(PeerScript {
+        name: Bytes::from_static(b"a"),
+        link: peer,
+        connect: None,
+    })?;
+    let connector = ScriptConnector::new(alloc, entries)
+        .ok()
+        .ok_or("no memory")?;
+    Ok(connector)
+}
+
+/// Runs one request between these links, by that schedule.
+pub(super) fn run(
+    alloc: Global,
+    client: ScriptLink,
+    peer: ScriptLink,
+    schedule: ListSchedule,
+) -> Result<Ran, Fail> {
+    let connector = connector_to(alloc, peer)?;
+    let purger = MemoryPurger::new(alloc, Purged::NotFound);
+    let conf = ServerConf { max_retries: 1 };
+    let mut proxy = HttpProxy::new(alloc, NoHooks, conf, connector, purger);
+    let mut outside = Outside {
+        schedule,
+        shutdown: ShutdownAt::new(None),
+        delay: CountDelay::new(),
+    };
+    let mut client = Connection::new(alloc, client);
+    let processed = proxy.process_new_http(&mut client, &mut outside, 2_000);
+    let mut ran = Ran {
+        outcome: processed.outcome,
+        written: Vec::from_slice(alloc, client.link().taken())?,
+        sent: Vec::new(alloc),
+        kept: false,
+        client_faults: client.link().faults(),
+        peer_faults: 0,
+    };
+    if let Some(returned) = proxy.connector().returned().first() {
+        ran.sent = Vec::from_slice(alloc, returned.link.taken())?;
+        ran.kept = returned.keep;
+        ran.peer_faults = returned.link.faults();
+    }
+    Ok(ran)
+}
+
+/// Runs one request between links with these read items, which take all that they are given. The
+/// schedule names no branch, so the first that can be taken is taken.
+pub(super) fn run_items(
+    alloc: Global,
+    from_client: Vec<ReadItem>,
+    from_peer: Vec<ReadItem>,
+) -> Result<Ran, Fail> {
+    run(
+        alloc,
+        ScriptLink::new(alloc, from_client, Vec::new(alloc)),
+        ScriptLink::new(alloc, from_peer, Vec::new(alloc)),
+        ListSchedule::new(Vec::new(alloc)),
+    )
+}
+
+/// One item with that text.
+pub(super) fn text(bytes: &'static str) -> ReadItem {
+    ReadItem::Bytes(Bytes::from_static(bytes.as_bytes()))
+}
+
+/// Adds one item for each byte.
+pub(super) fn push_bytes(
+    alloc: Global,
+    items: &mut Vec<ReadItem>,
+    bytes: &[u8],
+) -> Result<(), AllocError> {
+    for byte in bytes {
+        items.push(ReadItem::Bytes(Bytes::copy_from_slice(alloc, &[*byte])?))?;
+    }
+    Ok(())
+}
+
+/// Two items that give these bytes, cut at that place.
+pub(super) fn cut_in_two(
+    alloc: Global,
+    bytes: &[u8],
+    cut: usize,
+) -> Result<Vec<ReadItem>, AllocError> {
+    let (front, rest) = bytes.split_at(cut.min(bytes.len()));
+    let mut items = Vec::new(alloc);
+    items.push(ReadItem::Bytes(Bytes::copy_from_slice(alloc, front)?))?;
+    items.push(ReadItem::Bytes(Bytes::copy_from_slice(alloc, rest)?))?;
+    Ok(items)
+}
+
+/// A schedule that names that branch so many times.
+pub(super) fn only(
+    alloc: Global,
+    branch: Branch,
+    times: usize,
+) -> Result<ListSchedule, AllocError> {
+    let mut branches = Vec::new(alloc);
+    for _ in 0..times {
+        branches.push(branch)?;
+    }
+    Ok(ListSchedule::new(branches))
+}
+
+/// Checks that a request was relayed whole, with these texts.
+pub(super) fn assert_relayed(
+    rt: &impl Abort,
+    ran: &Ran,
+    written: &str,
+    sent: &str,
+) -> Result<(), Fail> {
+    assert_eq!(rt; ran.written(), written);
+    assert_eq!(rt; ran.sent(), sent);
+    assert_eq!(rt; ran.failure(), None);
+    assert!(rt; ran.is_whole());
+    Ok(())
+}
+
+/// Checks that a request was served with such an error and these texts: its client does not go
+/// back, and the link was not kept.
+pub(super) fn assert_broken_off(
+    rt: &impl Abort,
+    ran: &Ran,
+    side: ErrorSource,
+    written: &str,
+    sent: &str,
+) -> Result<(), Fail> {
+    assert_eq!(rt; ran.written(), written);
+    assert_eq!(rt; ran.sent(), sent);
+    assert_eq!(rt; ran.failure(), Some((ErrorType::ConnectionClosed, side)));
+    assert!(rt;
+        matches!(
+            ran.outcome,
+            Outcome::Served {
+                error: Some(_),
+                reuse: false
+            }
+        )
+    );
+    assert!(rt; !ran.kept);
+    Ok(())
+}

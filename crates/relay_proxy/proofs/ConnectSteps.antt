@@ -1,0 +1,181 @@
+-- Turns of the connector: the attempt's exchange begins over the link that it gave, or does not.
+use Rattle.std.proofs.Common.{◌≡◌, ◌≢◌, ℕ, Bool, false, List, [], Option, Some, None, refl, sym, ap, subst, ◌∙◌, arith}
+use Rattle.relay_tasks.specs.declared.error.Error.{Error}
+use Rattle.relay_tasks.specs.declared.error.ErrorSource.TheVariants.{Internal}
+use Rattle.relay_tasks.specs.declared.error.Fail.{Fail}
+use Rattle.relay_tasks.specs.declared.error.Fail.TheVariants as fail
+use Rattle.relay_tasks.specs.declared.context.Context.TheVariants.{BadFraming}
+use Rattle.relay_tasks.specs.Error.{IsMemoryOr}
+use Rattle.relay_tasks.specs.Head.{RequestHead}
+use Rattle.relay_links.specs.Link.{LinkState, LinkStart, IsHandedOut}
+use Rattle.relay_links.specs.Told.{Since}
+use Rattle.relay_links.proofs.SinceLemmas.{Since-start}
+use Rattle.relay_h1.specs.Framing.{request_framing}
+use Rattle.relay_h1.specs.Verdict.{refused_from}
+use Rattle.relay_h1.specs.declared.framing.Framing.{Framing}
+use Rattle.relay_session.specs.Reading.{head_of}
+use Rattle.relay_session.specs.declared.session.HttpSession.{HttpSession}
+use Rattle.relay_sides.specs.Client.{BeginsBehind}
+use Rattle.relay_sides.specs.declared.client_side.ClientState.{ClientState}
+use Rattle.relay_sides.specs.declared.peer_side.PeerSide.{PeerSide}
+use Rattle.relay_core.specs.Past.{Origin, DownPast, UpPast}
+use Rattle.relay_exchange.specs.Exchange.{IsUnderWay, StageHolds, UpHolds}
+use Rattle.relay_exchange.specs.Passed.{Passed}
+use Rattle.relay_exchange.specs.declared.exchange.Exchange.{Exchange}
+use Rattle.relay_exchange.specs.declared.exchange.Stage.{Stage}
+use Rattle.relay_exchange.specs.declared.exchange.Stage.TheVariants as stage
+use Rattle.relay_proxy.specs.Endings.{IsAskedPeer, EndsLinked, outcome_of}
+use Rattle.relay_proxy.specs.Passed.{World, Start, origin_of, IsUnsent}
+use Rattle.relay_proxy.specs.Phases.{IsLeased, RunSoFar}
+use Rattle.relay_proxy.specs.Turn.{Advances}
+use Rattle.relay_proxy.specs.declared.machine.Lease.{Lease}
+use Rattle.relay_proxy.specs.declared.machine.Phase.TheVariants.{Connect, Relay, Close}
+use Rattle.relay_proxy.specs.declared.machine.RunStep.TheVariants as step
+use Rattle.relay_proxy.specs.declared.outcome.Outcome.{Outcome}
+use Rattle.relay_proxy.specs.declared.outcome.Outcome.TheVariants as outcome
+
+-- a link that was just handed out gave and took nothing since
+leased_anew : (p : Passed) (link : LinkState) (start : LinkStart) (lease : Lease) → IsUnsent p
+    → IsHandedOut link start lease.reused → IsAskedPeer lease.peer → IsLeased p link start lease
+leased_anew p link start lease unsent handed peer = record {
+  tells = record {
+    got = rw handed.given (rw unsent.got (Since-start [] link.given));
+    sent = rw handed.taken (rw unsent.sent (Since-start [] link.taken));
+    faults = omega (arith, handed.faults);
+  };
+  peer = peer;
+  reused = handed.marked;
+}
+
+-- what passed is what the client gave, where nothing was written and no link of an attempt was used
+came_alone : (p : Passed) → p.written ≡ [] → IsUnsent p
+    → record { came = p.came; written = []; got = []; sent = [] } ≡ p
+came_alone p none unsent = grind (arith, none, unsent.got, unsent.sent)
+
+-- a session has one head
+same_head : (given own : RequestHead) (session : HttpSession) → head_of session.reading ≡ Some given
+    → head_of session.reading ≡ Some own → given ≡ own
+same_head given own session is is_own = grind (arith, is, is_own)
+
+-- a framing that is there is not missing
+not_missing : (framing : Framing) (found : Option Framing) → found ≡ None → found ≡ Some framing → ⊥
+not_missing framing found none some = cc
+
+-- a want of memory is no limit of turns
+no_limit : outcome.OutOfMemory ≢ outcome.TurnLimit
+no_limit limit = cc
+
+-- an exchange is refused only where its head has no framing, so with one it was memory that failed
+memory_alone : (error : Error) (why : Fail) (found : Option Framing) (framing : Framing)
+    → IsMemoryOr error why → (why ≡ fail.Error error → found ≡ None) → found ≡ Some framing
+    → why ≡ fail.OutOfMemory
+memory_alone error fail.OutOfMemory found framing causes refused framed = refl
+memory_alone error (fail.Error e) found framing causes refused framed =
+    absurd (not_missing framing found (refused (ap (λ (x : Error). fail.Error x) causes)) framed)
+
+module _ {L : Type 0} (state : L → LinkState) (start_at : L → LinkStart) where
+  -- the past of the peer's side holds at each stage
+  up_holds : (o : Origin) (p : DownPast) (q : UpPast) (link : LinkState) (ahead : List ℕ)
+      (down : ClientState) (up : PeerSide L) (at : Stage)
+      → StageHolds state start_at o p q link ahead down up at → UpHolds state start_at up o q
+  up_holds o p q link ahead down up stage.Head begins = begins.up_holds
+  up_holds o p q link ahead down up (stage.Bodies duplex) flows = flows.so_far.up
+
+  -- an exchange that is under way is over a link that tells what passed
+  leased_under_way : (o : Origin) (p : Passed) (client : LinkState) (ahead : List ℕ)
+      (x : Exchange L) (lease : Lease) → o.reused ≡ lease.reused → IsAskedPeer lease.peer
+      → IsUnderWay state start_at o p client ahead x
+      → IsLeased p (state x.peer.client.link) (start_at x.peer.client.link) lease
+  leased_under_way o p client ahead x lease reused peer under = record {
+    tells = record {
+      got = subst (λ (xs : List ℕ). Since [] (start_at x.peer.client.link).given
+          (state x.peer.client.link).given xs) under.got side.peer.got;
+      sent = subst (λ (xs : List ℕ). Since [] (start_at x.peer.client.link).taken
+          (state x.peer.client.link).taken xs) under.sent side.peer.sent;
+      faults = side.peer.faults;
+    };
+    peer = peer;
+    reused = side.reused ∙ reused;
+  }
+    where
+      side : UpHolds state start_at x.peer o under.up
+      side = up_holds o under.down under.up client ahead x.client x.peer x.stage under.holds
+
+module _ {L C : Type 0} (state : L → LinkState) (start_at : L → LinkStart) where
+  -- the exchange is under way, and nothing was sent or written yet
+  pub begun : (s : Start) (p : Passed) (w : World) (context : C) (session : HttpSession)
+      (given : RequestHead) (link : L) (lease : Lease) (x : Exchange L)
+      → head_of session.reading ≡ Some given
+      → IsHandedOut (state link) (start_at link) lease.reused → IsAskedPeer lease.peer
+      → ((o : Origin) (came : List ℕ) (client : LinkState) (ahead : List ℕ) (reused : Bool)
+      → given ≡ o.head → BeginsBehind o came client ahead session
+      → IsHandedOut (state link) (start_at link) reused → o.reused ≡ reused
+      → IsUnderWay state start_at o
+      (record { came = came; written = []; got = []; sent = [] }) client ahead x)
+      → RunSoFar {C = C} state start_at s p w [] (Connect context session)
+      → Advances {C = C} state start_at s w
+      (Relay (record { exchange = x; lease = lease; context = context })) step.Moved
+  begun s p w context session given link lease x is handed peer begins run =
+      record {
+        passed = p;
+        run = record {
+          tells = run.tells;
+          order = run.order;
+          going = run.going;
+          holds = record {
+            leased = leased_under_way state start_at origin p w.client w.ahead x lease refl peer
+                under;
+            head = run.holds.head;
+            built = run.holds.accepted.built;
+            under_way = under;
+          };
+        };
+        stalled = λ silent. cc;
+      }
+    where
+      origin : Origin
+      origin = origin_of s run.holds.head lease.reused
+
+      under : IsUnderWay state start_at origin p w.client w.ahead x
+      under = subst (λ (q : Passed). IsUnderWay state start_at origin q w.client w.ahead x)
+          (came_alone p run.holds.written run.holds.unsent)
+          (begins origin p.came w.client w.ahead lease.reused
+          (same_head given run.holds.head session is run.holds.is_head)
+          (run.holds.begins lease.reused) handed refl)
+
+  -- the exchange was not begun, for want of memory
+  pub not_begun : (s : Start) (p : Passed) (w : World) (context : C) (session : HttpSession)
+      (given : RequestHead) (link back : L) (lease : Lease) (why : Fail) (end : Outcome)
+      → head_of session.reading ≡ Some given
+      → IsHandedOut (state link) (start_at link) lease.reused → IsAskedPeer lease.peer
+      → back ≡ link → end ≡ outcome_of why
+      → IsMemoryOr (refused_from Internal BadFraming) why
+      → (why ≡ fail.Error (refused_from Internal BadFraming) → request_framing given ≡ None)
+      → RunSoFar {C = C} state start_at s p w [] (Connect context session)
+      → Advances {C = C} state start_at s w (Close back lease false end) step.Ended
+  not_begun s p w context session given link back lease why end is handed peer same ends causes
+      refused run =
+      record {
+        passed = p;
+        run = record {
+          tells = run.tells;
+          order = run.order;
+          going = λ limit. no_limit (sym is_memory ∙ limit);
+          holds = (
+            subst (λ (l : L). IsLeased p (state l) (start_at l) lease) (sym same)
+                (leased_anew p (state link) (start_at link) lease run.holds.unsent handed peer),
+            subst (λ (o : Outcome). EndsLinked s p w (state back) (start_at back) false o)
+                (sym is_memory) refl,
+          );
+        };
+        stalled = λ silent. cc;
+      }
+    where
+      framed : request_framing given ≡ Some run.holds.accepted.framing
+      framed = rw (same_head given run.holds.head session is run.holds.is_head)
+          run.holds.accepted.has.let_in.framed
+
+      is_memory : end ≡ outcome.OutOfMemory
+      is_memory = ends ∙ ap (λ (f : Fail). outcome_of f)
+          (memory_alone (refused_from Internal BadFraming) why (request_framing given)
+          run.holds.accepted.framing causes refused framed)

@@ -1,0 +1,16 @@
+-- The exchange is under way over the link, or there was no memory for it.
+use Rattle.std.proofs.Common.{refl}
+use Rattle.relay_proxy.proofs.ConnectSteps.{begun, not_begun}
+use Rattle.relay_proxy.proofs.connecting.begin.Goals as goal
+
+pub returns-in-Ok-clause-run : goal.returns-in-Ok-clause-run
+returns-in-Ok-clause-run g c = λ s p w run is handed peer.
+    begun g.L.ByteLink.state g.L.ByteLink.start s p w c.args.context c.args.session c.args.head
+    c.args.link c.args.lease c.in-Ok.exchange is handed peer c.in-Ok.ensures.begins run
+
+pub returns-in-Err-clause-run : goal.returns-in-Err-clause-run
+returns-in-Err-clause-run g c = λ s p w run is handed peer.
+    not_begun g.L.ByteLink.state g.L.ByteLink.start s p w c.args.context c.args.session c.args.head
+    c.args.link c.in-Err.field-0.link c.args.lease c.in-Err.field-0.why _ is handed peer
+    c.in-Err.ensures.link c.outcome_of.ensures c.in-Err.ensures.causes
+    (λ is. c.in-Err.ensures.refused.0 (c.in-Err.field-0, refl, is)) run

@@ -1,0 +1,140 @@
+//! The attempt: one turn of its exchange, and what becomes of the client and of the link once it has
+//! ended (RFC 9112, section 9.3).
+ghost use Rattle.std.specs.Prelude.{◌≡◌, ℕ, []};
+ghost use Rattle.relay_core.specs.Past.{Origin};
+ghost use Rattle.relay_exchange.specs.Exchange.{IsUnderWay, Turns, IsSilent};
+ghost use Rattle.relay_exchange.specs.Passed.{Passed};
+ghost use Rattle.relay_proxy.specs.Passed.{Start};
+ghost use Rattle.relay_proxy.specs.Phases.{RunSoFar};
+ghost use Rattle.relay_proxy.specs.Reuse.{client_reusable, lets_ask_again};
+ghost use Rattle.relay_proxy.specs.Turn.{world_of, DoesWork, is_over, is_end, links_held, Advances};
+
+use crate::connecting::outcome_of;
+use crate::machine::{Attempt, Next, Phase, RunStep};
+use crate::outcome::Outcome;
+use crate::work::{Work, work_of};
+use http::Version;
+use relay_core::Step;
+use relay_exchange::{Exchange, Turn};
+use relay_h1::{Connection, closes};
+use relay_links::{ByteLink, Schedule};
+use relay_session::HttpSession;
+use relay_tasks::Pause;
+
+/// One turn of the attempt's exchange. The schedule picks the branch of the duplex.
+pub(crate) fn relay<D: ByteLink, U: Drop, L: ByteLink, H: Schedule, C: Drop>(
+    client: &mut Connection<D, U>,
+    schedule: &mut H,
+    attempt: Attempt<L, C>,
+) -> Next<L, C>
+    ensures run { (s : Start) (p : Passed) (faults : ℕ)
+        → RunSoFar {C = C} L.state L.start s p (world_of D.state client.old faults) []
+        (Phase.Relay attempt)
+        → Advances {C = C} L.state L.start s (world_of D.state client.new faults) result.phase
+        result.step }
+    ensures work { DoesWork result.step result.work }
+    ensures over { is_over result.phase ≡ is_end result.step }
+    ensures linked { links_held L.state L.start result.phase ≡ 1 }
+    ensures kept { client.new.kept ≡ client.old.kept }
+{
+    let Attempt {
+        exchange,
+        lease,
+        context,
+    } = attempt;
+    let Turn {
+        exchange,
+        step,
+        branch,
+    } = turn_over(exchange, client, schedule);
+    match step {
+        Step::Moved => Next {
+            phase: Phase::Relay(Attempt {
+                exchange,
+                lease,
+                context,
+            }),
+            step: RunStep::Moved,
+            work: work_of(branch),
+        },
+        Step::Waited(Pause::NotReady) => Next {
+            phase: Phase::Relay(Attempt {
+                exchange,
+                lease,
+                context,
+            }),
+            step: RunStep::Waited(Pause::NotReady),
+            work: Work::USED,
+        },
+        Step::Waited(Pause::Silent) => Next {
+            phase: Phase::Relay(Attempt {
+                exchange,
+                lease,
+                context,
+            }),
+            step: RunStep::Waited(Pause::Silent),
+            work: Work::NONE,
+        },
+        Step::Finished => {
+            let keep = exchange.may_keep();
+            let reuse = is_client_reusable(&exchange, client);
+            let served = Outcome::Served { error: None, reuse };
+            Next {
+                phase: Phase::Close(exchange.into_link(), lease, keep, served),
+                step: RunStep::Ended,
+                work: Work::ENDED,
+            }
+        }
+        Step::Failed(why) => Next {
+            phase: Phase::Close(exchange.into_link(), lease, false, outcome_of(why)),
+            step: RunStep::Ended,
+            work: Work::ENDED,
+        },
+    }
+}
+
+/// One turn of an exchange over the client's connection. An exchange knows nothing of the value
+/// that the connection keeps, so that is set aside.
+fn turn_over<D: ByteLink, U: Drop, L: ByteLink, H: Schedule>(
+    exchange: Exchange<L>,
+    client: &mut Connection<D, U>,
+    schedule: &mut H,
+) -> Turn<L>
+    ensures goes { (s : Origin) (p : Passed)
+        → IsUnderWay L.state L.start s p (D.state client.old.link) client.old.ahead exchange
+        → Turns L.state L.start s (D.state client.new.link) client.new.ahead result.exchange
+        result.step }
+    ensures silent { result.step ≡ Step.Waited Pause.Silent
+        → IsSilent L.state L.start (D.state client.new.link) result.exchange }
+    ensures kept { client.new.kept ≡ client.old.kept }
+{
+    let kept = client.take_kept();
+    let turn = exchange.turn(client, schedule);
+    let _ = client.take_kept();
+    if let Some(value) = kept {
+        client.set_kept(value);
+    }
+    turn
+}
+
+/// Whether the client may ask for more behind a finished exchange.
+fn is_client_reusable<D, U, L: ByteLink>(exchange: &Exchange<L>, client: &Connection<D, U>) -> bool
+    ensures { result ≡ client_reusable exchange.now client.now.ahead }
+{
+    if exchange.asks_to_close() || !client.ahead().is_empty() {
+        return false;
+    }
+    lets_ask_again(exchange.session())
+}
+
+/// Whether the request lets its client ask for more: it has ended, is of HTTP/1.1, and does not ask
+/// to close.
+fn lets_ask_again(session: &HttpSession) -> bool
+    ensures { result ≡ lets_ask_again session.now }
+{
+    if !session.has_head() || !session.is_body_done() {
+        return false;
+    }
+    let head = session.req_header();
+    head.version() == Version::HTTP_11 && !closes(head.headers())
+}
