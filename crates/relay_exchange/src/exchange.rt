@@ -1,6 +1,6 @@
 //! One exchange over one link to a peer: the head of the request is sent, and then both bodies flow
 //! (RFC 9112, sections 6, 7 and 9.3).
-ghost use Rattle.std.specs.Prelude.{◌≡◌, ◌↔◌, ◌&&◌, Bool, ℕ, List, [], None, false, IfOk, IfErr};
+ghost use Rattle.std.specs.Prelude.{◌≡◌, ◌↔◌, ◌⊎◌, ◌&&◌, Bool, ℕ, List, [], None, false, IfOk, IfErr};
 ghost use Rattle.relay_tasks.specs.Error.{IsMemoryOr};
 ghost use Rattle.relay_links.specs.Link.{LinkState, IsHandedOut};
 ghost use Rattle.relay_h1.specs.Framing.{request_framing};
@@ -9,6 +9,7 @@ ghost use Rattle.relay_session.specs.Reading.{is_body_done};
 ghost use Rattle.relay_core.specs.Causes.{says_finished};
 ghost use Rattle.relay_core.specs.Past.{Origin, DownPast, UpPast, UpGoes};
 ghost use Rattle.relay_sides.specs.Client.{BeginsBehind};
+ghost use Rattle.relay_sides.specs.Client;
 ghost use Rattle.relay_sides.specs.Peer;
 ghost use Rattle.relay_exchange.specs.Passed.{Passed};
 ghost use Rattle.relay_exchange.specs.Head.{error_of_step, IsRefusedFor, IsBehind, may_keep};
@@ -21,6 +22,7 @@ use relay_session::{Front, HttpSession};
 use relay_sides::{ClientSide, ClientState, PeerSide};
 use relay_tasks::{Context, Error, ErrorSource, Fail, Pause, RequestHeader};
 use std::alloc::Global;
+use std::mem;
 
 /// How far an exchange is: the request's head is sent, or both bodies flow.
 #[derive(Drop)]
@@ -38,10 +40,10 @@ pub struct Exchange<L> {
     pub(crate) stage: Stage,
 }
 
-/// What one turn made of an exchange: the exchange, the answer, and the branch that answered; none
-/// where the head was being sent, and where all links are silent.
-pub struct Turn<L> {
-    pub exchange: Exchange<L>,
+/// What one turn of an exchange came to: the answer, and the branch that answered; none where the
+/// head was being sent, and where all links are silent.
+#[derive(Clone, Copy, Debug, PartialEq, Eq)]
+pub struct Turn {
     pub step: Step,
     pub branch: Option<Branch>,
 }
@@ -105,23 +107,27 @@ impl<L: ByteLink> Exchange<L> {
     /// `Finished`: the response was written whole, and the request was sent whole, or the peer took
     /// no more of it. `Failed` with an error says why one of both failed: nothing more is written or
     /// sent from then on. After `Finished` and `Failed` no turn is to follow.
-    pub fn turn<F: Front, H: Schedule>(self, client: &mut F, schedule: &mut H) -> Turn<L>
+    pub fn turn<F: Front, H: Schedule>(&mut self, client: &mut F, schedule: &mut H) -> Turn
         ensures goes { (s : Origin) (p : Passed)
-            → IsUnderWay L.state L.start s p (F.state client.old) (F.ahead client.old) self
-            → Turns L.state L.start s (F.state client.new) (F.ahead client.new) result.exchange
+            → IsUnderWay L.state L.start s p (F.state client.old) (F.ahead client.old) self.old
+            → Turns L.state L.start s (F.state client.new) (F.ahead client.new) self.new
             result.step }
         ensures silent { result.step ≡ Step.Waited Pause.Silent
-            → IsSilent L.state L.start (F.state client.new) result.exchange }
+            → IsSilent L.state L.start (F.state client.new) self.new }
     {
-        let Exchange {
-            alloc,
-            client: side,
-            peer,
-            stage,
-        } = self;
-        match stage {
-            Stage::Head => send_head(alloc, side, peer),
-            Stage::Bodies(duplex) => move_bodies(alloc, side, peer, duplex, client, schedule),
+        match &mut self.stage {
+            Stage::Head => Turn {
+                step: send_head(self.alloc, &self.client, &mut self.peer, &mut self.stage),
+                branch: None,
+            },
+            Stage::Bodies(duplex) => move_bodies(
+                self.alloc,
+                &mut self.client,
+                &mut self.peer,
+                duplex,
+                client,
+                schedule,
+            ),
         }
     }
 
@@ -168,25 +174,22 @@ impl<L> Exchange<L> {
 }
 
 /// One write of the request's head. Once all of it was taken, both bodies flow.
-fn send_head<L: ByteLink>(alloc: Global, client: ClientState, mut peer: PeerSide<L>) -> Turn<L>
+fn send_head<L: ByteLink>(
+    alloc: Global,
+    client: &ClientState,
+    peer: &mut PeerSide<L>,
+    stage: &mut Stage,
+) -> Step
     ensures goes { (s : Origin) (p : DownPast) (q : UpPast) (link : LinkState) (ahead : List ℕ)
-        → Begins L.state L.start s p q link ahead client peer
-        → Turns L.state L.start s link ahead result.exchange result.step }
-    ensures silent { result.step ≡ Step.Waited Pause.Silent
-        → Peer.IsSilent (L.state result.exchange.peer.client.link) }
+        → Begins L.state L.start s p q link ahead client.now peer.old
+        → Turns L.state L.start s link ahead
+        (record { alloc = alloc; client = client.now; peer = peer.new; stage = stage.new }) result }
+    ensures silent { result ≡ Step.Waited Pause.Silent
+        → Peer.IsSilent (L.state peer.new.client.link) }
 {
-    let step = write_head(&mut peer);
-    let stage = stage_behind(alloc, client.session(), &peer);
-    Turn {
-        exchange: Exchange {
-            alloc,
-            client,
-            peer,
-            stage,
-        },
-        step,
-        branch: None,
-    }
+    let step = write_head(peer);
+    *stage = stage_behind(alloc, client.session(), peer);
+    step
 }
 
 /// Writes what waits of the head once. A fault of the write ends the exchange.
@@ -228,32 +231,36 @@ fn stage_behind<L: ByteLink>(alloc: Global, session: &HttpSession, peer: &PeerSi
     Stage::Bodies(Duplex::new(alloc, UpKind::H1, session.is_body_done()))
 }
 
-/// One branch of the duplex.
+/// One branch of the duplex. The client's side is made for the turn out of what was kept of it.
 fn move_bodies<L: ByteLink, F: Front, H: Schedule>(
     alloc: Global,
-    state: ClientState,
-    mut peer: PeerSide<L>,
-    mut duplex: Duplex,
+    state: &mut ClientState,
+    peer: &mut PeerSide<L>,
+    duplex: &mut Duplex,
     client: &mut F,
     schedule: &mut H,
-) -> Turn<L>
+) -> Turn
     ensures goes { (s : Origin) (p : DownPast) (q : UpPast)
-        → Flows L.state L.start s p q (F.state client.old) (F.ahead client.old) state peer duplex
-        → Turns L.state L.start s (F.state client.new) (F.ahead client.new) result.exchange
-        result.step }
+        → Flows L.state L.start s p q (F.state client.old) (F.ahead client.old) state.old peer.old
+        duplex.old
+        → Turns L.state L.start s (F.state client.new) (F.ahead client.new) (record {
+          alloc = alloc;
+          client = state.new;
+          peer = peer.new;
+          stage = Stage.Bodies duplex.new;
+        }) result.step }
     ensures silent { result.step ≡ Step.Waited Pause.Silent
-        → IsSilent L.state L.start (F.state client.new) result.exchange }
+        → Client.IsSilent (F.state client.new) ⊎ Peer.IsSilent (L.state peer.new.client.link) }
 {
-    let mut down: ClientSide<F> = ClientSide::resume(state);
-    let (step, branch) = go_round(&mut duplex, client, &mut down, &mut peer, schedule);
-    Turn {
-        exchange: Exchange {
-            alloc,
-            client: down.suspend(),
-            peer,
-            stage: Stage::Bodies(duplex),
-        },
-        step,
-        branch,
-    }
+    let mut down: ClientSide<F> = ClientSide::resume(mem::replace(state, stand_in::<F>(alloc)));
+    let (step, branch) = go_round(duplex, client, &mut down, peer, schedule);
+    *state = down.suspend();
+    Turn { step, branch }
+}
+
+/// What stands in the place of a client's side while that is in use: one over a fresh session. It
+/// takes no memory.
+fn stand_in<F: Front>(alloc: Global) -> ClientState {
+    let side: ClientSide<F> = ClientSide::new(alloc, HttpSession::new_http1(alloc));
+    side.suspend()
 }

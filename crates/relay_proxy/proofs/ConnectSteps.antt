@@ -1,12 +1,17 @@
 -- Turns of the connector: the attempt's exchange begins over the link that it gave, or does not.
-use Rattle.std.proofs.Common.{◌≡◌, ◌≢◌, ℕ, Bool, false, List, [], Option, Some, None, refl, sym, ap, subst, ◌∙◌, arith}
+use Rattle.std.proofs.Common.{◌≡◌, ◌≢◌, ℕ, ◌≤◌, Bool, false, List, [], ◌∷◌, Option, Some, None, refl, sym, ap, subst, ◌∙◌, arith}
+use Rattle.std.specs.Global.{Box}
 use Rattle.relay_tasks.specs.declared.error.Error.{Error}
-use Rattle.relay_tasks.specs.declared.error.ErrorSource.TheVariants.{Internal}
+use Rattle.relay_tasks.specs.declared.error.ErrorSource.TheVariants.{Internal, Upstream}
 use Rattle.relay_tasks.specs.declared.error.Fail.{Fail}
 use Rattle.relay_tasks.specs.declared.error.Fail.TheVariants as fail
 use Rattle.relay_tasks.specs.declared.context.Context.TheVariants.{BadFraming}
+use Rattle.relay_tasks.specs.declared.Fault.{Fault}
+use Rattle.relay_tasks.specs.declared.Peer.{Peer}
 use Rattle.relay_tasks.specs.Error.{IsMemoryOr}
 use Rattle.relay_tasks.specs.Head.{RequestHead}
+use Rattle.relay_links.specs.Connector.{IsConnectFault}
+use Rattle.relay_links.specs.Count.{last_count, Rose}
 use Rattle.relay_links.specs.Link.{LinkState, LinkStart, IsHandedOut}
 use Rattle.relay_links.specs.Told.{Since}
 use Rattle.relay_links.proofs.SinceLemmas.{Since-start}
@@ -24,15 +29,17 @@ use Rattle.relay_exchange.specs.Passed.{Passed}
 use Rattle.relay_exchange.specs.declared.exchange.Exchange.{Exchange}
 use Rattle.relay_exchange.specs.declared.exchange.Stage.{Stage}
 use Rattle.relay_exchange.specs.declared.exchange.Stage.TheVariants as stage
-use Rattle.relay_proxy.specs.Endings.{IsAskedPeer, EndsLinked, outcome_of}
-use Rattle.relay_proxy.specs.Passed.{World, Start, origin_of, IsUnsent}
-use Rattle.relay_proxy.specs.Phases.{IsLeased, RunSoFar}
-use Rattle.relay_proxy.specs.Turn.{Advances}
+use Rattle.relay_proxy.specs.Endings.{IsInOrder, IsAskedPeer, EndsLinked, fault_error, outcome_of}
+use Rattle.relay_proxy.specs.Passed.{World, Start, origin_of, TellsClient, IsUnsent}
+use Rattle.relay_proxy.specs.Phases.{IsConnecting, IsLeased, IsRelaying, RunSoFar}
+use Rattle.relay_proxy.specs.Turn.{Advances, world_with}
+use Rattle.relay_proxy.specs.declared.machine.Attempt.{Attempt}
 use Rattle.relay_proxy.specs.declared.machine.Lease.{Lease}
-use Rattle.relay_proxy.specs.declared.machine.Phase.TheVariants.{Connect, Relay, Close}
+use Rattle.relay_proxy.specs.declared.machine.Phase.TheVariants.{Connect, Relay, Close, Ended}
 use Rattle.relay_proxy.specs.declared.machine.RunStep.TheVariants as step
 use Rattle.relay_proxy.specs.declared.outcome.Outcome.{Outcome}
 use Rattle.relay_proxy.specs.declared.outcome.Outcome.TheVariants as outcome
+use Rattle.relay_proxy.proofs.Tells.{Rose-le, client_still}
 
 -- a link that was just handed out gave and took nothing since
 leased_anew : (p : Passed) (link : LinkState) (start : LinkStart) (lease : Lease) → IsUnsent p
@@ -103,50 +110,69 @@ module _ {L : Type 0} (state : L → LinkState) (start_at : L → LinkStart) whe
 
 module _ {L C : Type 0} (state : L → LinkState) (start_at : L → LinkStart) where
   -- the exchange is under way, and nothing was sent or written yet
-  pub begun : (s : Start) (p : Passed) (w : World) (context : C) (session : HttpSession)
-      (given : RequestHead) (link : L) (lease : Lease) (x : Exchange L)
-      → head_of session.reading ≡ Some given
-      → IsHandedOut (state link) (start_at link) lease.reused → IsAskedPeer lease.peer
+  pub begun : (s : Start) (p : Passed) (w : World) (session : HttpSession) (given : RequestHead)
+      (link : L) (a : Attempt L C) → head_of session.reading ≡ Some given
+      → IsHandedOut (state link) (start_at link) a.lease.reused → IsAskedPeer a.lease.peer
       → ((o : Origin) (came : List ℕ) (client : LinkState) (ahead : List ℕ) (reused : Bool)
       → given ≡ o.head → BeginsBehind o came client ahead session
       → IsHandedOut (state link) (start_at link) reused → o.reused ≡ reused
       → IsUnderWay state start_at o
-      (record { came = came; written = []; got = []; sent = [] }) client ahead x)
-      → RunSoFar {C = C} state start_at s p w [] (Connect context session)
-      → Advances {C = C} state start_at s w
-      (Relay (record { exchange = x; lease = lease; context = context })) step.Moved
-  begun s p w context session given link lease x is handed peer begins run =
+      (record { came = came; written = []; got = []; sent = [] }) client ahead a.exchange)
+      → IsConnecting s p w session → IsRelaying state start_at s p w a
+  begun s p w session given link a is handed peer begins connecting =
       record {
-        passed = p;
-        run = record {
-          tells = run.tells;
-          order = run.order;
-          going = run.going;
-          holds = record {
-            leased = leased_under_way state start_at origin p w.client w.ahead x lease refl peer
-                under;
-            head = run.holds.head;
-            built = run.holds.accepted.built;
-            under_way = under;
-          };
-        };
-        stalled = λ silent. cc;
+        leased = leased_under_way state start_at origin p w.client w.ahead a.exchange a.lease refl
+            peer under;
+        head = connecting.head;
+        built = connecting.accepted.built;
+        under_way = under;
       }
     where
       origin : Origin
-      origin = origin_of s run.holds.head lease.reused
+      origin = origin_of s connecting.head a.lease.reused
 
-      under : IsUnderWay state start_at origin p w.client w.ahead x
-      under = subst (λ (q : Passed). IsUnderWay state start_at origin q w.client w.ahead x)
-          (came_alone p run.holds.written run.holds.unsent)
-          (begins origin p.came w.client w.ahead lease.reused
-          (same_head given run.holds.head session is run.holds.is_head)
-          (run.holds.begins lease.reused) handed refl)
+      under : IsUnderWay state start_at origin p w.client w.ahead a.exchange
+      under = subst (λ (q : Passed). IsUnderWay state start_at origin q w.client w.ahead a.exchange)
+          (came_alone p connecting.written connecting.unsent)
+          (begins origin p.came w.client w.ahead a.lease.reused
+          (same_head given connecting.head session is connecting.is_head)
+          (connecting.begins a.lease.reused) handed refl)
+
+  -- the attempt is held
+  pub held : (s : Start) (p : Passed) (w : World) (a : Attempt L C) (b : Box (Attempt L C))
+      → b.value ≡ a → TellsClient s p w → IsInOrder s p → IsRelaying state start_at s p w a
+      → Advances {C = C} state start_at s w (Relay b) step.Moved
+  held s p w a b same tells order relaying = record {
+    passed = p;
+    run = record {
+      tells = tells;
+      order = order;
+      going = tt;
+      holds = subst (λ (x : Attempt L C). IsRelaying state start_at s p w x) (sym same) relaying;
+    };
+    stalled = λ silent. cc;
+  }
+
+  -- the attempt is not held, for want of memory
+  pub not_held : (s : Start) (p : Passed) (w : World) (a : Attempt L C) → TellsClient s p w
+      → IsInOrder s p → IsRelaying state start_at s p w a
+      → Advances {C = C} state start_at s w
+      (Close a.exchange.peer.client.link a.lease false outcome.OutOfMemory) step.Ended
+  not_held s p w a tells order relaying = record {
+    passed = p;
+    run = record {
+      tells = tells;
+      order = order;
+      going = no_limit;
+      holds = (relaying.leased, refl);
+    };
+    stalled = λ silent. cc;
+  }
 
   -- the exchange was not begun, for want of memory
-  pub not_begun : (s : Start) (p : Passed) (w : World) (context : C) (session : HttpSession)
+  pub not_begun : (s : Start) (p : Passed) (w : World) (context : C) (session : Box HttpSession)
       (given : RequestHead) (link back : L) (lease : Lease) (why : Fail) (end : Outcome)
-      → head_of session.reading ≡ Some given
+      → head_of session.value.reading ≡ Some given
       → IsHandedOut (state link) (start_at link) lease.reused → IsAskedPeer lease.peer
       → back ≡ link → end ≡ outcome_of why
       → IsMemoryOr (refused_from Internal BadFraming) why
@@ -172,10 +198,51 @@ module _ {L C : Type 0} (state : L → LinkState) (start_at : L → LinkStart) w
       }
     where
       framed : request_framing given ≡ Some run.holds.accepted.framing
-      framed = rw (same_head given run.holds.head session is run.holds.is_head)
+      framed = rw (same_head given run.holds.head session.value is run.holds.is_head)
           run.holds.accepted.has.let_in.framed
 
       is_memory : end ≡ outcome.OutOfMemory
       is_memory = ends ∙ ap (λ (f : Fail). outcome_of f)
           (memory_alone (refused_from Internal BadFraming) why (request_framing given)
           run.holds.accepted.framing causes refused framed)
+
+  -- the connector gave no link
+  pub not_connected : (s : Start) (p : Passed) (w : World) (failed : ℕ) (context : C)
+      (session : Box HttpSession) (peer : Peer) (fault : Fault) → w.connect_faults ≤ last_count
+      → Rose w.connect_faults failed → IsConnectFault fault → IsAskedPeer peer
+      → RunSoFar {C = C} state start_at s p w [] (Connect context session)
+      → Advances {C = C} state start_at s (world_with w.client w.ahead failed)
+      (Ended (outcome.Served (Some (fault_error Upstream fault)) false)
+      (record {
+        peer = peer;
+        reused = false;
+        kept = false;
+        error = Some (fault_error Upstream fault);
+      } ∷ []))
+      step.Ended
+  not_connected s p w failed context session peer fault fits rose kind asked run = record {
+    passed = p;
+    run = record {
+      tells = client_still s p w (world_with w.client w.ahead failed)
+          (Rose-le w.connect_faults failed fits rose) refl refl (omega arith) run.tells;
+      order = run.order;
+      going = λ limit. cc;
+      holds = (
+        (
+          record {
+            fault = fault;
+            kind = kind;
+            error = refl;
+            rose = λ below. omega (arith, run.tells.connect_faults, rose below);
+            head = run.holds.head;
+            accepted = run.holds.accepted;
+            written = run.holds.written;
+            unsent = run.holds.unsent;
+          },
+          refl,
+        ),
+        (_, refl, record { peer = asked; reused = refl; kept = refl; error = refl }),
+      );
+    };
+    stalled = λ silent. cc;
+  }

@@ -1,5 +1,6 @@
 -- Turns before a link is asked for: the client's head comes, is accepted, or is refused.
 use Rattle.std.proofs.Common.{◌≡◌, ℕ, Bool, true, List, [], ◌++◌, length, take, drop, Option, Some, refl, sym, ap, subst, ◌∙◌, inl, inr, arith, length-append, append_assoc, append-nil}
+use Rattle.std.specs.Global.{Box}
 use Rattle.relay_tasks.specs.declared.Error.{Error}
 use Rattle.relay_tasks.specs.declared.ErrorSource.TheVariants.{Downstream}
 use Rattle.relay_tasks.specs.declared.Fault.{Fault}
@@ -103,10 +104,11 @@ module _ {L C : Type 0} (state : L → LinkState) (start_at : L → LinkStart) w
 
   -- the head was accepted and taken from what is ahead, and a session begins behind it
   pub head_accepted : (s : Start) (p : Passed) (w x : World) (head : RequestHead)
-      (framing : Framing) (len : ℕ) (context : C) (session : HttpSession)
-      → x.client ≡ w.client → x.ahead ≡ drop len w.ahead → x.connect_faults ≡ w.connect_faults
+      (framing : Framing) (len : ℕ) (context : C)
+      (session : Box HttpSession) → x.client ≡ w.client → x.ahead ≡ drop len w.ahead
+      → x.connect_faults ≡ w.connect_faults
       → HasRequest w.ahead head framing len → IsBuiltRequest head
-      → StandsBehind head framing session
+      → StandsBehind head framing session.value
       → RunSoFar {C = C} state start_at s p w [] ReadHead
       → Advances {C = C} state start_at s x (Connect context session) step.Moved
   head_accepted s p w x head framing len context session client ahead same has built stands run =
@@ -120,7 +122,7 @@ module _ {L C : Type 0} (state : L → LinkState) (start_at : L → LinkStart) w
             head = head;
             accepted = record { framing = framing; len = len; has = asks; built = built };
             is_head = stands.is_head;
-            begins = λ reused. begins_behind s p x head framing len session reused tells
+            begins = λ reused. begins_behind s p x head framing len session.value reused tells
                 run.holds.written asks
                 (ahead ∙ ap (λ (xs : List ℕ). drop len xs) run.holds.whole) stands;
             written = run.holds.written;

@@ -1,6 +1,8 @@
 -- What a turn of an attempt's exchange makes of the run so far.
 use Rattle.std.proofs.Common.{◌≡◌, ◌≢◌, ◌↔◌, ℕ, Bool, true, false, not, ◌&&◌, List, [], length, Option, None, Some, refl, sym, ap, subst, ◌∙◌}
 use Rattle.std.specs.Prelude.{IsTrue, ◌==◌}
+use Rattle.std.specs.Box.{with_value}
+use Rattle.std.specs.Global.{Box}
 use Rattle.std.proofs.lemmas.Bool.{eqb-true}
 use Rattle.std.proofs.lemmas.List.{nil_from_length}
 use Rattle.http.specs.declared.Version.{Version}
@@ -183,23 +185,34 @@ module _ {L : Type 0} (state : L → LinkState) (start_at : L → LinkStart) whe
 
 -- ---- a turn
 
+-- an attempt where it stands, once its exchange has come to that
+abbrev turned : {L C : Type 0} → Box (Attempt L C) → Exchange L → Box (Attempt L C)
+turned a x =
+    with_value a (record { exchange = x; lease = a.value.lease; context = a.value.context })
+
 module _ {L C : Type 0} (state : L → LinkState) (start_at : L → LinkStart) where
+  -- an attempt that its pointer lends is the one that it holds
+  pub lent : (s : Start) (p : Passed) (v : World) (a : Box (Attempt L C)) (given : Attempt L C)
+      → given ≡ a.value → RunSoFar state start_at s p v [] (Relay a)
+      → RunSoFar state start_at s p v [] (Relay (with_value a given))
+  lent s p v a given same run = rw same run
+
   -- the exchange goes on, and so does the attempt
   going_on : (s : Start) (p q : Passed) (v : World) (client : LinkState) (ahead : List ℕ)
-      (a : Attempt L C) (x : Exchange L) (run : RunSoFar state start_at s p v [] (Relay a))
-      → AreTold state start_at (origin_of s run.holds.head a.lease.reused) q client
+      (a : Box (Attempt L C)) (x : Exchange L) (run : RunSoFar state start_at s p v [] (Relay a))
+      → AreTold state start_at (origin_of s run.holds.head a.value.lease.reused) q client
       (state x.peer.client.link) (start_at x.peer.client.link)
-      → IsUnderWay state start_at (origin_of s run.holds.head a.lease.reused) q client ahead x
+      → IsUnderWay state start_at (origin_of s run.holds.head a.value.lease.reused) q client ahead x
       → RunSoFar {C = C} state start_at s q (world_with client ahead v.connect_faults) []
-      (Relay (record { exchange = x; lease = a.lease; context = a.context }))
+      (Relay (turned a x))
   going_on s p q v client ahead a x run told under = record {
-    tells = tells_client state start_at s run.holds.head a.lease.reused p q v client _ _ ahead
+    tells = tells_client state start_at s run.holds.head a.value.lease.reused p q v client _ _ ahead
         run.tells told;
-    order = IsInOrder.is_exchange run.holds.head a.lease.reused _ run.holds.built under.order;
+    order = IsInOrder.is_exchange run.holds.head a.value.lease.reused _ run.holds.built under.order;
     going = tt;
     holds = record {
-      leased = leased state start_at s run.holds.head p q client _ _ _ _ a.lease run.holds.leased
-          told;
+      leased = leased state start_at s run.holds.head p q client _ _ _ _ a.value.lease
+          run.holds.leased told;
       head = run.holds.head;
       built = run.holds.built;
       under_way = under;
@@ -208,10 +221,11 @@ module _ {L C : Type 0} (state : L → LinkState) (start_at : L → LinkStart) w
 
   -- a turn that moved
   pub moves : (s : Start) (p : Passed) (v : World) (client : LinkState) (ahead : List ℕ)
-      (a : Attempt L C) (x : Exchange L) (run : RunSoFar state start_at s p v [] (Relay a))
-      → Turns state start_at (origin_of s run.holds.head a.lease.reused) client ahead x step.Moved
+      (a : Box (Attempt L C)) (x : Exchange L) (run : RunSoFar state start_at s p v [] (Relay a))
+      → Turns state start_at (origin_of s run.holds.head a.value.lease.reused) client ahead x
+      step.Moved
       → Advances {C = C} state start_at s (world_with client ahead v.connect_faults)
-      (Relay (record { exchange = x; lease = a.lease; context = a.context })) did.Moved
+      (Relay (turned a x)) did.Moved
   moves s p v client ahead a x run turns = record {
     passed = turns.passed;
     run = going_on s p turns.passed v client ahead a x run turns.told turns.comes_to;
@@ -220,13 +234,13 @@ module _ {L C : Type 0} (state : L → LinkState) (start_at : L → LinkStart) w
 
   -- a turn that waited
   pub waits : (s : Start) (p : Passed) (v : World) (client : LinkState) (ahead : List ℕ)
-      (a : Attempt L C) (x : Exchange L) (pause : Pause)
+      (a : Box (Attempt L C)) (x : Exchange L) (pause : Pause)
       (run : RunSoFar state start_at s p v [] (Relay a))
-      → Turns state start_at (origin_of s run.holds.head a.lease.reused) client ahead x
+      → Turns state start_at (origin_of s run.holds.head a.value.lease.reused) client ahead x
       (step.Waited pause)
       → (did.Waited pause ≡ did.Waited Silent → IsSilent state start_at client x)
       → Advances {C = C} state start_at s (world_with client ahead v.connect_faults)
-      (Relay (record { exchange = x; lease = a.lease; context = a.context })) (did.Waited pause)
+      (Relay (turned a x)) (did.Waited pause)
   waits s p v client ahead a x pause run turns silent = record {
     passed = turns.passed;
     run = going_on s p turns.passed v client ahead a x run turns.told turns.comes_to;
@@ -235,33 +249,33 @@ module _ {L C : Type 0} (state : L → LinkState) (start_at : L → LinkStart) w
 
   -- the exchange is over, and its link is to be handed back
   closing : (s : Start) (p q : Passed) (v : World) (client : LinkState) (ahead : List ℕ)
-      (a : Attempt L C) (x : Exchange L) (keep : Bool) (outcome : Outcome)
+      (a : Box (Attempt L C)) (x : Exchange L) (keep : Bool) (outcome : Outcome)
       (run : RunSoFar state start_at s p v [] (Relay a))
-      → AreTold state start_at (origin_of s run.holds.head a.lease.reused) q client
+      → AreTold state start_at (origin_of s run.holds.head a.value.lease.reused) q client
       (state x.peer.client.link) (start_at x.peer.client.link)
       → IsInOrder s q → outcome ≢ TurnLimit
       → EndsLinked s q (world_with client ahead v.connect_faults) (state x.peer.client.link)
       (start_at x.peer.client.link) keep outcome
       → RunSoFar {C = C} state start_at s q (world_with client ahead v.connect_faults) []
-      (Close x.peer.client.link a.lease keep outcome)
+      (Close x.peer.client.link a.value.lease keep outcome)
   closing s p q v client ahead a x keep outcome run told order going ends = record {
-    tells = tells_client state start_at s run.holds.head a.lease.reused p q v client _ _ ahead
+    tells = tells_client state start_at s run.holds.head a.value.lease.reused p q v client _ _ ahead
         run.tells told;
     order = order;
     going = going;
     holds = (
-      leased state start_at s run.holds.head p q client _ _ _ _ a.lease run.holds.leased told,
+      leased state start_at s run.holds.head p q client _ _ _ _ a.value.lease run.holds.leased told,
       ends,
     );
   }
 
   -- a turn that finished the exchange
   pub finishes : (s : Start) (p : Passed) (v : World) (client : LinkState) (ahead : List ℕ)
-      (a : Attempt L C) (x : Exchange L) (run : RunSoFar state start_at s p v [] (Relay a))
-      → Turns state start_at (origin_of s run.holds.head a.lease.reused) client ahead x
+      (a : Box (Attempt L C)) (x : Exchange L) (run : RunSoFar state start_at s p v [] (Relay a))
+      → Turns state start_at (origin_of s run.holds.head a.value.lease.reused) client ahead x
       step.Finished
       → Advances {C = C} state start_at s (world_with client ahead v.connect_faults)
-      (Close x.peer.client.link a.lease (may_keep x) (Served None (client_reusable x ahead)))
+      (Close x.peer.client.link a.value.lease (may_keep x) (Served None (client_reusable x ahead)))
       did.Ended
   finishes s p v client ahead a x run turns =
       let head = run.holds.head in
@@ -282,12 +296,12 @@ module _ {L C : Type 0} (state : L → LinkState) (start_at : L → LinkStart) w
 
   -- a turn that failed
   pub fails : (s : Start) (p : Passed) (v : World) (client : LinkState) (ahead : List ℕ)
-      (a : Attempt L C) (x : Exchange L) (why : Fail)
+      (a : Box (Attempt L C)) (x : Exchange L) (why : Fail)
       (run : RunSoFar state start_at s p v [] (Relay a))
-      → Turns state start_at (origin_of s run.holds.head a.lease.reused) client ahead x
+      → Turns state start_at (origin_of s run.holds.head a.value.lease.reused) client ahead x
       (step.Failed why)
       → Advances {C = C} state start_at s (world_with client ahead v.connect_faults)
-      (Close x.peer.client.link a.lease false (outcome_of why)) did.Ended
+      (Close x.peer.client.link a.value.lease false (outcome_of why)) did.Ended
   fails s p v client ahead a x fail.OutOfMemory run turns = record {
     passed = turns.passed;
     run = closing s p turns.passed v client ahead a x _ _ run turns.told

@@ -289,8 +289,8 @@ module _ {L C : Type 0} (state : L → LinkState) (start_at : L → LinkStart) w
       unlinked_end s p w (Connect context session) before after ending does run run.holds.unsent
       (λ h. absurd h)
   end_of s p [] w (Relay a) before after ending does run =
-      linked_end s p w (Relay a) a.exchange.peer.client.link a.lease false before after ending
-      TurnLimit does.limit does.back run run.holds.leased refl (λ r same h. rw same h)
+      linked_end s p w (Relay a) a.value.exchange.peer.client.link a.value.lease false before after
+      ending TurnLimit does.limit does.back run run.holds.leased refl (λ r same h. rw same h)
   end_of s p [] w (Close link lease keep outcome) before after ending does run =
       linked_end s p w (Close link lease keep outcome) link lease keep before after ending outcome
       does.0 does.1 run run.holds.0 run.holds.1 (λ r same h. absurd h)

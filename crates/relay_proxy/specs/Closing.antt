@@ -74,7 +74,7 @@ Finishes ReadHead before after ending = GivesUp before after ending
 Finishes (Refuse answer error) before after ending = GivesUp before after ending
 Finishes (Connect context session) before after ending = GivesUp before after ending
 Finishes (Relay a) before after ending =
-    GivesLinkUp a.exchange.peer.client.link a.lease before after ending
+    GivesLinkUp a.value.exchange.peer.client.link a.value.lease before after ending
 Finishes (Close link lease keep outcome) before after ending =
     (ending.outcome ≡ outcome) × HandsBack link lease keep outcome before after ending.attempts
 Finishes (Ended outcome attempts) before after ending =

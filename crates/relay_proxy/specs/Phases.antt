@@ -63,8 +63,8 @@ module _ {L C : Type 0} (state : L → LinkState) (start_at : L → LinkStart) w
   abbrev pub IsAt : Start → Passed → World → Phase L C → Type 0
   IsAt s p w ReadHead = IsReadingHead s p w.ahead
   IsAt s p w (Refuse answer error) = IsRefusing s p answer.output error
-  IsAt s p w (Connect context session) = IsConnecting s p w session
-  IsAt s p w (Relay a) = IsRelaying s p w a
+  IsAt s p w (Connect context session) = IsConnecting s p w session.value
+  IsAt s p w (Relay a) = IsRelaying s p w a.value
   IsAt s p w (Close link lease keep outcome) =
       IsLeased p (state link) (start_at link) lease
       × EndsLinked s p w (state link) (start_at link) keep outcome

@@ -46,7 +46,7 @@ module _ {L C : Type 0} (state : L → LinkState) (start_at : L → LinkStart) w
   IsStalled w ReadHead = w.client.silent_on_read ≡ true
   IsStalled w (Refuse answer error) = w.client.silent_on_write ≡ true
   IsStalled w (Connect context session) = ⊥
-  IsStalled w (Relay a) = IsSilent state start_at w.client a.exchange
+  IsStalled w (Relay a) = IsSilent state start_at w.client a.value.exchange
   IsStalled w (Close link lease keep outcome) = ⊥
   IsStalled w (Ended outcome attempts) = ⊥
 

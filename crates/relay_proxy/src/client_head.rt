@@ -174,8 +174,17 @@ fn accept_head<SV: ProxyHttp, D: ByteLink, U, L: ByteLink>(
             work: Work::ENDED,
         };
     }
+    let Ok(session) = Box::new(
+        alloc,
+        HttpSession::begun_http1(alloc, read.head, read.framing),
+    ) else {
+        return Next {
+            phase: Phase::Ended(Outcome::OutOfMemory, AttemptList::new(alloc)),
+            step: RunStep::Ended,
+            work: Work::ENDED,
+        };
+    };
     client.consume(read.len);
-    let session = HttpSession::begun_http1(alloc, read.head, read.framing);
     Next {
         phase: Phase::Connect(hooks.new_ctx(), session),
         step: RunStep::Moved,

@@ -1,11 +1,11 @@
 //! The connector: asked once for a link, over which the request's one attempt then goes.
-ghost use Rattle.std.specs.Prelude.{◌≡◌, ◌+◌, ◌≤◌, [], ℕ, List, Some, IfSome};
+ghost use Rattle.std.specs.Prelude.{◌≡◌, ◌+◌, ◌≤◌, [], ◌∷◌, ℕ, List, Some, IfSome, false};
 ghost use Rattle.relay_links.specs.Link.{LinkState, IsHandedOut};
 ghost use Rattle.relay_exchange.specs.Passed.{Passed};
 ghost use Rattle.relay_session.specs.Reading.{head_of};
-ghost use Rattle.relay_proxy.specs.Endings.{IsAskedPeer, outcome_of};
-ghost use Rattle.relay_proxy.specs.Passed.{World, Start};
-ghost use Rattle.relay_proxy.specs.Phases.{RunSoFar};
+ghost use Rattle.relay_proxy.specs.Endings.{IsInOrder, IsAskedPeer, fault_error, outcome_of};
+ghost use Rattle.relay_proxy.specs.Passed.{World, Start, TellsClient};
+ghost use Rattle.relay_proxy.specs.Phases.{IsRelaying, RunSoFar};
 ghost use Rattle.relay_proxy.specs.Turn.{world_with, DoesWork, is_over, is_end, links_held, Advances};
 
 use crate::machine::{Attempt, Lease, Next, Phase, RunStep};
@@ -16,7 +16,7 @@ use bytes::Bytes;
 use relay_exchange::{Exchange, Unbegun};
 use relay_links::{ByteLink, Connector};
 use relay_session::{Front, HttpSession};
-use relay_tasks::{Error, Fail, Peer, RequestHeader};
+use relay_tasks::{Error, ErrorSource, Fail, Fault, Peer, RequestHeader};
 use std::alloc::Global;
 
 /// The peer that each attempt asks for: the connector's only one.
@@ -49,7 +49,7 @@ pub(crate) fn connect<K: Connector, F: Front, C: Drop>(
     alloc: Global,
     connector: &mut K,
     context: C,
-    session: HttpSession,
+    session: Box<HttpSession>,
 ) -> Next<K::Byte, C>
     ensures run { (s : Start) (p : Passed) (client : LinkState) (ahead : List ℕ)
         → RunSoFar {C = C} K.Byte.state K.Byte.start s p
@@ -75,26 +75,33 @@ pub(crate) fn connect<K: Connector, F: Front, C: Drop>(
             let lease = Lease { peer, reused, room };
             begin::<K::Byte, F, C>(alloc, context, session, head, link, lease)
         }
-        Err(fault) => {
-            let error = Some(Error::of_fault(fault).into_up());
-            let attempts = room.fill(AttemptRecord {
-                peer,
-                reused: false,
-                kept: false,
-                error,
-            });
-            Next {
-                phase: Phase::Ended(
-                    Outcome::Served {
-                        error,
-                        reuse: false,
-                    },
-                    attempts,
-                ),
-                step: RunStep::Ended,
-                work: Work::ENDED,
-            }
-        }
+        Err(fault) => refused_link(room, peer, fault),
+    }
+}
+
+/// A request that ended without a link, since the connector gave none.
+fn refused_link<L, C>(room: AttemptRoom, peer: Peer, fault: Fault) -> Next<L, C>
+    ensures phase { let error = Some (fault_error ErrorSource.Upstream fault) in
+        result.phase ≡ Phase.Ended (Outcome.Served error false)
+        (record { peer = peer; reused = false; kept = false; error = error } ∷ []) }
+    ensures step { result.step ≡ RunStep.Ended }
+    ensures work { result.work ≡ Work.ENDED }
+{
+    let error = Some(Error::of_fault(fault).into_up());
+    let attempts = room.fill(AttemptRecord {
+        peer,
+        reused: false,
+        kept: false,
+        error,
+    });
+    let outcome = Outcome::Served {
+        error,
+        reuse: false,
+    };
+    Next {
+        phase: Phase::Ended(outcome, attempts),
+        step: RunStep::Ended,
+        work: Work::ENDED,
     }
 }
 
@@ -112,35 +119,65 @@ fn copied_head(session: &HttpSession) -> Option<RequestHeader>
 fn begin<L: ByteLink, F: Front, C: Drop>(
     alloc: Global,
     context: C,
-    session: HttpSession,
+    session: Box<HttpSession>,
     head: RequestHeader,
     link: L,
     lease: Lease,
 ) -> Next<L, C>
     ensures run { (s : Start) (p : Passed) (w : World)
         → RunSoFar {C = C} L.state L.start s p w [] (Phase.Connect context session)
-        → head_of session.reading ≡ Some head
+        → head_of session.value.reading ≡ Some head
         → IsHandedOut (L.state link) (L.start link) lease.reused → IsAskedPeer lease.peer
         → Advances {C = C} L.state L.start s w result.phase result.step }
     ensures work { DoesWork result.step result.work }
     ensures over { is_over result.phase ≡ is_end result.step }
     ensures linked { links_held L.state L.start result.phase ≡ 1 }
 {
-    match Exchange::begin::<F>(alloc, session, link, head) {
-        Ok(exchange) => Next {
-            phase: Phase::Relay(Attempt {
+    match Exchange::begin::<F>(alloc, Box::into_inner(session), link, head) {
+        Ok(exchange) => hold(
+            alloc,
+            Attempt {
                 exchange,
                 lease,
                 context,
-            }),
-            step: RunStep::Moved,
-            work: Work::MOVED,
-        },
+            },
+        ),
         Err(Unbegun { link, why }) => Next {
             phase: Phase::Close(link, lease, false, outcome_of(why)),
             step: RunStep::Ended,
             work: Work::ENDED,
         },
+    }
+}
+
+/// Holds an attempt whose exchange was begun. Where there is no memory for it, its link is to go
+/// back.
+fn hold<L: ByteLink, C: Drop>(alloc: Global, attempt: Attempt<L, C>) -> Next<L, C>
+    ensures run { (s : Start) (p : Passed) (w : World) → TellsClient s p w → IsInOrder s p
+        → IsRelaying L.state L.start s p w attempt
+        → Advances {C = C} L.state L.start s w result.phase result.step }
+    ensures work { DoesWork result.step result.work }
+    ensures over { is_over result.phase ≡ is_end result.step }
+    ensures linked { links_held L.state L.start result.phase ≡ 1 }
+{
+    match Box::new(alloc, attempt) {
+        Ok(attempt) => Next {
+            phase: Phase::Relay(attempt),
+            step: RunStep::Moved,
+            work: Work::MOVED,
+        },
+        Err(failed) => {
+            let Attempt {
+                exchange,
+                lease,
+                context: _,
+            } = failed.value;
+            Next {
+                phase: Phase::Close(exchange.into_link(), lease, false, Outcome::OutOfMemory),
+                step: RunStep::Ended,
+                work: Work::ENDED,
+            }
+        }
     }
 }
 

@@ -108,13 +108,14 @@ pub(crate) fn finish<K: Connector, C: Drop>(
         Phase::ReadHead => give_up(alloc),
         Phase::Refuse(_answer, _error) => give_up(alloc),
         Phase::Connect(_context, _session) => give_up(alloc),
-        Phase::Relay(
-            Attempt {
+        Phase::Relay(attempt) => {
+            let Attempt {
                 exchange,
                 lease,
                 context: _,
-            },
-        ) => give_link_up(connector, exchange.into_link(), lease),
+            } = Box::into_inner(attempt);
+            give_link_up(connector, exchange.into_link(), lease)
+        }
         Phase::Close(link, lease, keep, outcome) => Ending {
             outcome,
             attempts: release(connector, link, lease, keep, outcome),

@@ -39,7 +39,8 @@ pub(crate) struct Lease {
     pub(crate) room: AttemptRoom,
 }
 
-/// An attempt at a request: its exchange, which has the link.
+/// An attempt at a request: its exchange, which has the link. It is large, so its phase holds it
+/// behind a pointer, and a turn works on it where it stands.
 pub(crate) struct Attempt<L, C> {
     pub(crate) exchange: Exchange<L>,
     pub(crate) lease: Lease,
@@ -53,9 +54,9 @@ pub(crate) enum Phase<L, C> {
     /// The client is given a generated answer, with that error.
     Refuse(Pending, Option<Error>),
     /// The head was accepted, and a link is wanted for the session that begins behind it.
-    Connect(C, HttpSession),
+    Connect(C, Box<HttpSession>),
     /// The request is sent, and the response comes back, over the attempt's link.
-    Relay(Attempt<L, C>),
+    Relay(Box<Attempt<L, C>>),
     /// The request has ended, and its link is to be handed back.
     Close(L, Lease, bool, Outcome),
     /// The request has ended.

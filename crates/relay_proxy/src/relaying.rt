@@ -1,9 +1,11 @@
 //! The attempt: one turn of its exchange, and what becomes of the client and of the link once it has
 //! ended (RFC 9112, section 9.3).
-ghost use Rattle.std.specs.Prelude.{◌≡◌, ℕ, []};
+ghost use Rattle.std.specs.Prelude.{◌≡◌, ℕ, [], None, false};
 ghost use Rattle.relay_core.specs.Past.{Origin};
 ghost use Rattle.relay_exchange.specs.Exchange.{IsUnderWay, Turns, IsSilent};
+ghost use Rattle.relay_exchange.specs.Head.{may_keep};
 ghost use Rattle.relay_exchange.specs.Passed.{Passed};
+ghost use Rattle.relay_proxy.specs.Endings.{outcome_of};
 ghost use Rattle.relay_proxy.specs.Passed.{Start};
 ghost use Rattle.relay_proxy.specs.Phases.{RunSoFar};
 ghost use Rattle.relay_proxy.specs.Reuse.{client_reusable, lets_ask_again};
@@ -19,13 +21,14 @@ use relay_exchange::{Exchange, Turn};
 use relay_h1::{Connection, closes};
 use relay_links::{ByteLink, Schedule};
 use relay_session::HttpSession;
-use relay_tasks::Pause;
+use relay_tasks::{Fail, Pause};
 
-/// One turn of the attempt's exchange. The schedule picks the branch of the duplex.
+/// One turn of the attempt's exchange, where it stands. The schedule picks the branch of the
+/// duplex.
 pub(crate) fn relay<D: ByteLink, U: Drop, L: ByteLink, H: Schedule, C: Drop>(
     client: &mut Connection<D, U>,
     schedule: &mut H,
-    attempt: Attempt<L, C>,
+    mut attempt: Box<Attempt<L, C>>,
 ) -> Next<L, C>
     ensures run { (s : Start) (p : Passed) (faults : ℕ)
         → RunSoFar {C = C} L.state L.start s p (world_of D.state client.old faults) []
@@ -37,75 +40,86 @@ pub(crate) fn relay<D: ByteLink, U: Drop, L: ByteLink, H: Schedule, C: Drop>(
     ensures linked { links_held L.state L.start result.phase ≡ 1 }
     ensures kept { client.new.kept ≡ client.old.kept }
 {
-    let Attempt {
-        exchange,
-        lease,
-        context,
-    } = attempt;
-    let Turn {
-        exchange,
-        step,
-        branch,
-    } = turn_over(exchange, client, schedule);
+    let Turn { step, branch } = turn_over(&mut attempt.exchange, client, schedule);
     match step {
         Step::Moved => Next {
-            phase: Phase::Relay(Attempt {
-                exchange,
-                lease,
-                context,
-            }),
+            phase: Phase::Relay(attempt),
             step: RunStep::Moved,
             work: work_of(branch),
         },
         Step::Waited(Pause::NotReady) => Next {
-            phase: Phase::Relay(Attempt {
-                exchange,
-                lease,
-                context,
-            }),
+            phase: Phase::Relay(attempt),
             step: RunStep::Waited(Pause::NotReady),
             work: Work::USED,
         },
         Step::Waited(Pause::Silent) => Next {
-            phase: Phase::Relay(Attempt {
-                exchange,
-                lease,
-                context,
-            }),
+            phase: Phase::Relay(attempt),
             step: RunStep::Waited(Pause::Silent),
             work: Work::NONE,
         },
-        Step::Finished => {
-            let keep = exchange.may_keep();
-            let reuse = is_client_reusable(&exchange, client);
-            let served = Outcome::Served { error: None, reuse };
-            Next {
-                phase: Phase::Close(exchange.into_link(), lease, keep, served),
-                step: RunStep::Ended,
-                work: Work::ENDED,
-            }
-        }
-        Step::Failed(why) => Next {
-            phase: Phase::Close(exchange.into_link(), lease, false, outcome_of(why)),
-            step: RunStep::Ended,
-            work: Work::ENDED,
-        },
+        Step::Finished => close_finished(client, attempt),
+        Step::Failed(why) => close_failed(attempt, why),
+    }
+}
+
+/// The end of an attempt whose exchange has finished: its link is to go back.
+fn close_finished<D, U, L: ByteLink, C: Drop>(
+    client: &Connection<D, U>,
+    attempt: Box<Attempt<L, C>>,
+) -> Next<L, C>
+    ensures phase { let x = attempt.value.exchange in
+        result.phase ≡ Phase.Close x.peer.client.link attempt.value.lease (may_keep x)
+        (Outcome.Served None (client_reusable x client.now.ahead)) }
+    ensures step { result.step ≡ RunStep.Ended }
+    ensures work { result.work ≡ Work.ENDED }
+{
+    let Attempt {
+        exchange,
+        lease,
+        context: _,
+    } = Box::into_inner(attempt);
+    let keep = exchange.may_keep();
+    let reuse = is_client_reusable(&exchange, client);
+    let served = Outcome::Served { error: None, reuse };
+    Next {
+        phase: Phase::Close(exchange.into_link(), lease, keep, served),
+        step: RunStep::Ended,
+        work: Work::ENDED,
+    }
+}
+
+/// The end of an attempt whose exchange failed: its link is to go back, and is not kept.
+fn close_failed<L: ByteLink, C: Drop>(attempt: Box<Attempt<L, C>>, why: Fail) -> Next<L, C>
+    ensures phase { result.phase ≡ Phase.Close attempt.value.exchange.peer.client.link
+        attempt.value.lease false (outcome_of why) }
+    ensures step { result.step ≡ RunStep.Ended }
+    ensures work { result.work ≡ Work.ENDED }
+{
+    let Attempt {
+        exchange,
+        lease,
+        context: _,
+    } = Box::into_inner(attempt);
+    Next {
+        phase: Phase::Close(exchange.into_link(), lease, false, outcome_of(why)),
+        step: RunStep::Ended,
+        work: Work::ENDED,
     }
 }
 
 /// One turn of an exchange over the client's connection. An exchange knows nothing of the value
 /// that the connection keeps, so that is set aside.
 fn turn_over<D: ByteLink, U: Drop, L: ByteLink, H: Schedule>(
-    exchange: Exchange<L>,
+    exchange: &mut Exchange<L>,
     client: &mut Connection<D, U>,
     schedule: &mut H,
-) -> Turn<L>
+) -> Turn
     ensures goes { (s : Origin) (p : Passed)
-        → IsUnderWay L.state L.start s p (D.state client.old.link) client.old.ahead exchange
-        → Turns L.state L.start s (D.state client.new.link) client.new.ahead result.exchange
+        → IsUnderWay L.state L.start s p (D.state client.old.link) client.old.ahead exchange.old
+        → Turns L.state L.start s (D.state client.new.link) client.new.ahead exchange.new
         result.step }
     ensures silent { result.step ≡ Step.Waited Pause.Silent
-        → IsSilent L.state L.start (D.state client.new.link) result.exchange }
+        → IsSilent L.state L.start (D.state client.new.link) exchange.new }
     ensures kept { client.new.kept ≡ client.old.kept }
 {
     let kept = client.take_kept();

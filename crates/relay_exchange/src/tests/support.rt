@@ -103,12 +103,7 @@ pub(super) fn exchange(
     };
     let mut last = Step::Moved;
     for _ in 0..turns {
-        let Turn {
-            exchange,
-            step,
-            branch: _,
-        } = under_way.turn(&mut client, &mut schedule);
-        under_way = exchange;
+        let Turn { step, branch: _ } = under_way.turn(&mut client, &mut schedule);
         last = step;
         match step {
             Step::Moved | Step::Waited(Pause::NotReady) => {}

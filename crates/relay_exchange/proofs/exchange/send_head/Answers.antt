@@ -7,18 +7,18 @@ pub returns-clause-goes : goal.returns-clause-goes
 returns-clause-goes g c =
     let state = g.L.ByteLink.state in
     let start_at = g.L.ByteLink.start in
+    let down = c.args.client.now in
     let new = c.write_head-step.new.peer in
     λ s p q link ahead b.
     let went = c.write_head-step.ensures.goes s q b.up_holds in
-    let on = begins_on state start_at s p q link ahead c.args.client c.args.peer new _ b went in
+    let on = begins_on state start_at s p q link ahead down c.args.peer.now new _ b went in
     head_turns state start_at s p went.past link ahead
     (record {
       alloc = c.args.alloc;
-      client = c.args.client;
+      client = down;
       peer = new;
-      stage = c.stage_behind-stage.result;
+      stage = c.stage_behind.result;
     })
     c.write_head-step.result on
-    (c.stage_behind-stage.ensures.holds s p went.past link ahead c.args.client
-    (sym c.session.ensures) on)
+    (c.stage_behind.ensures.holds s p went.past link ahead down (sym c.session.ensures) on)
     c.write_head-step.ensures.unfinished went.blamed

@@ -8,12 +8,12 @@ use Rattle.relay_proxy.proofs.client_head.accept_head.Goals as goal
 pub returns-clause-run : goal.returns-clause-run
 returns-clause-run g c = λ s p faults run has no_connect.
     let world = ap (λ k. world_of g.D.ByteLink.state k faults) c.consume.ensures in
-    let made = c.begun_http1-session.ensures in
+    let made = c.begun_http1.ensures in
     head_accepted g.L.ByteLink.state g.L.ByteLink.start s p _ _ c.args.read.head
     c.args.read.framing c.args.read.len _ _
     (ap (λ (x : World). x.client) world) (ap (λ (x : World). x.ahead) world) refl has
     (c.if-not-is_built_request.ensures.0 refl)
-    (record {
+    (rw c.in-Ok.ensures.ok (record {
       is_head = made.head;
       done = made.done;
       starts = made.starts;
@@ -21,4 +21,4 @@ returns-clause-run g c = λ s p faults run has no_connect.
       answers = made.answers;
       response = made.response;
       output = made.output;
-    }) run
+    })) run

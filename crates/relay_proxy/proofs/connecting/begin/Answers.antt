@@ -1,12 +1,15 @@
--- The exchange is under way over the link, or there was no memory for it.
+-- The exchange is under way over the link and its attempt is held, or memory was wanted for one of
+-- both.
 use Rattle.std.proofs.Common.{refl}
 use Rattle.relay_proxy.proofs.ConnectSteps.{begun, not_begun}
 use Rattle.relay_proxy.proofs.connecting.begin.Goals as goal
 
 pub returns-in-Ok-clause-run : goal.returns-in-Ok-clause-run
 returns-in-Ok-clause-run g c = λ s p w run is handed peer.
-    begun g.L.ByteLink.state g.L.ByteLink.start s p w c.args.context c.args.session c.args.head
-    c.args.link c.args.lease c.in-Ok.exchange is handed peer c.in-Ok.ensures.begins run
+    c.hold.ensures.run s p w run.tells run.order
+    (begun g.L.ByteLink.state g.L.ByteLink.start s p w c.args.session.value c.args.head c.args.link
+    (record { exchange = c.in-Ok.exchange; lease = c.args.lease; context = c.args.context }) is
+    handed peer (rw c.into_inner.ensures at c.in-Ok.ensures.begins) run.holds)
 
 pub returns-in-Err-clause-run : goal.returns-in-Err-clause-run
 returns-in-Err-clause-run g c = λ s p w run is handed peer.

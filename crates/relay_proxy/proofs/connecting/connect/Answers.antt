@@ -1,9 +1,19 @@
--- Over a link that the connector gave the exchange begins.
+-- Over a link that the connector gave the exchange begins; where it gave none, its count rose.
 use Rattle.relay_proxy.specs.Turn.{world_with}
+use Rattle.relay_proxy.proofs.ConnectSteps.{not_connected}
 use Rattle.relay_proxy.proofs.connecting.connect.Goals as goal
 
 pub returns-in-Ok-get-clause-run : goal.returns-in-Ok-get-clause-run
 returns-in-Ok-get-clause-run g c = λ s p client ahead run.
     rw c.in-Ok-get.ensures.no_fault (c.begin.ensures.run s p
     (world_with client ahead (g.K.Connector.fault_count c.args.connector.now)) run
-    c.in-Some.ensures c.in-Ok-get.ensures.handed c.asked_peer-peer.ensures)
+    (rw c.deref.ensures at c.in-Some.ensures) c.in-Ok-get.ensures.handed c.asked_peer-peer.ensures)
+
+pub returns-in-Err-clause-run : goal.returns-in-Err-clause-run
+returns-in-Err-clause-run g c = λ s p client ahead run.
+    rw (c.refused_link.ensures.phase, c.refused_link.ensures.step)
+    (not_connected g.K.Byte.ByteLink.state g.K.Byte.ByteLink.start s p
+    (world_with client ahead (g.K.Connector.fault_count c.args.connector.now))
+    (g.K.Connector.fault_count c.get.new.self) c.args.context c.args.session
+    c.asked_peer-peer.result c.in-Err.fault c.get.ensures.fits.0 c.in-Err.ensures.rose
+    c.in-Err.ensures.fault c.asked_peer-peer.ensures run)

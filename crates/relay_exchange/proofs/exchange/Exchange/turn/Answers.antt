@@ -10,8 +10,8 @@ returns-in-Head-clause-goes g c =
     let ahead = g.F.Front.ahead c.args.client.now in
     λ s p u.
     let At : Stage → Type 0 = λ at.
-    StageHolds g.L.ByteLink.state g.L.ByteLink.start s u.down u.up link ahead c.args.self.client
-    c.args.self.peer at in
+    StageHolds g.L.ByteLink.state g.L.ByteLink.start s u.down u.up link ahead
+    c.args.self.now.client c.args.self.now.peer at in
     c.send_head.ensures.goes s u.down u.up link ahead (subst At c.in-Head.is u.holds)
 
 pub returns-in-Bodies-clause-goes : goal.returns-in-Bodies-clause-goes
@@ -19,6 +19,6 @@ returns-in-Bodies-clause-goes g c =
     λ s p u.
     let At : Stage → Type 0 = λ at.
     StageHolds g.L.ByteLink.state g.L.ByteLink.start s u.down u.up
-    (g.F.Front.state c.args.client.now) (g.F.Front.ahead c.args.client.now) c.args.self.client
-    c.args.self.peer at in
+    (g.F.Front.state c.args.client.now) (g.F.Front.ahead c.args.client.now) c.args.self.now.client
+    c.args.self.now.peer at in
     c.move_bodies.ensures.goes s u.down u.up (subst At c.in-Bodies.is u.holds)
