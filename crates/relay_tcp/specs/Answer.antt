@@ -1,5 +1,5 @@
 -- What a call of a socket means, by the answer that a link gives for it.
-use Rattle.std.specs.Prelude.{◌≡◌, ◌<◌, ◌⊎◌, ℕ, Option, Some, None, Result, Ok, Err, zero, suc}
+use Rattle.std.specs.Prelude.{◌≡◌, ◌==◌, ◌<◌, ◌⊎◌, ℕ, Bool, true, false, not, Option, Some, None, Result, Ok, Err, zero, suc}
 use Rattle.std.specs.declared.io.Error.{Error}
 use Rattle.std.specs.IoError.{error_kind}
 use Rattle.std.specs.declared.io.ErrorKind.{ErrorKind}
@@ -32,6 +32,18 @@ abbrev pub write_trouble : Result ℕ Error → Option Trouble
 write_trouble (Ok zero) = Some Broken
 write_trouble (Ok (suc n)) = None
 write_trouble (Err error) = Some (trouble_of (error_kind error))
+
+-- a call of that error would have to wait
+abbrev pub would_block : ErrorKind → Bool
+would_block kind.WouldBlock = true
+would_block _ = false
+
+-- a call leaves the socket ready, as far as it shows, where so much was offered: it moved all of
+-- it, met an end, or failed without having to wait
+abbrev pub stays_ready : Result ℕ Error → ℕ → Bool
+stays_ready (Ok zero) offered = true
+stays_ready (Ok (suc n)) offered = suc n == offered
+stays_ready (Err error) offered = not (would_block (error_kind error))
 
 -- the fault of a link, by its kind: another attempt may help where the connection was used before
 abbrev pub link_fault : FaultKind → Fault

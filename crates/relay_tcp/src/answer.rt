@@ -1,6 +1,6 @@
 //! What a call of a socket means: the answer of a link that follows from what the socket gave.
 ghost use Rattle.std.specs.Prelude.{◌≡◌};
-ghost use Rattle.relay_tcp.specs.Answer.{trouble_of, AnswersRead, AnswersWrite};
+ghost use Rattle.relay_tcp.specs.Answer.{trouble_of, would_block, stays_ready, AnswersRead, AnswersWrite};
 
 use relay_links::{Got, Put};
 use relay_tasks::{Fault, FaultKind, RetryType};
@@ -59,6 +59,30 @@ pub(crate) fn write_answer(written: io::Result<usize>) -> Put
             Trouble::TimedOut => Put::Failed(of_link(FaultKind::WriteTimedout)),
             Trouble::Broken => Put::Failed(of_link(FaultKind::Write)),
         },
+    }
+}
+
+/// Whether a socket may move more at once, as far as a call shows that was offered so many bytes or
+/// so much room. It may not after a call that would block, nor after one that moved fewer: these
+/// leave nothing to read, or no room to write. An interrupted call shows nothing, and a fault or an
+/// end is met again.
+pub(crate) fn stays_ready(moved: &io::Result<usize>, offered: usize) -> bool
+    ensures { result ≡ stays_ready moved.now offered }
+{
+    match moved {
+        Ok(0) => true,
+        Ok(count) => *count == offered,
+        Err(error) => !would_block(error.kind()),
+    }
+}
+
+/// Whether nothing can be moved until the poll tells of a change.
+fn would_block(kind: ErrorKind) -> bool
+    ensures { result ≡ would_block kind }
+{
+    match kind {
+        ErrorKind::WouldBlock => true,
+        _ => false,
     }
 }
 

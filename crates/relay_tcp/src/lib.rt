@@ -1,11 +1,13 @@
-//! The outside over sockets: a link over a TCP connection that does not block, and a connector that
-//! opens one to a fixed address. Both tell no content.
+//! The outside over sockets: a link over a TCP connection that does not block, a connector that
+//! opens one to a fixed address, and what a poll has told of their sockets. They tell no content.
 #![tactic(auto)]
 
 mod answer;
+mod readiness;
 mod tcp_connector;
 mod tcp_link;
 
+pub use readiness::{Origin, Readiness, Seat, watch};
 pub use tcp_connector::TcpConnector;
 pub use tcp_link::TcpLink;
 

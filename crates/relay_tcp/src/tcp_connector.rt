@@ -7,17 +7,22 @@ ghost use Rattle.relay_links.specs.Link.{IsHandedOut};
 ghost use Rattle.relay_tcp.specs.TcpLink.{tcp_state, tcp_start, IsUnused};
 ghost use Rattle.relay_tcp.specs.TcpConnector.{links_out, gets_failed, IsNew, OpensSocket};
 
+use crate::readiness::{Origin, Readiness, Seat, watch};
 use crate::tcp_link::TcpLink;
 use mio::net::TcpStream;
 use relay_links::Connector;
 use relay_tasks::{Fault, FaultKind, Peer, RetryType};
+use std::io;
 use std::net::{Net, SocketAddr};
+use std::sync::Arc;
 
-/// Connects to its address at each `get`, and closes each link that comes back.
+/// Connects to its address at each `get`, and closes each link that comes back. Each connection is
+/// watched by a poll.
 #[derive(Drop)]
 pub struct TcpConnector<R> {
     rt: R,
     address: SocketAddr,
+    readiness: Arc<Readiness>,
     out: u64,
     faults: u64,
 }
@@ -25,18 +30,34 @@ pub struct TcpConnector<R> {
 impl<R: Net + Clone + Drop> TcpConnector<R> {
     ghost use Rattle.relay_tasks.specs.declared.error.Fail.{Fail};
 
-    /// A connector to that address, with a copy of the runtime. It fails only where the runtime
-    /// finds no memory for its copy.
-    pub fn new(rt: &R, address: SocketAddr) -> relay_tasks::Result<TcpConnector<R>>
+    /// A connector to that address, with a copy of the runtime, whose connections are watched
+    /// there. It fails only where the runtime finds no memory for its copy.
+    pub fn new(
+        rt: &R,
+        address: SocketAddr,
+        readiness: Arc<Readiness>,
+    ) -> relay_tasks::Result<TcpConnector<R>>
         ensures ok { IfOk result (λ connector. IsNew connector address) }
         ensures err { IsOkUnless result Fail.OutOfMemory }
     {
         Ok(TcpConnector {
             rt: rt.clone()?,
             address,
+            readiness,
             out: 0,
             faults: 0,
         })
+    }
+}
+
+impl<R: Net> TcpConnector<R> {
+    /// A connection to the address, which may not stand yet. It sends small writes at once, and is
+    /// waited for.
+    fn open(&self) -> io::Result<(TcpStream, Seat)> {
+        let mut stream = TcpStream::connect(&self.rt, self.address)?;
+        stream.set_nodelay(true)?;
+        let seat = watch(&self.readiness, &mut stream, Origin::Connecting)?;
+        Ok((stream, seat))
     }
 }
 
@@ -68,10 +89,10 @@ impl<R: Net + Clone + Drop> Connector for TcpConnector<R> {
             self.faults = faults.saturating_add(1);
             return Err(REFUSED);
         };
-        match TcpStream::connect(&self.rt, self.address) {
-            Ok(stream) => {
+        match self.open() {
+            Ok((stream, seat)) => {
                 self.out = out;
-                Ok((TcpLink::new(stream, false), false))
+                Ok((TcpLink::watched(stream, seat, false), false))
             }
             Err(_) => {
                 self.faults = faults.saturating_add(1);

@@ -5,15 +5,19 @@ ghost use Rattle.relay_links.specs.Link.{IsHandedOut, Reads, Writes};
 ghost use Rattle.relay_tcp.specs.TcpLink.{tcp_state, tcp_start, IsUnused, LendsStream, ReadsSocket, WritesSocket};
 
 use crate::answer::{read_answer, write_answer};
+use crate::readiness::{Seat, Side};
 use mio::net::TcpStream;
 use relay_links::{ByteLink, Got, Put};
 use std::io::{Read, Write};
 
 /// A link over a stream that does not block. It is never silent: where the socket would block it
-/// answers `NotReady`. Its drop closes the connection.
+/// answers `NotReady`, and does not ask the socket where its seat says so. Its drop closes the
+/// connection.
 #[derive(Drop)]
 pub struct TcpLink {
     stream: TcpStream,
+    // What the poll has told. A link without one asks the socket at each call.
+    seat: Option<Seat>,
     ended: bool,
     waits: u64,
     used: u64,
@@ -23,13 +27,30 @@ pub struct TcpLink {
 
 impl TcpLink {
     /// A link over that stream, which its maker has set not to block. It has answered nothing;
-    /// `reused` says whether the connection carried a request before.
+    /// `reused` says whether the connection carried a request before. Each call asks the socket.
     pub fn new(stream: TcpStream, reused: bool) -> TcpLink
+        ensures unused { IsUnused result reused }
+        ensures handed { IsHandedOut (tcp_state result) (tcp_start result) reused }
+    {
+        TcpLink::over(stream, None, reused)
+    }
+
+    /// The same over a stream that is watched: `seat` is what `watch` gave for it. A call asks the
+    /// socket where the poll has told that it may move something.
+    pub fn watched(stream: TcpStream, seat: Seat, reused: bool) -> TcpLink
+        ensures unused { IsUnused result reused }
+        ensures handed { IsHandedOut (tcp_state result) (tcp_start result) reused }
+    {
+        TcpLink::over(stream, Some(seat), reused)
+    }
+
+    fn over(stream: TcpStream, seat: Option<Seat>, reused: bool) -> TcpLink
         ensures unused { IsUnused result reused }
         ensures handed { IsHandedOut (tcp_state result) (tcp_start result) reused }
     {
         TcpLink {
             stream,
+            seat,
             ended: false,
             waits: 0,
             used: 0,
@@ -38,8 +59,16 @@ impl TcpLink {
         }
     }
 
+    /// Whether the socket is to be asked.
+    fn asks(&self, side: Side) -> bool {
+        match &self.seat {
+            Some(seat) => seat.asks(side),
+            None => true,
+        }
+    }
+
     /// The stream, so that a poll can wait for it. The link's counts stay as they are, whatever is
-    /// done to the stream.
+    /// done to the stream. Let a watched link keep its own, registered as it is.
     pub fn stream(&mut self) -> &mut TcpStream
         ensures* writes_back { sem 𝓛 (LendsStream self.entry result) }
         ensures value { result.now ≡ self.old.stream }
@@ -64,7 +93,15 @@ impl ByteLink for TcpLink {
         if self.ended {
             return Got::End;
         }
-        let got = read_answer(self.stream.read(room));
+        if !self.asks(Side::Read) {
+            self.waits = waits.saturating_add(1);
+            return Got::NotReady;
+        }
+        let read = self.stream.read(room);
+        if let Some(seat) = &self.seat {
+            seat.note_read(&read, room.len());
+        }
+        let got = read_answer(read);
         match got {
             Got::Bytes(_) | Got::Silent => {}
             Got::NotReady => self.waits = waits.saturating_add(1),
@@ -82,7 +119,15 @@ impl ByteLink for TcpLink {
     {
         let (waits, used, faults) = (self.waits, self.used, self.faults);
         self.used = used.saturating_add(1);
-        let put = write_answer(self.stream.write(part));
+        if !self.asks(Side::Write) {
+            self.waits = waits.saturating_add(1);
+            return Put::NotReady;
+        }
+        let written = self.stream.write(part);
+        if let Some(seat) = &mut self.seat {
+            seat.note_write(&written, part.len(), &mut self.stream);
+        }
+        let put = write_answer(written);
         match put {
             Put::Took(_) | Put::Silent | Put::OutOfMemory => {}
             Put::NotReady => self.waits = waits.saturating_add(1),
