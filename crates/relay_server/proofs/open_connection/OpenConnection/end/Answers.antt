@@ -1,0 +1,36 @@
+-- The request is ended, and the next one begins where the connection goes back.
+use Rattle.std.proofs.Common.{ap}
+use Rattle.relay_proxy.specs.declared.proxy.HttpProxy.{HttpProxy}
+use Rattle.relay_server.specs.Serving.{books}
+use Rattle.relay_server.proofs.ServingLemmas.{ends_one, begins}
+use Rattle.relay_server.proofs.open_connection.OpenConnection.end.Goals as goal
+
+pub returns-then-not-goes_back-clause-serves : goal.returns-then-not-goes_back-clause-serves
+returns-then-not-goes_back-clause-serves g c = λ before rest ends.
+    let returned = g.K.Connector.returned in
+    let faults = g.K.Connector.fault_count in
+    ends_one g.K.Byte.ByteLink.state g.K.Byte.ByteLink.start g.D.ByteLink.state before
+    (books returned faults c.args.proxy.now) (books returned faults c.end-processed.new.self)
+    (record { client = c.self.inside.client; phase = c.self.inside.machine.machine.phase }) rest
+    _ c.end-processed.result.0 (rw c.self.view_is ends) c.end-processed.ensures.ends
+    (ap (λ (p : HttpProxy g.row.SV.Denot g.row.K.Denot g.row.P.Denot). p.requests_ended)
+    c.end-processed.ensures.same)
+    c.end-processed.ensures.faults
+
+pub returns-clause-serves : goal.returns-clause-serves
+returns-clause-serves g c = λ before rest ends.
+    let returned = g.K.Connector.returned in
+    let faults = g.K.Connector.fault_count in
+    let now = books returned faults c.end-processed.new.self in
+    begins g.K.Byte.ByteLink.state g.K.Byte.ByteLink.start g.D.ByteLink.state before now
+    (record {
+      client = c.begin-machine.new.client;
+      phase = c.begin-machine.result.machine.phase;
+    }) rest _ _ c.begin-machine.ensures.run c.begin-machine.ensures.going
+    (ends_one g.K.Byte.ByteLink.state g.K.Byte.ByteLink.start g.D.ByteLink.state before
+    (books returned faults c.args.proxy.now) now
+    (record { client = c.self.inside.client; phase = c.self.inside.machine.machine.phase }) rest
+    _ c.end-processed.result.0 (rw c.self.view_is ends) c.end-processed.ensures.ends
+    (ap (λ (p : HttpProxy g.row.SV.Denot g.row.K.Denot g.row.P.Denot). p.requests_ended)
+    c.end-processed.ensures.same)
+    c.end-processed.ensures.faults)

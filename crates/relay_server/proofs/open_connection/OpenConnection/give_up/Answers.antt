@@ -1,0 +1,18 @@
+-- A request under way is ended without being counted.
+use Rattle.std.proofs.Common.{ap}
+use Rattle.relay_proxy.specs.declared.proxy.HttpProxy.{HttpProxy}
+use Rattle.relay_server.specs.Serving.{books}
+use Rattle.relay_server.proofs.ServingLemmas.{gives_up}
+use Rattle.relay_server.proofs.open_connection.OpenConnection.give_up.Goals as goal
+
+pub returns-clause-serves : goal.returns-clause-serves
+returns-clause-serves g c = λ before rest goes.
+    let returned = g.K.Connector.returned in
+    let faults = g.K.Connector.fault_count in
+    gives_up g.K.Byte.ByteLink.state g.K.Byte.ByteLink.start g.D.ByteLink.state before
+    (books returned faults c.args.proxy.now) (books returned faults c.end.new.self)
+    (record { client = c.self.inside.client; phase = c.self.inside.machine.machine.phase }) rest
+    _ c.end.result.0 (rw c.self.view_is goes) c.end.ensures.ends
+    (ap (λ (p : HttpProxy g.row.SV.Denot g.row.K.Denot g.row.P.Denot). p.requests_ended)
+    c.end.ensures.same)
+    c.end.ensures.faults

@@ -1,0 +1,13 @@
+-- What holds between two clients that are accepted.
+use Rattle.std.proofs.Common.{◌≤◌, length}
+use Rattle.relay_server.specs.Serving.{ServesOn}
+use Rattle.relay_server.proofs.serve.accept_all.Given as goal
+
+abbrev pub invariant-loop-seat : goal.invariant-loop-seat
+invariant-loop-seat g l =
+    ServesOn g.K.Byte.ByteLink.state g.K.Byte.ByteLink.start g.O.Stream.ByteLink.state
+    g.K.Connector.returned g.K.Connector.out g.K.Connector.fault_count
+    l.fn.proxy l.proxy l.fn.floor l.floor
+    × (length l.floor ≤ l._seat)
+    × (l._seat ≤ 64)
+    × (g.O.Poller.fault_count l.fn.poller ≤ g.O.Poller.fault_count l.poller)

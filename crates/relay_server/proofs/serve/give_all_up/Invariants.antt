@@ -1,0 +1,18 @@
+-- What holds between two connections that are given up.
+use Rattle.std.proofs.Common.{◌≡◌, ◌≤◌, length}
+use Rattle.relay_server.specs.Serving.{Books, books, Serves, ServesOn}
+use Rattle.relay_server.proofs.serve.give_all_up.Given as goal
+
+abbrev pub invariant-loop-connection : goal.invariant-loop-connection
+invariant-loop-connection g l =
+    ServesOn g.K.Byte.ByteLink.state g.K.Byte.ByteLink.start g.O.Stream.ByteLink.state
+    g.K.Connector.returned g.K.Connector.out g.K.Connector.fault_count
+    l.fn.proxy l.proxy l.fn.floor l.floor
+    × ((before : Books g.row.K-Byte.Denot)
+    → Serves g.K.Byte.ByteLink.state g.K.Byte.ByteLink.start g.O.Stream.ByteLink.state before
+    (books g.K.Connector.returned g.K.Connector.fault_count l.fn.proxy) l.fn.floor
+    → l.proxy.requests_ended ≡ l.fn.proxy.requests_ended)
+    × (g.O.Poller.fault_count l.fn.poller ≤ g.O.Poller.fault_count l.poller)
+
+abbrev pub decreases-loop-connection : goal.decreases-loop-connection
+decreases-loop-connection g l = length l.floor

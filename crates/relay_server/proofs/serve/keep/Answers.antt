@@ -1,0 +1,17 @@
+-- A connection is put last, or given up.
+use Rattle.relay_server.proofs.ServingLemmas.{on_put_last, on_given_up}
+use Rattle.relay_server.proofs.serve.keep.Goals as goal
+
+pub returns-in-Ok-clause-goes : goal.returns-in-Ok-clause-goes
+returns-in-Ok-clause-goes g c = rw (c.put_last.ensures, c.in-Ok.ensures.ok)
+    (on_put_last g.K.Byte.ByteLink.state g.K.Byte.ByteLink.start g.O.Stream.ByteLink.state
+    g.K.Connector.returned g.K.Connector.out g.K.Connector.fault_count
+    c.args.proxy.now c.args.connection c.args.floor.now)
+
+pub returns-in-Err-clause-goes : goal.returns-in-Err-clause-goes
+returns-in-Err-clause-goes g c = rw c.in-Err.ensures.value_returned at
+    (on_given_up g.K.Byte.ByteLink.state g.K.Byte.ByteLink.start g.O.Stream.ByteLink.state
+    g.K.Connector.returned g.K.Connector.out g.K.Connector.fault_count
+    c.args.proxy.now c.give_up.new.proxy c.in-Err.failed.value c.args.floor.now
+    (λ before. c.give_up.ensures.serves before c.args.floor.now)
+    c.give_up.ensures.held c.give_up.ensures.counted c.give_up.ensures.same)

@@ -1,0 +1,15 @@
+-- What holds between two rounds.
+use Rattle.std.proofs.Common.{◌≤◌, length}
+use Rattle.relay_links.specs.Count.{last_count}
+use Rattle.relay_server.specs.Serving.{ServesOn}
+use Rattle.relay_server.proofs.serve.serve_floor.Given as goal
+
+abbrev pub invariant-loop : goal.invariant-loop
+invariant-loop g l =
+    ServesOn g.K.Byte.ByteLink.state g.K.Byte.ByteLink.start g.O.Stream.ByteLink.state
+    g.K.Connector.returned g.K.Connector.out g.K.Connector.fault_count
+    l.fn.proxy l.proxy l.fn.floor l.floor
+    × (length l.floor ≤ 64)
+    × (g.O.Poller.fault_count l.fn.poller ≤ g.O.Poller.fault_count l.poller)
+    × (l.fn.proxy.requests_ended ≤ l.proxy.requests_ended)
+    × (l.proxy.requests_ended ≤ last_count)

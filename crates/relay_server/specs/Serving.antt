@@ -1,0 +1,130 @@
+-- Many requests over one proxy: those under way, and those that came to an end.
+use Rattle.std.specs.Prelude.{◌≡◌, ℕ, ◌+◌, ◌≤◌, Bool, true, false, List, [], ◌∷◌, Option}
+use Rattle.relay_h1.specs.declared.Connection.{Connection}
+use Rattle.relay_links.specs.Count.{last_count}
+use Rattle.relay_links.specs.Link.{LinkState, LinkStart}
+use Rattle.relay_links.specs.Told.{more}
+use Rattle.relay_links.specs.declared.Returned.{Returned}
+use Rattle.relay_exchange.specs.Passed.{Passed}
+use Rattle.relay_proxy.specs.Endings.{IsEnded}
+use Rattle.relay_proxy.specs.Passed.{World, Start}
+use Rattle.relay_proxy.specs.Phases.{RunSoFar}
+use Rattle.relay_proxy.specs.Request.{ended_after}
+use Rattle.relay_proxy.specs.Turn.{world_of, links_held, is_over}
+use Rattle.relay_proxy.specs.declared.machine.Phase.{Phase}
+use Rattle.relay_proxy.specs.declared.outcome.Outcome.{Outcome}
+use Rattle.relay_proxy.specs.declared.outcome.Outcome.TheVariants.{NoRequest, Refused, Served, TurnLimit, OutOfMemory}
+use Rattle.relay_proxy.specs.declared.proxy.HttpProxy.{HttpProxy}
+use Rattle.relay_proxy.specs.declared.record.AttemptRecord.{AttemptRecord}
+use Rattle.relay_server.specs.declared.open_connection.Next.{Next}
+use Rattle.relay_server.specs.declared.open_connection.Next.TheVariants.{Goes, Ends}
+
+-- what a proxy and its connector tell of the requests so far: how many ended, the links that were
+-- handed back, and how many calls of the connector failed
+pub record Books (L : Type 0) : Type 0 where
+  pub requests_ended : ℕ
+  pub returned : Option (List (Returned L))
+  pub faults : ℕ
+
+-- the books of a proxy
+abbrev pub books : {SV K P L : Type 0} → (K → Option (List (Returned L))) → (K → ℕ)
+    → HttpProxy SV K P → Books L
+books returned faults proxy = record {
+  requests_ended = proxy.requests_ended;
+  returned = returned proxy.connector;
+  faults = faults proxy.connector;
+}
+
+-- the count does not fall, and stays one
+abbrev pub CountRises : ℕ → ℕ → Type 0
+CountRises before after = before ≤ last_count → (before ≤ after) × (after ≤ last_count)
+
+-- a client's connection, and where the request on it stands
+pub record Visit (D U L C : Type 0) : Type 0 where
+  pub client : Connection D U
+  pub phase : Phase L C
+
+-- the client's connection goes back for another request
+abbrev pub goes_back : Outcome → Bool
+goes_back NoRequest = false
+goes_back (Refused error) = false
+goes_back (Served error reuse) = reuse
+goes_back TurnLimit = false
+goes_back OutOfMemory = false
+
+module _ {L : Type 0} (state : L → LinkState) (start_at : L → LinkStart) where
+  -- a request that came to its end: what passed is told by the links, in order, and the outcome has
+  -- its cause
+  pub record EndedRequest (own : List (Returned L)) (outcome : Outcome) : Type 0 where
+    pub start : Start
+    pub passed : Passed
+    pub world : World
+    pub attempts : List AttemptRecord
+    pub ended : IsEnded state start_at start passed world own attempts outcome
+
+  -- requests came to their ends, one after the other: each that was served or refused is counted
+  -- once, and the links that were handed back are those of these requests, in order
+  pub data HaveEnded (before : Books L) : ℕ → Option (List (Returned L)) → Type 0 where
+    none : HaveEnded before before.requests_ended before.returned
+    one_more : (count : ℕ) (returned : Option (List (Returned L)))
+        → HaveEnded before count returned
+        → (own : List (Returned L)) (outcome : Outcome) → EndedRequest own outcome
+        → HaveEnded before (ended_after count outcome) (more returned own)
+
+  -- how many links the requests hold
+  abbrev pub all_held : {D U C : Type 0} → List (Visit D U L C) → ℕ
+  all_held [] = 0
+  all_held (visit ∷ rest) = links_held state start_at visit.phase + all_held rest
+
+module _ {L C D U : Type 0}
+    (state : L → LinkState) (start_at : L → LinkStart) (client_state : D → LinkState) where
+  -- the request is under way since some start, and handed no link back
+  pub record IsUnderWay (faults : ℕ) (visit : Visit D U L C) : Type 0 where
+    pub start : Start
+    pub passed : Passed
+    pub run : RunSoFar state start_at start passed (world_of client_state visit.client faults) []
+        visit.phase
+    pub going : is_over visit.phase ≡ false
+
+  -- all requests are under way
+  abbrev pub AreUnderWay : ℕ → List (Visit D U L C) → Type 0
+  AreUnderWay faults [] = Unit {0}
+  AreUnderWay faults (visit ∷ rest) = IsUnderWay faults visit × AreUnderWay faults rest
+
+  -- a server that began with the books `before`: requests have ended, and others are under way
+  pub record Serves (before now : Books L) (visits : List (Visit D U L C)) : Type 0 where
+    pub ended : HaveEnded state start_at before now.requests_ended now.returned
+    pub under_way : AreUnderWay now.faults visits
+
+  -- the same, where one request has come to its end and was not counted yet
+  pub record EndsOne (before now : Books L) (visit : Visit D U L C) (rest : List (Visit D U L C))
+      : Type 0 where
+    pub returned : Option (List (Returned L))
+    pub ended : HaveEnded state start_at before now.requests_ended returned
+    pub start : Start
+    pub passed : Passed
+    pub own : List (Returned L)
+    pub gained : now.returned ≡ more returned own
+    pub run : RunSoFar state start_at start passed
+        (world_of client_state visit.client now.faults) own visit.phase
+    pub over : is_over visit.phase ≡ true
+    pub under_way : AreUnderWay now.faults rest
+
+  -- the requests that are open behind one that was ended: its connection's next one, or none
+  abbrev pub with_next : Next (Visit D U L C) D → List (Visit D U L C) → List (Visit D U L C)
+  with_next (Goes visit) rest = visit ∷ rest
+  with_next (Ends link) rest = rest
+
+-- a server goes on: whatever it began with, it serves on, no count falls, and the links that are
+-- out are those that its requests hold
+pub record ServesOn {SV K P L C D U : Type 0}
+    (state : L → LinkState) (start_at : L → LinkStart) (client_state : D → LinkState)
+    (returned : K → Option (List (Returned L))) (out faults : K → ℕ)
+    (p q : HttpProxy SV K P) (here there : List (Visit D U L C)) : Type 0 where
+  pub serves : (before : Books L)
+      → Serves state start_at client_state before (books returned faults p) here
+      → Serves state start_at client_state before (books returned faults q) there
+  pub held : out q.connector + all_held state start_at here
+      ≡ out p.connector + all_held state start_at there
+  pub counted : CountRises p.requests_ended q.requests_ended
+  pub same : q ≡ record p { connector = q.connector; requests_ended = q.requests_ended }

@@ -1,0 +1,194 @@
+//! A client's connection that is open, with the request under way on it (RFC 9112, section 9.3).
+ghost use Rattle.std.specs.Prelude.{◌≡◌, ◌≤◌, ◌+◌, List, [], ◌∷◌, true, false};
+ghost use Rattle.relay_proxy.specs.Turn.{links_held, is_over, is_end};
+ghost use Rattle.relay_server.specs.Serving.{Books, Visit, books, CountRises, all_held, Serves, EndsOne, with_next, goes_back};
+
+use crate::stillness::Stillness;
+use relay_h1::Connection;
+use relay_links::{ByteLink, Connector, CountDelay, Purger, RoundRobin, Schedule, ShutdownAt};
+use relay_proxy::{HttpProxy, Outcome, Outside, ProxyHttp, RequestMachine, RunStep};
+use std::alloc::Global;
+use std::marker::Model;
+
+/// A client's connection, the request under way on it, and what that asks beside its links: the
+/// branches of the duplex in turn, no shutdown, and no delay. It means the connection, and where
+/// the request stands.
+pub(crate) struct OpenConnection<SV: ProxyHttp, K: Connector, D> {
+    client: Connection<D, SV::Kept>,
+    machine: RequestMachine<SV, K>,
+    outside: Outside<RoundRobin, ShutdownAt, CountDelay>,
+    stillness: Stillness,
+}
+
+impl<SV: ProxyHttp, K: Connector, D> Model for OpenConnection<SV, K, D> {
+    ghost use Rattle.relay_server.specs.Serving.{Visit};
+
+    ghost Value = { Visit D SV.Kept K.Byte SV.CTX };
+
+    ghost view = { λ o. record { client = o.client; phase = o.machine.machine.phase } };
+}
+
+impl<SV: ProxyHttp, K: Connector, D: ByteLink> OpenConnection<SV, K, D> {
+    /// Begins the first request on a client's link.
+    pub(crate) fn begin<P: Purger>(
+        alloc: Global,
+        proxy: &HttpProxy<SV, K, P>,
+        link: D,
+    ) -> OpenConnection<SV, K, D>
+        ensures serves { (before : Books _) (rest : List (Visit _ _ _ _))
+            → Serves K.Byte.state K.Byte.start D.state before
+            (books K.returned K.fault_count proxy.now) rest
+            → Serves K.Byte.state K.Byte.start D.state before
+            (books K.returned K.fault_count proxy.now) (result ∷ rest) }
+        ensures no_link { links_held K.Byte.state K.Byte.start result.phase ≡ 0 }
+    {
+        let mut client = Connection::new(alloc, link);
+        let machine = proxy.begin(&mut client, None);
+        OpenConnection {
+            client,
+            machine,
+            outside: Outside {
+                schedule: RoundRobin::new(),
+                shutdown: ShutdownAt::new(None),
+                delay: CountDelay::new(),
+            },
+            stillness: Stillness::Moving,
+        }
+    }
+
+    /// Whether no turn can move anything until the outside has been waited for.
+    pub(crate) fn is_still(&self) -> bool {
+        self.stillness == Stillness::Still
+    }
+
+    /// Where the outside has been waited for, a turn may move something again.
+    pub(crate) fn wake(&mut self, woken: bool)
+        ensures { self.new ≡ self.old }
+    {
+        if woken {
+            self.stillness = Stillness::Moving;
+        }
+    }
+
+    /// Takes one turn of the request; whether it has ended.
+    pub(crate) fn step<P: Purger>(&mut self, proxy: &mut HttpProxy<SV, K, P>) -> bool
+        requires { links_held K.Byte.state K.Byte.start self.old.phase ≤ K.out proxy.old.connector }
+        ensures goes { (before : Books _) (rest : List (Visit _ _ _ _)) → result ≡ false
+            → Serves K.Byte.state K.Byte.start D.state before
+            (books K.returned K.fault_count proxy.old) (self.old ∷ rest)
+            → Serves K.Byte.state K.Byte.start D.state before
+            (books K.returned K.fault_count proxy.new) (self.new ∷ rest) }
+        ensures ends { (before : Books _) (rest : List (Visit _ _ _ _)) → result ≡ true
+            → Serves K.Byte.state K.Byte.start D.state before
+            (books K.returned K.fault_count proxy.old) (self.old ∷ rest)
+            → EndsOne K.Byte.state K.Byte.start D.state before
+            (books K.returned K.fault_count proxy.new) self.new rest }
+        ensures held { K.out proxy.new.connector
+            + links_held K.Byte.state K.Byte.start self.old.phase
+            ≡ K.out proxy.old.connector
+            + links_held K.Byte.state K.Byte.start self.new.phase }
+        ensures same { proxy.new ≡ record proxy.old { connector = proxy.new.connector } }
+    {
+        let step = proxy.step(&mut self.machine, &mut self.client, &mut self.outside);
+        self.stillness = self.stillness.after(step, self.outside.schedule.last());
+        is_end(step)
+    }
+
+    /// Ends the request, and begins the next one where the connection goes back.
+    pub(crate) fn end<P: Purger>(
+        self,
+        proxy: &mut HttpProxy<SV, K, P>,
+    ) -> Next<OpenConnection<SV, K, D>, D>
+        requires { links_held K.Byte.state K.Byte.start self.phase ≤ K.out proxy.old.connector }
+        ensures serves { (before : Books _) (rest : List (Visit _ _ _ _))
+            → EndsOne K.Byte.state K.Byte.start D.state before
+            (books K.returned K.fault_count proxy.old) self rest
+            → Serves K.Byte.state K.Byte.start D.state before
+            (books K.returned K.fault_count proxy.new)
+            (with_next K.Byte.state K.Byte.start D.state result rest) }
+        ensures held { K.out proxy.new.connector + links_held K.Byte.state K.Byte.start self.phase
+            ≡ K.out proxy.old.connector }
+        ensures no_link { all_held K.Byte.state K.Byte.start
+            (with_next K.Byte.state K.Byte.start D.state result []) ≡ 0 }
+        ensures counted { CountRises proxy.old.requests_ended proxy.new.requests_ended }
+        ensures same { proxy.new ≡ record proxy.old {
+          connector = proxy.new.connector;
+          requests_ended = proxy.new.requests_ended;
+        } }
+    {
+        let OpenConnection {
+            mut client,
+            machine,
+            outside,
+            stillness: _,
+        } = self;
+        let (processed, kept) = proxy.end(machine, &mut client);
+        if !goes_back(processed.outcome) {
+            return Next::Ends(client.into_link());
+        }
+        let machine = proxy.begin(&mut client, kept);
+        Next::Goes(OpenConnection {
+            client,
+            machine,
+            outside,
+            stillness: Stillness::Moving,
+        })
+    }
+
+    /// Gives the connection up while its request is under way, and answers its link.
+    pub(crate) fn give_up<P: Purger>(self, proxy: &mut HttpProxy<SV, K, P>) -> D
+        requires { links_held K.Byte.state K.Byte.start self.phase ≤ K.out proxy.old.connector }
+        ensures serves { (before : Books _) (rest : List (Visit _ _ _ _))
+            → Serves K.Byte.state K.Byte.start D.state before
+            (books K.returned K.fault_count proxy.old) (self ∷ rest)
+            → Serves K.Byte.state K.Byte.start D.state before
+            (books K.returned K.fault_count proxy.new) rest }
+        ensures held { K.out proxy.new.connector + links_held K.Byte.state K.Byte.start self.phase
+            ≡ K.out proxy.old.connector }
+        ensures uncounted { is_over self.phase ≡ false
+            → proxy.new.requests_ended ≡ proxy.old.requests_ended }
+        ensures counted { CountRises proxy.old.requests_ended proxy.new.requests_ended }
+        ensures same { proxy.new ≡ record proxy.old {
+          connector = proxy.new.connector;
+          requests_ended = proxy.new.requests_ended;
+        } }
+    {
+        let OpenConnection {
+            mut client,
+            machine,
+            outside: _,
+            stillness: _,
+        } = self;
+        let _ = proxy.end(machine, &mut client);
+        client.into_link()
+    }
+}
+
+/// What becomes of a connection whose request was ended.
+pub(crate) enum Next<O, D> {
+    /// Its next request has begun.
+    Goes(O),
+    /// No request follows: its link is to be closed.
+    Ends(D),
+}
+
+/// Whether a step says that its request has ended.
+fn is_end(step: RunStep) -> bool
+    ensures { result ≡ is_end step }
+{
+    match step {
+        RunStep::Moved | RunStep::Waited(_) => false,
+        RunStep::Ended => true,
+    }
+}
+
+/// Whether the client's connection goes back for another request.
+fn goes_back(outcome: Outcome) -> bool
+    ensures { result ≡ goes_back outcome }
+{
+    match outcome {
+        Outcome::Served { error: _, reuse } => reuse,
+        Outcome::NoRequest | Outcome::Refused { .. } | Outcome::TurnLimit | Outcome::OutOfMemory =>
+            false,
+    }
+}

@@ -1,0 +1,316 @@
+//! The server: clients are accepted, each open connection gets one turn in its turn, and where all
+//! of them wait the poller sleeps (RFC 9112, section 9).
+ghost use Rattle.std.specs.Prelude.{◌≡◌, ◌≢◌, ◌⊎◌, ◌↔◌, ◌+◌, ◌≤◌, ◌<◌, [], ◌∷◌, length};
+ghost use Rattle.relay_links.specs.Count.{Rose, last_count};
+ghost use Rattle.relay_proxy.specs.Turn.{links_held};
+ghost use Rattle.relay_server.specs.Serving.{Books, books, CountRises, all_held, HaveEnded, Serves, EndsOne, ServesOn};
+
+use crate::floor::{Floor, MOST_OPEN};
+use crate::open_connection::{Next, OpenConnection};
+use crate::poller::{Listening, Polled, Poller};
+use relay_links::{Connector, Purger};
+use relay_proxy::{HttpProxy, ProxyHttp};
+use std::alloc::Global;
+use std::sync::Wait;
+
+/// How many milliseconds a wait takes at most.
+const LONGEST_WAIT: u32 = 100;
+
+/// How many rounds go by before the poller is asked what else may go on, while something moves in
+/// each of them.
+const ROUNDS_UNASKED: u8 = 16;
+
+/// How serving ended.
+#[derive(Clone, Copy, Debug, PartialEq, Eq)]
+pub struct ServeEnd {
+    /// 0 where all requests ended that were asked for, 5 for want of memory, and 7 where the port
+    /// is not to be had or can not be waited for.
+    pub status: u8,
+    /// How many requests ended: those that were served or refused.
+    pub served: u64,
+}
+
+/// Serves the clients that come to a port, until so many requests have ended. It may wait for ever.
+///
+/// At most 64 connections are open; a further client is accepted once one of them ends. Each open
+/// connection that may move gets one turn in its turn, and where all wait for the outside the
+/// poller sleeps for 100 milliseconds at most. A connection that goes back begins its next request.
+///
+/// Once so many requests have ended, the requests under way are given up and all connections
+/// closed. A connection for which there is no memory is closed at once.
+pub fn serve_with<R: Wait, SV: ProxyHttp, K: Connector, P: Purger, O: Poller>(
+    rt: &R,
+    alloc: Global,
+    proxy: &mut HttpProxy<SV, K, P>,
+    poller: &mut O,
+    port: u16,
+    requests: u64,
+) -> ServeEnd
+    // All that were asked for ended.
+    ensures done { (result.status ≡ 0) ↔ (result.served ≡ requests) }
+    // The poller failed.
+    ensures failed { result.status ≡ 7
+        → Rose (O.fault_count poller.old) (O.fault_count poller.new) }
+    ensures statuses { (result.status ≡ 0) ⊎ ((result.status ≡ 5) ⊎ (result.status ≡ 7)) }
+    // The number is what the proxy counted.
+    ensures served { proxy.old.requests_ended + result.served ≡ proxy.new.requests_ended }
+    // Each request that was counted came to its end as the proxy promises, and gave its link back.
+    ensures requests { HaveEnded K.Byte.state K.Byte.start
+        (books K.returned K.fault_count proxy.old) proxy.new.requests_ended
+        (K.returned proxy.new.connector) }
+    ensures out { K.out proxy.new.connector ≡ K.out proxy.old.connector }
+    ensures same { proxy.new ≡ record proxy.old {
+      connector = proxy.new.connector;
+      requests_ended = proxy.new.requests_ended;
+    } }
+{
+    let before = proxy.requests_ended();
+    let Ok(mut floor) = Floor::new(alloc) else {
+        return end_of(Stop::OutOfMemory, 0, requests);
+    };
+    let stop = serve_floor(rt, alloc, proxy, poller, &mut floor, port, requests);
+    give_all_up(proxy, poller, &mut floor);
+    floor.destroy();
+    end_of(stop, proxy.requests_ended() - before, requests)
+}
+
+/// Why serving stops.
+#[derive(Clone, Copy, PartialEq, Eq)]
+enum Stop {
+    /// So many requests have ended.
+    Done,
+    /// The port is not to be had, or can not be waited for.
+    Failed,
+    OutOfMemory,
+}
+
+/// The end, by why serving stopped and how many requests ended.
+fn end_of(stop: Stop, served: u64, requests: u64) -> ServeEnd
+    requires { stop ≡ Stop.Done → served ≡ requests }
+    ensures served { result.served ≡ served }
+    ensures done { (result.status ≡ 0) ↔ (served ≡ requests) }
+    ensures failed { result.status ≡ 7 → stop ≡ Stop.Failed }
+    ensures statuses { (result.status ≡ 0) ⊎ ((result.status ≡ 5) ⊎ (result.status ≡ 7)) }
+{
+    if served == requests {
+        return ServeEnd { status: 0, served };
+    }
+    match stop {
+        Stop::Done => unreachable!(),
+        Stop::Failed => ServeEnd { status: 7, served },
+        Stop::OutOfMemory => ServeEnd { status: 5, served },
+    }
+}
+
+/// Serves until so many more requests have ended, or the poller failed.
+fn serve_floor<R: Wait, SV: ProxyHttp, K: Connector, P: Purger, O: Poller>(
+    rt: &R,
+    alloc: Global,
+    proxy: &mut HttpProxy<SV, K, P>,
+    poller: &mut O,
+    floor: &mut Floor<SV, K, O::Stream>,
+    port: u16,
+    requests: u64,
+) -> Stop
+    requires { floor.old ≡ [] }
+    ensures goes { ServesOn K.Byte.state K.Byte.start O.Stream.state K.returned K.out K.fault_count
+        proxy.old proxy.new floor.old floor.new }
+    ensures done { result ≡ Stop.Done
+        → proxy.old.requests_ended + requests ≡ proxy.new.requests_ended }
+    ensures failed { result ≡ Stop.Failed
+        → Rose (O.fault_count poller.old) (O.fault_count poller.new) }
+    ensures memory { result ≢ Stop.OutOfMemory }
+    ensures polled { O.fault_count poller.old ≤ O.fault_count poller.new }
+{
+    let before = proxy.requests_ended();
+    if requests == 0 {
+        return Stop::Done;
+    }
+    if poller.listen(port) == Listening::Failed {
+        return Stop::Failed;
+    }
+    let mut woken = true;
+    let mut round: u8 = 0;
+    for _ in rt.forever() {
+        accept_all(alloc, proxy, poller, floor);
+        let moving = go_round(alloc, proxy, poller, floor, before, requests, woken);
+        if proxy.requests_ended() - before == requests {
+            return Stop::Done;
+        }
+        round = round.wrapping_add(1);
+        woken = !moving || round % ROUNDS_UNASKED == 0;
+        if woken && poller.wait(longest_wait(moving)) == Polled::Failed {
+            return Stop::Failed;
+        }
+    }
+    unreachable!()
+}
+
+/// How many milliseconds a wait takes at most: none while a connection may move on.
+fn longest_wait(moving: bool) -> u32 {
+    if moving { 0 } else { LONGEST_WAIT }
+}
+
+/// Accepts the clients that wait, as long as there is room.
+fn accept_all<SV: ProxyHttp, K: Connector, P: Purger, O: Poller>(
+    alloc: Global,
+    proxy: &mut HttpProxy<SV, K, P>,
+    poller: &mut O,
+    floor: &mut Floor<SV, K, O::Stream>,
+)
+    requires few { length floor.old ≤ 64 }
+    ensures goes { ServesOn K.Byte.state K.Byte.start O.Stream.state K.returned K.out K.fault_count
+        proxy.old proxy.new floor.old floor.new }
+    ensures few { length floor.new ≤ 64 }
+    ensures polled { O.fault_count poller.old ≤ O.fault_count poller.new }
+{
+    for _seat in floor.len()..MOST_OPEN {
+        let Some(link) = poller.accept() else {
+            return;
+        };
+        let connection = OpenConnection::begin(alloc, proxy, link);
+        keep(alloc, proxy, poller, floor, connection);
+    }
+}
+
+/// Puts a connection last. Where there is no memory for it, it is given up.
+fn keep<SV: ProxyHttp, K: Connector, P: Purger, O: Poller>(
+    alloc: Global,
+    proxy: &mut HttpProxy<SV, K, P>,
+    poller: &mut O,
+    floor: &mut Floor<SV, K, O::Stream>,
+    connection: OpenConnection<SV, K, O::Stream>,
+)
+    requires room { length floor.old < 64 }
+    requires held { links_held K.Byte.state K.Byte.start connection.phase
+        ≤ K.out proxy.old.connector }
+    ensures goes { ServesOn K.Byte.state K.Byte.start O.Stream.state K.returned K.out K.fault_count
+        proxy.old proxy.new (connection ∷ floor.old) floor.new }
+    ensures few { length floor.new ≤ length floor.old + 1 }
+    ensures polled { O.fault_count poller.old ≤ O.fault_count poller.new }
+{
+    match Box::new(alloc, connection) {
+        Ok(connection) => floor.put_last(connection),
+        Err(failed) => poller.close(failed.value.give_up(proxy)),
+    }
+}
+
+/// One turn of each open connection that may move, or of fewer where so many requests have ended;
+/// whether one may move on.
+fn go_round<SV: ProxyHttp, K: Connector, P: Purger, O: Poller>(
+    alloc: Global,
+    proxy: &mut HttpProxy<SV, K, P>,
+    poller: &mut O,
+    floor: &mut Floor<SV, K, O::Stream>,
+    before: u64,
+    requests: u64,
+    woken: bool,
+) -> bool
+    requires few { length floor.old ≤ 64 }
+    requires held { all_held K.Byte.state K.Byte.start floor.old ≤ K.out proxy.old.connector }
+    requires counted { (before ≤ proxy.old.requests_ended)
+        × (proxy.old.requests_ended ≤ last_count) }
+    ensures goes { ServesOn K.Byte.state K.Byte.start O.Stream.state K.returned K.out K.fault_count
+        proxy.old proxy.new floor.old floor.new }
+    ensures few { length floor.new ≤ 64 }
+    ensures polled { O.fault_count poller.old ≤ O.fault_count poller.new }
+{
+    let mut moving = false;
+    for _turn in 0..floor.len() {
+        if take_turn(alloc, proxy, poller, floor, woken) {
+            moving = true;
+        }
+        if proxy.requests_ended() - before == requests {
+            return moving;
+        }
+    }
+    moving
+}
+
+/// One turn of the first connection, which is then last; whether it may move on. One that is still
+/// takes no turn until it is woken.
+fn take_turn<SV: ProxyHttp, K: Connector, P: Purger, O: Poller>(
+    alloc: Global,
+    proxy: &mut HttpProxy<SV, K, P>,
+    poller: &mut O,
+    floor: &mut Floor<SV, K, O::Stream>,
+    woken: bool,
+) -> bool
+    requires few { length floor.old ≤ 64 }
+    requires held { all_held K.Byte.state K.Byte.start floor.old ≤ K.out proxy.old.connector }
+    ensures goes { ServesOn K.Byte.state K.Byte.start O.Stream.state K.returned K.out K.fault_count
+        proxy.old proxy.new floor.old floor.new }
+    ensures few { length floor.new ≤ 64 }
+    ensures polled { O.fault_count poller.old ≤ O.fault_count poller.new }
+{
+    let Some(mut connection) = floor.take_first() else {
+        return false;
+    };
+    connection.wake(woken);
+    if connection.is_still() {
+        floor.put_last(connection);
+        return false;
+    }
+    if connection.step(proxy) {
+        end_first(alloc, proxy, poller, floor, Box::into_inner(connection));
+        return true;
+    }
+    let still = connection.is_still();
+    floor.put_last(connection);
+    !still
+}
+
+/// Ends the request of the connection that was taken out first. It is put last where its next
+/// request has begun, and else closed.
+fn end_first<SV: ProxyHttp, K: Connector, P: Purger, O: Poller>(
+    alloc: Global,
+    proxy: &mut HttpProxy<SV, K, P>,
+    poller: &mut O,
+    floor: &mut Floor<SV, K, O::Stream>,
+    connection: OpenConnection<SV, K, O::Stream>,
+)
+    requires room { length floor.old < 64 }
+    requires held { links_held K.Byte.state K.Byte.start connection.phase
+        ≤ K.out proxy.old.connector }
+    ensures serves { (before : Books _)
+        → EndsOne K.Byte.state K.Byte.start O.Stream.state before
+        (books K.returned K.fault_count proxy.old) connection floor.old
+        → Serves K.Byte.state K.Byte.start O.Stream.state before
+        (books K.returned K.fault_count proxy.new) floor.new }
+    ensures held { K.out proxy.new.connector
+        + all_held K.Byte.state K.Byte.start (connection ∷ floor.old)
+        ≡ K.out proxy.old.connector + all_held K.Byte.state K.Byte.start floor.new }
+    ensures counted { CountRises proxy.old.requests_ended proxy.new.requests_ended }
+    ensures same { proxy.new ≡ record proxy.old {
+      connector = proxy.new.connector;
+      requests_ended = proxy.new.requests_ended;
+    } }
+    ensures few { length floor.new ≤ length floor.old + 1 }
+    ensures polled { O.fault_count poller.old ≤ O.fault_count poller.new }
+{
+    match connection.end(proxy) {
+        Next::Goes(connection) => keep(alloc, proxy, poller, floor, connection),
+        Next::Ends(link) => poller.close(link),
+    }
+}
+
+/// Gives all connections up, and closes them.
+fn give_all_up<SV: ProxyHttp, K: Connector, P: Purger, O: Poller>(
+    proxy: &mut HttpProxy<SV, K, P>,
+    poller: &mut O,
+    floor: &mut Floor<SV, K, O::Stream>,
+)
+    requires held { all_held K.Byte.state K.Byte.start floor.old ≤ K.out proxy.old.connector }
+    ensures goes { ServesOn K.Byte.state K.Byte.start O.Stream.state K.returned K.out K.fault_count
+        proxy.old proxy.new floor.old floor.new }
+    ensures empty { floor.new ≡ [] }
+    // None of them is counted.
+    ensures uncounted { (before : Books _) → Serves K.Byte.state K.Byte.start O.Stream.state before
+        (books K.returned K.fault_count proxy.old) floor.old
+        → proxy.new.requests_ended ≡ proxy.old.requests_ended }
+    ensures polled { O.fault_count poller.old ≤ O.fault_count poller.new }
+{
+    while let Some(connection) = floor.take_first() {
+        poller.close(Box::into_inner(connection).give_up(proxy));
+    }
+}

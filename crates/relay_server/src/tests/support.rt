@@ -1,0 +1,88 @@
+//! What the tests of the server share: one request and its answer, an application, and a poller in
+//! memory.
+use crate::{Listening, Polled, Poller};
+use relay_links::ScriptLink;
+use relay_proxy::ProxyHttp;
+use std::alloc::Global;
+use std::collections::VecDeque;
+
+/// A request, and what the peer is sent of it.
+pub(super) const REQUEST: &str = "GET /a HTTP/1.1\r\nHost: h.example\r\n\r\n";
+
+pub(super) const SENT: &str = "GET /a HTTP/1.1\r\nhost: h.example\r\n\r\n";
+
+/// A peer's answer, and what the client is written of it.
+pub(super) const ANSWER: &str = "HTTP/1.1 200 OK\r\nContent-Length: 2\r\n\r\nhi";
+
+pub(super) const WRITTEN: &str = "HTTP/1.1 200 OK\r\ncontent-length: 2\r\n\r\nhi";
+
+/// An application without hooks.
+#[derive(Drop)]
+pub(super) struct NoHooks;
+
+impl ProxyHttp for NoHooks {
+    type CTX = ();
+
+    type Kept = ();
+
+    fn new_ctx(&self) {}
+}
+
+/// A poller over links in memory. It keeps each link that is closed, and its waits fail after so
+/// many.
+#[derive(Drop)]
+pub(super) struct MemoryPoller {
+    pub(super) listens: bool,
+    pub(super) waiting: VecDeque<ScriptLink>,
+    pub(super) closed: Vec<ScriptLink>,
+    pub(super) waits_left: u64,
+    pub(super) faults: u64,
+}
+
+impl MemoryPoller {
+    /// A poller at which these clients wait.
+    pub(super) fn new(alloc: Global, waiting: VecDeque<ScriptLink>) -> MemoryPoller {
+        MemoryPoller {
+            listens: true,
+            waiting,
+            closed: Vec::new(alloc),
+            waits_left: 10,
+            faults: 0,
+        }
+    }
+}
+
+impl Poller for MemoryPoller {
+    type Stream = ScriptLink;
+
+    ghost fault_count = { λ poller. poller.faults };
+
+    fn listen(&mut self, _port: u16) -> Listening {
+        if self.listens {
+            return Listening::Ready;
+        }
+        self.faults = self.faults.saturating_add(1);
+        Listening::Failed
+    }
+
+    fn accept(&mut self) -> Option<ScriptLink> {
+        self.waiting.pop_front()
+    }
+
+    fn close(&mut self, stream: ScriptLink) {
+        let _ = self.closed.push(stream);
+    }
+
+    fn wait(&mut self, _millis: u32) -> Polled {
+        if self.waits_left > 0 {
+            self.waits_left -= 1;
+            return Polled::Ready;
+        }
+        self.faults = self.faults.saturating_add(1);
+        Polled::Failed
+    }
+
+    fn faults(&self) -> u64 {
+        self.faults
+    }
+}
