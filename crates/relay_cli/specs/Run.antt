@@ -7,7 +7,7 @@ use Rattle.relay_cli.specs.Exchange.{IsRun}
 use Rattle.relay_cli.specs.Report.{RequestSpec, report_of}
 use Rattle.relay_cli.specs.Script.{ScriptSpec, reads_script}
 use Rattle.relay_cli.specs.Transfer.{GivesAll, GivesTooMany, GivesSome, FailsToGive, Takes, FailsToTake, StopsTaking, input_limit}
-use Rattle.relay_cli.specs.Words.{command_of, usage_text}
+use Rattle.relay_cli.specs.Words.{IsRefused, AsksToRun, usage_text}
 use Rattle.relay_cli.specs.declared.run.Status.{Status}
 use Rattle.relay_cli.specs.declared.run.Status.TheVariants as status
 use Rattle.relay_cli.specs.declared.script.ScriptError.{ScriptError}
@@ -144,8 +144,8 @@ EndsUsage source source' sink sink' status.SourceFailed = ⊥
 abbrev pub EndsCommand :
     List (List ℕ) → SourceState → SourceState → SinkState → SinkState → Status → Type 0
 EndsCommand words source source' sink sink' status =
-    MatchOption (command_of words) (EndsUsage source source' sink sink' status)
-    (λ _. EndsScript source source' sink sink' status)
+    (IsRefused words × EndsUsage source source' sink sink' status)
+    ⊎ (AsksToRun words × EndsScript source source' sink sink' status)
 
 -- a source that tells its bytes has ended, and they spell no script
 pub record TellsNoScript (before after : SourceState) : Type 0 where

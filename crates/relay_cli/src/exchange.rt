@@ -21,9 +21,9 @@ use std::alloc::{AllocError, Global};
 /// How the proxy of a script is set up.
 const CONF: ServerConf = ServerConf { max_retries: 2 };
 
-/// The application of a script that has no hooks.
+/// An application that has no hooks.
 #[derive(Drop)]
-struct NoHooks;
+pub(crate) struct NoHooks;
 
 impl ProxyHttp for NoHooks {
     type CTX = ();

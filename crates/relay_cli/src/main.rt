@@ -1,16 +1,20 @@
-//! `relay`: runs a scripted exchange through the proxy, and reports what came of it.
+//! `relay`: runs a scripted exchange through the proxy and reports what came of it, or serves a
+//! port for a peer at another.
 #![tactic(auto)]
 
 mod exchange;
 mod report;
 mod run;
 mod script;
+mod serve;
 #[cfg(test)]
 mod tests;
 mod transfer;
 mod words;
 
 use crate::run::{Status, run_command};
+use crate::serve::serve;
+use crate::words::{Command, parse_words};
 use relay_links::{StdSink, StdSource};
 use std::process::ExitCode;
 use std::rt::Env;
@@ -20,7 +24,12 @@ fn main(rt: HostRuntime) -> ExitCode {
     let mut source = StdSource::new(rt.reader());
     let mut sink = StdSink::new(io::writer(&rt));
     let status = match arguments(&rt) {
-        Ok(words) => run_command(rt.alloc(), &words, &mut source, &mut sink),
+        Ok(words) => match parse_words(&words) {
+            Some(Command::Serve(port, peer)) => serve(&rt, rt.alloc(), port, peer, u64::MAX),
+            Some(Command::Run | Command::Gen(_) | Command::Pair) | None => {
+                run_command(rt.alloc(), &words, &mut source, &mut sink)
+            }
+        },
         Err(error) if error.kind() == io::ErrorKind::OutOfMemory => Status::OutOfMemory.code(),
         // Words that are no text ask for nothing.
         Err(_) => run_command(rt.alloc(), &[], &mut source, &mut sink),

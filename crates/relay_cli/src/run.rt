@@ -2,7 +2,7 @@
 ghost use Rattle.std.specs.Prelude.{◌≡◌, ◌⊎◌, map, IfOk, None, Some};
 ghost use Rattle.relay_links.specs.Count.{Rose};
 ghost use Rattle.relay_cli.specs.Transfer.{WritesOut};
-ghost use Rattle.relay_cli.specs.Words.{command_of};
+ghost use Rattle.relay_cli.specs.Words.{IsRefused, AsksToServe};
 ghost use Rattle.relay_cli.specs.Run.{status_code, status_after, Answers, EndsBytes, EndsScript, EndsCommand, TellsNoScript, TellsTooMany};
 ghost use Rattle.relay_cli.specs.declared.run.Status.{Status};
 ghost use Rattle.relay_cli.specs.declared.transfer.Output.{Output};
@@ -53,19 +53,21 @@ impl Status {
     }
 }
 
-/// Does what the words ask for, and answers the number of the status that the program ends with.
+/// Does what the words ask for, which is not to serve, and answers the number of the status that
+/// the program ends with.
 pub fn run_command<S: Source, T: Sink>(
     alloc: Global,
     words: &[Vec<u8>],
     source: &mut S,
     sink: &mut T,
 ) -> u8
+    requires { ¬ (AsksToServe (map (λ word. word.items) words.now)) }
     ensures ends { (status : Status) × (result ≡ status_code status)
         × EndsCommand (map (λ word. word.items) words.now)
         (S.state source.old) (S.state source.new) (T.state sink.old) (T.state sink.new) status }
 
     // The words are refused wherever they ask for nothing, but for a sink's fault or memory.
-    ensures refuses_words { command_of (map (λ word. word.items) words.now) ≡ None
+    ensures refuses_words { IsRefused (map (λ word. word.items) words.now)
         → ¬ Rose (T.state sink.old).faults (T.state sink.new).faults
         → (result ≡ 6) ⊎ (result ≡ 5) }
 {

@@ -1,5 +1,6 @@
 //! The program's calls over sources and sinks in memory: its statuses, and what it writes.
 use crate::run::{run_command, run_script};
+use crate::words::{Command, parse_words};
 use relay_links::{SliceSource, VecSink};
 use std::alloc::{AllocError, Global};
 use std::process::Abort;
@@ -9,6 +10,7 @@ mod exchange;
 mod heads;
 mod items;
 mod keys;
+mod serving;
 mod support;
 
 /// What a run of the words over an input wrote, behind the number of its status and a space.
@@ -19,7 +21,12 @@ fn answer(alloc: Global, words: &[&str], input: &[u8]) -> Result<String, AllocEr
     }
     let mut source = SliceSource::new(input, Vec::new(alloc));
     let mut sink = VecSink::new(alloc, Vec::new(alloc));
-    let status = run_command(alloc, &given, &mut source, &mut sink);
+    let status = match parse_words(&given) {
+        Some(Command::Serve(_, _)) => return format!(in alloc; "asks to serve"),
+        Some(Command::Run | Command::Gen(_) | Command::Pair) | None => {
+            run_command(alloc, &given, &mut source, &mut sink)
+        }
+    };
     let text = String::from_utf8_lossy(alloc, sink.bytes())?;
     format!(in alloc; "{status} {text}")
 }
@@ -30,6 +37,14 @@ fn runs_nothing_but_its_words(rt: HostRuntime) -> Result<(), AllocError> {
     assert_eq!(rt; answer(rt.alloc(), &["x"], b"{}")?.as_str(), usage);
     assert_eq!(rt; answer(rt.alloc(), &[], b"{}")?.as_str(), usage);
     assert_eq!(rt; answer(rt.alloc(), &["run", "run"], b"{}")?.as_str(), usage);
+    assert_eq!(rt;
+        answer(rt.alloc(), &["serve", "080", "81"], b"{}")?.as_str(),
+        usage
+    );
+    assert_eq!(rt;
+        answer(rt.alloc(), &["serve", "80", "65535"], b"{}")?.as_str(),
+        "asks to serve"
+    );
     assert_eq!(rt;
         answer(rt.alloc(), &["run"], b"{}")?.as_str(),
         "2 script refused\n"

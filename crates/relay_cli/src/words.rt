@@ -1,6 +1,9 @@
 //! Words: what the words behind the program's name ask for.
-ghost use Rattle.std.specs.Prelude.{◌≡◌, map};
-ghost use Rattle.relay_cli.specs.Words.{command_of, command_of_word};
+ghost use Rattle.std.specs.Prelude.{[], ◌∷◌, map, MatchOption};
+ghost use Rattle.relay_cli.specs.Words.{Asks, IsRefused, SpellsPort, SpellsNoPort};
+
+use itoa::Buffer;
+use std::str;
 
 /// What the program is asked to do.
 #[derive(Clone, Copy, Debug, PartialEq, Eq)]
@@ -15,22 +18,60 @@ pub enum Command {
     Serve(u16, u16),
 }
 
-/// The command that the words ask for, and `None` exactly where they are refused.
+/// The command that the words ask for, and `None` exactly where they ask for none. A port is plain
+/// decimal digits without a leading zero, from 1 to 65,535.
 pub fn parse_words(words: &[Vec<u8>]) -> Option<Command>
-    ensures { result ≡ command_of (map (λ word. word.items) words.now) }
+    ensures { MatchOption result (IsRefused (map (λ word. word.items) words.now))
+        (Asks (map (λ word. word.items) words.now)) }
 {
     match words {
-        [word] => parse_word(word),
-        [] | [_, _, ..] => None,
+        [word] => parse_run(word),
+        [word, port, peer] => parse_serve(word, port, peer),
+        [] | [_, _] | [_, _, _, _, ..] => None,
     }
 }
 
 /// The command of one word.
-fn parse_word(word: &[u8]) -> Option<Command>
-    ensures { result ≡ command_of_word word.now }
+fn parse_run(word: &[u8]) -> Option<Command>
+    ensures { MatchOption result (IsRefused (word.now ∷ [])) (Asks (word.now ∷ [])) }
 {
     match word {
         b"run" => Some(Command::Run),
         _ => None,
     }
+}
+
+/// The command of a word and two ports.
+fn parse_serve(word: &[u8], port: &[u8], peer: &[u8]) -> Option<Command>
+    ensures { MatchOption result (IsRefused (word.now ∷ port.now ∷ peer.now ∷ []))
+        (Asks (word.now ∷ port.now ∷ peer.now ∷ [])) }
+{
+    match word {
+        b"serve" => {
+            let port = parse_port(port)?;
+            let peer = parse_port(peer)?;
+            Some(Command::Serve(port, peer))
+        }
+        _ => None,
+    }
+}
+
+/// The port that a word spells.
+fn parse_port(word: &[u8]) -> Option<u16>
+    ensures { MatchOption result (SpellsNoPort word.now) (SpellsPort word.now) }
+{
+    let Ok(text) = str::from_utf8(word) else {
+        return None;
+    };
+    let Ok(port) = text.parse::<u16>() else {
+        return None;
+    };
+    if port == 0 {
+        return None;
+    }
+    let mut buffer = Buffer::new();
+    if buffer.format(port).as_bytes() != word {
+        return None;
+    }
+    Some(port)
 }
