@@ -1,5 +1,5 @@
 //! The client's side of a duplex: what it means, and what each of its answers does.
-ghost use Rattle.std.specs.Prelude.{◌≡◌, ◌++◌, ◌∷◌, [], List, IsTrue};
+ghost use Rattle.std.specs.Prelude.{◌≡◌, ◌++◌, ◌∷◌, [], List, ℕ, None, IsTrue};
 ghost use Rattle.relay_tasks.specs.declared.error.Error.{Error};
 ghost use Rattle.relay_tasks.specs.declared.error.ErrorSource.TheVariants.{Downstream};
 ghost use Rattle.relay_tasks.specs.declared.task.HttpTask.{HttpTask};
@@ -36,6 +36,8 @@ pub trait Down {
 
     ghost is_silent: { Self.Client → Type 0 };
 
+    ghost faults: { Self.Client → ℕ };
+
     /// Whether the client may be read: not where its request has ended and it waits for the answer
     /// to an upgrade.
     fn may_read(&self) -> bool
@@ -57,7 +59,8 @@ pub trait Down {
             → DownGoes (past self.new client.new s) (blames self.new client.new s)
             (p.put ++ put_in (state self.old).upgraded result) p.batched p.closing
             (error_of_took result) }
-        ensures silent { result ≡ Took.Waited Pause.Silent → is_silent client.new };
+        ensures silent { result ≡ Took.Waited Pause.Silent → is_silent client.new }
+        ensures calm { error_of_took result ≡ None → faults client.new ≡ faults client.old };
 
     /// Filters the tasks in their order and queues them for the client. Ok says whether its
     /// response is done. An error queues none of them, or those in front of a refused one; a task
@@ -80,7 +83,9 @@ pub trait Down {
         ensures goes { (s : Origin) (p : DownPast) → past self.old client.old s p
             → DownGoes (past self.new client.new s) (blames self.new client.new s)
             p.put p.batched p.closing (error_of_put Downstream result) }
-        ensures silent { result ≡ Put.Silent → is_silent client.new };
+        ensures silent { result ≡ Put.Silent → is_silent client.new }
+        ensures calm { error_of_put Downstream result ≡ None
+            → faults client.new ≡ faults client.old };
 
     /// Ends the response's body. Where it was ended already this queues nothing.
     fn finish(&mut self) -> Result<()>

@@ -1,5 +1,6 @@
 //! The client's half of a duplex: one function for each of its branches.
-ghost use Rattle.std.specs.Prelude.{◌≡◌, ◌<◌, length, IsTrue, true};
+ghost use Rattle.std.specs.Prelude.{◌≡◌, ◌<◌, length, IsTrue, true, false};
+ghost use Rattle.relay_core.specs.Causes.{says_failed};
 ghost use Rattle.relay_core.specs.Pipe.{has_room};
 ghost use Rattle.relay_core.specs.Past.{Origin, DownPast};
 ghost use Rattle.relay_core.specs.Steps.{DownWrites, DownWritesOn, DownTakes, DownTakesOn, GivesBatch, GivesBatchOn, DownDrops, DownReads, DownReadsOn, DownEnds, DownEndsOn, Becomes};
@@ -24,6 +25,7 @@ impl Duplex {
             → DownWritesOn (D.past down.new client.new s) (D.blames down.new client.new s) p
             self.old (D.state down.old) self.new (D.state down.new) result }
         ensures silent { result ≡ Step.Waited Pause.Silent → D.is_silent client.new }
+        ensures calm { says_failed result ≡ false → D.faults client.new ≡ D.faults client.old }
     {
         let answer = down.write_pending(client);
         self.after_down_write(answer)
@@ -122,6 +124,7 @@ impl Duplex {
             → DownReadsOn (D.past down.new client.new s) (D.blames down.new client.new s) p
             self.old (D.state down.old) self.new (D.state down.new) result }
         ensures silent { result ≡ Step.Waited Pause.Silent → D.is_silent client.new }
+        ensures calm { says_failed result ≡ false → D.faults client.new ≡ D.faults client.old }
     {
         let upgraded = down.upgraded();
         match down.read_piece(client, self.client_request.is_done()) {

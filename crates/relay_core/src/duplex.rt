@@ -10,7 +10,7 @@ ghost use Rattle.relay_core.specs.Down.{DownState};
 ghost use Rattle.relay_core.specs.State.{is_reading, is_response_done};
 ghost use Rattle.relay_core.specs.Up.{UpState};
 ghost use Rattle.relay_core.specs.Piece.{task_put_of};
-ghost use Rattle.relay_core.specs.Causes.{HasCause, KeepsSendError, Tells, told_of};
+ghost use Rattle.relay_core.specs.Causes.{HasCause, KeepsSendError, Tells, told_of, says_failed};
 ghost use Rattle.relay_core.specs.Past.{Origin, DownPast, UpPast};
 ghost use Rattle.relay_core.specs.Moves.{SoFar, Goes};
 ghost use Rattle.relay_core.specs.Sound.{IsSound};
@@ -266,6 +266,9 @@ impl Duplex {
             (core self.new (D.state down.new) (U.state up.new)) result }
         ensures silent { result ≡ Step.Waited Pause.Silent
             → D.is_silent client.new ⊎ U.is_silent up.new }
+
+        // A step that does not fail leaves the count of the client's faults.
+        ensures calm { says_failed result ≡ false → D.faults client.new ≡ D.faults client.old }
     {
         match branch {
             Branch::UpWrite => self.up_write(up),
@@ -329,6 +332,9 @@ impl Duplex {
         // Silence is that of a link.
         ensures silent { result ≡ Step.Waited Pause.Silent
             → D.is_silent client.new ⊎ U.is_silent up.new }
+
+        // A step that does not fail leaves the count of the client's faults.
+        ensures calm { says_failed result ≡ false → D.faults client.new ≡ D.faults client.old }
 
         // The client's request and the upstream's response become done for their causes alone.
         ensures request_done { IsTrue (is_reading self.old.client_request)

@@ -58,7 +58,7 @@ use Rattle.relay_exchange.proofs.SentLemmas.{IsWritten, ends_over}
 use Rattle.relay_exchange.proofs.ToldLemmas.{given_ends_last, given_all}
 use Rattle.relay_exchange.proofs.OrderLemmas.{passed_by, own_request, text_written, tasks_own, batched_front, ended_said, order_so_far, begin_order}
 use Rattle.relay_exchange.proofs.FitLemmas.{never_refused, over_is_whole}
-use Rattle.relay_exchange.proofs.KeepLemmas.{kept_parts, sent_whole, read_whole, over_ends}
+use Rattle.relay_exchange.proofs.KeepLemmas.{kept_parts, kept_unfailed, sent_whole, read_whole, over_ends}
 use Rattle.relay_exchange.proofs.ValidLemmas.{client_blameless, peer_blameless}
 
 -- what is not awaited is empty
@@ -304,7 +304,7 @@ module _ {L : Type 0} (state : L → LinkState) (start_at : L → LinkStart)
               Body c.framing (drop c.len (given_to s p)) (ended_text l all.0)) (sym c.joined) all.1;
           ended = elim (c.whole done) [
             | inl ends ↦ inl ends
-            | inr none ↦ inr none.0
+            | inr none ↦ inr none.1
           ];
           sent = sent_all none finishes;
         }
@@ -386,7 +386,8 @@ module _ {L : Type 0} (state : L → LinkState) (start_at : L → LinkStart)
         on : ClientRefuses s p link r.left e
             → FailsFor s (passed_by p q) link (state up.client.link) (start_at up.client.link) e
         on (client.ClientRefuses.link_failed fault is rose) =
-            order.FailsFor.by_client in_order (client.ClientBlames.link_failed fault is rose)
+            order.FailsFor.by_client in_order
+            (client.ClientBlames.link_failed fault is rose.0 (inl rose.1))
         on (client.ClientRefuses.cannot_send head framing len sent at behind has is stands fails) =
             let c = so_far.down.client in
             let own = (HasRequest-unique (given_to s p) head s.head framing c.framing len c.len has
@@ -438,13 +439,16 @@ module _ {L : Type 0} (state : L → LinkState) (start_at : L → LinkStart) whe
   finished_of s p q link ahead x duplex is f finishes =
       let relayed = relayed_of state start_at s p q link ahead x.client x.peer duplex f finishes in
       let c = f.down.client in
+      let client_keeps : may_keep x ≡ true → may_keep_client x.peer.client ≡ true =
+      λ kept. and_right (core.may_keep duplex.kind duplex) _
+      (subst (λ (at : Stage). may_keep_at x.peer at ≡ true) is kept) in
       record {
         relayed = relayed;
         is_head = c.is_head ∙ ap (λ (h : RequestHead). Some h) c.own;
         leaves = leaves_of state start_at s p q link ahead x.client x.peer duplex f (may_keep x)
             relayed.n relayed.whole
-            (λ kept. and_right (core.may_keep duplex.kind duplex) _
-            (subst (λ (at : Stage). may_keep_at x.peer at ≡ true) is kept));
+            client_keeps;
+        faultless = λ kept. f.up.peer.calm (kept_unfailed x.peer.client (client_keeps kept));
       }
 
   -- an exchange that failed for a cause, which no valid one has

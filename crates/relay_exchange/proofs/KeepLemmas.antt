@@ -50,6 +50,18 @@ kept_parts client kept = (
       (and_right (may_keep_writing client.request) _ kept),
 )
 
+-- and no call of it answered an error
+pub kept_unfailed : {L : Type 0} (client : H1Client L) → may_keep_client client ≡ true
+    → client.failed ≡ false
+kept_unfailed client kept =
+    on client.failed
+    (and_right (may_keep_reading client.response) _
+    (and_right (may_keep_writing client.request) _ kept))
+  where
+    on : (b : Bool) → not b ≡ true → b ≡ false
+    on true is = cc
+    on false is = refl
+
 -- ---- the request
 
 -- a body that takes no more bytes is not short, and its end has no text

@@ -127,7 +127,7 @@ pub client_blameless : (s : Origin) (p : Passed) (client link : LinkState) (star
     → IsValid s p client link start → (past : DownPast) → past.came ≡ p.came
     → (e : Error) → ClientBlames s past client e → ⊥
 client_blameless s p client link start valid past came e
-    (client_side.ClientBlames.link_failed fault is rose) = valid.client_faultless rose
+    (client_side.ClientBlames.link_failed fault is rose counts) = valid.client_faultless rose
 client_blameless s p client link start valid past came e
     (client_side.ClientBlames.body_is_broken bytes said is) =
     body_unbroken s.head (given_to s past) valid.asks.gives.rest bytes
@@ -135,9 +135,9 @@ client_blameless s p client link start valid past came e
 client_blameless s p client link start valid past came e
     (client_side.ClientBlames.ends_inside bytes said gone is) = never_both gone valid.asks.stays
 client_blameless s p client link start valid past came e
-    (client_side.ClientBlames.ends_behind bytes whole gone is) = never_both gone valid.asks.stays
+    (client_side.ClientBlames.ends_behind bytes whole gone unanswered is) = never_both gone valid.asks.stays
 client_blameless s p client link start valid past came e
-    (client_side.ClientBlames.sent_more bytes behind whole some is) =
+    (client_side.ClientBlames.sent_more bytes behind whole some unanswered is) =
     nothing_more s.head (given_to s past) valid.asks.gives.rest bytes behind
     (request_given s p client link start valid past came) whole some
 

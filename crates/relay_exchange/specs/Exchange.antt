@@ -1,5 +1,5 @@
 -- An exchange so far, and what a turn makes of it.
-use Rattle.std.specs.Prelude.{◌≡◌, ℕ, false, ◌⊎◌, ◌≤◌, List, [], Some}
+use Rattle.std.specs.Prelude.{◌≡◌, ℕ, true, false, ◌⊎◌, ◌≤◌, List, [], Some}
 use Rattle.relay_tasks.specs.declared.error.Error.{Error}
 use Rattle.relay_tasks.specs.declared.error.Fail.TheVariants as fail
 use Rattle.relay_tasks.specs.Head.{RequestHead}
@@ -107,6 +107,9 @@ module _ {L : Type 0} (state : L → LinkState) (start_at : L → LinkStart) whe
     pub is_head : head_of x.client.session.reading ≡ Some s.head
     pub leaves : Leaves s p (state x.peer.client.link).ended relayed.order ahead
         (is_body_done x.client.session.reading) x.peer.closes (may_keep x)
+    -- a link of which a call failed is not kept
+    pub faultless : may_keep x ≡ true
+        → (state x.peer.client.link).faults ≡ (start_at x.peer.client.link).faults
 
   -- it failed for a cause, which no valid exchange has
   pub record IsFailed (s : Origin) (p : Passed) (link : LinkState) (x : Exchange L) (e : Error)

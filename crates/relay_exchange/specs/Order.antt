@@ -129,13 +129,18 @@ pub data FailsFor
   by_peer : (order : IsInOrder s p link.ended) (lost : Bool)
       → PeerBlames start link s.head (up_past order lost) e → FailsFor s p client link start e
 
+-- the request has ended: an end is among its pieces, or its head says that it has no body
+abbrev pub HasEnded : {s : Origin} {p : Passed} {closed : Bool} → IsInOrder s p closed → Type 0
+HasEnded order =
+    (list_any is_end order.pieces ≡ true) ⊎ (ends_with_head order.asks.framing ≡ true)
+
 -- the whole request was sent, with its end
 pub record SendsWhole (s : Origin) (p : Passed) (closed : Bool) (order : IsInOrder s p closed)
     : Type 0 where
   pub n : ℕ
   pub body : Body order.asks.framing (drop order.asks.len (asked s p))
       (ended_text (body_of order.pieces) n)
-  pub ended : (list_any is_end order.pieces ≡ true) ⊎ (order.pieces ≡ [])
+  pub ended : HasEnded order
   pub sent : p.sent ≡ sent_wire (sent_as s.head order.pieces)
 
 -- the response has come whole, and its text was written whole; and the request was sent whole, or
@@ -149,11 +154,6 @@ pub record IsRelayed (s : Origin) (p : Passed) (link : LinkState) (start : LinkS
   pub written : p.written ≡ order.text.text
   pub request : SendsWhole s p link.ended order
       ⊎ ((e : Error) × (lost : Bool) × PeerBlames start link s.head (up_past order lost) e)
-
--- the request has ended: an end is among its pieces, or its head says that it has no body
-abbrev pub HasEnded : {s : Origin} {p : Passed} {closed : Bool} → IsInOrder s p closed → Type 0
-HasEnded order =
-    (list_any is_end order.pieces ≡ true) ⊎ (ends_with_head order.asks.framing ≡ true)
 
 -- the peer's link may serve another request: the request was sent whole, in these pieces; its head
 -- and the response's let the link be kept; and no byte behind the response was read (RFC 9112,

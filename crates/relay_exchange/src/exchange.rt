@@ -6,7 +6,7 @@ ghost use Rattle.relay_links.specs.Link.{LinkState, IsHandedOut};
 ghost use Rattle.relay_h1.specs.Framing.{request_framing};
 ghost use Rattle.relay_h1.specs.Verdict.{refused_from};
 ghost use Rattle.relay_session.specs.Reading.{is_body_done};
-ghost use Rattle.relay_core.specs.Causes.{says_finished};
+ghost use Rattle.relay_core.specs.Causes.{says_failed, says_finished};
 ghost use Rattle.relay_core.specs.Past.{Origin, DownPast, UpPast, UpGoes};
 ghost use Rattle.relay_sides.specs.Client.{BeginsBehind};
 ghost use Rattle.relay_sides.specs.Client;
@@ -114,6 +114,9 @@ impl<L: ByteLink> Exchange<L> {
             result.step }
         ensures silent { result.step ≡ Step.Waited Pause.Silent
             → IsSilent L.state L.start (F.state client.new) self.new }
+        // A turn that does not fail leaves the count of the client's faults.
+        ensures calm { says_failed result.step ≡ false
+            → (F.state client.new).faults ≡ (F.state client.old).faults }
     {
         match &mut self.stage {
             Stage::Head => Turn {
@@ -251,6 +254,8 @@ fn move_bodies<L: ByteLink, F: Front, H: Schedule>(
         }) result.step }
     ensures silent { result.step ≡ Step.Waited Pause.Silent
         → Client.IsSilent (F.state client.new) ⊎ Peer.IsSilent (L.state peer.new.client.link) }
+    ensures calm { says_failed result.step ≡ false
+        → (F.state client.new).faults ≡ (F.state client.old).faults }
 {
     let mut down: ClientSide<F> = ClientSide::resume(mem::replace(state, stand_in::<F>(alloc)));
     let (step, branch) = go_round(duplex, client, &mut down, peer, schedule);

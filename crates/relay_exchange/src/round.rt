@@ -1,7 +1,7 @@
 //! One turn of a duplex: the branch that a schedule picks, and where its link is silent the next
 //! enabled ones, going round.
 ghost use Rattle.std.specs.Prelude.{◌≡◌, ◌⊎◌, false, IsTrue};
-ghost use Rattle.relay_core.specs.Causes.{Tells};
+ghost use Rattle.relay_core.specs.Causes.{Tells, says_failed};
 ghost use Rattle.relay_core.specs.Moves.{SoFar, Goes};
 ghost use Rattle.relay_core.specs.Past.{Origin, DownPast, UpPast};
 ghost use Rattle.relay_core.specs.Sound.{IsSound};
@@ -40,6 +40,9 @@ pub(crate) fn go_round<D: Down, U: Up, H: Schedule>(
     // Silence is that of a link.
     ensures silent { result.0 ≡ Step.Waited Pause.Silent
         → D.is_silent client.new ⊎ U.is_silent up.new }
+
+    // A turn that does not fail leaves the count of the client's faults.
+    ensures calm { says_failed result.0 ≡ false → D.faults client.new ≡ D.faults client.old }
 {
     let Some(first) = duplex.choose(down, up, schedule) else {
         return (Step::Failed(Fail::OutOfMemory), None);

@@ -490,16 +490,19 @@ exactly method closed given told asked over answer (Says.says_next item) = recor
 -- a call on a reading, whose answer comes exactly where the bytes say so
 pub reads_task : (method : List ℕ) (before after : LinkState) (old new : ResponseReading)
     (answer : Took HttpTask) (came : List ℕ) (asked : Option Got) → Asks before after came asked
+    → ((fault : Fault) → asked ≡ Some (got.Failed fault)
+    → answer ≡ took.Failed (fail.Error (fault_error fault)))
     → (is_over old.place ≡ true → Rests old new asked answer)
     → ((given : List ℕ) (told : Told) (got : Got) → ReadSoFar method before.ended given told old
     → asked ≡ Some got → Tasks method false given false (says told still_open))
     → ((given : List ℕ) (told : Told) → ReadSoFar method before.ended given told old
     → Answers method after.ended (given ++ came) told asked old.place new answer)
     → ReadsTask method before after old new answer
-reads_task method before after old new answer came asked asks rests needs answers = record {
+reads_task method before after old new answer came asked asks fails rests needs answers = record {
   came = came;
   asked = asked;
   asks = asks;
+  fails = fails;
   rests = rests;
   needs = needs;
   answers = answers;

@@ -5,6 +5,7 @@ use Rattle.relay_tasks.specs.declared.error.Fail.TheVariants as fail
 use Rattle.relay_tasks.specs.declared.fault.Fault.{Fault}
 use Rattle.relay_tasks.specs.declared.task.HttpTask.{HttpTask}
 use Rattle.relay_tasks.specs.declared.task.HttpTask.TheVariants as task
+use Rattle.relay_tasks.specs.declared.took.Pause.TheVariants.{NotReady, Silent}
 use Rattle.relay_tasks.specs.declared.took.Pause.{Pause}
 use Rattle.relay_tasks.specs.declared.took.Took.{Took}
 use Rattle.relay_tasks.specs.declared.took.Took.TheVariants as took
@@ -66,6 +67,7 @@ pub reads_found : (method : List ℕ) (link : LinkState) (old new : ResponseRead
     → ReadsTask method link link old new (took_of here)
 reads_found method link old new here is finds rests =
     reads_task method link link old new (took_of here) [] None (refl, refl)
+    (λ fault asked. absurd (nothing_asked (got.Failed fault) asked))
     (λ over. record {
       is_end = ap took_of (rests over).0;
       unasked = refl;
@@ -110,7 +112,7 @@ pub reads_on : (method : List ℕ) (before after : LinkState) (old mid new : Res
     → (is_over old.place ≡ true → (found.Nothing ≡ found.End) × (mid ≡ old))
     → ReadsOn method before after mid new answer → ReadsTask method before after old new answer
 reads_on method before after old mid new answer opens rests reads =
-    reads_task method before after old new answer reads.came reads.asked reads.asks
+    reads_task method before after old new answer reads.came reads.asked reads.asks reads.fails
     (λ over. absurd (nothing_is_no_end (rests over).0))
     (λ given told got read asked.
     open_tells method given told mid.place mid.ahead (opens before.ended given told read.at))
@@ -128,6 +130,7 @@ wants_memory method before after old ahead same kept = record {
   came = [];
   asked = None;
   asks = (same, refl);
+  fails = λ fault asked. absurd (nothing_asked (got.Failed fault) asked);
   answers = λ given told still.
       record {
         at = subst (λ (xs : List ℕ). ReadAt method after.ended xs told old.place ahead)
@@ -136,6 +139,15 @@ wants_memory method before after old ahead same kept = record {
             (open_read method after.ended given told old.place old.ahead still));
       };
 }
+
+-- a pause is no fault
+never_waits : (pause : Pause) (fault : Fault) → Some (got_of pause) ≡ Some (got.Failed fault) → ⊥
+never_waits NotReady fault same = cc
+never_waits Silent fault same = cc
+
+-- one fault of a link
+same_failed : (a b : Fault) → Some (got.Failed a) ≡ Some (got.Failed b) → a ≡ b
+same_failed a b same = cc
 
 -- the link did not give anything now
 pub link_waits : (method : List ℕ) (before after : LinkState) (old : ResponseReading)
@@ -146,6 +158,7 @@ link_waits method before after old ahead pause asks kept = record {
   came = [];
   asked = Some (got_of pause);
   asks = asks;
+  fails = λ fault is. absurd (never_waits pause fault is);
   answers = λ given told still.
       subst (λ (xs : List ℕ). Answers method after.ended xs told (Some (got_of pause)) old.place
       (record old { ahead = ahead }) (took.Waited pause)) (sym (append-nil given)) (
@@ -169,6 +182,9 @@ link_fails method before after old ahead fault error asks kept is = record {
   came = [];
   asked = Some (got.Failed fault);
   asks = asks;
+  fails = λ other same.
+      ap (λ (e : Error). took.Failed (fail.Error e))
+      (is ∙ ap fault_error (same_failed fault other same));
   answers = λ given told still.
       subst (λ (xs : List ℕ). Answers method after.ended xs told (Some (got.Failed fault)) old.place
       (record old { ahead = ahead }) (took.Failed (fail.Error error))) (sym (append-nil given)) (
@@ -216,6 +232,7 @@ link_gives method before after old new ahead n answer more finds = record {
   came = take n more.room;
   asked = Some (got.Bytes n);
   asks = record { room = more.room; gives = more.gives; grown = refl };
+  fails = λ fault same. absurd (cc);
   answers = λ given told still.
       answers_again method after.ended (given ++ take n more.room) told n old.place new answer
       (open_not_over method given told old.place old.ahead still)
@@ -255,6 +272,7 @@ link_ends method before after old new ahead answer asks ended kept ends = record
   came = [];
   asked = Some got.End;
   asks = asks;
+  fails = λ fault same. absurd (cc);
   answers = λ given told still.
       subst (λ (xs : List ℕ).
       Answers method after.ended xs told (Some got.End) old.place new answer)

@@ -420,6 +420,9 @@ pub record ReadsTask
   pub came : List ℕ
   pub asked : Option Got
   pub asks : Asks before after came asked
+  -- a fault of the link is answered
+  pub fails : (fault : Fault) → asked ≡ Some (got.Failed fault)
+      → answer ≡ took.Failed (fail.Error (fault_error fault))
   pub rests : is_over old.place ≡ true → Rests old new asked answer
   pub needs : (given : List ℕ) (told : Told) (got : Got)
       → ReadSoFar method before.ended given told old → asked ≡ Some got
@@ -436,6 +439,8 @@ pub record ReadsOn
   pub came : List ℕ
   pub asked : Option Got
   pub asks : Asks before after came asked
+  pub fails : (fault : Fault) → asked ≡ Some (got.Failed fault)
+      → answer ≡ took.Failed (fail.Error (fault_error fault))
   pub answers : (given : List ℕ) (told : Told) → OpenAt method given told old.place old.ahead
       → Answers method after.ended (given ++ came) told asked old.place new answer
 

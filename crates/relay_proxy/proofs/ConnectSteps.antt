@@ -1,5 +1,5 @@
 -- Turns of the connector: the attempt's exchange begins over the link that it gave, or does not.
-use Rattle.std.proofs.Common.{◌≡◌, ◌≢◌, ℕ, ◌≤◌, Bool, false, List, [], ◌∷◌, Option, Some, None, refl, sym, ap, subst, ◌∙◌, arith}
+use Rattle.std.proofs.Common.{◌≡◌, ◌≢◌, ℕ, ◌≤◌, Bool, false, List, [], ◌∷◌, Option, Some, None, refl, sym, ap, subst, ◌∙◌, inl, inr, arith}
 use Rattle.std.specs.Global.{Box}
 use Rattle.relay_tasks.specs.declared.error.Error.{Error}
 use Rattle.relay_tasks.specs.declared.error.ErrorSource.TheVariants.{Internal, Upstream}
@@ -29,7 +29,9 @@ use Rattle.relay_exchange.specs.Passed.{Passed}
 use Rattle.relay_exchange.specs.declared.exchange.Exchange.{Exchange}
 use Rattle.relay_exchange.specs.declared.exchange.Stage.{Stage}
 use Rattle.relay_exchange.specs.declared.exchange.Stage.TheVariants as stage
-use Rattle.relay_proxy.specs.Endings.{IsInOrder, IsAskedPeer, EndsLinked, fault_error, outcome_of}
+use Rattle.relay_exchange.specs.Order as exchange
+use Rattle.relay_proxy.specs.Built.{IsBuiltRequest}
+use Rattle.relay_proxy.specs.Endings.{IsInOrder, IsAskedPeer, IsPartRelayed, EndsLinked, fault_error, outcome_of}
 use Rattle.relay_proxy.specs.Passed.{World, Start, origin_of, TellsClient, IsUnsent}
 use Rattle.relay_proxy.specs.Phases.{IsConnecting, IsLeased, IsRelaying, RunSoFar}
 use Rattle.relay_proxy.specs.Turn.{Advances, world_with}
@@ -79,6 +81,17 @@ memory_alone : (error : Error) (why : Fail) (found : Option Framing) (framing : 
 memory_alone error fail.OutOfMemory found framing causes refused framed = refl
 memory_alone error (fail.Error e) found framing causes refused framed =
     absurd (not_missing framing found (refused (ap (λ (x : Error). fail.Error x) causes)) framed)
+
+-- what passed of an exchange under way, by the mark of its link
+pub part_relayed : (s : Start) (p : Passed) (head : RequestHead) (reused : Bool)
+    (link : LinkState) (start : LinkStart) → IsBuiltRequest head → start.reused ≡ reused
+    → exchange.IsInOrder (origin_of s head reused) p link.ended → IsPartRelayed s p link start
+part_relayed s p head reused link start built same order = record {
+  head = head;
+  built = built;
+  order = subst (λ (r : Bool). exchange.IsInOrder (origin_of s head r) p link.ended) (sym same)
+      order;
+}
 
 module _ {L : Type 0} (state : L → LinkState) (start_at : L → LinkStart) where
   -- the past of the peer's side holds at each stage
@@ -140,14 +153,16 @@ module _ {L C : Type 0} (state : L → LinkState) (start_at : L → LinkStart) w
 
   -- the attempt is held
   pub held : (s : Start) (p : Passed) (w : World) (a : Attempt L C) (b : Box (Attempt L C))
-      → b.value ≡ a → TellsClient s p w → IsInOrder s p → IsRelaying state start_at s p w a
+      → b.value ≡ a → TellsClient s p w → IsInOrder s p → w.client.faults ≡ s.faults
+      → IsRelaying state start_at s p w a
       → Advances {C = C} state start_at s w (Relay b) step.Moved
-  held s p w a b same tells order relaying = record {
+  held s p w a b same tells order calm relaying = record {
     passed = p;
     run = record {
       tells = tells;
       order = order;
       going = tt;
+      calm = calm;
       holds = subst (λ (x : Attempt L C). IsRelaying state start_at s p w x) (sym same) relaying;
     };
     stalled = λ silent. cc;
@@ -164,7 +179,15 @@ module _ {L C : Type 0} (state : L → LinkState) (start_at : L → LinkStart) w
       tells = tells;
       order = order;
       going = no_limit;
-      holds = (relaying.leased, refl);
+      calm = tt;
+      holds = (
+        relaying.leased,
+        (
+          inl (part_relayed s p relaying.head a.lease.reused _ _ relaying.built
+          relaying.leased.reused relaying.under_way.order),
+          refl,
+        ),
+      );
     };
     stalled = λ silent. cc;
   }
@@ -187,11 +210,12 @@ module _ {L C : Type 0} (state : L → LinkState) (start_at : L → LinkStart) w
           tells = run.tells;
           order = run.order;
           going = λ limit. no_limit (sym is_memory ∙ limit);
+          calm = tt;
           holds = (
             subst (λ (l : L). IsLeased p (state l) (start_at l) lease) (sym same)
                 (leased_anew p (state link) (start_at link) lease run.holds.unsent handed peer),
             subst (λ (o : Outcome). EndsLinked s p w (state back) (start_at back) false o)
-                (sym is_memory) refl,
+                (sym is_memory) (inr (run.holds.written, run.holds.unsent), refl),
           );
         };
         stalled = λ silent. cc;
@@ -227,6 +251,7 @@ module _ {L C : Type 0} (state : L → LinkState) (start_at : L → LinkStart) w
           (Rose-le w.connect_faults failed fits rose) refl refl (omega arith) run.tells;
       order = run.order;
       going = λ limit. cc;
+      calm = tt;
       holds = (
         (
           record {

@@ -92,6 +92,7 @@ module _ {L C : Type 0} (state : L → LinkState) (start_at : L → LinkStart) w
       tells = client_gave s p w x room n same gives run.tells;
       order = IsInOrder.is_nothing run.holds.written run.holds.unsent.sent;
       going = run.going;
+      calm = gives.faults ∙ run.calm;
       holds = record {
         whole = grown ∙ ap (λ (xs : List ℕ). xs ++ take n room) run.holds.whole
             ∙ append_assoc s.ahead p.came (take n room);
@@ -118,6 +119,7 @@ module _ {L C : Type 0} (state : L → LinkState) (start_at : L → LinkStart) w
           tells = tells;
           order = run.order;
           going = run.going;
+          calm = ap (λ (l : LinkState). l.faults) client ∙ run.calm;
           holds = record {
             head = head;
             accepted = record { framing = framing; len = len; has = asks; built = built };
@@ -152,6 +154,7 @@ module _ {L C : Type 0} (state : L → LinkState) (start_at : L → LinkStart) w
       tells = run.tells;
       order = run.order;
       going = run.going;
+      calm = run.calm;
       holds = record {
         answer = text;
         turned_down = subst (λ (xs : List ℕ). IsTurnedDown xs text e) run.holds.whole why;
@@ -177,6 +180,7 @@ module _ {L C : Type 0} (state : L → LinkState) (start_at : L → LinkStart) w
           order = IsInOrder.is_refusal run.holds.answer e run.holds.turned_down
               (record { rest = []; joined = append-nil _ ∙ all }) run.holds.unsent.sent;
           going = λ limit. cc;
+          calm = tt;
           holds = (
             inl (record {
               answer = run.holds.answer;
@@ -208,6 +212,7 @@ module _ {L C : Type 0} (state : L → LinkState) (start_at : L → LinkStart) w
           order = IsInOrder.is_refusal run.holds.answer e run.holds.turned_down
               (record { rest = left.output; joined = all }) run.holds.unsent.sent;
           going = run.going;
+          calm = takes.takes.faults ∙ run.calm;
           holds = record {
             answer = run.holds.answer;
             turned_down = run.holds.turned_down;
@@ -236,6 +241,7 @@ module _ {L C : Type 0} (state : L → LinkState) (start_at : L → LinkStart) w
       tells = client_still s p w x (omega arith) given taken (omega arith) run.tells;
       order = run.order;
       going = run.going;
+      calm = faults ∙ run.calm;
       holds = subst (λ (xs : List ℕ). IsRefusing s p xs e) (sym kept) run.holds;
     };
     stalled = stalled;
@@ -256,6 +262,7 @@ module _ {L C : Type 0} (state : L → LinkState) (start_at : L → LinkStart) w
           run.tells;
       order = run.order;
       going = λ limit. cc;
+      calm = tt;
       holds = (
         inr (inr (record {
           fault = fault;
@@ -297,6 +304,7 @@ module _ {L C : Type 0} (state : L → LinkState) (start_at : L → LinkStart) w
           (omega (arith, ap (λ (l : LinkState). l.faults) wants.same)) run.tells;
       order = run.order;
       going = λ limit. cc;
+      calm = tt;
       holds = (run.holds.unsent, none);
     };
     stalled = λ silent. cc;

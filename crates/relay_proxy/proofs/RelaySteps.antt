@@ -1,5 +1,5 @@
 -- What a turn of an attempt's exchange makes of the run so far.
-use Rattle.std.proofs.Common.{◌≡◌, ◌≢◌, ◌↔◌, ℕ, Bool, true, false, not, ◌&&◌, List, [], length, Option, None, Some, refl, sym, ap, subst, ◌∙◌}
+use Rattle.std.proofs.Common.{◌≡◌, ◌≢◌, ◌↔◌, ℕ, Bool, true, false, not, ◌&&◌, List, [], length, Option, None, Some, refl, sym, ap, subst, ◌∙◌, inl}
 use Rattle.std.specs.Prelude.{IsTrue, ◌==◌}
 use Rattle.std.specs.Box.{with_value}
 use Rattle.std.specs.Global.{Box}
@@ -33,6 +33,7 @@ use Rattle.relay_proxy.specs.Passed.{World, Start, origin_of, TellsClient}
 use Rattle.relay_proxy.specs.Phases.{IsLeased, RunSoFar}
 use Rattle.relay_proxy.specs.Reuse.{lets_ask, client_reusable}
 use Rattle.relay_proxy.specs.Turn.{world_with, Advances}
+use Rattle.relay_proxy.proofs.ConnectSteps.{part_relayed}
 use Rattle.relay_proxy.specs.declared.machine.Attempt.{Attempt}
 use Rattle.relay_proxy.specs.declared.machine.Lease.{Lease}
 use Rattle.relay_proxy.specs.declared.machine.Phase.TheVariants.{Relay, Close}
@@ -167,16 +168,18 @@ order_of o p client link start e (FailsFor.by_peer order lost blames) = order
 module _ {L : Type 0} (state : L → LinkState) (start_at : L → LinkStart) where
   -- a finished exchange relayed its request whole
   relayed_whole : (s : Start) (p : Passed) (w : World) (head : RequestHead) (x : Exchange L)
-      → IsBuiltRequest head
+      → IsBuiltRequest head → w.client.faults ≡ s.faults
       → IsFinished state start_at (origin_of s head (start_at x.peer.client.link).reused) p w.ahead
       x
       → IsRelayedWhole s p w (state x.peer.client.link) (start_at x.peer.client.link) (may_keep x)
       (client_reusable x w.ahead)
-  relayed_whole s p w head x built finished = record {
+  relayed_whole s p w head x built calm finished = record {
     head = head;
     built = built;
     relayed = finished.relayed;
+    calm = calm;
     kept = finished.leaves.serves;
+    faultless = finished.faultless;
     goes_back = reusable x (origin_of s head (start_at x.peer.client.link).reused) p
         (state x.peer.client.link).ended finished.relayed.order w.ahead (may_keep x)
         finished.is_head finished.leaves;
@@ -203,13 +206,14 @@ module _ {L C : Type 0} (state : L → LinkState) (start_at : L → LinkStart) w
       → AreTold state start_at (origin_of s run.holds.head a.value.lease.reused) q client
       (state x.peer.client.link) (start_at x.peer.client.link)
       → IsUnderWay state start_at (origin_of s run.holds.head a.value.lease.reused) q client ahead x
-      → RunSoFar {C = C} state start_at s q (world_with client ahead v.connect_faults) []
+      → client.faults ≡ s.faults → RunSoFar {C = C} state start_at s q (world_with client ahead v.connect_faults) []
       (Relay (turned a x))
-  going_on s p q v client ahead a x run told under = record {
+  going_on s p q v client ahead a x run told under calm = record {
     tells = tells_client state start_at s run.holds.head a.value.lease.reused p q v client _ _ ahead
         run.tells told;
     order = IsInOrder.is_exchange run.holds.head a.value.lease.reused _ run.holds.built under.order;
     going = tt;
+    calm = calm;
     holds = record {
       leased = leased state start_at s run.holds.head p q client _ _ _ _ a.value.lease
           run.holds.leased told;
@@ -224,11 +228,12 @@ module _ {L C : Type 0} (state : L → LinkState) (start_at : L → LinkStart) w
       (a : Box (Attempt L C)) (x : Exchange L) (run : RunSoFar state start_at s p v [] (Relay a))
       → Turns state start_at (origin_of s run.holds.head a.value.lease.reused) client ahead x
       step.Moved
-      → Advances {C = C} state start_at s (world_with client ahead v.connect_faults)
+      → client.faults ≡ v.client.faults → Advances {C = C} state start_at s (world_with client ahead v.connect_faults)
       (Relay (turned a x)) did.Moved
-  moves s p v client ahead a x run turns = record {
+  moves s p v client ahead a x run turns calm = record {
     passed = turns.passed;
-    run = going_on s p turns.passed v client ahead a x run turns.told turns.comes_to;
+    run = going_on s p turns.passed v client ahead a x run turns.told turns.comes_to
+        (calm ∙ run.calm);
     stalled = λ silent. cc;
   }
 
@@ -238,12 +243,13 @@ module _ {L C : Type 0} (state : L → LinkState) (start_at : L → LinkStart) w
       (run : RunSoFar state start_at s p v [] (Relay a))
       → Turns state start_at (origin_of s run.holds.head a.value.lease.reused) client ahead x
       (step.Waited pause)
-      → (did.Waited pause ≡ did.Waited Silent → IsSilent state start_at client x)
+      → client.faults ≡ v.client.faults → (did.Waited pause ≡ did.Waited Silent → IsSilent state start_at client x)
       → Advances {C = C} state start_at s (world_with client ahead v.connect_faults)
       (Relay (turned a x)) (did.Waited pause)
-  waits s p v client ahead a x pause run turns silent = record {
+  waits s p v client ahead a x pause run turns calm silent = record {
     passed = turns.passed;
-    run = going_on s p turns.passed v client ahead a x run turns.told turns.comes_to;
+    run = going_on s p turns.passed v client ahead a x run turns.told turns.comes_to
+        (calm ∙ run.calm);
     stalled = silent;
   }
 
@@ -263,6 +269,7 @@ module _ {L C : Type 0} (state : L → LinkState) (start_at : L → LinkStart) w
         run.tells told;
     order = order;
     going = going;
+    calm = tt;
     holds = (
       leased state start_at s run.holds.head p q client _ _ _ _ a.value.lease run.holds.leased told,
       ends,
@@ -274,10 +281,10 @@ module _ {L C : Type 0} (state : L → LinkState) (start_at : L → LinkStart) w
       (a : Box (Attempt L C)) (x : Exchange L) (run : RunSoFar state start_at s p v [] (Relay a))
       → Turns state start_at (origin_of s run.holds.head a.value.lease.reused) client ahead x
       step.Finished
-      → Advances {C = C} state start_at s (world_with client ahead v.connect_faults)
+      → client.faults ≡ v.client.faults → Advances {C = C} state start_at s (world_with client ahead v.connect_faults)
       (Close x.peer.client.link a.value.lease (may_keep x) (Served None (client_reusable x ahead)))
       did.Ended
-  finishes s p v client ahead a x run turns =
+  finishes s p v client ahead a x run turns calm =
       let head = run.holds.head in
       let built = run.holds.built in
       let told = turns.told in
@@ -290,7 +297,7 @@ module _ {L C : Type 0} (state : L → LinkState) (start_at : L → LinkStart) w
         passed = turns.passed;
         run = closing s p turns.passed v client ahead a x _ _ run told
             (IsInOrder.is_exchange head _ _ built finished.relayed.order) (λ same. cc)
-            (relayed_whole state start_at s turns.passed w head x built finished);
+            (relayed_whole state start_at s turns.passed w head x built (calm ∙ run.calm) finished);
         stalled = λ silent. cc;
       }
 
@@ -306,7 +313,11 @@ module _ {L C : Type 0} (state : L → LinkState) (start_at : L → LinkStart) w
     passed = turns.passed;
     run = closing s p turns.passed v client ahead a x _ _ run turns.told
         (IsInOrder.is_exchange run.holds.head _ _ run.holds.built turns.comes_to) (λ same. cc)
-        refl;
+        (
+          inl (part_relayed s turns.passed run.holds.head a.value.lease.reused _ _ run.holds.built
+          turns.told.reused turns.comes_to),
+          refl,
+        );
     stalled = λ silent. cc;
   }
   fails s p v client ahead a x (fail.Error e) run turns =

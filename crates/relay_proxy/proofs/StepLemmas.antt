@@ -11,6 +11,7 @@ use Rattle.relay_proxy.specs.Phases.{IsLeased, IsGoing, RunSoFar}
 use Rattle.relay_proxy.specs.Request.{StepsOn}
 use Rattle.relay_proxy.specs.Turn.{Advances, IsStalled, is_over}
 use Rattle.relay_proxy.specs.Closing.{Hands, HandsBack, Settles, GivesUp, Finishes, IsQuiet, Rests, TurnOf, Ends}
+use Rattle.relay_proxy.proofs.ConnectSteps.{part_relayed}
 use Rattle.relay_proxy.specs.declared.finish.Ending.{Ending}
 use Rattle.relay_proxy.specs.declared.machine.Lease.{Lease}
 use Rattle.relay_proxy.specs.declared.machine.Phase.{Phase}
@@ -97,6 +98,7 @@ module _ {L C : Type 0} (state : L → LinkState) (start_at : L → LinkStart) w
           tells = run.tells;
           order = run.order;
           going = run.going;
+          calm = tt;
           holds = returned_ends state start_at s p w link lease keep outcome does.2.entry does.0
               run.holds.0 does.2.hands run.holds.1;
         });
@@ -290,7 +292,13 @@ module _ {L C : Type 0} (state : L → LinkState) (start_at : L → LinkStart) w
       (λ h. absurd h)
   end_of s p [] w (Relay a) before after ending does run =
       linked_end s p w (Relay a) a.value.exchange.peer.client.link a.value.lease false before after
-      ending TurnLimit does.limit does.back run run.holds.leased refl (λ r same h. rw same h)
+      ending TurnLimit does.limit does.back run run.holds.leased
+      (
+        part_relayed s p run.holds.head a.value.lease.reused _ _ run.holds.built
+            run.holds.leased.reused run.holds.under_way.order,
+        refl,
+      )
+      (λ r same h. rw same h)
   end_of s p [] w (Close link lease keep outcome) before after ending does run =
       linked_end s p w (Close link lease keep outcome) link lease keep before after ending outcome
       does.0 does.1 run run.holds.0 run.holds.1 (λ r same h. absurd h)

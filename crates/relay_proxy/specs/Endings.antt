@@ -185,9 +185,13 @@ pub record IsRelayedWhole
   pub head : RequestHead
   pub built : IsBuiltRequest head
   pub relayed : IsRelayed (origin_of s head start.reused) p link start
+  -- no call of the client's link failed
+  pub calm : w.client.faults ≡ s.faults
   -- the link is kept only where it may serve another request
   pub kept : keep ≡ true
       → MayServe (origin_of s head start.reused) p link.ended relayed.order
+  -- and where no call of it failed
+  pub faultless : keep ≡ true → link.faults ≡ start.faults
   -- the client goes back exactly where it may ask for more
   pub goes_back : IsTrue reuse
       ↔ IsClientReusable (origin_of s head start.reused) p link.ended relayed.order w.ahead
@@ -207,6 +211,18 @@ pub record IsFailedAttempt
   pub not_kept : keep ≡ false
   pub stays : reuse ≡ false
 
+-- what was sent and written so far of one exchange over this link, as the link came back
+pub record IsPartRelayed (s : Start) (p : Passed) (link : LinkState) (start : LinkStart)
+    : Type 0 where
+  pub head : RequestHead
+  pub built : IsBuiltRequest head
+  pub order : exchange.IsInOrder (origin_of s head start.reused) p link.ended
+
+-- what passed where memory was wanted: a part of one exchange, or nothing but bytes of the client
+abbrev pub IsPartOrNone : Start → Passed → LinkState → LinkStart → Type 0
+IsPartOrNone s p link start =
+    IsPartRelayed s p link start ⊎ ((p.written ≡ []) × IsUnsent p)
+
 -- how a request ends that had this link, which was handed back with that mark
 abbrev pub EndsLinked : Start → Passed → World → LinkState → LinkStart → Bool → Outcome → Type 0
 EndsLinked s p w link start keep NoRequest = ⊥
@@ -214,8 +230,8 @@ EndsLinked s p w link start keep (Refused error) = ⊥
 EndsLinked s p w link start keep (Served None reuse) = IsRelayedWhole s p w link start keep reuse
 EndsLinked s p w link start keep (Served (Some e) reuse) =
     IsFailedAttempt s p w link start keep reuse e
-EndsLinked s p w link start keep TurnLimit = keep ≡ false
-EndsLinked s p w link start keep OutOfMemory = keep ≡ false
+EndsLinked s p w link start keep TurnLimit = IsPartRelayed s p link start × (keep ≡ false)
+EndsLinked s p w link start keep OutOfMemory = IsPartOrNone s p link start × (keep ≡ false)
 
 -- how a request ends whose exchange failed
 abbrev pub outcome_of : Fail → Outcome

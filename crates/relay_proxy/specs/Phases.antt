@@ -91,6 +91,15 @@ module _ {L C : Type 0} (state : L → LinkState) (start_at : L → LinkStart) w
   IsGoing (Close link lease keep outcome) = outcome ≢ TurnLimit
   IsGoing (Ended outcome attempts) = outcome ≢ TurnLimit
 
+  -- no call of the client's link failed before the request ended
+  abbrev pub IsCalm : Start → World → Phase L C → Type 0
+  IsCalm s w ReadHead = w.client.faults ≡ s.faults
+  IsCalm s w (Refuse answer error) = w.client.faults ≡ s.faults
+  IsCalm s w (Connect context session) = w.client.faults ≡ s.faults
+  IsCalm s w (Relay a) = w.client.faults ≡ s.faults
+  IsCalm s w (Close link lease keep outcome) = Unit {0}
+  IsCalm s w (Ended outcome attempts) = Unit {0}
+
   -- the run so far: what passed is told by the links, in order, and the phase says what is left
   pub record RunSoFar
       (s : Start) (p : Passed) (w : World) (own : List (Returned L)) (phase : Phase L C)
@@ -98,4 +107,5 @@ module _ {L C : Type 0} (state : L → LinkState) (start_at : L → LinkStart) w
     pub tells : TellsClient s p w
     pub order : IsInOrder s p
     pub going : IsGoing phase
+    pub calm : IsCalm s w phase
     pub holds : PhaseHolds s p w own phase

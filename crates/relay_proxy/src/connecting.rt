@@ -154,7 +154,7 @@ fn begin<L: ByteLink, F: Front, C: Drop>(
 /// back.
 fn hold<L: ByteLink, C: Drop>(alloc: Global, attempt: Attempt<L, C>) -> Next<L, C>
     ensures run { (s : Start) (p : Passed) (w : World) → TellsClient s p w → IsInOrder s p
-        → IsRelaying L.state L.start s p w attempt
+        → w.client.faults ≡ s.faults → IsRelaying L.state L.start s p w attempt
         → Advances {C = C} L.state L.start s w result.phase result.step }
     ensures work { DoesWork result.step result.work }
     ensures over { is_over result.phase ≡ is_end result.step }

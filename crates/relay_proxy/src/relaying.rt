@@ -1,6 +1,7 @@
 //! The attempt: one turn of its exchange, and what becomes of the client and of the link once it has
 //! ended (RFC 9112, section 9.3).
 ghost use Rattle.std.specs.Prelude.{◌≡◌, ℕ, [], None, false};
+ghost use Rattle.relay_core.specs.Causes.{says_failed};
 ghost use Rattle.relay_core.specs.Past.{Origin};
 ghost use Rattle.relay_exchange.specs.Exchange.{IsUnderWay, Turns, IsSilent};
 ghost use Rattle.relay_exchange.specs.Head.{may_keep};
@@ -120,6 +121,8 @@ fn turn_over<D: ByteLink, U: Drop, L: ByteLink, H: Schedule>(
         result.step }
     ensures silent { result.step ≡ Step.Waited Pause.Silent
         → IsSilent L.state L.start (D.state client.new.link) exchange.new }
+    ensures calm { says_failed result.step ≡ false
+        → (D.state client.new.link).faults ≡ (D.state client.old.link).faults }
     ensures kept { client.new.kept ≡ client.old.kept }
 {
     let kept = client.take_kept();

@@ -7,7 +7,7 @@ use Rattle.relay_links.specs.Told.{more}
 use Rattle.relay_links.specs.declared.Returned.{Returned}
 use Rattle.relay_exchange.specs.Passed.{Passed}
 use Rattle.relay_proxy.specs.Passed.{World, Start, TellsClient, start_of, nothing}
-use Rattle.relay_proxy.specs.Phases.{RunSoFar, PhaseHolds, IsAt, IsReadingHead, IsRefusing, IsConnecting, IsRelaying}
+use Rattle.relay_proxy.specs.Phases.{RunSoFar, IsCalm, PhaseHolds, IsAt, IsReadingHead, IsRefusing, IsConnecting, IsRelaying}
 use Rattle.relay_proxy.specs.Request.{StepsOn, ComesToEnd, ended_after}
 use Rattle.relay_proxy.specs.Turn.{world_with, world_of, is_over, is_end, links_held}
 use Rattle.relay_proxy.specs.declared.machine.Phase.{Phase}
@@ -65,6 +65,17 @@ module _ {L C : Type 0} (state : L → LinkState) (start_at : L → LinkStart) w
   at_later s p link ahead f g (Close l lease keep outcome) going at = absurd (true≢false going)
   at_later s p link ahead f g (Ended outcome attempts) going at = absurd (true≢false going)
 
+  -- nor do the faults of the client's link
+  calm_later : (s : Start) (link : LinkState) (ahead : List ℕ) (f g : ℕ) (phase : Phase L C)
+      → IsCalm state start_at s (world_with link ahead f) phase
+      → IsCalm state start_at s (world_with link ahead g) phase
+  calm_later s link ahead f g ReadHead calm = calm
+  calm_later s link ahead f g (Refuse answer error) calm = calm
+  calm_later s link ahead f g (Connect context session) calm = calm
+  calm_later s link ahead f g (Relay a) calm = calm
+  calm_later s link ahead f g (Close l lease keep outcome) calm = calm
+  calm_later s link ahead f g (Ended outcome attempts) calm = calm
+
   -- a request goes on while calls of the connector fail for others
   pub run_later : (s : Start) (p : Passed) (link : LinkState) (ahead : List ℕ) (f g : ℕ)
       (phase : Phase L C) → is_over phase ≡ false → f ≤ g
@@ -79,6 +90,7 @@ module _ {L C : Type 0} (state : L → LinkState) (start_at : L → LinkStart) w
     };
     order = run.order;
     going = run.going;
+    calm = calm_later s link ahead f g phase run.calm;
     holds = at_later s p link ahead f g phase going run.holds;
   }
 

@@ -33,6 +33,7 @@ link_stays : (before after : LinkState) (answer : Took (List ℕ)) → Speaks an
 link_stays before after answer speaks same = rw same (record {
   taken = refl;
   faults = le_refl before.faults;
+  calm = λ none. refl;
   sound = λ sound. sound;
   silent = λ is. absurd (speaks is);
 })
@@ -43,6 +44,7 @@ link_gave : (before after : LinkState) (came : List ℕ) (answer : Took (List �
 link_gave before after came answer speaks gave = record {
   taken = gave.gives.taken;
   faults = rw gave.gives.faults (le_refl before.faults);
+  calm = λ none. gave.gives.faults;
   sound = λ sound. gave.gives.sound;
   silent = λ is. absurd (speaks is);
 }
@@ -62,6 +64,7 @@ link_waits : (before after : LinkState) → WaitsOnRead before after
 link_waits before after waits = record {
   taken = waits.taken;
   faults = rw waits.faults (le_refl before.faults);
+  calm = λ none. waits.faults;
   sound = λ sound. waits.sound;
   silent = λ is. cc;
 }
@@ -72,6 +75,7 @@ link_silent : (before after : LinkState) → IsSilentOnRead before after
 link_silent before after silent = rw silent.same (record {
   taken = refl;
   faults = le_refl before.faults;
+  calm = λ none. refl;
   sound = λ sound. sound;
   silent = λ is. silent.silent;
 })
@@ -82,6 +86,7 @@ link_ends : (before after : LinkState) (answer : Took (List ℕ)) → Speaks ans
 link_ends before after answer speaks ends = record {
   taken = ends.taken;
   faults = rw ends.faults (le_refl before.faults);
+  calm = λ none. ends.faults;
   sound = λ sound. ends.sound;
   silent = λ is. absurd (speaks is);
 }
@@ -94,19 +99,20 @@ not_fallen before after fits rose =
       | inr last ↦ omega (arith, fits, last)
     ]
 
--- a read failed
-link_fails : (before after : LinkState) (fault : Fault) (answer : Took (List ℕ)) → Speaks answer
-    → FailsRead before fault after → ReadsLink before after answer
-link_fails before after fault answer speaks fails = record {
-  taken = fails.taken;
-  faults = not_fallen before.faults after.faults fails.sound_before.faults_fit fails.faults;
-  sound = λ sound. fails.sound;
-  silent = λ is. absurd (speaks is);
-}
-
 -- a failure is not Silent
 fails_speaking : (error : Error) → Speaks (took.Failed (fail.Error error))
 fails_speaking error is = cc
+
+-- a read failed
+link_fails : (before after : LinkState) (fault : Fault) (error : Error)
+    → FailsRead before fault after → ReadsLink before after (took.Failed (fail.Error error))
+link_fails before after fault error fails = record {
+  taken = fails.taken;
+  faults = not_fallen before.faults after.faults fails.sound_before.faults_fit fails.faults;
+  calm = λ none. absurd (none error refl);
+  sound = λ sound. fails.sound;
+  silent = λ is. absurd (fails_speaking error is);
+}
 
 module _ (before after : LinkState) (old new : State) (ahead left : List ℕ) where
   -- what a call for a piece leaves of the link
@@ -131,7 +137,7 @@ module _ (before after : LinkState) (old new : State) (ahead left : List ℕ) wh
   piece_link (took.Failed (fail.Error error)) (front.RefusesBody.ends_inside stays ends may is) =
       link_ends before after (took.Failed (fail.Error error)) (fails_speaking error) ends
   piece_link (took.Failed (fail.Error error)) (front.RefusesBody.link_failed fault stays fails is) =
-      link_fails before after fault (took.Failed (fail.Error error)) (fails_speaking error) fails
+      link_fails before after fault error fails
 
   -- what one look at a client that is to be still leaves of it
   watch_link : (answer : Took (List ℕ × Bool)) → Watches before after ahead left answer
@@ -150,7 +156,7 @@ module _ (before after : LinkState) (old new : State) (ahead left : List ℕ) wh
   watch_link (took.Failed (fail.Error error)) (front.Stirs.ends none ends kept is) =
       link_ends before after (took.Failed (fail.Error error)) (fails_speaking error) ends
   watch_link (took.Failed (fail.Error error)) (front.Stirs.link_failed fault none fails kept is) =
-      link_fails before after fault (took.Failed (fail.Error error)) (fails_speaking error) fails
+      link_fails before after fault error fails
 
   -- a call in either mode
   pub either_link : (answer : Took (List ℕ × Bool)) (still : Bool)

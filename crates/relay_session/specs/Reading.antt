@@ -242,6 +242,8 @@ pub record ReadsRest
 pub record ReadsLink (before after : LinkState) (answer : Took (List ℕ)) : Type 0 where
   pub taken : after.taken ≡ before.taken
   pub faults : before.faults ≤ after.faults
+  pub calm : ((e : Error) → answer ≡ took.Failed (fail.Error e) → ⊥)
+      → after.faults ≡ before.faults
   pub sound : IsSound before → IsSound after
   pub silent : answer ≡ took.Waited Silent → after.silent_on_read ≡ true
 

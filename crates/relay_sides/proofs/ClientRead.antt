@@ -1,5 +1,5 @@
 -- A read of the client: what the piece says of its state, and how what passed goes on with it.
-use Rattle.std.proofs.Common.{◌≡◌, ℕ, ◌<◌, ◌≤◌, Bool, true, false, List, [], ◌∷◌, ◌++◌, length, Option, Some, refl, sym, ◌∙◌, ap, subst, append-nil, append_assoc, length-append, inl, inr, arith}
+use Rattle.std.proofs.Common.{◌≡◌, ℕ, ◌<◌, ◌≤◌, Bool, true, false, List, [], ◌∷◌, ◌++◌, length, Option, Some, Result, Ok, refl, sym, ◌∙◌, ap, subst, append-nil, append_assoc, length-append, inl, inr, arith}
 use Rattle.std.specs.Prelude.{◌||◌, ◌&&◌, ◌⊎◌, ◌==◌}
 use Rattle.std.specs.List.{list_any}
 use Rattle.std.proofs.lemmas.Bool.{cases_Bool}
@@ -21,7 +21,13 @@ use Rattle.relay_session.specs.Front as front
 use Rattle.relay_session.specs.Front.{Watches, ends_with_head}
 use Rattle.relay_session.specs.Reading as says
 use Rattle.relay_session.specs.Reading.{RequestSoFar, SaysBody, IsWhole, ReadsRest, ReadsLink, EndsBy, RefusesRest, piece_of, head_of, is_body_done}
-use Rattle.relay_session.specs.Response.{Holds}
+use Rattle.relay_session.specs.Response.{Holds, HoldsOn, is_over}
+use Rattle.relay_session.specs.Asked.{request_of}
+use Rattle.relay_session.specs.TaskWire.{Sent, tasks_sent}
+use Rattle.relay_session.specs.declared.task_text.Request.{Request}
+use Rattle.relay_session.specs.declared.task_text.Place.TheVariants as place
+use Rattle.relay_session.specs.declared.writing.Outgoing.{Outgoing}
+use Rattle.relay_session.specs.declared.writing.Outgoing.TheVariants as outgoing
 use Rattle.relay_session.specs.declared.session.HttpSession.{HttpSession}
 use Rattle.relay_session.specs.declared.writing.Writing.{Writing}
 use Rattle.relay_core.specs.declared.told.Told.{Told}
@@ -29,7 +35,7 @@ use Rattle.relay_core.specs.Down.{ReadsPiece}
 use Rattle.relay_core.specs.Past.{Origin, DownPast, DownGoes, put_in, error_of_took}
 use Rattle.relay_core.specs.Piece.{put_of}
 use Rattle.relay_sides.specs.Body.{body_of}
-use Rattle.relay_sides.specs.Client.{IsClient, HasPassed, ClientBlames, IsSilent, state_of, piece_answer, told_read, given_to}
+use Rattle.relay_sides.specs.Client.{IsClient, HasPassed, IsUnanswered, ClientBlames, IsSilent, state_of, piece_answer, told_read, given_to}
 use Rattle.relay_sides.specs.Client as client
 use Rattle.relay_sides.proofs.ClientPast.{reading_whole, body_of-append, rose_from, rose_on}
 
@@ -47,12 +53,21 @@ pub record Left
   pub watches : still ≡ true → Watches before after ahead left answer
   pub head : head_of new.reading ≡ head_of old.reading
   pub stays : still ≡ true → new ≡ old
+  pub unanswered : still ≡ true → is_over old.writing.place ≡ false
   pub response : new.writing ≡ old.writing
 
 -- a session that was asked whether its body has ended, twice
 pub twice : (done : Bool) → done && done ≡ done
 twice true = refl
 twice false = refl
+
+-- behind a request that is done the response is not over, where not both are
+pub open_behind : (done over was both : Bool) → both ≡ (done && over) → both ≡ false
+    → was && done ≡ true → over ≡ false
+open_behind true true was both is none on = absurd (cc)
+open_behind true false was both is none on = refl
+open_behind false over true both is none on = absurd (cc)
+open_behind false over false both is none on = absurd (cc)
 
 -- a list of some items has a length
 some_items : (x : ℕ) (xs : List ℕ) → length (x ∷ xs) == 0 ≡ false
@@ -287,8 +302,8 @@ module _
     response = subst (λ (w : Writing). Holds w (client.queued p) p.written) (sym l.response)
         h.response;
     broken = λ fault is.
-        rose_on s.faults before.faults after.faults l.link.faults
-        (h.broken fault (ap (λ (w : Writing). w.output) (sym l.response) ∙ is));
+        let was = h.broken fault (ap (λ (w : Writing). w.output) (sym l.response) ∙ is) in
+        (rose_on s.faults before.faults after.faults l.link.faults was.0, was.1);
   }
 
 -- a read that gave bytes gave one at least
@@ -309,23 +324,49 @@ refused_rest s q before after body e earlier
     (says.RefusesRest.link_failed fault open_still fails is) =
     client.ClientBlames.link_failed fault is
     (rose_from s.faults before.faults after.faults earlier fails.faults)
+    (inr (inl (body, open_still)))
+
+-- what is sent is one
+sent_once : {a b : Sent} → ◌≡◌ {A = Result Sent Error} (Ok a) (Ok b) → a ≡ b
+sent_once {a} {b} same = cc
+
+-- the tasks that were queued leave the response where the session stands
+stands_at : (now : Writing) (output : Outgoing) (tasks : List HttpTask) (taken : List ℕ)
+    → HoldsOn now output tasks taken → (sent : Sent)
+    → tasks_sent now.request place.NoHead tasks ≡ Ok sent → sent.place ≡ now.place
+stands_at now (outgoing.Open queue) tasks taken holds sent says =
+    let one : ◌≡◌ {A = Result Sent Error} (Ok sent) (Ok _) = sym says ∙ holds.wire.is in
+    ap (λ (t : Sent). t.place) (sent_once one)
+stands_at now (outgoing.Broken fault) tasks taken holds sent says =
+    let one : ◌≡◌ {A = Result Sent Error} (Ok sent) (Ok _) = sym says ∙ holds.1.wire.is in
+    ap (λ (t : Sent). t.place) (sent_once one)
+
+-- where the session stands open, the response is not over
+not_over : (s : Origin) (q : DownPast) (now : Writing) → Holds now (client.queued q) q.written
+    → now.request ≡ request_of s.head → is_over now.place ≡ false → IsUnanswered s q
+not_over s q now holds answers open_still = λ sent says.
+    ap is_over (stands_at now now.output (client.queued q) q.written holds sent
+    (subst (λ (r : Request). tasks_sent r place.NoHead (client.queued q) ≡ Ok sent) (sym answers)
+    says)) ∙ open_still
 
 -- why a client stirred that was to be still
 stirred : (s : Origin) (q : DownPast) (before after : LinkState) (ahead left body : List ℕ)
-    (e : Error) → s.faults ≤ before.faults → IsWhole (given_to s q) body left
+    (e : Error) → s.faults ≤ before.faults → IsWhole (given_to s q) body left → IsUnanswered s q
     → front.Stirs before after ahead left e → ClientBlames s q after e
-stirred s q before after ahead left body e earlier whole (front.Stirs.had_sent some same kept is) =
-    client.ClientBlames.sent_more body left whole (rw kept some) is
-stirred s q before after ahead left body e earlier whole
+stirred s q before after ahead left body e earlier whole unanswered (front.Stirs.had_sent some same kept is) =
+    client.ClientBlames.sent_more body left whole (rw kept some) unanswered is
+stirred s q before after ahead left body e earlier whole unanswered
     (front.Stirs.sends came none gave kept is) =
-    client.ClientBlames.sent_more body left whole (rw kept (gave_some before after came gave)) is
-stirred s q before after ahead left body e earlier whole (front.Stirs.ends none ends kept is) =
+    client.ClientBlames.sent_more body left whole (rw kept (gave_some before after came gave))
+    unanswered is
+stirred s q before after ahead left body e earlier whole unanswered (front.Stirs.ends none ends kept is) =
     client.ClientBlames.ends_behind body
-    (subst (λ (xs : List ℕ). IsWhole (given_to s q) body xs) (kept ∙ none) whole) ends.ended is
-stirred s q before after ahead left body e earlier whole
+    (subst (λ (xs : List ℕ). IsWhole (given_to s q) body xs) (kept ∙ none) whole) ends.ended
+    unanswered is
+stirred s q before after ahead left body e earlier whole unanswered
     (front.Stirs.link_failed fault none fails kept is) =
     client.ClientBlames.link_failed fault is
-    (rose_from s.faults before.faults after.faults earlier fails.faults)
+    (rose_from s.faults before.faults after.faults earlier fails.faults) (inr (inr unanswered))
 
 -- what is an error is that one
 same_error : (a e : Error) → Some a ≡ Some e → a ≡ e
@@ -334,27 +375,27 @@ same_error a e is = cc
 -- why a read was refused
 blamed : (s : Origin) (q : DownPast) (before after : LinkState) (given ahead left body : List ℕ)
     (still : Bool) (new : HttpSession) (answer : Took (List ℕ)) (e : Error)
-    → s.faults ≤ before.faults
+    → s.faults ≤ before.faults → (still ≡ true → IsUnanswered s q)
     → (r : ReadsRest before after given body ahead left still new.reading answer)
     → given_to s q ≡ given ++ r.came
     → error_of_took (piece_answer answer (is_body_done new.reading)) ≡ Some e
     → ClientBlames s q after e
-blamed s q before after given ahead left body still new (took.Item bytes) e earlier r all is =
+blamed s q before after given ahead left body still new (took.Item bytes) e earlier unanswered r all is =
     absurd (cc)
-blamed s q before after given ahead left body still new took.More e earlier r all is = absurd (cc)
-blamed s q before after given ahead left body still new (took.Waited pause) e earlier r all is =
+blamed s q before after given ahead left body still new took.More e earlier unanswered r all is = absurd (cc)
+blamed s q before after given ahead left body still new (took.Waited pause) e earlier unanswered r all is =
     absurd (cc)
-blamed s q before after given ahead left body still new took.End e earlier r all is = absurd (cc)
-blamed s q before after given ahead left body still new (took.Failed fail.OutOfMemory) e earlier r
+blamed s q before after given ahead left body still new took.End e earlier unanswered r all is = absurd (cc)
+blamed s q before after given ahead left body still new (took.Failed fail.OutOfMemory) e earlier unanswered r
     all is =
     absurd (cc)
-blamed s q before after given ahead left body still new (took.Failed (fail.Error error)) e earlier r
+blamed s q before after given ahead left body still new (took.Failed (fail.Error error)) e earlier unanswered r
     all is =
     subst (λ (err : Error). ClientBlames s q after err) (same_error error e is)
     (elim (cases_Bool still) [
       | inl on ↦ let w = r.watches on in
           stirred s q before after ahead left body error earlier
-          (subst (λ (xs : List ℕ). IsWhole xs body left) (sym all) w.0) w.1
+          (subst (λ (xs : List ℕ). IsWhole xs body left) (sym all) w.0) (unanswered on) w.1
       | inr off ↦ refused_rest s q before after (body ++ []) error earlier
           (subst (λ (xs : List ℕ). RefusesRest before after xs (body ++ []) error) (sym all)
           (r.tells off))
@@ -384,13 +425,18 @@ reads_on s p before after ahead left old new done finished broken answer h l =
         closed = rw l.response h.closed;
         unbroken = rw l.response h.unbroken;
         fault = λ f is.
-            rose_on s.faults before.faults after.faults l.link.faults (h.fault f is);
+            (
+              rose_on s.faults before.faults after.faults l.link.faults (h.fault f is).0,
+              (h.fault f is).1,
+            );
       };
       is_put = refl;
       is_batched = refl;
       is_closing = refl;
       blamed = λ e is.
           blamed s (past_read p r.came put) before after (given_to s p) ahead left h.client.body
-          l.still new answer e h.client.faults r
+          l.still new answer e h.client.faults
+          (λ on. not_over s (past_read p r.came put) old.writing h.client.response
+          (h.client.answers ∙ ap request_of h.client.own) (l.unanswered on)) r
           (all_given s p before after ahead left old new answer put h.client l given r) is;
     }

@@ -31,7 +31,7 @@ use Rattle.relay_core.specs.Down.{QueuesBatch, RefusesBatch}
 use Rattle.relay_core.specs.Past.{Origin, DownPast, DownGoes, BatchRefused, error_of_result}
 use Rattle.relay_core.specs.Pipe.{is_failure}
 use Rattle.relay_core.specs.Told.{failed}
-use Rattle.relay_sides.specs.Client.{IsClient, IsClosed, HasPassed, ClientBlames, ClientRefuses, CannotEnd, QueuesAll, QueuesFront, failure_in_front, state_of}
+use Rattle.relay_sides.specs.Client.{IsClient, IsClosed, FailsWrite, HasPassed, ClientBlames, ClientRefuses, CannotEnd, QueuesAll, QueuesFront, failure_in_front, state_of}
 use Rattle.relay_sides.specs.Client as client
 use Rattle.relay_sides.proofs.ClientPast.{open_is_whole}
 
@@ -179,7 +179,7 @@ requeued : (s : Origin) (p : DownPast) (link : LinkState) (ahead : List ℕ) (ol
     (batched closing : List HttpTask) → IsClient s p link ahead old
     → new.reading ≡ old.reading → new.writing.request ≡ old.writing.request
     → Holds new.writing (batched ++ closing) p.written
-    → ((fault : Fault) → new.writing.output ≡ outgoing.Broken fault → Rose s.faults link.faults)
+    → ((fault : Fault) → new.writing.output ≡ outgoing.Broken fault → FailsWrite s link fault)
     → IsClient s (past_queued p batched closing) link ahead new
 requeued s p link ahead old new batched closing h reading request holds broken = record {
   came = h.came;
@@ -604,7 +604,7 @@ end_refused s p link ahead session (outgoing.Open queue) why e h is refused of =
     })
 end_refused s p link ahead session (outgoing.Broken fault) why e h is refused of =
     inl (client.ClientBlames.link_failed fault (fail_is why (error_of fault) e refused of)
-    (h.broken fault is))
+    (h.broken fault is).0 (inl (h.broken fault is).1))
 
 -- the end was refused, and nothing was queued
 pub ends_refused : (s : Origin) (p : DownPast) (link : LinkState) (ahead : List ℕ)

@@ -1,5 +1,5 @@
 -- A write to the client: what it says of the state, and how what passed goes on with it.
-use Rattle.std.proofs.Common.{◌≡◌, ℕ, ◌≤◌, Bool, true, false, List, [], ◌++◌, length, take, drop, Option, Some, None, refl, sym, ◌∙◌, ap, append-nil, le_refl, inl, inr, arith}
+use Rattle.std.proofs.Common.{◌≡◌, ℕ, ◌≤◌, Bool, true, false, List, [], ◌++◌, length, take, drop, Option, Some, None, refl, sym, ◌∙◌, ap, subst, append-nil, le_refl, inl, inr, arith}
 use Rattle.std.specs.Prelude.{not, ◌==◌, ◌||◌, is_some}
 use Rattle.relay_tasks.specs.declared.error.Error.{Error}
 use Rattle.relay_tasks.specs.declared.error.ErrorSource.TheVariants.{Downstream}
@@ -7,7 +7,7 @@ use Rattle.relay_tasks.specs.declared.fault.Fault.{Fault}
 use Rattle.std.proofs.lemmas.Bool.{cases_lt}
 use Rattle.relay_links.specs.Count.{Rose, last_count}
 use Rattle.relay_links.specs.Link as link
-use Rattle.relay_links.specs.Link.{LinkState}
+use Rattle.relay_links.specs.Link.{LinkState, IsWriteFault}
 use Rattle.relay_links.specs.Told.{more}
 use Rattle.relay_links.specs.declared.link.Put.{Put}
 use Rattle.relay_links.specs.declared.link.Put.TheVariants as put
@@ -37,6 +37,7 @@ record Wrote (before after : LinkState) (queue : List ℕ) (answer : Put) : Type
   taken : after.taken ≡ more before.taken (take (taken answer) queue)
   faults : before.faults ≤ after.faults
   failed : (fault : Fault) → answer ≡ put.Failed fault → Rose before.faults after.faults
+  kind : (fault : Fault) → answer ≡ put.Failed fault → IsWriteFault fault
 
 -- a list of which nothing is taken gains nothing
 gains_nothing : (before after : LinkState) (queue : List ℕ) → after.taken ≡ before.taken
@@ -55,6 +56,9 @@ not_fallen before after fits rose =
       | inr last ↦ omega (arith, fits, last)
     ]
 
+same_fault : (a b : Fault) → put.Failed a ≡ put.Failed b → a ≡ b
+same_fault a b is = cc
+
 wrote : (before after : LinkState) (queue : List ℕ) (answer : Put)
     → link.Writes before queue after answer → Wrote before after queue answer
 wrote before after queue (put.Took n) w = record {
@@ -62,30 +66,35 @@ wrote before after queue (put.Took n) w = record {
   taken = w.taken;
   faults = rw w.faults (le_refl before.faults);
   failed = λ fault is. cc;
+  kind = λ fault is. cc;
 }
 wrote before after queue put.NotReady w = record {
   given = w.given;
   taken = gains_nothing before after queue w.taken;
   faults = rw w.faults (le_refl before.faults);
   failed = λ fault is. cc;
+  kind = λ fault is. cc;
 }
 wrote before after queue put.Silent w = rw w.same (record {
   given = refl;
   taken = gains_nothing before before queue refl;
   faults = le_refl before.faults;
   failed = λ fault is. cc;
+  kind = λ fault is. cc;
 })
 wrote before after queue (put.Failed why) w = record {
   given = w.given;
   taken = gains_nothing before after queue w.taken;
   faults = not_fallen before.faults after.faults w.sound_before.faults_fit w.faults;
   failed = λ fault is. w.faults;
+  kind = λ fault is. subst IsWriteFault (same_fault why fault is) w.kind;
 }
 wrote before after queue put.OutOfMemory w = record {
   given = ap (λ (l : LinkState). l.given) w.same;
   taken = gains_nothing before after queue (ap (λ (l : LinkState). l.taken) w.same);
   faults = rw (ap (λ (l : LinkState). l.faults) w.same) (le_refl before.faults);
   failed = λ fault is. cc;
+  kind = λ fault is. cc;
 }
 
 -- what is broken where something waits
@@ -189,9 +198,13 @@ writes_on s p before after ahead left old new done finished broken answer (outgo
           told_whole = rw (reading, kept) h.client.told_whole;
           response = holds;
           broken = λ fault of.
-              rose_from s.faults before.faults after.faults h.client.faults
-              (w.failed fault
-              (kept_fault writes.rest answer new.writing.output fault writes.leaves of));
+              let is_kept = kept_fault writes.rest answer new.writing.output fault writes.leaves of
+              in
+              (
+                rose_from s.faults before.faults after.faults h.client.faults
+                    (w.failed fault is_kept),
+                w.kind fault is_kept,
+              );
         };
         over = rw (ap (λ (r : Writing). r.request) rest) h.over;
         place_over = rw (ap (λ (r : Writing). r.place) rest) h.place_over;
@@ -200,8 +213,11 @@ writes_on s p before after ahead left old new done finished broken answer (outgo
         closed = rw (ap (λ (r : Writing). r.place) rest) h.closed;
         unbroken = still_open writes.rest answer new.writing.output writes.leaves;
         fault = λ f is.
-            rose_from s.faults before.faults after.faults h.client.faults
-            (w.failed f (found_fault answer f is));
+            (
+              rose_from s.faults before.faults after.faults h.client.faults
+                  (w.failed f (found_fault answer f is)),
+              w.kind f (found_fault answer f is),
+            );
       };
       is_put = refl;
       is_batched = refl;
@@ -209,7 +225,8 @@ writes_on s p before after ahead left old new done finished broken answer (outgo
       blamed = λ e of.
           let f = failed_put answer e of in
           client.ClientBlames.link_failed f.0 f.2
-          (rose_from s.faults before.faults after.faults h.client.faults (w.failed f.0 f.1));
+          (rose_from s.faults before.faults after.faults h.client.faults (w.failed f.0 f.1))
+          (inl (w.kind f.0 f.1));
     }
 
 -- the answer of a write that failed before
@@ -228,7 +245,7 @@ fails_again s p link ahead session done finished broken fault is h = record {
   blamed = λ e of.
       let f = failed_put (put.Failed fault) e of in
       client.ClientBlames.link_failed f.0 f.2
-      (h.fault f.0 (is ∙ ap fault_in f.1));
+      (h.fault f.0 (is ∙ ap fault_in f.1)).0 (inl (h.fault f.0 (is ∙ ap fault_in f.1)).1);
 }
 
 -- what waits where nothing was taken

@@ -1,5 +1,5 @@
 -- What a call on a link leaves of what the link tells, and which errors stay blamed.
-use Rattle.std.proofs.Common.{◌≡◌, ℕ, ◌≤◌, Bool, true, false, List, [], ◌++◌, take, sym, ap, subst, ◌∙◌, append-nil, arith, Option, Some, None}
+use Rattle.std.proofs.Common.{◌≡◌, ℕ, ◌≤◌, Bool, true, false, List, [], ◌++◌, take, sym, ap, subst, ◌∙◌, append-nil, arith, Option, Some, None, refl}
 use Rattle.relay_tasks.specs.Head.{RequestHead}
 use Rattle.relay_tasks.specs.declared.error.Error.{Error}
 use Rattle.relay_tasks.specs.declared.error.ErrorSource.TheVariants.{Upstream}
@@ -15,6 +15,7 @@ use Rattle.relay_links.proofs.SinceLemmas.{Since-kept, Since-grows}
 use Rattle.relay_h1.specs.Move.{taken}
 use Rattle.relay_h1.specs.Tasks.{HasFinal, Tasks, cut_off}
 use Rattle.relay_h1.proofs.TasksLemmas.{HasFinal-append}
+use Rattle.relay_peer.specs.H1Client.{is_fault}
 use Rattle.relay_peer.specs.ResponseReading.{Asks, says, cut_off_error, fault_error}
 use Rattle.relay_core.specs.Past.{UpPast, error_of_put}
 use Rattle.relay_sides.specs.Body.{IsFrontOf}
@@ -77,6 +78,8 @@ pub record ReadMoves (start : LinkStart) (before after : LinkState) (had came : 
   pub rises : Rose start.faults before.faults → Rose start.faults after.faults
   pub failed : (fault : Fault) → asked ≡ Some (got.Failed fault)
       → Rose start.faults after.faults
+  pub calm : ((fault : Fault) → asked ≡ Some (got.Failed fault) → ⊥)
+      → after.faults ≡ before.faults
   pub over : asked ≡ Some got.End → after.ended ≡ true
 
 clash : {A : Type 0} (b : Bool) → b ≡ true → b ≡ false → A
@@ -112,6 +115,7 @@ read_moves start before after had came None (same, none) since faults sound = re
   rises = λ rose. subst (λ (l : LinkState). Rose start.faults l.faults) (sym same) rose;
   failed = λ fault is. absurd (cc);
   over = λ is. absurd (cc);
+  calm = λ none. ap (λ (l : LinkState). l.faults) same;
 }
 read_moves start before after had came (Some (got.Bytes n)) grows since faults sound = record {
   given = subst (λ (xs : List ℕ). Since [] start.given after.given (had ++ xs)) (sym grows.grown)
@@ -124,6 +128,7 @@ read_moves start before after had came (Some (got.Bytes n)) grows since faults s
   rises = λ rose. subst (λ (n : ℕ). Rose start.faults n) (sym grows.gives.faults) rose;
   failed = λ fault is. absurd (cc);
   over = λ is. absurd (cc);
+  calm = λ none. grows.gives.faults;
 }
 read_moves start before after had came (Some got.NotReady) (waits, none) since faults sound =
     record {
@@ -136,6 +141,7 @@ read_moves start before after had came (Some got.NotReady) (waits, none) since f
       rises = λ rose. subst (λ (n : ℕ). Rose start.faults n) (sym waits.faults) rose;
       failed = λ fault is. absurd (cc);
       over = λ is. absurd (cc);
+      calm = λ none. waits.faults;
     }
 read_moves start before after had came (Some got.Silent) (silent, none) since faults sound =
     record {
@@ -150,6 +156,7 @@ read_moves start before after had came (Some got.Silent) (silent, none) since fa
           subst (λ (l : LinkState). Rose start.faults l.faults) (sym silent.same) rose;
       failed = λ fault is. absurd (cc);
       over = λ is. absurd (cc);
+      calm = λ none. ap (λ (l : LinkState). l.faults) silent.same;
     }
 read_moves start before after had came (Some got.End) (ends, none) since faults sound = record {
   given = since_none start after had came none
@@ -161,6 +168,7 @@ read_moves start before after had came (Some got.End) (ends, none) since faults 
   rises = λ rose. subst (λ (n : ℕ). Rose start.faults n) (sym ends.faults) rose;
   failed = λ fault is. absurd (cc);
   over = λ is. ends.ended;
+  calm = λ none. ends.faults;
 }
 read_moves start before after had came (Some (got.Failed fault)) (fails, none) since faults
     sound = record {
@@ -173,6 +181,7 @@ read_moves start before after had came (Some (got.Failed fault)) (fails, none) s
       rises = λ rose. rose_from start.faults before.faults after.faults faults fails.faults;
       failed = λ told is. rose_from start.faults before.faults after.faults faults fails.faults;
       over = λ is. absurd (cc);
+      calm = λ none. absurd (none fault refl);
     }
 
 -- ---- a write
@@ -188,6 +197,7 @@ pub record WriteMoves (start : LinkStart) (before after : LinkState) (had part :
   pub rises : Rose start.faults before.faults → Rose start.faults after.faults
   pub failed : (e : Error) → error_of_put Upstream answer ≡ Some e
       → (fault : Fault) × (e ≡ fault_error fault) × Rose start.faults after.faults
+  pub calm : is_fault answer ≡ false → after.faults ≡ before.faults
 
 -- nothing was taken
 taken_none : (start : LinkStart) (before after : LinkState) (had : List ℕ)
@@ -212,6 +222,7 @@ write_moves start before after had part (put.Took n) takes since faults sound = 
   sound = takes.sound;
   rises = λ rose. subst (λ (n : ℕ). Rose start.faults n) (sym takes.faults) rose;
   failed = λ e is. absurd (cc);
+  calm = λ none. takes.faults;
 }
 write_moves start before after had part put.NotReady waits since faults sound = record {
   sent = taken_none start before after had waits.taken since;
@@ -221,6 +232,7 @@ write_moves start before after had part put.NotReady waits since faults sound = 
   sound = waits.sound;
   rises = λ rose. subst (λ (n : ℕ). Rose start.faults n) (sym waits.faults) rose;
   failed = λ e is. absurd (cc);
+  calm = λ none. waits.faults;
 }
 write_moves start before after had part put.Silent silent since faults sound = record {
   sent = taken_none start before after had (ap (λ (l : LinkState). l.taken) silent.same) since;
@@ -230,6 +242,7 @@ write_moves start before after had part put.Silent silent since faults sound = r
   sound = subst (λ (l : LinkState). IsSound l) (sym silent.same) sound;
   rises = λ rose. subst (λ (l : LinkState). Rose start.faults l.faults) (sym silent.same) rose;
   failed = λ e is. absurd (cc);
+  calm = λ none. ap (λ (l : LinkState). l.faults) silent.same;
 }
 write_moves start before after had part (put.Failed fault) fails since faults sound = record {
   sent = taken_none start before after had fails.taken since;
@@ -243,6 +256,7 @@ write_moves start before after had part (put.Failed fault) fails since faults so
     some_error e (fault_error fault) (sym is),
     rose_from start.faults before.faults after.faults faults fails.faults,
   );
+  calm = λ none. absurd (cc);
 }
 write_moves start before after had part put.OutOfMemory wants since faults sound = record {
   sent = taken_none start before after had (ap (λ (l : LinkState). l.taken) wants.same) since;
@@ -255,4 +269,5 @@ write_moves start before after had part put.OutOfMemory wants since faults sound
       subst (λ (n : ℕ). Rose start.faults n) (sym (ap (λ (l : LinkState). l.faults) wants.same))
       rose;
   failed = λ e is. absurd (cc);
+  calm = λ none. ap (λ (l : LinkState). l.faults) wants.same;
 }

@@ -1,5 +1,5 @@
 -- How each call of the upstream's side goes on with what passed through it.
-use Rattle.std.proofs.Common.{◌≡◌, ◌||◌, ℕ, Bool, true, false, List, [], ◌∷◌, ◌++◌, map, refl, sym, ap, subst, ◌∙◌, append-nil, Option, Some, None}
+use Rattle.std.proofs.Common.{◌≡◌, ◌||◌, ℕ, Bool, true, false, List, [], ◌∷◌, ◌++◌, map, refl, sym, ap, subst, ◌∙◌, append-nil, Option, Some, None, arith}
 use Rattle.std.specs.List.{All, list_any}
 use Rattle.std.proofs.lemmas.List.{map-append}
 use Rattle.std.proofs.lemmas.List.Elements.{All-push}
@@ -13,6 +13,18 @@ use Rattle.relay_tasks.specs.declared.took.Took.{Took}
 use Rattle.relay_tasks.specs.declared.took.Took.TheVariants as took
 use Rattle.relay_links.specs.Link.{LinkState, LinkStart}
 use Rattle.relay_links.specs.declared.link.Got.{Got}
+use Rattle.relay_links.specs.declared.link.Got.TheVariants as got
+use Rattle.relay_links.specs.declared.link.Put.{Put}
+use Rattle.relay_links.specs.declared.link.Put.TheVariants as put
+use Rattle.relay_links.specs.Count.{last_count}
+use Rattle.relay_tasks.specs.declared.fault.Fault.{Fault}
+use Rattle.relay_tasks.specs.declared.error.ErrorSource.TheVariants.{Upstream}
+use Rattle.relay_core.specs.declared.told.Told.{Told as CoreTold}
+use Rattle.relay_core.specs.Told.{failed, paused, written}
+use Rattle.relay_tasks.specs.declared.took.Pause.{Pause}
+use Rattle.relay_tasks.specs.declared.took.Pause.TheVariants.{NotReady, Silent}
+use Rattle.relay_peer.specs.H1Client.{is_fault}
+use Rattle.std.specs.Prelude.{min, ◌+◌}
 use Rattle.relay_links.proofs.SinceLemmas.{Since-kept}
 use Rattle.relay_h1.specs.ClientHead.{is_informational}
 use Rattle.relay_h1.specs.Move.{taken}
@@ -23,7 +35,7 @@ use Rattle.relay_peer.specs.declared.request_writing.RequestWriting.{RequestWrit
 use Rattle.relay_peer.specs.declared.response_reading.Place.{Place}
 use Rattle.relay_peer.specs.declared.response_reading.ResponseReading.{ResponseReading}
 use Rattle.relay_peer.specs.RequestWriting.{SentSoFar, head_in, method_of}
-use Rattle.relay_peer.specs.ResponseReading.{Told, ReadSoFar, ReadsTask, Answers, Asks, Refuses, IsResponseTask, untold, with_task, with_head, is_over, is_item, fault_error}
+use Rattle.relay_peer.specs.ResponseReading.{Told, ReadSoFar, ReadsTask, Answers, Asks, Refuses, IsResponseTask, untold, with_task, with_head, is_over, is_item, is_error, fault_error}
 use Rattle.relay_peer.specs.ResponseReading as reading
 use Rattle.relay_core.specs.Past.{Origin, UpPast, UpGoes, error_of_fail, error_of_took}
 use Rattle.relay_sides.specs.declared.peer_side.PeerSide.{PeerSide}
@@ -109,6 +121,25 @@ read_on start before after q came read asked moves = record {
   rises = moves.rises;
 }
 
+-- no error was answered, and none before
+pub neither_failed : (was now : Bool) → was || now ≡ false → (was ≡ false) × (now ≡ false)
+neither_failed true now none = absurd (cc)
+neither_failed false now none = (refl, none)
+
+-- where no error was answered by a read, no fault came in it
+calm_read : (start : LinkStart) (before after : LinkState) (had came : List ℕ) (asked : Option Got)
+    (was now : Bool) (answer : Took HttpTask) → ReadMoves start before after had came asked
+    → ((fault : Fault) → asked ≡ Some (got.Failed fault)
+    → answer ≡ took.Failed (fail.Error (fault_error fault)))
+    → now ≡ (was || is_error answer) → (was ≡ false → before.faults ≡ start.faults)
+    → now ≡ false → after.faults ≡ start.faults
+calm_read start before after had came asked was now answer moves fails is calm none =
+    let both = neither_failed was (is_error answer) (sym is ∙ none) in
+    moves.calm (λ fault of. apart (sym (ap is_error (fails fault of)) ∙ both.1)) ∙ calm both.0
+  where
+    apart : true ≡ false → ⊥
+    apart same = cc
+
 -- a side that read on: these tasks were handed on, and these withheld
 peer_read : {L : Type 0} (o : Origin) (start : LinkStart) (before after : LinkState) (old new : H1Client L)
     (stopped_before stopped lost : Option Fail) (q : UpPast) (came : List ℕ)
@@ -121,12 +152,14 @@ peer_read : {L : Type 0} (o : Origin) (start : LinkStart) (before after : LinkSt
     → (stopped ≡ None → withheld ≡ [])
     → ((e : Error) → stopped ≡ Some (fail.Error e)
     → PeerBlames start after stands.head (after_read q came read) e)
+    → (new.failed ≡ false → after.faults ≡ start.faults)
     → IsPeer o start after new stopped lost (after_read q came read)
 peer_read {L} o start before after old new stopped_before stopped lost q came read given withheld
-    asked stands same moves tasks is_read unswitched roomy goes_on why = record {
+    asked stands same moves tasks is_read unswitched roomy goes_on why calm = record {
       got = moves.given;
       sent = Since-kept [] start.taken before.taken after.taken q.sent moves.taken stands.sent;
       faults = moves.faults;
+      calm = calm;
       sound = moves.sound;
       head = stands.head;
       own = stands.own;
@@ -207,11 +240,12 @@ pub read_none : {L : Type 0} (o : Origin) (start started : LinkStart) (before af
     → started ≡ start → new.request ≡ old.request
     → ReadsTask (method_of old.request.request) before after old.response new.response answer
     → is_item answer ≡ false → is_over new.response.place ≡ is_over old.response.place
+    → new.failed ≡ old.failed || is_error answer
     → IsPeer o start before old stopped lost q
     → UpGoes (λ r. IsPeer o started after new stopped lost r) (λ r e. Blamed start before old r e)
     (λ r e. Blamed started after new r e) q (q.read ++ []) q.taken q.lost (error_of_took answer)
 read_none {L} o start started before after old new stopped lost q answer same kept reads none over
-    stands =
+    failed stands =
     let at = subst (λ (m : List ℕ). ReadsTask m before after old.response new.response answer)
     (method_is old.request.request stands.head stands.is_head) reads in
     let moves = read_moves start before after q.got at.came at.asked at.asks stands.got
@@ -230,7 +264,9 @@ read_none {L} o start started before after old new stopped lost q answer same ke
     old.response.place new.response answer none answers))
     stands.is_read stands.none_switches stands.have_room stands.goes_on
     (λ e is. blames_keep start before after stands.head q (after_read q at.came q.read) e
-    (read_on start before after q at.came q.read at.asked moves) (stands.why e is)))
+    (read_on start before after q at.came q.read at.asked moves) (stands.why e is))
+    (calm_read start before after q.got at.came at.asked old.failed new.failed answer moves at.fails
+    failed stands.calm))
     (sym (append-nil q.read)) refl refl
     (answer_blamed start before after stands.head q at.came q.read (told_of tasks) at.asked
     old.response.place new.response answer moves answers)
@@ -263,6 +299,8 @@ record Brings {L : Type 0} (o : Origin) (start : LinkStart) (before after : Link
   pub came : List ℕ
   pub asked : Option Got
   pub moves : ReadMoves start before after q.got came asked
+  pub fails : (fault : Fault) → asked ≡ Some (got.Failed fault)
+      → took.Item item ≡ took.Failed (fail.Error (fault_error fault))
   pub told : Told
   pub is : IsResponseTask told item
   pub read : ReadSoFar stands.head.method after.ended (q.got ++ came) (with_task told item)
@@ -298,6 +336,7 @@ brings {L} o start before after old new lost q item reads stands =
       asked = at.asked;
       moves = read_moves start before after q.got at.came at.asked at.asks stands.got
           stands.faults stands.sound;
+      fails = at.fails;
       told = told_of stands.given;
       is = answers.0;
       read = answers.2;
@@ -315,11 +354,12 @@ pub read_hands : {L : Type 0} (o : Origin) (start started : LinkStart) (before a
     (took.Item item)
     → given ≡ handed (method_of new.request.request) item → is_switch item ≡ false
     → HasRoom (method_of new.request.request) item
+    → new.failed ≡ old.failed || is_error (took.Item item)
     → IsPeer o start before old stopped lost q
     → UpGoes (λ r. IsPeer o started after new stopped lost r) (λ r e. Blamed start before old r e)
     (λ r e. Blamed started after new r e) q (q.read ++ given ∷ []) q.taken q.lost None
 read_hands {L} o start started before after old new stopped lost q item given open_yet same kept reads
-    is_given plain room stood =
+    is_given plain room failed stood =
     let stands = subst (λ (s : Option Fail). IsPeer o start before old s lost q) open_yet stood in
     let b = brings o start before after old new lost q item reads stands in
     let method = ap (λ (w : RequestWriting). method_of w.request) kept
@@ -346,7 +386,9 @@ read_hands {L} o start started before after old new stopped lost q item given op
     ∙ ap (λ (b : Bool). b || false) plain)
     (All-push (HasRoom stands.head.method) stands.given item stands.have_room
     (subst (λ (m : List ℕ). HasRoom m item) method room))
-    (λ none. refl) (λ e none. absurd (cc)))
+    (λ none. refl) (λ e none. absurd (cc))
+    (calm_read start before after q.got b.came b.asked old.failed new.failed (took.Item item) b.moves
+    b.fails failed stands.calm))
     refl refl refl (λ e none. absurd (cc)))
 
 -- the error for which a task is withheld is blamed
@@ -389,12 +431,14 @@ pub read_stops : {L : Type 0} (o : Origin) (start started : LinkStart) (before a
     → stopped ≡ None → started ≡ start → new.request ≡ old.request
     → ReadsTask (method_of old.request.request) before after old.response new.response
     (took.Item item)
-    → Withholds (method_of new.request.request) item why → IsPeer o start before old stopped lost q
+    → Withholds (method_of new.request.request) item why
+    → new.failed ≡ old.failed || is_error (took.Item item)
+    → IsPeer o start before old stopped lost q
     → UpGoes (λ r. IsPeer o started after new (Some why) lost r)
     (λ r e. Blamed start before old r e) (λ r e. Blamed started after new r e) q (q.read ++ [])
     q.taken q.lost (error_of_fail why)
 read_stops {L} o start started before after old new stopped lost q item why open_yet same kept reads
-    withholds stood =
+    withholds failed stood =
     let stands = subst (λ (s : Option Fail). IsPeer o start before old s lost q) open_yet stood in
     let b = brings o start before after old new lost q item reads stands in
     let method = ap (λ (w : RequestWriting). method_of w.request) kept
@@ -410,7 +454,9 @@ read_stops {L} o start started before after old new stopped lost q item why open
     (item ∷ []) b.asked stands kept b.moves b.tasks stands.is_read stands.none_switches
     stands.have_room
     (λ some. absurd (cc))
-    (λ e is. blamed e (some_fail why (fail.Error e) is)))
+    (λ e is. blamed e (some_fail why (fail.Error e) is))
+    (calm_read start before after q.got b.came b.asked old.failed new.failed (took.Item item) b.moves
+    b.fails failed stands.calm))
     (sym (append-nil q.read)) refl refl (λ e told. blamed e (fail_is why e told))
 
 -- ---- the side
@@ -421,12 +467,14 @@ pub side_goes : {L : Type 0} (o : Origin) (start started : LinkStart) (before af
     (old : H1Client L) (new : PeerSide L) (q : UpPast) (read taken : List HttpTask) (gone : Bool)
     (error : Option Error) → started ≡ start → start.reused ≡ o.reused
     → new.closes ≡ list_any asks_to_close read
+    → (new.told.errors ≡ 0 → new.client.failed ≡ false)
     → UpGoes (λ r. IsPeer o started after new.client new.stopped new.lost r)
     (λ r e. Blamed start before old r e) (λ r e. Blamed started after new.client r e) q read taken
     gone error
     → UpGoes (λ r. IsPeerSide o started after new r) (λ r e. Blamed start before old r e)
     (λ r e. Blamed started after new.client r e) q read taken gone error
-side_goes {L} o start started before after old new q read taken gone error same reused closes went =
+side_goes {L} o start started before after old new q read taken gone error same reused closes calm
+    went =
     record {
       past = went.past;
       stands = record {
@@ -434,6 +482,7 @@ side_goes {L} o start started before after old new q read taken gone error same 
         reused = ap (λ (s : LinkStart). s.reused) same ∙ reused;
         closes = closes ∙ ap (λ (ts : List HttpTask). list_any asks_to_close ts)
             (sym went.is_read);
+        calm = calm;
       };
       is_read = went.is_read;
       is_taken = went.is_taken;
@@ -446,33 +495,99 @@ side_goes {L} o start started before after old new q read taken gone error same 
 pub side_stays : {L : Type 0} (o : Origin) (start started : LinkStart) (before after : LinkState)
     (old new : PeerSide L) (q : UpPast) (read taken : List HttpTask) (gone : Bool)
     (error : Option Error) → started ≡ start → new.closes ≡ old.closes → read ≡ q.read
+    → ((old.told.errors ≡ 0 → old.client.failed ≡ false)
+    → new.told.errors ≡ 0 → new.client.failed ≡ false)
     → IsPeerSide o start before old q
     → UpGoes (λ r. IsPeer o started after new.client new.stopped new.lost r)
     (λ r e. Blamed start before old.client r e) (λ r e. Blamed started after new.client r e) q read
     taken gone error
     → UpGoes (λ r. IsPeerSide o started after new r) (λ r e. Blamed start before old.client r e)
     (λ r e. Blamed started after new.client r e) q read taken gone error
-side_stays {L} o start started before after old new q read taken gone error same stays none stands =
+side_stays {L} o start started before after old new q read taken gone error same stays none calm
+    stands =
     side_goes o start started before after old.client new q read taken gone error same stands.reused
     (stays ∙ stands.closes ∙ ap (λ (ts : List HttpTask). list_any asks_to_close ts) (sym none))
+    (calm stands.calm)
 
 -- a call that handed one on
 pub side_hands : {L : Type 0} (o : Origin) (start started : LinkStart) (before after : LinkState)
     (old new : PeerSide L) (q : UpPast) (given : HttpTask) (taken : List HttpTask) (gone : Bool)
     (error : Option Error) → started ≡ start
-    → new.closes ≡ old.closes || asks_to_close given → IsPeerSide o start before old q
+    → new.closes ≡ old.closes || asks_to_close given
+    → ((old.told.errors ≡ 0 → old.client.failed ≡ false)
+    → new.told.errors ≡ 0 → new.client.failed ≡ false)
+    → IsPeerSide o start before old q
     → UpGoes (λ r. IsPeer o started after new.client new.stopped new.lost r)
     (λ r e. Blamed start before old.client r e) (λ r e. Blamed started after new.client r e) q
     (q.read ++ given ∷ []) taken gone error
     → UpGoes (λ r. IsPeerSide o started after new r) (λ r e. Blamed start before old.client r e)
     (λ r e. Blamed started after new.client r e) q (q.read ++ given ∷ []) taken gone error
-side_hands {L} o start started before after old new q given taken gone error same one_more stands =
+side_hands {L} o start started before after old new q given taken gone error same one_more calm stands =
     side_goes o start started before after old.client new q (q.read ++ given ∷ []) taken gone error
     same stands.reused
     (one_more ∙ ap (λ (b : Bool). b || asks_to_close given) stands.closes
     ∙ ap (λ (b : Bool). list_any asks_to_close q.read || b) (sym (or_none (asks_to_close given)))
     ∙ sym (list_any-append asks_to_close q.read (given ∷ [])))
+    (calm stands.calm)
   where
     or_none : (b : Bool) → (b || false) ≡ b
     or_none true = refl
     or_none false = refl
+
+-- ---- what is told of faults
+
+-- a count that was raised is not 0
+never_none : (n : ℕ) → min (n + 1) last_count ≡ 0 → ⊥
+never_none n none = absurd (omega (arith, none))
+
+-- no error was told before one more failure
+told_before : (why : Fail) (told : CoreTold) → (failed why told).errors ≡ 0 → told.errors ≡ 0
+told_before fail.OutOfMemory told none = none
+told_before (fail.Error e) told none = absurd (never_none told.errors none)
+
+pub or_none : (b : Bool) → (b || false) ≡ b
+or_none true = refl
+or_none false = refl
+
+-- no fault came before, where no error is told after one more answer without an error
+pub calm_same : (old now : CoreTold) (was is : Bool) (answer : Took HttpTask)
+    → is ≡ was || is_error answer → is_error answer ≡ false → now ≡ old
+    → (old.errors ≡ 0 → was ≡ false) → now.errors ≡ 0 → is ≡ false
+calm_same old now was is answer fails none same calm still =
+    fails ∙ ap (λ (b : Bool). was || b) none ∙ or_none was
+    ∙ calm (sym (ap (λ (t : CoreTold). t.errors) same) ∙ still)
+
+-- nor after a pause
+pub calm_paused : (old : CoreTold) (was is : Bool) (pause : Pause)
+    → is ≡ was || is_error (took.Waited pause) → (old.errors ≡ 0 → was ≡ false)
+    → (paused pause old).errors ≡ 0 → is ≡ false
+calm_paused old was is NotReady fails calm still =
+    calm_same old old was is took.More fails refl refl calm still
+calm_paused old was is Silent fails calm still =
+    calm_same old old was is took.More fails refl refl calm still
+
+-- nor after one that failed
+pub calm_failed : (old : CoreTold) (was is : Bool) (why : Fail)
+    → is ≡ was || is_error (took.Failed why) → (old.errors ≡ 0 → was ≡ false)
+    → (failed why old).errors ≡ 0 → is ≡ false
+calm_failed old was is fail.OutOfMemory fails calm still =
+    calm_same old old was is (took.Failed fail.OutOfMemory) fails refl refl calm still
+calm_failed old was is (fail.Error e) fails calm still = absurd (never_none old.errors still)
+
+-- nor after a failure of the side's own
+pub calm_withheld : (old : CoreTold) (was is : Bool) (why : Fail) → is ≡ was
+    → (old.errors ≡ 0 → was ≡ false) → (failed why old).errors ≡ 0 → is ≡ false
+calm_withheld old was is why same calm still = same ∙ calm (told_before why old still)
+
+-- nor after a write
+pub calm_put : (old : CoreTold) (was is : Bool) (answer : Put) → is ≡ was || is_fault answer
+    → (old.errors ≡ 0 → was ≡ false) → (written Upstream answer old).errors ≡ 0 → is ≡ false
+calm_put old was is (put.Took n) fails calm still =
+    calm_same old old was is took.More fails refl refl calm still
+calm_put old was is put.NotReady fails calm still =
+    calm_same old old was is took.More fails refl refl calm still
+calm_put old was is put.Silent fails calm still =
+    calm_same old old was is took.More fails refl refl calm still
+calm_put old was is (put.Failed fault) fails calm still = absurd (never_none old.errors still)
+calm_put old was is put.OutOfMemory fails calm still =
+    calm_same old old was is took.More fails refl refl calm still

@@ -19,6 +19,7 @@ use Rattle.relay_h1.specs.declared.framing.Framing.{Framing}
 use Rattle.relay_h1.specs.declared.framing.Framing.TheVariants as framing
 use Rattle.relay_h1.specs.BodyWire.{after_pieces, is_short}
 use Rattle.relay_h1.specs.Move.{WritesOut, taken}
+use Rattle.relay_peer.specs.H1Client.{is_fault}
 use Rattle.relay_peer.specs.declared.h1_client.H1Client.{H1Client}
 use Rattle.relay_peer.specs.declared.request_writing.Request.{Request}
 use Rattle.relay_peer.specs.declared.request_writing.Request.TheVariants as request
@@ -34,7 +35,7 @@ use Rattle.relay_sides.specs.Peer as peer
 use Rattle.relay_sides.proofs.FrontLemmas.{own_front, same_front, front_more, front_then, bytes_front, task_front, sent_behind-push, head_of, stands_head, piece_head, task_head, begun_body, body_push}
 use Rattle.relay_sides.proofs.TaskLemmas.{no_tasks}
 use Rattle.relay_sides.proofs.MoveLemmas.{GoesOn, blames_keep, write_moves}
-use Rattle.relay_sides.proofs.PeerLemmas.{Blamed, goes}
+use Rattle.relay_sides.proofs.PeerLemmas.{Blamed, goes, neither_failed}
 
 -- ---- pieces
 
@@ -64,17 +65,18 @@ wire_push head tasks piece xs front =
 peer_take : {L : Type 0} (o : Origin) (start : LinkStart) (link : LinkState) (old new : H1Client L)
     (stopped lost_before lost : Option Fail) (q : UpPast) (piece : HttpTask) (gone : Bool)
     (sending : Sent) (stands : IsPeer o start link old stopped lost_before q)
-    → new.response ≡ old.response → head_of sending ≡ Some stands.head
+    → new.response ≡ old.response → new.failed ≡ old.failed → head_of sending ≡ Some stands.head
     → SentSoFar sending q.sent new.request
     → IsQueued stands.head (q.taken ++ piece ∷ []) gone sending → (lost ≡ None → gone ≡ false)
     → ((e : Error) → lost ≡ Some (fail.Error e)
     → PeerBlames start link stands.head (after_take q piece gone) e)
     → IsPeer o start link new stopped lost (after_take q piece gone)
-peer_take {L} o start link old new stopped lost_before lost q piece gone sending stands same headed
-    so_far queued takes why = record {
+peer_take {L} o start link old new stopped lost_before lost q piece gone sending stands same calm
+    headed so_far queued takes why = record {
       got = stands.got;
       sent = stands.sent;
       faults = stands.faults;
+      calm = λ none. stands.calm (sym calm ∙ none);
       sound = stands.sound;
       head = stands.head;
       own = stands.own;
@@ -132,13 +134,14 @@ still_there {L} o start started before after old new stopped lost q read taken g
 pub take_queues : {L : Type 0} (o : Origin) (start started : LinkStart) (before after : LinkState)
     (old new : H1Client L) (stopped lost : Option Fail) (q : UpPast) (piece : HttpTask)
     → lost ≡ None → started ≡ start → after ≡ before → new.response ≡ old.response
+    → new.failed ≡ old.failed
     → ((sent : Sent) (had : List ℕ) → SentSoFar sent had old.request
     → SentSoFar (sent_with sent piece) had new.request)
     → IsPeer o start before old stopped lost q
     → UpGoes (λ r. IsPeer o started after new stopped lost r) (λ r e. Blamed start before old r e)
     (λ r e. Blamed started after new r e) q q.read (q.taken ++ piece ∷ []) (q.lost || false) None
 take_queues {L} o start started before after old new stopped lost q piece open_yet same unmoved kept
-    queues stands =
+    calm queues stands =
     let so_far = queues stands.sending q.sent stands.so_far in
     let headed = task_head stands.sending piece
     ∙ sending_head o start before old stopped lost q stands in
@@ -152,7 +155,7 @@ take_queues {L} o start started before after old new stopped lost q piece open_y
     (stands_head (sent_with stands.sending piece) new.request.request so_far.stands ∙ headed)
     (take_on start before q piece gone)
     (peer_take o start before old new stopped lost lost q piece gone
-    (sent_with stands.sending piece) stands kept headed so_far
+    (sent_with stands.sending piece) stands kept calm headed so_far
     (record {
       unlost = λ none. is_sent;
       front = same_front (sent_wire (sent_with stands.sending piece))
@@ -290,6 +293,7 @@ or_gone false = refl
 pub take_loses : {L : Type 0} (o : Origin) (start started : LinkStart) (before after : LinkState)
     (old new : H1Client L) (stopped lost : Option Fail) (q : UpPast) (piece : HttpTask) (why : Fail)
     → lost ≡ None → started ≡ start → after ≡ before → new.response ≡ old.response
+    → new.failed ≡ old.failed
     → ((sent : Sent) (had : List ℕ) → SentSoFar sent had old.request
     → Loses sent had piece new.request why)
     → IsPeer o start before old stopped lost q
@@ -297,7 +301,7 @@ pub take_loses : {L : Type 0} (o : Origin) (start started : LinkStart) (before a
     (λ r e. Blamed start before old r e) (λ r e. Blamed started after new r e) q q.read
     (q.taken ++ piece ∷ []) (q.lost || true) (error_of_fail why)
 take_loses {L} o start started before after old new stopped lost q piece why open_yet same unmoved kept
-    queues stands =
+    calm queues stands =
     let left = left_of o start before old new stopped lost q piece why stands open_yet
     (queues stands.sending q.sent stands.so_far) in
     still_there o start started before after old new stopped (Some why) q q.read
@@ -308,7 +312,7 @@ take_loses {L} o start started before after old new stopped lost q piece why ope
     (stands_head left.sending new.request.request left.so_far.stands ∙ left.headed)
     (take_on start before q piece true)
     (peer_take o start before old new stopped lost (Some why) q piece true left.sending stands kept
-    left.headed left.so_far (record { unlost = λ none. absurd (cc); front = left.front })
+    calm left.headed left.so_far (record { unlost = λ none. absurd (cc); front = left.front })
     (λ none. absurd (cc)) (λ e is. left.blamed e (some_fail why (fail.Error e) is)))
     refl refl (sym (or_gone q.lost)) (λ e told. left.blamed e (fail_is why e told)))
 
@@ -326,7 +330,7 @@ take_still {L} o start link client stopped lost why q piece is stands =
     goes o start start link link client client stopped lost q (after_take q piece true) stands.head
     q.read (q.taken ++ piece ∷ []) (q.lost || true) (error_of_fail why) refl stands.is_head
     stands.is_head (take_on start link q piece true)
-    (peer_take o start link client client stopped lost lost q piece true stands.sending stands refl
+    (peer_take o start link client client stopped lost lost q piece true stands.sending stands refl refl
     (sending_head o start link client stopped lost q stands) stands.so_far
     (record {
       unlost = λ none. absurd (cc);
@@ -346,14 +350,14 @@ take_still {L} o start link client stopped lost why q piece is stands =
 -- a write of what is queued
 pub write_goes : {L : Type 0} (o : Origin) (start started : LinkStart) (before after : LinkState)
     (old new : H1Client L) (stopped lost : Option Fail) (q : UpPast) (answer : Put)
-    → started ≡ start → new.response ≡ old.response
+    → started ≡ start → new.response ≡ old.response → new.failed ≡ old.failed || is_fault answer
     → WritesOut before after old.request.unsent new.request.unsent answer
     → ((sent : Sent) (gone : List ℕ) → SentSoFar sent gone old.request
     → SentSoFar sent (gone ++ take (taken answer) old.request.unsent) new.request)
     → IsPeer o start before old stopped lost q
     → UpGoes (λ r. IsPeer o started after new stopped lost r) (λ r e. Blamed start before old r e)
     (λ r e. Blamed started after new r e) q q.read q.taken q.lost (error_of_put Upstream answer)
-write_goes {L} o start started before after old new stopped lost q answer same kept writes keeps
+write_goes {L} o start started before after old new stopped lost q answer same kept failed writes keeps
     stands =
     let moves = write_moves start before after q.sent old.request.unsent answer writes.writes
     stands.sent stands.faults stands.sound in
@@ -375,6 +379,9 @@ write_goes {L} o start started before after old new stopped lost q answer same k
       got = Since-kept [] start.given before.given after.given q.got moves.given stands.got;
       sent = moves.sent;
       faults = moves.faults;
+      calm = λ none.
+          let both = neither_failed old.failed (is_fault answer) (sym failed ∙ none) in
+          moves.calm both.1 ∙ stands.calm both.0;
       sound = moves.sound;
       head = stands.head;
       own = stands.own;
@@ -414,6 +421,7 @@ begins {L} o start link reused old new head own fresh out same so_far = record {
   got = subst (λ (n : ℕ). Since [] n link.given []) (sym out.given) (Since-start [] link.given);
   sent = subst (λ (n : ℕ). Since [] n link.taken []) (sym out.taken) (Since-start [] link.taken);
   faults = omega (arith, out.faults);
+  calm = λ none. sym out.faults;
   sound = out.sound;
   head = head;
   own = own;
@@ -461,15 +469,16 @@ pub begins_side : {L : Type 0} (o : Origin) (start started : LinkStart) (before 
     → started ≡ start → after ≡ before → new.response ≡ old.client.response
     → ((sent : Sent) (had : List ℕ) → SentSoFar sent had old.client.request
     → SentSoFar (writing.with_head sent head) had new.request)
-    → IsNew old → IsHandedOut before start reused
+    → new.failed ≡ old.client.failed → IsNew old → IsHandedOut before start reused
     → o.reused ≡ reused → IsPeerSide o started after (record old { client = new }) none_passed
-begins_side {L} o start started before after reused old new head own same unmoved kept keeps fresh
-    out used =
+begins_side {L} o start started before after reused old new head own same unmoved kept keeps calm
+    fresh out used =
     record {
       peer = begins_peer o start started before after reused old new head own same unmoved kept
           keeps fresh out;
       reused = ap (λ (s : LinkStart). s.reused) same ∙ out.marked ∙ sym used;
       closes = fresh.stays;
+      calm = λ none. calm ∙ fresh.calm;
     }
 
 -- and its head is the one that was queued

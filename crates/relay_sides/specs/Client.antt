@@ -13,7 +13,7 @@ use Rattle.relay_tasks.specs.declared.task.HttpTask.TheVariants as task
 use Rattle.relay_tasks.specs.Head.{RequestHead}
 use Rattle.relay_tasks.specs.Task.{is_end}
 use Rattle.relay_links.specs.Count.{Rose}
-use Rattle.relay_links.specs.Link.{LinkState}
+use Rattle.relay_links.specs.Link.{LinkState, IsWriteFault}
 use Rattle.relay_links.specs.Told.{Since}
 use Rattle.relay_links.specs.declared.link.Put.{Put}
 use Rattle.relay_links.specs.declared.link.Put.TheVariants as put
@@ -59,6 +59,10 @@ state_of session told done finished kept = record {
   told = told;
 }
 
+-- a write of the client's link failed so
+abbrev pub FailsWrite : Origin → LinkState → Fault → Type 0
+FailsWrite s link fault = Rose s.faults link.faults × IsWriteFault fault
+
 -- what passed since the request began, which is told by the client's link: the request as far as it
 -- was read, whose body the pieces are, and the response as far as it was queued
 pub record IsClient
@@ -87,7 +91,7 @@ pub record IsClient
   -- what was written and what waits is the text of what was queued
   pub response : Holds session.writing (queued p) p.written
   pub broken : (fault : Fault) → session.writing.output ≡ outgoing.Broken fault
-      → Rose s.faults link.faults
+      → FailsWrite s link fault
 
 -- no body of the response is open there
 abbrev pub IsClosed : Place → Type 0
@@ -110,7 +114,7 @@ pub record HasPassed
   pub asked : finished ≡ true → 0 < length p.closing
   pub closed : finished ≡ true → IsClosed session.writing.place
   pub unbroken : kept ≡ None → IsOpen session.writing.output
-  pub fault : (f : Fault) → kept ≡ Some f → Rose s.faults link.faults
+  pub fault : (f : Fault) → kept ≡ Some f → FailsWrite s link f
 
 -- a session that begins behind these bytes of a client, whose head was read out of them: nothing of
 -- the body was given out, and nothing was queued or written
@@ -137,20 +141,34 @@ pub record BeginsBehind
 abbrev pub begun_past : List ℕ → DownPast
 begun_past came = record { came = came; written = []; put = []; batched = []; closing = [] }
 
+-- the response is not over behind the tasks that were queued
+abbrev pub IsUnanswered : Origin → DownPast → Type 0
+IsUnanswered s p =
+    (sent : Sent) → tasks_sent (request_of s.head) place.NoHead (queued p) ≡ Ok sent
+    → is_over sent.place ≡ false
+
+-- a fault of the client's link counts: it is that of a write, the body of the request is open, or
+-- the response is not over
+abbrev pub Counts : Origin → DownPast → Fault → Type 0
+Counts s p fault =
+    IsWriteFault fault
+    ⊎ (((body : List ℕ) × SaysBody (given_to s p) (open_text body)) ⊎ IsUnanswered s p)
+
 -- why the side answers with that error: the client's link failed, its body is broken, it ended
--- inside its body or behind its request, or it sent more than its request
+-- inside its body or behind its request, or it sent more than its request. Behind its request it is
+-- blamed only while the response is not over
 pub data ClientBlames (s : Origin) (p : DownPast) (link : LinkState) (e : Error) : Type 0 where
   link_failed : (fault : Fault) → e ≡ link_fault fault → Rose s.faults link.faults
-      → ClientBlames s p link e
+      → Counts s p fault → ClientBlames s p link e
   body_is_broken : (body : List ℕ)
       → SaysBody (given_to s p) (record { bytes = body; mark = broken })
       → e ≡ body_broken → ClientBlames s p link e
   ends_inside : (body : List ℕ) → SaysBody (given_to s p) (open_text body) → link.ended ≡ true
       → e ≡ client_closed → ClientBlames s p link e
   ends_behind : (body : List ℕ) → IsWhole (given_to s p) body [] → link.ended ≡ true
-      → e ≡ client_closed → ClientBlames s p link e
+      → IsUnanswered s p → e ≡ client_closed → ClientBlames s p link e
   sent_more : (body behind : List ℕ) → IsWhole (given_to s p) body behind → 0 < length behind
-      → e ≡ client_sent_more → ClientBlames s p link e
+      → IsUnanswered s p → e ≡ client_sent_more → ClientBlames s p link e
 
 -- the response cannot end where it stands, with that error
 pub record CannotEnd (s : Origin) (p : DownPast) (e : Error) : Type 0 where
@@ -166,7 +184,7 @@ pub record CannotEnd (s : Origin) (p : DownPast) (e : Error) : Type 0 where
 -- a write failed before, or the end of the response was asked for before
 pub data ClientRefuses (s : Origin) (p : DownPast) (link : LinkState) (left : List HttpTask)
     (e : Error) : Type 0 where
-  link_failed : (fault : Fault) → e ≡ link_fault fault → Rose s.faults link.faults
+  link_failed : (fault : Fault) → e ≡ link_fault fault → FailsWrite s link fault
       → ClientRefuses s p link left e
   cannot_send : (head : RequestHead) (framing : Framing) (len : ℕ) (sent : Sent) (at : HttpTask)
       (behind : List HttpTask) → HasRequest (given_to s p) head framing len

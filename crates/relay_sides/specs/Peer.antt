@@ -199,6 +199,8 @@ pub record IsPeer {L : Type 0}
   pub got : Since [] start.given link.given q.got
   pub sent : Since [] start.taken link.taken q.sent
   pub faults : start.faults ≤ link.faults
+  -- where no call answered a fault, none came
+  pub calm : client.failed ≡ false → link.faults ≡ start.faults
   pub sound : IsSound link
   pub head : RequestHead
   pub is_head : head_in client.request.request ≡ Some head
@@ -235,6 +237,8 @@ pub record IsPeerSide {L : Type 0}
   pub peer : IsPeer o start link side.client side.stopped side.lost q
   pub reused : start.reused ≡ o.reused
   pub closes : side.closes ≡ list_any asks_to_close q.read
+  -- each fault was told
+  pub calm : side.told.errors ≡ 0 → side.client.failed ≡ false
 
 -- a side for which nothing was queued, and which read nothing
 pub record IsNew {L : Type 0} (side : PeerSide L) : Type 0 where
@@ -244,6 +248,7 @@ pub record IsNew {L : Type 0} (side : PeerSide L) : Type 0 where
   pub goes_on : side.stopped ≡ None
   pub takes : side.lost ≡ None
   pub stays : side.closes ≡ false
+  pub calm : side.client.failed ≡ false
 
 -- nothing passed yet
 abbrev pub none_passed : UpPast

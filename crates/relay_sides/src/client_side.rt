@@ -1,8 +1,10 @@
 //! The client's side of a duplex over its session: pieces of the request are read from the client,
 //! and the tasks of the response are queued for it (RFC 9112, sections 6, 7 and 9).
-ghost use Rattle.std.specs.Prelude.{◌≡◌, ◌||◌, ◌⊎◌, List, ℕ};
+ghost use Rattle.std.specs.Prelude.{◌≡◌, ◌&&◌, ◌||◌, ◌⊎◌, List, ℕ};
 ghost use Rattle.relay_links.specs.Link.{LinkState};
 ghost use Rattle.relay_core.specs.Past.{Origin};
+ghost use Rattle.relay_session.specs.Reading.{is_body_done};
+ghost use Rattle.relay_session.specs.Response.{is_over};
 ghost use Rattle.relay_session.specs.TaskWire.{ends_short};
 ghost use Rattle.relay_sides.specs.Client.{HasPassed, BeginsBehind, begun_past, ClientBlames, ClientRefuses, CannotEnd, IsSilent, Queues, state_of, fault_in, piece_answer, told_read, failure_in_front};
 
@@ -177,6 +179,13 @@ fn piece_answer(took: Took<Bytes>, done: bool) -> Took<Piece>
     }
 }
 
+/// Whether request and response are both over.
+fn is_through(session: &HttpSession) -> bool
+    ensures { result ≡ is_body_done session.now.reading && is_over session.now.writing.place }
+{
+    session.is_body_done() && session.response_done()
+}
+
 /// One more answer of a read.
 fn told_read(told: Told, took: &Took<Piece>) -> Told
     ensures { result ≡ told_read took.now told }
@@ -240,6 +249,8 @@ impl<F: Front> Down for ClientSide<F> {
 
     ghost is_silent = { λ client. IsSilent (F.state client) };
 
+    ghost faults = { λ client. (F.state client).faults };
+
     fn may_read(&self) -> bool {
         true
     }
@@ -254,6 +265,10 @@ impl<F: Front> Down for ClientSide<F> {
 
     fn read_piece(&mut self, client: &mut F, _idle: bool) -> Took<Piece> {
         if !self.session.has_head() {
+            return Took::More;
+        }
+        // Behind a whole request and its whole response the client may do as it likes.
+        if is_through(&self.session) {
             return Took::More;
         }
         let was_done = self.session.is_body_done();

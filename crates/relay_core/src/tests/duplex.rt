@@ -207,6 +207,8 @@ impl Down for Client {
 
     ghost is_silent = { λ client. ⊥ };
 
+    ghost faults = { λ client. 0 };
+
     fn may_read(&self) -> bool {
         true
     }

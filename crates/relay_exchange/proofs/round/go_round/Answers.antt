@@ -1,7 +1,7 @@
 -- Behind silent branches the next one goes on from where they left the exchange.
-use Rattle.std.proofs.Common.{◌≡◌, refl, subst}
+use Rattle.std.proofs.Common.{◌≡◌, refl, ap, ◌∙◌, subst}
 use Rattle.relay_tasks.specs.declared.took.Pause.TheVariants as pause
-use Rattle.relay_core.specs.Causes.{Tells}
+use Rattle.relay_core.specs.Causes.{Tells, says_failed}
 use Rattle.relay_core.specs.Moves.{Goes}
 use Rattle.relay_core.specs.Past.{Origin}
 use Rattle.relay_core.specs.Table.{core}
@@ -31,4 +31,9 @@ loop-turn-preserved g c =
           subst (On s) silent (t.ensures.goes s before.p before.q before.so_far),
       subst Says silent t.ensures.tells,
       t.ensures.silent silent,
+      t.ensures.calm (ap says_failed silent) ∙ c.loop-turn.invariant.3,
     )
+
+pub returns-then-not-is_silent-2-clause-calm : goal.returns-then-not-is_silent-2-clause-calm
+returns-then-not-is_silent-2-clause-calm g c =
+    λ none. c.step-step-in-loop-turn.ensures.calm none ∙ c.loop-turn.invariant.3

@@ -6,7 +6,7 @@ use Rattle.relay_proxy.proofs.connecting.begin.Goals as goal
 
 pub returns-in-Ok-clause-run : goal.returns-in-Ok-clause-run
 returns-in-Ok-clause-run g c = λ s p w run is handed peer.
-    c.hold.ensures.run s p w run.tells run.order
+    c.hold.ensures.run s p w run.tells run.order run.calm
     (begun g.L.ByteLink.state g.L.ByteLink.start s p w c.args.session.value c.args.head c.args.link
     (record { exchange = c.in-Ok.exchange; lease = c.args.lease; context = c.args.context }) is
     handed peer (rw c.into_inner.ensures at c.in-Ok.ensures.begins) run.holds)

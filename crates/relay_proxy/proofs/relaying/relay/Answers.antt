@@ -3,6 +3,7 @@
 use Rattle.std.proofs.Common.{◌≡◌, ap, ◌∙◌}
 use Rattle.std.specs.Box.{with_value}
 use Rattle.relay_tasks.specs.declared.took.Pause.TheVariants.{NotReady, Silent}
+use Rattle.relay_core.specs.Causes.{says_failed}
 use Rattle.relay_core.specs.declared.step.Step.TheVariants as step
 use Rattle.relay_proxy.proofs.RelaySteps.{lent, moves, waits, finishes, fails}
 use Rattle.relay_proxy.proofs.relaying.relay.Goals as goal
@@ -14,6 +15,7 @@ returns-in-Moved-clause-run g c = λ s p faults given.
     c.deref_mut.ensures.value given in
     moves g.L.ByteLink.state g.L.ByteLink.start s p _ _ _ (with_value c.args.attempt a) _ run
     (rw c.in-Moved.is at (c.turn_over-step.ensures.goes _ p run.holds.under_way))
+    (c.turn_over-step.ensures.calm (ap says_failed c.in-Moved.is))
 
 pub returns-in-Waited-NotReady-clause-run : goal.returns-in-Waited-NotReady-clause-run
 returns-in-Waited-NotReady-clause-run g c = λ s p faults given.
@@ -26,6 +28,7 @@ returns-in-Waited-NotReady-clause-run g c = λ s p faults given.
     here.is ∙ ap step.Waited pause in
     waits g.L.ByteLink.state g.L.ByteLink.start s p _ _ _ (with_value c.args.attempt a) _ _ run
     (rw is at (c.turn_over-step.ensures.goes _ p run.holds.under_way))
+    (c.turn_over-step.ensures.calm (ap says_failed is))
     (λ silent. cc)
 
 pub returns-in-Waited-Silent-clause-run : goal.returns-in-Waited-Silent-clause-run
@@ -39,6 +42,7 @@ returns-in-Waited-Silent-clause-run g c = λ s p faults given.
     here.is ∙ ap step.Waited pause in
     waits g.L.ByteLink.state g.L.ByteLink.start s p _ _ _ (with_value c.args.attempt a) _ _ run
     (rw is at (c.turn_over-step.ensures.goes _ p run.holds.under_way))
+    (c.turn_over-step.ensures.calm (ap says_failed is))
     (λ silent. c.turn_over-step.ensures.silent is)
 
 pub returns-in-Finished-clause-run : goal.returns-in-Finished-clause-run
@@ -48,7 +52,8 @@ returns-in-Finished-clause-run g c = λ s p faults given.
     c.deref_mut.ensures.value given in
     rw (c.close_finished.ensures.phase, c.close_finished.ensures.step)
     (finishes g.L.ByteLink.state g.L.ByteLink.start s p _ _ _ (with_value c.args.attempt a) _ run
-    (rw c.in-Finished.is at (c.turn_over-step.ensures.goes _ p run.holds.under_way)))
+    (rw c.in-Finished.is at (c.turn_over-step.ensures.goes _ p run.holds.under_way))
+    (c.turn_over-step.ensures.calm (ap says_failed c.in-Finished.is)))
 
 pub returns-in-Failed-clause-run : goal.returns-in-Failed-clause-run
 returns-in-Failed-clause-run g c = λ s p faults given.

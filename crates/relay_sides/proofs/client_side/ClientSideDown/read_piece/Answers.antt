@@ -4,7 +4,7 @@ use Rattle.std.specs.Prelude.{◌&&◌}
 use Rattle.relay_session.specs.Reading.{is_body_done}
 use Rattle.relay_session.specs.declared.session.HttpSession.{HttpSession}
 use Rattle.relay_sides.proofs.ClientPast.{no_head}
-use Rattle.relay_sides.proofs.ClientRead.{Left, twice, reads_state, reads_silent, reads_on}
+use Rattle.relay_sides.proofs.ClientRead.{Left, twice, open_behind, reads_state, reads_silent, reads_on}
 use Rattle.relay_sides.proofs.client_side.ClientSideDown.read_piece.Given.{Over}
 use Rattle.relay_sides.proofs.client_side.ClientSideDown.read_piece.Goals as goal
 
@@ -23,6 +23,8 @@ left g c = record {
   head = c.read_body_or_idle-took.ensures.head;
   stays = c.read_body_or_idle-took.ensures.still;
   response = ap (λ (x : HttpSession). x.writing) c.read_body_or_idle-took.ensures.response;
+  unanswered = open_behind (is_body_done c.args.self.now.session.reading) _
+      c.is_body_done-was_done.result c.is_through.result c.is_through.ensures c.if-is_through.false;
 }
 
 pub returns-clause-reads : goal.returns-clause-reads

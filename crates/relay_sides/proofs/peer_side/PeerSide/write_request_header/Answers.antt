@@ -15,7 +15,8 @@ returns-clause-begins g c =
     c.write_request_header.new.self c.args.head own
     (ap (λ (k : H1Client _). g.L.ByteLink.start k.link) c.write_request_header.ensures.same)
     (ap (λ (k : H1Client _). g.L.ByteLink.state k.link) c.write_request_header.ensures.same)
-    (ap (λ (k : H1Client _). k.response) c.write_request_header.ensures.same) keeps fresh out)
+    (ap (λ (k : H1Client _). k.response) c.write_request_header.ensures.same) keeps
+    (ap (λ (k : H1Client _). k.failed) c.write_request_header.ensures.same) fresh out)
 
 pub returns-clause-head : goal.returns-clause-head
 returns-clause-head g c =

@@ -1,13 +1,15 @@
 -- Each answer of a read: the side goes on with the bytes that came, and with its task.
-use Rattle.std.proofs.Common.{Bool, ◌||◌, refl, ap, ◌∙◌, append-nil}
+use Rattle.std.proofs.Common.{Bool, ◌||◌, refl, sym, ap, ◌∙◌, append-nil}
 use Rattle.relay_peer.specs.declared.h1_client.H1Client.{H1Client}
 use Rattle.relay_tasks.specs.declared.took.Took.TheVariants as took
-use Rattle.relay_sides.proofs.PeerLemmas.{stopped_still, read_none, read_hands, read_stops, side_stays, side_hands}
+use Rattle.relay_sides.proofs.PeerLemmas.{stopped_still, read_none, read_hands, read_stops, side_stays, side_hands, calm_same, calm_failed, calm_withheld, calm_paused, or_none}
 use Rattle.relay_sides.proofs.peer_side.PeerSideUp.read_task.Goals as goal
 
 pub returns-in-Some-clause-goes : goal.returns-in-Some-clause-goes
 returns-in-Some-clause-goes g c = λ s q stands.
-    side_stays s _ _ _ _ c.args.self.now _ q _ _ _ _ refl refl (append-nil q.read) stands
+    side_stays s _ _ _ _ c.args.self.now _ q _ _ _ _ refl refl (append-nil q.read)
+    (λ calm still. calm_withheld c.args.self.now.told _ _ c.in-Some.why refl calm
+    (sym (ap (λ t. t.errors) c.failed-self.ensures) ∙ still)) stands
     (stopped_still s (g.L.ByteLink.start c.args.self.now.client.link)
     (g.L.ByteLink.state c.args.self.now.client.link) c.args.self.now.client
     c.args.self.now.stopped c.args.self.now.lost c.in-Some.why q c.in-Some.is stands.peer)
@@ -16,7 +18,9 @@ pub returns-in-Ok-clause-goes : goal.returns-in-Ok-clause-goes
 returns-in-Ok-clause-goes g c = λ s q stands.
     side_hands s _ _ _ _ c.args.self.now _ q c.in-Ok.task _ _ _ c.read_response_task.ensures.start
     (c.either-self.ensures
-    ∙ ap (λ (b : Bool). c.args.self.now.closes || b) c.asks_to_close.ensures) stands
+    ∙ ap (λ (b : Bool). c.args.self.now.closes || b) c.asks_to_close.ensures)
+    (λ calm still. calm_same c.args.self.now.told _ _ _ (took.Item c.in-Item.task)
+    c.in-Item.ensures.failed refl refl calm still) stands
     (read_hands s (g.L.ByteLink.start c.args.self.now.client.link)
     (g.L.ByteLink.start c.read_response_task.new.self.link)
     (g.L.ByteLink.state c.args.self.now.client.link)
@@ -24,12 +28,16 @@ returns-in-Ok-clause-goes g c = λ s q stands.
     c.read_response_task.new.self c.args.self.now.stopped c.args.self.now.lost q c.in-Item.task
     c.in-Ok.task c.in-None.is c.read_response_task.ensures.start
     (ap (λ (k : H1Client _). k.request) c.read_response_task.ensures.same)
-    c.in-Item.ensures.reads c.in-Ok.ensures.0 c.in-Ok.ensures.2 c.in-Ok.ensures.3 stands.peer)
+    c.in-Item.ensures.reads c.in-Ok.ensures.0 c.in-Ok.ensures.2 c.in-Ok.ensures.3 c.in-Item.ensures.failed
+    stands.peer)
 
 pub returns-in-Err-clause-goes : goal.returns-in-Err-clause-goes
 returns-in-Err-clause-goes g c = λ s q stands.
     side_stays s _ _ _ _ c.args.self.now _ q _ _ _ _ c.read_response_task.ensures.start refl
-    (append-nil q.read) stands
+    (append-nil q.read)
+    (λ calm still. calm_withheld c.args.self.now.told _ _ c.in-Err.why
+    (c.in-Item.ensures.failed ∙ or_none _) calm
+    (sym (ap (λ t. t.errors) c.failed-self-in-Err.ensures) ∙ still)) stands
     (read_stops s (g.L.ByteLink.start c.args.self.now.client.link)
     (g.L.ByteLink.start c.read_response_task.new.self.link)
     (g.L.ByteLink.state c.args.self.now.client.link)
@@ -37,12 +45,14 @@ returns-in-Err-clause-goes g c = λ s q stands.
     c.read_response_task.new.self c.args.self.now.stopped c.args.self.now.lost q c.in-Item.task
     c.in-Err.why c.in-None.is c.read_response_task.ensures.start
     (ap (λ (k : H1Client _). k.request) c.read_response_task.ensures.same)
-    c.in-Item.ensures.reads c.in-Err.ensures stands.peer)
+    c.in-Item.ensures.reads c.in-Err.ensures c.in-Item.ensures.failed stands.peer)
 
 pub returns-in-More-clause-goes : goal.returns-in-More-clause-goes
 returns-in-More-clause-goes g c = λ s q stands.
     side_stays s _ _ _ _ c.args.self.now _ q _ _ _ _ c.read_response_task.ensures.start refl
-    (append-nil q.read) stands
+    (append-nil q.read)
+    (λ calm still. calm_same c.args.self.now.told _ _ _ took.More
+    c.in-More.ensures.failed refl refl calm still) stands
     (read_none s (g.L.ByteLink.start c.args.self.now.client.link)
     (g.L.ByteLink.start c.read_response_task.new.self.link)
     (g.L.ByteLink.state c.args.self.now.client.link)
@@ -50,12 +60,15 @@ returns-in-More-clause-goes g c = λ s q stands.
     c.read_response_task.new.self c.args.self.now.stopped c.args.self.now.lost q
     took.More c.read_response_task.ensures.start
     (ap (λ (k : H1Client _). k.request) c.read_response_task.ensures.same)
-    c.in-More.ensures.reads refl (c.in-More.ensures.ends refl) stands.peer)
+    c.in-More.ensures.reads refl (c.in-More.ensures.ends refl)
+    c.in-More.ensures.failed stands.peer)
 
 pub returns-in-End-clause-goes : goal.returns-in-End-clause-goes
 returns-in-End-clause-goes g c = λ s q stands.
     side_stays s _ _ _ _ c.args.self.now _ q _ _ _ _ c.read_response_task.ensures.start refl
-    (append-nil q.read) stands
+    (append-nil q.read)
+    (λ calm still. calm_same c.args.self.now.told _ _ _ took.End
+    c.in-End.ensures.failed refl refl calm still) stands
     (read_none s (g.L.ByteLink.start c.args.self.now.client.link)
     (g.L.ByteLink.start c.read_response_task.new.self.link)
     (g.L.ByteLink.state c.args.self.now.client.link)
@@ -63,12 +76,15 @@ returns-in-End-clause-goes g c = λ s q stands.
     c.read_response_task.new.self c.args.self.now.stopped c.args.self.now.lost q
     took.End c.read_response_task.ensures.start
     (ap (λ (k : H1Client _). k.request) c.read_response_task.ensures.same)
-    c.in-End.ensures.reads refl (c.in-End.ensures.ends refl) stands.peer)
+    c.in-End.ensures.reads refl (c.in-End.ensures.ends refl)
+    c.in-End.ensures.failed stands.peer)
 
 pub returns-in-Waited-clause-goes : goal.returns-in-Waited-clause-goes
 returns-in-Waited-clause-goes g c = λ s q stands.
     side_stays s _ _ _ _ c.args.self.now _ q _ _ _ _ c.read_response_task.ensures.start refl
-    (append-nil q.read) stands
+    (append-nil q.read)
+    (λ calm still. calm_paused c.args.self.now.told _ _ c.in-Waited.pause c.in-Waited.ensures.failed calm
+    (sym (ap (λ t. t.errors) c.paused-self.ensures) ∙ still)) stands
     (read_none s (g.L.ByteLink.start c.args.self.now.client.link)
     (g.L.ByteLink.start c.read_response_task.new.self.link)
     (g.L.ByteLink.state c.args.self.now.client.link)
@@ -76,12 +92,15 @@ returns-in-Waited-clause-goes g c = λ s q stands.
     c.read_response_task.new.self c.args.self.now.stopped c.args.self.now.lost q
     (took.Waited c.in-Waited.pause) c.read_response_task.ensures.start
     (ap (λ (k : H1Client _). k.request) c.read_response_task.ensures.same)
-    c.in-Waited.ensures.reads refl (c.in-Waited.ensures.ends refl) stands.peer)
+    c.in-Waited.ensures.reads refl (c.in-Waited.ensures.ends refl)
+    c.in-Waited.ensures.failed stands.peer)
 
 pub returns-in-Failed-clause-goes : goal.returns-in-Failed-clause-goes
 returns-in-Failed-clause-goes g c = λ s q stands.
     side_stays s _ _ _ _ c.args.self.now _ q _ _ _ _ c.read_response_task.ensures.start refl
-    (append-nil q.read) stands
+    (append-nil q.read)
+    (λ calm still. calm_failed c.args.self.now.told _ _ c.in-Failed.why c.in-Failed.ensures.failed calm
+    (sym (ap (λ t. t.errors) c.failed-self-in-Failed.ensures) ∙ still)) stands
     (read_none s (g.L.ByteLink.start c.args.self.now.client.link)
     (g.L.ByteLink.start c.read_response_task.new.self.link)
     (g.L.ByteLink.state c.args.self.now.client.link)
@@ -89,4 +108,5 @@ returns-in-Failed-clause-goes g c = λ s q stands.
     c.read_response_task.new.self c.args.self.now.stopped c.args.self.now.lost q
     (took.Failed c.in-Failed.why) c.read_response_task.ensures.start
     (ap (λ (k : H1Client _). k.request) c.read_response_task.ensures.same)
-    c.in-Failed.ensures.reads refl (c.in-Failed.ensures.ends refl) stands.peer)
+    c.in-Failed.ensures.reads refl (c.in-Failed.ensures.ends refl)
+    c.in-Failed.ensures.failed stands.peer)

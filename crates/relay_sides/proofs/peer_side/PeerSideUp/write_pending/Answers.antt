@@ -1,13 +1,15 @@
 -- What the link took leaves the queue, and a fault is blamed.
-use Rattle.std.proofs.Common.{refl, ap}
+use Rattle.std.proofs.Common.{refl, ap, sym, ◌∙◌}
 use Rattle.relay_peer.specs.declared.h1_client.H1Client.{H1Client}
-use Rattle.relay_sides.proofs.PeerLemmas.{side_stays}
+use Rattle.relay_sides.proofs.PeerLemmas.{side_stays, calm_put}
 use Rattle.relay_sides.proofs.SendLemmas.{write_goes}
 use Rattle.relay_sides.proofs.peer_side.PeerSideUp.write_pending.Goals as goal
 
 pub returns-clause-goes : goal.returns-clause-goes
 returns-clause-goes g c = λ s q stands.
     side_stays s _ _ _ _ c.args.self.now _ q _ _ _ _ c.write_pending-put.ensures.start refl refl
+    (λ calm still. calm_put c.args.self.now.told _ _ c.write_pending-put.result
+    c.write_pending-put.ensures.failed calm (sym (ap (λ t. t.errors) c.written-self.ensures) ∙ still))
     stands
     (write_goes s (g.L.ByteLink.start c.args.self.now.client.link)
     (g.L.ByteLink.start c.write_pending-put.new.self.link)
@@ -16,4 +18,5 @@ returns-clause-goes g c = λ s q stands.
     c.write_pending-put.new.self c.args.self.now.stopped c.args.self.now.lost q
     c.write_pending-put.result c.write_pending-put.ensures.start
     (ap (λ (k : H1Client _). k.response) c.write_pending-put.ensures.same)
+    c.write_pending-put.ensures.failed
     c.write_pending-put.ensures.answer c.write_pending-put.ensures.keeps stands.peer)
