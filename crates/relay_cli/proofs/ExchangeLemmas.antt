@@ -1,26 +1,29 @@
 -- Attempts reported one after another.
-use Rattle.std.proofs.Common.{◌≡◌, ◌≢◌, inl, inr, None, subst, ℕ, suc, ◌+◌, List, [], ◌∷◌, ◌++◌, map, drop, Some, refl, sym, ap, ◌∙◌, add-one, append_assoc, drop-cons}
+use Rattle.std.proofs.Common.{◌≡◌, ◌≢◌, inl, inr, Option, None, subst, ℕ, suc, ◌+◌, List, [], ◌∷◌, ◌++◌, map, drop, Some, refl, sym, ap, ◌∙◌, add-one, append_assoc, drop-cons}
 use Rattle.std.specs.List.{slice_get}
 use Rattle.std.proofs.lemmas.Option.{slice_get_within, get_or_from_slice_get, same_Some}
-use Rattle.relay_links.specs.Link.{LinkState}
-use Rattle.relay_links.specs.ScriptLink.{script_state, script_start, IsFresh}
-use Rattle.relay_links.specs.ScriptEntries.{links_returned, gets_failed}
+use Rattle.relay_links.specs.Link.{LinkState, LinkStart, LinkItems}
+use Rattle.relay_links.specs.ScriptLink.{script_state, script_start, IsFresh, AnswersBy}
+use Rattle.relay_links.specs.ScriptEntries.{links_returned, gets_failed, entry_items, items_left}
 use Rattle.relay_links.specs.Told.{Since, told_length, more}
 use Rattle.relay_links.specs.declared.connector.Returned.{Returned}
 use Rattle.relay_links.specs.declared.read_script.ReadItem.{ReadItem}
 use Rattle.relay_links.specs.declared.write_script.WriteItem.{WriteItem}
 use Rattle.relay_links.specs.declared.script_connector.ScriptConnector.{ScriptConnector}
 use Rattle.relay_links.specs.declared.script_link.ScriptLink.{ScriptLink}
+use Rattle.relay_links.specs.declared.list_schedule.ListSchedule.{ListSchedule}
+use Rattle.relay_links.specs.ListSchedule.{branches_left}
 use Rattle.relay_proxy.specs.Endings.{EndsUnlinked, EndsWith}
 use Rattle.relay_exchange.specs.Passed.{Passed}
 use Rattle.relay_proxy.specs.Passed.{World, Start, start_of}
 use Rattle.relay_proxy.specs.Request.{Processes}
+use Rattle.relay_proxy.specs.Stock.{items_back, all_items}
 use Rattle.relay_proxy.specs.Turn.{world_with}
 use Rattle.relay_proxy.specs.declared.outcome.Outcome.{Outcome}
 use Rattle.relay_proxy.specs.declared.outcome.Outcome.TheVariants as ended
 use Rattle.relay_proxy.specs.declared.outcome.Processed.{Processed}
 use Rattle.relay_proxy.specs.declared.record.AttemptRecord.{AttemptRecord}
-use Rattle.relay_cli.specs.Exchange.{attempt_report, taken_of, sent_of, FirstStartsWithin, first_world, IsConnectorOf, IsRun, reported}
+use Rattle.relay_cli.specs.Exchange.{attempt_report, taken_of, sent_of, FirstStartsWithin, first_world, IsConnectorOf, IsRun, AllAnswerBy, reported}
 use Rattle.relay_cli.specs.Script.{PeerSpec, ScriptSpec}
 
 -- the list from a place on begins with the item there
@@ -94,23 +97,69 @@ runs_script made first last connector old peer first_ahead ahead faults after tu
     (start_of (world_with (script_state first) first_ahead (gets_failed old))) (world_with (script_state last) ahead faults)
     (Some rs) (Some after) turns processed) unreturned run)
 
+-- the links that came back, where the connector had one link, are that one
+answer_by : (after : List (Returned ScriptLink)) (left : List (Option LinkItems)) (read : List ReadItem) (write : List WriteItem)
+    → items_back script_start after ++ left ≡ Some (record { read = read; write = write }) ∷ []
+    → AllAnswerBy after read write
+answer_by [] left read write all = tt
+answer_by (r ∷ []) left read write all = (cc, tt)
+answer_by (r ∷ q ∷ rest) left read write all = cc
+
+-- the link of the peer's entry answers by the peer's items, so the connector has those to hand out
+left_is : (peer : PeerSpec) (connector : ScriptConnector) → IsConnectorOf peer connector
+    → items_left connector ≡ Some (record { read = peer.read; write = peer.write }) ∷ []
+left_is peer connector offered =
+    ap entry_items offered.entries
+    ∙ rw offered.connects (ap (λ (i : Option LinkItems). i ∷ []) offered.link.items)
+
+-- the links that came back from a script's connector are those of its peer
+pub are_peer : (peer : PeerSpec) (connector old : ScriptConnector) (after : List (Returned ScriptLink)) (left : List (Option LinkItems))
+    → IsConnectorOf peer connector → old ≡ connector
+    → all_items script_start (Some after) [] (Some left)
+    ≡ all_items script_start (Some (links_returned old)) [] (Some (items_left old))
+    → AllAnswerBy after peer.read peer.write
+are_peer peer connector old after left offered same all =
+    let unreturned : links_returned old ≡ [] = rw same offered.returned in
+    let left_old : items_left old ≡ Some (record { read = peer.read; write = peer.write }) ∷ [] =
+    rw same (left_is peer connector offered) in
+    let before : all_items script_start (Some (links_returned old)) [] (Some (items_left old))
+    ≡ Some (Some (record { read = peer.read; write = peer.write }) ∷ []) =
+    ap (λ (rs : List (Returned ScriptLink)). all_items script_start (Some rs) [] (Some (items_left old))) unreturned
+    ∙ ap (λ (xs : List (Option LinkItems)). Some xs) left_old in
+    answer_by after left peer.read peer.write (same_Some _ _ (all ∙ before))
+
+-- a link that starts as one that answers by these items answers by them
+pub still_answers : (first made last : ScriptLink) (read : List ReadItem) (write : List WriteItem)
+    → first ≡ made → IsFresh made read write → script_start last ≡ script_start first
+    → AnswersBy last read write
+still_answers first made last read write is fresh same =
+    ap (λ (s : LinkStart). s.items) same ∙ rw is fresh.items
+
 -- what is reported of a request over the links of a script is a run of the script
-pub is_run : (script : ScriptSpec) (made last : ScriptLink) (connector : ScriptConnector) (ahead : List ℕ) (faults : ℕ)
+pub is_run : (script : ScriptSpec) (made last : ScriptLink) (connector : ScriptConnector) (schedule : ListSchedule) (ahead : List ℕ) (faults : ℕ)
     (after : List (Returned ScriptLink)) (processed : Processed)
     → IsFresh made script.client script.client_write → IsConnectorOf script.peer connector
+    → branches_left schedule ≡ script.schedule
+    → AnswersBy last script.client script.client_write → AllAnswerBy after script.peer.read script.peer.write
     → Processes script_state script_start (start_of (first_world made connector)) (world_with (script_state last) ahead faults)
     (Some []) (Some after) script.turns processed
     → processed.outcome ≢ ended.OutOfMemory
     → IsRun script (reported script.peer.name processed last after)
-is_run script made last connector ahead faults after processed fresh offered run printable =
+is_run script made last connector schedule ahead faults after processed fresh offered named client peer run printable =
     let own : after ≡ run.own = own_is [] after run.own refl run.gained in
     record {
       client = made;
       fresh = fresh;
       connector = connector;
       offered = offered;
-      last_world = world_with (script_state last) ahead faults;
+      schedule = schedule;
+      named = named;
+      last = last;
+      is_client = client;
       returned = after;
+      are_peer = peer;
+      ahead = ahead;
+      faults = faults;
       processed = processed;
       run = run;
       printable = printable;

@@ -1,13 +1,18 @@
 -- One exchange over scripted links, and what is reported of it.
 use Rattle.std.specs.Prelude.{◌≡◌, ◌≢◌, ℕ, ◌≤◌, List, [], ◌∷◌, length, drop, map, Some, None, unwrap_or}
-use Rattle.relay_links.specs.ScriptLink.{script_state, script_start, IsFresh}
+use Rattle.relay_links.specs.ScriptLink.{script_state, script_start, IsFresh, AnswersBy}
 use Rattle.relay_links.specs.declared.connector.Returned.{Returned}
+use Rattle.relay_links.specs.declared.read_script.ReadItem.{ReadItem}
+use Rattle.relay_links.specs.declared.write_script.WriteItem.{WriteItem}
 use Rattle.relay_links.specs.ScriptEntries.{next_entries, links_returned, links_out, gets_failed}
 use Rattle.relay_links.specs.declared.script_connector.PeerScript.{PeerScript}
 use Rattle.relay_links.specs.declared.script_connector.ScriptConnector.{ScriptConnector}
 use Rattle.relay_links.specs.declared.script_link.ScriptLink.{ScriptLink}
+use Rattle.relay_links.specs.declared.list_schedule.ListSchedule.{ListSchedule}
+use Rattle.relay_links.specs.ListSchedule.{branches_left}
 use Rattle.relay_proxy.specs.Passed.{World, start_of}
 use Rattle.relay_proxy.specs.Request.{Processes}
+use Rattle.relay_proxy.specs.Turn.{world_with}
 use Rattle.relay_proxy.specs.declared.outcome.Processed.{Processed}
 use Rattle.relay_proxy.specs.declared.outcome.Outcome.TheVariants.{OutOfMemory}
 use Rattle.relay_proxy.specs.declared.record.AttemptRecord.{AttemptRecord}
@@ -39,6 +44,11 @@ sent_of (r ∷ rest) = taken_since r.link
 abbrev pub FirstStartsWithin : List (Returned ScriptLink) → Type 0
 FirstStartsWithin [] = Unit {0}
 FirstStartsWithin (r ∷ rest) = StartsWithin r.link
+
+-- each link of the list answers by these items
+abbrev pub AllAnswerBy : List (Returned ScriptLink) → List ReadItem → List WriteItem → Type 0
+AllAnswerBy [] read write = Unit {0}
+AllAnswerBy (r ∷ rest) read write = AnswersBy r.link read write × AllAnswerBy rest read write
 
 -- what is reported of a request at the peer of that name
 abbrev pub reported : List ℕ → Processed → ScriptLink → List (Returned ScriptLink) → RequestSpec
@@ -72,11 +82,19 @@ pub record IsRun (script : ScriptSpec) (request : RequestSpec) : Type 0 where
   pub fresh : IsFresh client script.client script.client_write
   pub connector : ScriptConnector
   pub offered : IsConnectorOf script.peer connector
-  -- the request over them, from its begin to its end
-  pub last_world : World
+  pub schedule : ListSchedule
+  pub named : branches_left schedule ≡ script.schedule
+  -- the client's link as the request left it, and the links that came back: those of the script
+  pub last : ScriptLink
+  pub is_client : AnswersBy last script.client script.client_write
   pub returned : List (Returned ScriptLink)
+  pub are_peer : AllAnswerBy returned script.peer.read script.peer.write
+  -- the request over them, from its begin to its end
+  pub ahead : List ℕ
+  pub faults : ℕ
   pub processed : Processed
-  pub run : Processes script_state script_start (start_of (first_world client connector)) last_world
+  pub run : Processes script_state script_start (start_of (first_world client connector))
+      (world_with (script_state last) ahead faults)
       (Some []) (Some returned) script.turns processed
   -- what is reported is the outcome and what passed
   pub printable : request.outcome ≢ OutOfMemory

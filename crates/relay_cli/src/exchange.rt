@@ -1,5 +1,6 @@
 //! One exchange over scripted links: the proxy between the client and the peer of a script.
 ghost use Rattle.std.specs.Prelude.{◌≡◌, ◌↔◌, List, [], map, IsTrue, IfOk};
+ghost use Rattle.relay_links.specs.ListSchedule.{branches_left};
 ghost use Rattle.relay_cli.specs.Exchange.{attempt_report, taken_of, taken_since, StartsWithin, sent_of, FirstStartsWithin, IsConnectorOf, IsRun, reported};
 ghost use Rattle.relay_cli.specs.Report.{request_spec};
 ghost use Rattle.relay_cli.specs.Script.{peer_spec, script_spec};
@@ -9,7 +10,7 @@ use crate::script::{PeerEntry, Script};
 use bytes::Bytes;
 use relay_h1::Connection;
 use relay_links::{
-    CountDelay, ListSchedule, MemoryPurger, PeerScript, Returned, ScriptConnector, ScriptLink,
+    Branch, CountDelay, ListSchedule, MemoryPurger, PeerScript, Returned, ScriptConnector, ScriptLink,
     ShutdownAt,
 };
 use relay_proxy::{
@@ -50,11 +51,7 @@ pub fn run_exchange(alloc: Global, script: Script) -> Result<RequestReport, Allo
     let mut client = Connection::new(alloc, link);
     let purger = MemoryPurger::new(alloc, Purged::NotFound);
     let mut proxy = HttpProxy::new(alloc, NoHooks, CONF, connector, purger);
-    let mut outside = Outside {
-        schedule: ListSchedule::new(schedule),
-        shutdown: ShutdownAt::new(None),
-        delay: CountDelay::new(),
-    };
+    let mut outside = outside_of(schedule);
     let processed = proxy.process_new_http(&mut client, &mut outside, turns);
     if wants_memory(processed.outcome) {
         return Err(AllocError);
@@ -66,6 +63,17 @@ pub fn run_exchange(alloc: Global, script: Script) -> Result<RequestReport, Allo
         client.link(),
         proxy.connector().returned(),
     )
+}
+
+/// What the proxy of a script asks beside its links: the branches of the script, in order.
+fn outside_of(schedule: Vec<Branch>) -> Outside<ListSchedule, ShutdownAt, CountDelay>
+    ensures { branches_left result.schedule ≡ schedule.items }
+{
+    Outside {
+        schedule: ListSchedule::new(schedule),
+        shutdown: ShutdownAt::new(None),
+        delay: CountDelay::new(),
+    }
 }
 
 /// Whether the outcome is want of memory, which is not reported.

@@ -3,6 +3,7 @@ ghost use Rattle.std.specs.Prelude.{◌≡◌, ◌++◌, ◌∷◌, [], List, �
 ghost use Rattle.relay_tasks.specs.declared.error.Error.{Error};
 ghost use Rattle.relay_tasks.specs.declared.error.ErrorSource.TheVariants.{Downstream};
 ghost use Rattle.relay_tasks.specs.declared.task.HttpTask.{HttpTask};
+ghost use Rattle.relay_links.specs.Link.{LinkStart};
 ghost use Rattle.relay_core.specs.Down.{DownState, may_read, ReadsPiece, TakesBatch, Writes, Finishes};
 ghost use Rattle.relay_core.specs.Past.{Origin, DownPast, DownGoes, BatchGoes, put_in, closing_in, error_of_took, error_of_put, error_of_result};
 
@@ -19,7 +20,8 @@ use relay_tasks::{Pause, Result, TaskList, Took};
 /// more than one past, since a side keeps none, and each call takes every past to one that goes on
 /// from it. `blames` says that the side answers for an error, `refuses` that it refuses these tasks
 /// behind those that it was given, `cannot_end` that the response cannot end where it stands, and
-/// `is_silent` that the client's link is silent on what the side asked of it.
+/// `is_silent` that the client's link is silent on what the side asked of it. `start` is the
+/// client's link as it was handed out, which no call changes.
 pub trait Down {
     /// The client, whose link the side reads and writes.
     type Client;
@@ -37,6 +39,7 @@ pub trait Down {
     ghost is_silent: { Self.Client → Type 0 };
 
     ghost faults: { Self.Client → ℕ };
+    ghost start: { Self.Client → LinkStart };
 
     /// Whether the client may be read: not where its request has ended and it waits for the answer
     /// to an upgrade.
@@ -55,6 +58,7 @@ pub trait Down {
     /// client is then only watched. The end comes with a piece, and `End` is never answered.
     fn read_piece(&mut self, client: &mut Self::Client, idle: bool) -> Took<Piece>
         ensures reads { ReadsPiece (state self.old) (state self.new) result }
+        ensures start { start client.new ≡ start client.old }
         ensures goes { (s : Origin) (p : DownPast) → past self.old client.old s p
             → DownGoes (past self.new client.new s) (blames self.new client.new s)
             (p.put ++ put_in (state self.old).upgraded result) p.batched p.closing
@@ -80,6 +84,7 @@ pub trait Down {
     fn write_pending(&mut self, client: &mut Self::Client) -> Put
         requires { IsTrue (state self.old).pending }
         ensures writes { Writes (state self.old) (state self.new) result }
+        ensures start { start client.new ≡ start client.old }
         ensures goes { (s : Origin) (p : DownPast) → past self.old client.old s p
             → DownGoes (past self.new client.new s) (blames self.new client.new s)
             p.put p.batched p.closing (error_of_put Downstream result) }

@@ -20,6 +20,7 @@ impl Duplex {
     /// One write to the client.
     pub(crate) fn down_write<D: Down>(&mut self, client: &mut D::Client, down: &mut D) -> Step
         requires { IsTrue (D.state down.old).pending }
+        ensures start { D.start client.new ≡ D.start client.old }
         ensures exact { DownWrites self.old (D.state down.old) self.new (D.state down.new) result }
         ensures goes { (s : Origin) (p : DownPast) → D.past down.old client.old s p
             → DownWritesOn (D.past down.new client.new s) (D.blames down.new client.new s) p
@@ -119,6 +120,7 @@ impl Duplex {
     /// Reads a piece of the request and puts it.
     pub(crate) fn down_read<D: Down>(&mut self, client: &mut D::Client, down: &mut D) -> Step
         requires { IsTrue (has_room self.old.requests) }
+        ensures start { D.start client.new ≡ D.start client.old }
         ensures exact { DownReads self.old (D.state down.old) self.new (D.state down.new) result }
         ensures goes { (s : Origin) (p : DownPast) → D.past down.old client.old s p
             → DownReadsOn (D.past down.new client.new s) (D.blames down.new client.new s) p

@@ -269,6 +269,8 @@ impl Duplex {
 
         // A step that does not fail leaves the count of the client's faults.
         ensures calm { says_failed result ≡ false → D.faults client.new ≡ D.faults client.old }
+        ensures client_start { D.start client.new ≡ D.start client.old }
+        ensures peer_start { U.start up.new ≡ U.start up.old }
     {
         match branch {
             Branch::UpWrite => self.up_write(up),
@@ -335,6 +337,9 @@ impl Duplex {
 
         // A step that does not fail leaves the count of the client's faults.
         ensures calm { says_failed result ≡ false → D.faults client.new ≡ D.faults client.old }
+        // No call of a link changes what it was as it was handed out.
+        ensures client_start { D.start client.new ≡ D.start client.old }
+        ensures peer_start { U.start up.new ≡ U.start up.old }
 
         // The client's request and the upstream's response become done for their causes alone.
         ensures request_done { IsTrue (is_reading self.old.client_request)

@@ -2,6 +2,7 @@
 ghost use Rattle.std.specs.Prelude.{◌≡◌, ◌++◌, ◌∷◌, ◌||◌, [], IsTrue};
 ghost use Rattle.relay_tasks.specs.declared.error.Error.{Error};
 ghost use Rattle.relay_tasks.specs.declared.error.ErrorSource.TheVariants.{Upstream};
+ghost use Rattle.relay_links.specs.Link.{LinkStart};
 ghost use Rattle.relay_core.specs.Past.{Origin, UpPast, UpGoes, task_in, loses, error_of_took, error_of_put, error_of_result};
 ghost use Rattle.relay_core.specs.Up.{UpState, ReadsTask, TakesPiece, Writes};
 
@@ -16,6 +17,7 @@ use relay_tasks::{HttpTask, Pause, Result, Took};
 /// It also means what passed through it since its link was handed out, by a relation: each call
 /// takes every past to one that goes on from it. `blames` says that the side answers for an error,
 /// which it does from then on, and `is_silent` that its link is silent on what was asked of it.
+/// `start` is its link as it was handed out, which no call changes.
 pub trait Up {
     ghost state: { Self → UpState };
 
@@ -24,6 +26,8 @@ pub trait Up {
     ghost blames: { Self → Origin → UpPast → Error → Type 0 };
 
     ghost is_silent: { Self → Type 0 };
+
+    ghost start: { Self → LinkStart };
 
     /// Which kind of upstream it is.
     fn kind(&self) -> UpKind
@@ -37,6 +41,7 @@ pub trait Up {
     /// item is `Failed`.
     fn read_task(&mut self) -> Took<HttpTask>
         ensures reads { ReadsTask (state self.old) (state self.new) result }
+        ensures start { start self.new ≡ start self.old }
         ensures goes { (s : Origin) (q : UpPast) → past self.old s q
             → UpGoes (past self.new s) (blames self.old s) (blames self.new s) q
             (q.read ++ task_in result) q.taken q.lost (error_of_took result) }
@@ -47,6 +52,7 @@ pub trait Up {
     /// counts as taken, and is lost.
     fn take_piece(&mut self, task: HttpTask) -> Result<()>
         ensures takes { TakesPiece (state self.old) (state self.new) result }
+        ensures start { start self.new ≡ start self.old }
         ensures goes { (s : Origin) (q : UpPast) → past self.old s q
             → UpGoes (past self.new s) (blames self.old s) (blames self.new s) q
             q.read (q.taken ++ task ∷ []) (q.lost || loses result) (error_of_result result) };
@@ -59,6 +65,7 @@ pub trait Up {
     fn write_pending(&mut self) -> Put
         requires { IsTrue (state self.old).pending }
         ensures writes { Writes (state self.old) (state self.new) result }
+        ensures start { start self.new ≡ start self.old }
         ensures goes { (s : Origin) (q : UpPast) → past self.old s q
             → UpGoes (past self.new s) (blames self.old s) (blames self.new s) q
             q.read q.taken q.lost (error_of_put Upstream result) }

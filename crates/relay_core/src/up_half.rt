@@ -16,6 +16,7 @@ impl Duplex {
     /// One write to the upstream. A fault is kept as the send error.
     pub(crate) fn up_write<U: Up>(&mut self, up: &mut U) -> Step
         requires { IsTrue (U.state up.old).pending }
+        ensures start { U.start up.new ≡ U.start up.old }
         ensures exact { UpWrites self.old (U.state up.old) self.new (U.state up.new) result }
         ensures goes { (s : Origin) (q : UpPast) → U.past up.old s q
             → UpWritesOn (U.past up.new s) (U.blames up.old s) (U.blames up.new s) q
@@ -65,6 +66,7 @@ impl Duplex {
     /// send error.
     pub(crate) fn up_take<U: Up>(&mut self, up: &mut U, tunnel: bool) -> Step
         requires { 0 < length self.old.requests.tasks }
+        ensures start { U.start up.new ≡ U.start up.old }
         ensures exact { UpTakes tunnel self.old (U.state up.old) self.new (U.state up.new) result }
         ensures goes { (s : Origin) (q : UpPast) → U.past up.old s q
             → UpTakesOn (U.past up.new s) (U.blames up.old s) (U.blames up.new s) q tunnel
@@ -97,6 +99,7 @@ impl Duplex {
     /// error where one is kept.
     pub(crate) fn up_read<U: Up>(&mut self, up: &mut U, tunnel: bool) -> Step
         requires { IsTrue (has_room self.old.responses) }
+        ensures start { U.start up.new ≡ U.start up.old }
         ensures exact { UpReads tunnel self.old (U.state up.old) self.new (U.state up.new) result }
         ensures goes { (s : Origin) (q : UpPast) → U.past up.old s q
             → UpReadsOn (U.past up.new s) (U.blames up.old s) (U.blames up.new s) q tunnel

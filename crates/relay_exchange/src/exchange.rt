@@ -74,6 +74,7 @@ impl<L: ByteLink> Exchange<L> {
             → IsUnderWay L.state L.start s
             (record { came = came; written = []; got = []; sent = [] }) client ahead x) }
         ensures session { IfOk result (λ x. x.client.session ≡ session) }
+        ensures over { IfOk result (λ x. x.peer.client.link ≡ link) }
         ensures link { IfErr result (λ unbegun. unbegun.link ≡ link) }
         ensures refused { IsRefusedFor result
             (Fail.Error (refused_from ErrorSource.Internal Context.BadFraming))
@@ -117,6 +118,9 @@ impl<L: ByteLink> Exchange<L> {
         // A turn that does not fail leaves the count of the client's faults.
         ensures calm { says_failed result.step ≡ false
             → (F.state client.new).faults ≡ (F.state client.old).faults }
+        ensures client_start { F.start client.new ≡ F.start client.old }
+        ensures peer_start { L.start self.new.peer.client.link
+            ≡ L.start self.old.peer.client.link }
     {
         match &mut self.stage {
             Stage::Head => Turn {
@@ -189,6 +193,7 @@ fn send_head<L: ByteLink>(
         (record { alloc = alloc; client = client.now; peer = peer.new; stage = stage.new }) result }
     ensures silent { result ≡ Step.Waited Pause.Silent
         → Peer.IsSilent (L.state peer.new.client.link) }
+    ensures peer_start { L.start peer.new.client.link ≡ L.start peer.old.client.link }
 {
     let step = write_head(peer);
     *stage = stage_behind(alloc, client.session(), peer);
@@ -202,6 +207,7 @@ fn write_head<L: ByteLink>(peer: &mut PeerSide<L>) -> Step
         (Blames L.state L.start peer.new s) q q.read q.taken q.lost (error_of_step result) }
     ensures silent { result ≡ Step.Waited Pause.Silent
         → Peer.IsSilent (L.state peer.new.client.link) }
+    ensures peer_start { L.start peer.new.client.link ≡ L.start peer.old.client.link }
     ensures unfinished { says_finished result ≡ false }
     // An error that the side told is the answer.
     ensures told { error_of_step result ≡ None
@@ -256,6 +262,8 @@ fn move_bodies<L: ByteLink, F: Front, H: Schedule>(
         → Client.IsSilent (F.state client.new) ⊎ Peer.IsSilent (L.state peer.new.client.link) }
     ensures calm { says_failed result.step ≡ false
         → (F.state client.new).faults ≡ (F.state client.old).faults }
+    ensures client_start { F.start client.new ≡ F.start client.old }
+    ensures peer_start { L.start peer.new.client.link ≡ L.start peer.old.client.link }
 {
     let mut down: ClientSide<F> = ClientSide::resume(mem::replace(state, stand_in::<F>(alloc)));
     let (step, branch) = go_round(duplex, client, &mut down, peer, schedule);

@@ -37,6 +37,10 @@ pub(crate) fn go_round<D: Down, U: Up, H: Schedule>(
         → is_finished duplex.old ≡ false → is_failed duplex.old.word ≡ false
         → Tells result.0 duplex.new }
 
+    // No call of a link changes what it was as it was handed out.
+    ensures client_start { D.start client.new ≡ D.start client.old }
+    ensures peer_start { U.start up.new ≡ U.start up.old }
+
     // Silence is that of a link.
     ensures silent { result.0 ≡ Step.Waited Pause.Silent
         → D.is_silent client.new ⊎ U.is_silent up.new }

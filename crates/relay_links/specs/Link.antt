@@ -2,6 +2,8 @@
 use Rattle.std.specs.Prelude.{◌≡◌, ℕ, ◌≤◌, Bool, true, false, List, [], ◌∷◌, ◌⊎◌, length, take, Option, IsTrue}
 use Rattle.relay_tasks.specs.declared.fault.Fault.{Fault}
 use Rattle.relay_tasks.specs.declared.fault.FaultKind.TheVariants as kind
+use Rattle.relay_links.specs.declared.read_script.ReadItem.{ReadItem}
+use Rattle.relay_links.specs.declared.write_script.WriteItem.{WriteItem}
 use Rattle.relay_links.specs.declared.link.Got.{Got}
 use Rattle.relay_links.specs.declared.link.Got.TheVariants as got
 use Rattle.relay_links.specs.declared.link.Put.{Put}
@@ -25,9 +27,15 @@ pub record LinkState : Type 0 where
   pub silent_on_read : Bool
   pub silent_on_write : Bool
 
--- a link as its connector handed it out: the lengths of its lists (0 where not told), its counts,
--- and whether it had been used before
+-- the items by which a link answers, all of them, in order
+pub record LinkItems : Type 0 where
+  pub read : List ReadItem
+  pub write : List WriteItem
+
+-- a link as its connector handed it out: the items by which it answers, where it has such, the
+-- lengths of its lists (0 where not told), its counts, and whether it had been used before
 pub record LinkStart : Type 0 where
+  pub items : Option LinkItems
   pub given : ℕ
   pub taken : ℕ
   pub read_faults : ℕ

@@ -21,6 +21,7 @@ mute_state link = record {
 -- the link as it was made
 abbrev pub mute_start : MuteLink → LinkStart
 mute_start link = record {
+  items = None;
   given = 0;
   taken = 0;
   read_faults = 0;

@@ -1,5 +1,5 @@
 -- What a script of reads gave, what it has left, and which item answers the next read.
-use Rattle.std.specs.Prelude.{◌≡◌, ℕ, zero, suc, ◌-◌, min, Bool, true, false, cond, nat_le, List, [], ◌∷◌, ◌++◌, length, take, drop, flat_map, slice_get, IfSome, ◌≤◌, ◌&&◌, not}
+use Rattle.std.specs.Prelude.{◌≡◌, ℕ, zero, suc, ◌-◌, min, Bool, true, false, cond, nat_le, List, [], ◌∷◌, ◌++◌, length, take, drop, flat_map, slice_get, Some, IfSome, ◌≤◌, ◌&&◌, not}
 use Rattle.relay_tasks.specs.declared.fault.Fault.{Fault}
 use Rattle.relay_links.specs.Fault.{as_read_fault}
 use Rattle.relay_links.specs.Link.{IsReadFault}
@@ -97,6 +97,10 @@ after_answer (item.Wait n ∷ items) room = item.Wait (n - 1) ∷ items
 after_answer (item.After n ∷ items) room = item.After n ∷ items
 after_answer (item.Fault fault ∷ items) room = items
 after_answer (item.End ∷ items) room = item.End ∷ items
+
+-- the end comes first of these items
+abbrev pub IsAtEnd : List ReadItem → Type 0
+IsAtEnd items = slice_get items 0 ≡ Some item.End
 
 -- what a script gave
 abbrev pub script_given : ReadScript → List ℕ

@@ -1,5 +1,8 @@
 -- What a connector that hands out listed links has left.
-use Rattle.std.specs.Prelude.{◌≡◌, ℕ, List, []}
+use Rattle.std.specs.Prelude.{◌≡◌, ℕ, List, [], ◌∷◌, Option, Some, None}
+use Rattle.relay_tasks.specs.declared.error.RetryType.{RetryType}
+use Rattle.relay_links.specs.Link.{LinkItems}
+use Rattle.relay_links.specs.ScriptLink.{script_start}
 use Rattle.relay_links.specs.declared.script_link.ScriptLink.{ScriptLink}
 use Rattle.relay_links.specs.declared.connector.Returned.{Returned}
 use Rattle.relay_links.specs.declared.script_connector.PeerScript.{PeerScript}
@@ -12,6 +15,20 @@ next_entries connector = connector.entries.items
 -- the links that were handed back, in order
 abbrev pub links_returned : ScriptConnector → List (Returned ScriptLink)
 links_returned connector = connector.returned.items
+
+-- the items of the links that these entries hand out, in order; an entry with a mark hands out none
+abbrev pub items_offered : Option RetryType → ScriptLink → List (Option LinkItems)
+    → List (Option LinkItems)
+items_offered None link behind = (script_start link).items ∷ behind
+items_offered (Some retry) link behind = behind
+
+abbrev pub entry_items : List PeerScript → List (Option LinkItems)
+entry_items [] = []
+entry_items (entry ∷ entries) = items_offered entry.connect entry.link (entry_items entries)
+
+-- the items of the links that the connector will hand out
+abbrev pub items_left : ScriptConnector → List (Option LinkItems)
+items_left connector = entry_items (next_entries connector)
 
 -- how many links are out
 abbrev pub links_out : ScriptConnector → ℕ

@@ -30,6 +30,7 @@ script_state link = record {
 -- the link as it was handed out: the lengths of its lists at the places that its scripts had then
 abbrev pub script_start : ScriptLink → LinkStart
 script_start link = record {
+  items = Some (record { read = link.reads.items.items; write = link.writes.items.items });
   given = length (reads.given_of link.reads.items.items link.start.read_at link.start.read_done);
   taken = link.start.taken;
   read_faults = length (reads.faults_before link.reads.items.items link.start.read_at);
@@ -44,6 +45,10 @@ script_start link = record {
 pub record KeepsScripts (before after : ScriptLink) : Type 0 where
   pub reads : after.reads ≡ before.reads
   pub writes : after.writes ≡ before.writes
+
+-- the link answers by these items, and by no others
+abbrev pub AnswersBy : ScriptLink → List ReadItem → List WriteItem → Type 0
+AnswersBy link read write = (script_start link).items ≡ Some (record { read = read; write = write })
 
 -- the link has answered nothing: its items are left, and it stands as it is handed out first
 pub record IsFresh (link : ScriptLink) (read : List ReadItem)
@@ -61,6 +66,7 @@ pub record IsFresh (link : ScriptLink) (read : List ReadItem)
     silent_on_write = false;
   }
   pub start : IsHandedOut (script_state link) (script_start link) false
+  pub items : AnswersBy link read write
   pub reads : reads.script_left link.reads ≡ read
   pub writes : writes.script_left link.writes ≡ write
 

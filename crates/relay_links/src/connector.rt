@@ -1,9 +1,9 @@
 //! The connector: it hands out links to peers, and takes each of them back.
-ghost use Rattle.std.specs.Prelude.{◌≡◌, ℕ, ◌+◌, ◌<◌, ◌≤◌, List, [], ◌∷◌, Option, is_ok, if◌then◌else◌, IfOk, IfErr, OnOk};
+ghost use Rattle.std.specs.Prelude.{◌≡◌, ℕ, ◌+◌, ◌<◌, ◌≤◌, List, [], ◌∷◌, Option, option_map, is_ok, if◌then◌else◌, IfOk, IfErr, OnOk};
 ghost use Rattle.relay_links.specs.declared.connector.Returned.{Returned};
 ghost use Rattle.relay_links.specs.Count.{last_count, Rose};
 ghost use Rattle.relay_links.specs.Told.{more};
-ghost use Rattle.relay_links.specs.Link.{IsHandedOut};
+ghost use Rattle.relay_links.specs.Link.{LinkItems, IsHandedOut};
 ghost use Rattle.relay_links.specs.Connector.{IsConnectFault};
 
 use crate::link::ByteLink;
@@ -18,13 +18,16 @@ pub struct Returned<L> {
     pub keep: bool,
 }
 
-/// Hands out links and takes them back. It means the list of the links handed back, where it tells
-/// that, how many of its links are out, and how many of its calls failed.
+/// Hands out links and takes them back. It means the list of the links handed back and the items of
+/// the links that it will hand out, in order, where it tells those, how many of its links are out,
+/// and how many of its calls failed.
 pub trait Connector {
     /// Its links.
     type Byte: ByteLink;
 
     ghost returned: { Self → Option (List (Returned Self.Byte)) };
+
+    ghost stock: { Self → Option (List (Option LinkItems)) };
 
     ghost out: { Self → ℕ };
 
@@ -37,6 +40,9 @@ pub trait Connector {
             IsHandedOut (Self.Byte.state got.0) (Self.Byte.start got.0) got.1) }
         ensures out { out self.new ≡ (if is_ok result then out self.old + 1 else out self.old) }
         ensures returned { returned self.new ≡ returned self.old }
+        ensures first { IfOk result (λ got. stock self.old
+            ≡ option_map (λ rest. (Self.Byte.start got.0).items ∷ rest) (stock self.new)) }
+        ensures stays { IfErr result (λ _. stock self.new ≡ stock self.old) }
         ensures no_fault { OnOk result (fault_count self.new ≡ fault_count self.old) }
         ensures fault { IfErr result IsConnectFault }
         ensures rose { IfErr result (λ _. Rose (fault_count self.old) (fault_count self.new)) }
@@ -48,6 +54,7 @@ pub trait Connector {
         ensures out { out self.new + 1 ≡ out self.old }
         ensures returned { returned self.new
             ≡ more (returned self.old) (record { peer = peer; link = link; keep = keep } ∷ []) }
+        ensures stock { stock self.new ≡ stock self.old }
         ensures faults { fault_count self.new ≡ fault_count self.old };
 
     /// How many calls failed; the count stands still at its last value.

@@ -65,9 +65,11 @@ impl ScriptConnector {
 impl Connector for ScriptConnector {
     type Byte = ScriptLink;
 
-    ghost use Rattle.relay_links.specs.ScriptEntries.{next_entries, links_returned, links_out, gets_failed};
+    ghost use Rattle.relay_links.specs.ScriptEntries.{next_entries, links_returned, items_left, links_out, gets_failed};
 
     ghost returned = { λ connector. Some (links_returned connector) };
+
+    ghost stock = { λ connector. Some (items_left connector) };
 
     ghost out = { links_out };
 
@@ -79,6 +81,9 @@ impl Connector for ScriptConnector {
         ensures out { links_out self.new
             ≡ (if is_ok result then links_out self.old + 1 else links_out self.old) }
         ensures returned { links_returned self.new ≡ links_returned self.old }
+        ensures first { IfOk result (λ got. items_left self.old
+            ≡ (script_start got.0).items ∷ items_left self.new) }
+        ensures stays { IfErr result (λ _. items_left self.new ≡ items_left self.old) }
         ensures no_fault { OnOk result (gets_failed self.new ≡ gets_failed self.old) }
         ensures fault { IfErr result IsConnectFault }
         ensures rose { IfErr result (λ _. Rose (gets_failed self.old) (gets_failed self.new)) }

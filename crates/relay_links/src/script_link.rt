@@ -1,7 +1,9 @@
 //! A link in memory that answers by scripts: it tells all that a link means.
-ghost use Rattle.std.specs.Prelude.{◌≡◌, ◌<◌, ◌≤◌, ◌+◌, length, take, vec_len, vec_capacity, ◌++◌, Some};
+ghost use Rattle.std.specs.Prelude.{◌≡◌, ◌<◌, ◌≤◌, ◌+◌, min, IsTrue, length, take, vec_len, vec_capacity, ◌++◌, Some};
+ghost use Rattle.relay_links.specs.Count.{last_count};
+ghost use Rattle.relay_links.specs.ReadScript.{IsAtEnd, script_left, script_faults};
+ghost use Rattle.relay_links.specs.WriteScript as write_specs;
 ghost use Rattle.relay_links.specs.Link.{Reads, Writes, IsHandedOut};
-ghost use Rattle.relay_links.specs.ScriptLink.{script_state, script_start, IsFresh, KeepsScripts, FollowsReads, FollowsWrites};
 
 use crate::link::{ByteLink, Got, Put};
 use crate::read_script::{ReadItem, ReadScript};
@@ -32,9 +34,13 @@ pub struct ScriptLink {
     used: u64,
     faults: u64,
     start: ScriptStart,
+    ghost at_end: { IsTrue reads.ended → IsAtEnd (script_left reads) },
+    ghost counted: { faults ≡ min (length (script_faults reads) + length (write_specs.script_faults writes)) last_count },
 }
 
 impl ScriptLink {
+    ghost use Rattle.relay_links.specs.ScriptLink.{script_state, script_start, IsFresh, KeepsScripts};
+
     /// A link that has answered nothing, with these items.
     pub fn new(alloc: Global, read: Vec<ReadItem>, write: Vec<WriteItem>) -> ScriptLink
         ensures { IsFresh result read.items write.items }
@@ -94,6 +100,8 @@ impl ScriptLink {
 }
 
 impl ByteLink for ScriptLink {
+    ghost use Rattle.relay_links.specs.ScriptLink.{script_state, script_start, FollowsReads, FollowsWrites};
+
     ghost state = { script_state };
 
     ghost start = { script_start };

@@ -3,5 +3,6 @@ pub mod HeadSteps
 pub mod ConnectSteps
 pub mod RelaySteps
 pub mod StepLemmas
+mod StockLemmas
 pub mod ExactLemmas
 pub mod UnderWay

@@ -9,3 +9,4 @@ pub mod Closing
 pub mod Exact
 pub mod Request
 pub mod Reuse
+pub mod Stock

@@ -8,6 +8,7 @@ ghost use Rattle.relay_proxy.specs.Endings.{IsTurnedDown, ended_outcome};
 ghost use Rattle.relay_exchange.specs.Passed.{Passed};
 ghost use Rattle.relay_proxy.specs.Passed.{World, Start};
 ghost use Rattle.relay_proxy.specs.Phases.{RunSoFar};
+ghost use Rattle.relay_proxy.specs.Stock.{items_held};
 ghost use Rattle.relay_proxy.specs.Turn.{world_of, DoesWork, is_over, is_end, links_held, Advances};
 
 use crate::built::{is_built_request, is_connect};
@@ -36,7 +37,9 @@ pub(crate) fn read_head<SV: ProxyHttp, D: ByteLink, U, L: ByteLink>(
     ensures work { DoesWork result.step result.work }
     ensures over { is_over result.phase ≡ is_end result.step }
     ensures unlinked { links_held L.state L.start result.phase ≡ 0 }
+    ensures no_items { items_held L.start result.phase ≡ [] }
     ensures kept { client.new.kept ≡ client.old.kept }
+    ensures client_start { D.start client.new.link ≡ D.start client.old.link }
 {
     match client.judge_request(alloc) {
         Ok(None) => await_head(alloc, client),
@@ -63,7 +66,9 @@ fn await_head<D: ByteLink, U, L: ByteLink, C>(
     ensures work { DoesWork result.step result.work }
     ensures over { is_over result.phase ≡ is_end result.step }
     ensures unlinked { links_held L.state L.start result.phase ≡ 0 }
+    ensures no_items { items_held L.start result.phase ≡ [] }
     ensures kept { client.new.kept ≡ client.old.kept }
+    ensures client_start { D.start client.new.link ≡ D.start client.old.link }
 {
     match client.read_more() {
         Err(_) => Next {
@@ -135,7 +140,9 @@ fn take_head<SV: ProxyHttp, D: ByteLink, U, L: ByteLink>(
     ensures work { DoesWork result.step result.work }
     ensures over { is_over result.phase ≡ is_end result.step }
     ensures unlinked { links_held L.state L.start result.phase ≡ 0 }
+    ensures no_items { items_held L.start result.phase ≡ [] }
     ensures kept { client.new.kept ≡ client.old.kept }
+    ensures client_start { D.start client.new.link ≡ D.start client.old.link }
 {
     if is_connect(&read.head) {
         return give_answer(alloc, 405, None);
@@ -161,7 +168,9 @@ fn accept_head<SV: ProxyHttp, D: ByteLink, U, L: ByteLink>(
     ensures work { DoesWork result.step result.work }
     ensures over { is_over result.phase ≡ is_end result.step }
     ensures unlinked { links_held L.state L.start result.phase ≡ 0 }
+    ensures no_items { items_held L.start result.phase ≡ [] }
     ensures kept { client.new.kept ≡ client.old.kept }
+    ensures client_start { D.start client.new.link ≡ D.start client.old.link }
 {
     if !is_built_request(&read.head) {
         let error = Error::new_down(ErrorType::Custom(1));
@@ -203,6 +212,7 @@ fn give_answer<L: ByteLink, C>(alloc: Global, status: u16, error: Option<Error>)
     ensures work { DoesWork result.step result.work }
     ensures over { is_over result.phase ≡ is_end result.step }
     ensures unlinked { links_held L.state L.start result.phase ≡ 0 }
+    ensures no_items { items_held L.start result.phase ≡ [] }
 {
     let mut text = Vec::new(alloc);
     let Ok(()) = write_generated(&mut text, status) else {
@@ -236,7 +246,9 @@ pub(crate) fn write_refusal<D: ByteLink, U, L: ByteLink, C>(
     ensures work { DoesWork result.step result.work }
     ensures over { is_over result.phase ≡ is_end result.step }
     ensures unlinked { links_held L.state L.start result.phase ≡ 0 }
+    ensures no_items { items_held L.start result.phase ≡ [] }
     ensures kept { client.new.kept ≡ client.old.kept }
+    ensures client_start { D.start client.new.link ≡ D.start client.old.link }
 {
     match answer.write_to(client) {
         Offered::Whole => Next {

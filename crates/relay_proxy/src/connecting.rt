@@ -1,11 +1,12 @@
 //! The connector: asked once for a link, over which the request's one attempt then goes.
-ghost use Rattle.std.specs.Prelude.{◌≡◌, ◌+◌, ◌≤◌, [], ◌∷◌, ℕ, List, Some, IfSome, false};
+ghost use Rattle.std.specs.Prelude.{◌≡◌, ◌+◌, ◌≤◌, [], ◌∷◌, ◌++◌, option_map, ℕ, List, Some, IfSome, false};
 ghost use Rattle.relay_links.specs.Link.{LinkState, IsHandedOut};
 ghost use Rattle.relay_exchange.specs.Passed.{Passed};
 ghost use Rattle.relay_session.specs.Reading.{head_of};
 ghost use Rattle.relay_proxy.specs.Endings.{IsInOrder, IsAskedPeer, fault_error, outcome_of};
 ghost use Rattle.relay_proxy.specs.Passed.{World, Start, TellsClient};
 ghost use Rattle.relay_proxy.specs.Phases.{IsRelaying, RunSoFar};
+ghost use Rattle.relay_proxy.specs.Stock.{items_held};
 ghost use Rattle.relay_proxy.specs.Turn.{world_with, DoesWork, is_over, is_end, links_held, Advances};
 
 use crate::machine::{Attempt, Lease, Next, Phase, RunStep};
@@ -61,6 +62,8 @@ pub(crate) fn connect<K: Connector, F: Front, C: Drop>(
     ensures out { K.out connector.new
         ≡ K.out connector.old + links_held K.Byte.state K.Byte.start result.phase }
     ensures returned { K.returned connector.new ≡ K.returned connector.old }
+    ensures stock { K.stock connector.old ≡ option_map
+        (λ rest. items_held K.Byte.start result.phase ++ rest) (K.stock connector.new) }
     ensures faults { K.fault_count connector.old ≤ K.fault_count connector.new }
 {
     let Ok(room) = AttemptRoom::new(alloc) else {
@@ -132,6 +135,7 @@ fn begin<L: ByteLink, F: Front, C: Drop>(
     ensures work { DoesWork result.step result.work }
     ensures over { is_over result.phase ≡ is_end result.step }
     ensures linked { links_held L.state L.start result.phase ≡ 1 }
+    ensures items { items_held L.start result.phase ≡ (L.start link).items ∷ [] }
 {
     match Exchange::begin::<F>(alloc, Box::into_inner(session), link, head) {
         Ok(exchange) => hold(
@@ -159,6 +163,8 @@ fn hold<L: ByteLink, C: Drop>(alloc: Global, attempt: Attempt<L, C>) -> Next<L, 
     ensures work { DoesWork result.step result.work }
     ensures over { is_over result.phase ≡ is_end result.step }
     ensures linked { links_held L.state L.start result.phase ≡ 1 }
+    ensures items { items_held L.start result.phase
+        ≡ (L.start attempt.exchange.peer.client.link).items ∷ [] }
 {
     match Box::new(alloc, attempt) {
         Ok(attempt) => Next {

@@ -1,6 +1,7 @@
 //! The end of a request: its link goes back to the connector, and its attempt is recorded.
-ghost use Rattle.std.specs.Prelude.{◌≡◌, ◌+◌, ◌<◌, ◌≤◌, []};
+ghost use Rattle.std.specs.Prelude.{◌≡◌, ◌+◌, ◌<◌, ◌≤◌, [], ◌∷◌};
 ghost use Rattle.relay_proxy.specs.Closing.{HandsBack, Settles, GivesLinkUp, Finishes};
+ghost use Rattle.relay_proxy.specs.Stock.{items_held, all_items};
 ghost use Rattle.relay_proxy.specs.Turn.{links_held, is_over};
 
 use crate::connecting::asked_peer;
@@ -30,6 +31,9 @@ fn release<K: Connector>(
         (K.returned connector.new) result }
     ensures out { K.out connector.new + 1 ≡ K.out connector.old }
     ensures faults { K.fault_count connector.new ≡ K.fault_count connector.old }
+    ensures stock { all_items K.Byte.start (K.returned connector.new) [] (K.stock connector.new)
+        ≡ all_items K.Byte.start (K.returned connector.old) ((K.Byte.start link).items ∷ [])
+        (K.stock connector.old) }
 {
     let Lease { peer, reused, room } = lease;
     connector.release(peer, link, keep);
@@ -52,6 +56,9 @@ pub(crate) fn settle<K: Connector, C: Drop>(
     ensures out { K.out connector.new + links_held K.Byte.state K.Byte.start phase
         ≡ K.out connector.old + links_held K.Byte.state K.Byte.start result }
     ensures faults { K.fault_count connector.new ≡ K.fault_count connector.old }
+    ensures stock { all_items K.Byte.start (K.returned connector.new) (items_held K.Byte.start result)
+        (K.stock connector.new) ≡ all_items K.Byte.start (K.returned connector.old)
+        (items_held K.Byte.start phase) (K.stock connector.old) }
 {
     match phase {
         Phase::ReadHead => Phase::ReadHead,
@@ -84,6 +91,9 @@ fn give_link_up<K: Connector>(connector: &mut K, link: K::Byte, lease: Lease) ->
         result }
     ensures out { K.out connector.new + 1 ≡ K.out connector.old }
     ensures faults { K.fault_count connector.new ≡ K.fault_count connector.old }
+    ensures stock { all_items K.Byte.start (K.returned connector.new) [] (K.stock connector.new)
+        ≡ all_items K.Byte.start (K.returned connector.old) ((K.Byte.start link).items ∷ [])
+        (K.stock connector.old) }
 {
     Ending {
         outcome: Outcome::TurnLimit,
@@ -103,6 +113,9 @@ pub(crate) fn finish<K: Connector, C: Drop>(
     ensures out { K.out connector.new + links_held K.Byte.state K.Byte.start phase
         ≡ K.out connector.old }
     ensures faults { K.fault_count connector.new ≡ K.fault_count connector.old }
+    ensures stock { all_items K.Byte.start (K.returned connector.new) []
+        (K.stock connector.new) ≡ all_items K.Byte.start (K.returned connector.old)
+        (items_held K.Byte.start phase) (K.stock connector.old) }
 {
     match phase {
         Phase::ReadHead => give_up(alloc),

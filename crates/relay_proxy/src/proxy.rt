@@ -5,6 +5,7 @@ ghost use Rattle.relay_exchange.specs.Passed.{Passed};
 ghost use Rattle.relay_proxy.specs.Passed.{Start, start_of, nothing};
 ghost use Rattle.relay_proxy.specs.Phases.{RunSoFar};
 ghost use Rattle.relay_proxy.specs.Request.{is_stop, ended_after, Counts, StepsOn, ComesToEnd, Processes};
+ghost use Rattle.relay_proxy.specs.Stock.{items_held, all_items};
 ghost use Rattle.relay_proxy.specs.Turn.{world_of, links_held, is_over, is_end};
 ghost use Rattle.relay_proxy.specs.Work.{total_work, Grows};
 
@@ -109,6 +110,7 @@ impl<SV: ProxyHttp, K: Connector, P: Purger> HttpProxy<SV, K, P> {
         ensures no_turns { result.machine.turns ≡ 0 }
         ensures going { is_over result.machine.phase ≡ false }
         ensures no_link { links_held K.Byte.state K.Byte.start result.machine.phase ≡ 0 }
+        ensures no_items { items_held K.Byte.start result.machine.phase ≡ [] }
         ensures kept { result.kept ≡ kept }
         ensures client { client.new ≡ client.old }
     {
@@ -165,6 +167,13 @@ impl<SV: ProxyHttp, K: Connector, P: Purger> HttpProxy<SV, K, P> {
             ≡ K.out self.old.connector
             + links_held K.Byte.state K.Byte.start machine.new.machine.phase }
         ensures faults { K.fault_count self.old.connector ≤ K.fault_count self.new.connector }
+        // No call of a link changes what it was as it was handed out, and the connector's links are
+        // those that it had: come back, held by the machine, or left, in order.
+        ensures client_start { D.start client.new.link ≡ D.start client.old.link }
+        ensures stock { all_items K.Byte.start (K.returned self.new.connector)
+            (items_held K.Byte.start machine.new.machine.phase) (K.stock self.new.connector)
+            ≡ all_items K.Byte.start (K.returned self.old.connector)
+            (items_held K.Byte.start machine.old.machine.phase) (K.stock self.old.connector) }
         ensures kept { client.new.kept ≡ client.old.kept }
         ensures keeps { machine.new.kept ≡ machine.old.kept }
         ensures same { self.new ≡ record self.old { connector = self.new.connector } }
@@ -218,6 +227,9 @@ impl<SV: ProxyHttp, K: Connector, P: Purger> HttpProxy<SV, K, P> {
         ensures out { K.out self.new.connector
             + links_held K.Byte.state K.Byte.start machine.machine.phase
             ≡ K.out self.old.connector }
+        ensures stock { all_items K.Byte.start (K.returned self.new.connector) []
+            (K.stock self.new.connector) ≡ all_items K.Byte.start (K.returned self.old.connector)
+            (items_held K.Byte.start machine.machine.phase) (K.stock self.old.connector) }
         ensures kept { result.1 ≡ None }
         ensures client { client.new ≡ client.old }
         ensures same { self.new ≡ record self.old {
@@ -264,6 +276,11 @@ impl<SV: ProxyHttp, K: Connector, P: Purger> HttpProxy<SV, K, P> {
         ensures worked { result.history.turns_taken ≤ result.history.items_used
             + result.history.tasks_moved + result.history.sides_ended }
         ensures out { K.out self.new.connector ≡ K.out self.old.connector }
+        // The client's link is the one that it was, and the connector's links are those that it had.
+        ensures client_start { D.start client.new.link ≡ D.start client.old.link }
+        ensures stock { all_items K.Byte.start (K.returned self.new.connector) []
+            (K.stock self.new.connector) ≡ all_items K.Byte.start (K.returned self.old.connector)
+            [] (K.stock self.old.connector) }
         ensures kept { client.new.kept ≡ None }
         // No hook is called yet.
         ensures log { result.history.log ≡ [] }
@@ -307,6 +324,9 @@ impl<SV: ProxyHttp, K: Connector, P: Purger> HttpProxy<SV, K, P> {
         ensures out { K.out self.new.connector
             + links_held K.Byte.state K.Byte.start machine.machine.phase
             ≡ K.out self.old.connector }
+        ensures stock { all_items K.Byte.start (K.returned self.new.connector) []
+            (K.stock self.new.connector) ≡ all_items K.Byte.start (K.returned self.old.connector)
+            (items_held K.Byte.start machine.machine.phase) (K.stock self.old.connector) }
         ensures client { client.new ≡ client.old }
         // No hook is called yet.
         ensures log { result.history.log ≡ [] }

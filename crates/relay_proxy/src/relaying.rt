@@ -1,6 +1,6 @@
 //! The attempt: one turn of its exchange, and what becomes of the client and of the link once it has
 //! ended (RFC 9112, section 9.3).
-ghost use Rattle.std.specs.Prelude.{◌≡◌, ℕ, [], None, false};
+ghost use Rattle.std.specs.Prelude.{◌≡◌, ℕ, [], ◌∷◌, None, false};
 ghost use Rattle.relay_core.specs.Causes.{says_failed};
 ghost use Rattle.relay_core.specs.Past.{Origin};
 ghost use Rattle.relay_exchange.specs.Exchange.{IsUnderWay, Turns, IsSilent};
@@ -10,6 +10,7 @@ ghost use Rattle.relay_proxy.specs.Endings.{outcome_of};
 ghost use Rattle.relay_proxy.specs.Passed.{Start};
 ghost use Rattle.relay_proxy.specs.Phases.{RunSoFar};
 ghost use Rattle.relay_proxy.specs.Reuse.{client_reusable, lets_ask_again};
+ghost use Rattle.relay_proxy.specs.Stock.{items_held};
 ghost use Rattle.relay_proxy.specs.Turn.{world_of, DoesWork, is_over, is_end, links_held, Advances};
 
 use crate::connecting::outcome_of;
@@ -39,7 +40,10 @@ pub(crate) fn relay<D: ByteLink, U: Drop, L: ByteLink, H: Schedule, C: Drop>(
     ensures work { DoesWork result.step result.work }
     ensures over { is_over result.phase ≡ is_end result.step }
     ensures linked { links_held L.state L.start result.phase ≡ 1 }
+    ensures items { items_held L.start result.phase
+        ≡ (L.start attempt.value.exchange.peer.client.link).items ∷ [] }
     ensures kept { client.new.kept ≡ client.old.kept }
+    ensures client_start { D.start client.new.link ≡ D.start client.old.link }
 {
     let Turn { step, branch } = turn_over(&mut attempt.exchange, client, schedule);
     match step {
@@ -123,7 +127,10 @@ fn turn_over<D: ByteLink, U: Drop, L: ByteLink, H: Schedule>(
         → IsSilent L.state L.start (D.state client.new.link) exchange.new }
     ensures calm { says_failed result.step ≡ false
         → (D.state client.new.link).faults ≡ (D.state client.old.link).faults }
+    ensures peer_start { L.start exchange.new.peer.client.link
+        ≡ L.start exchange.old.peer.client.link }
     ensures kept { client.new.kept ≡ client.old.kept }
+    ensures client_start { D.start client.new.link ≡ D.start client.old.link }
 {
     let kept = client.take_kept();
     let turn = exchange.turn(client, schedule);

@@ -4,6 +4,7 @@ ghost use Rattle.relay_exchange.specs.Passed.{Passed};
 ghost use Rattle.relay_proxy.specs.Closing.{Rests, TurnOf};
 ghost use Rattle.relay_proxy.specs.Passed.{Start};
 ghost use Rattle.relay_proxy.specs.Phases.{RunSoFar};
+ghost use Rattle.relay_proxy.specs.Stock.{items_held, all_items};
 ghost use Rattle.relay_proxy.specs.Turn.{world_of, links_held, is_over, is_end, WorksIn};
 
 use crate::client_head::{read_head, write_refusal};
@@ -41,6 +42,11 @@ pub(crate) fn take_turn<SV: ProxyHttp, K: Connector, D: ByteLink, U: Drop, H: Sc
     ensures returned { K.returned connector.new ≡ K.returned connector.old }
     ensures faults { K.fault_count connector.old ≤ K.fault_count connector.new }
     ensures kept { client.new.kept ≡ client.old.kept }
+    ensures client_start { D.start client.new.link ≡ D.start client.old.link }
+    ensures stock { all_items K.Byte.start (K.returned connector.new)
+        (items_held K.Byte.start result.phase) (K.stock connector.new)
+        ≡ all_items K.Byte.start (K.returned connector.old) (items_held K.Byte.start phase)
+        (K.stock connector.old) }
 {
     match phase {
         Phase::ReadHead => read_head(alloc, hooks, client),

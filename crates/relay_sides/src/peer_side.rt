@@ -248,6 +248,8 @@ impl<L: ByteLink> Up for PeerSide<L> {
 
     ghost is_silent = { λ side. IsSilent (L.state side.client.link) };
 
+    ghost start = { λ side. L.start side.client.link };
+
     fn kind(&self) -> UpKind {
         UpKind::H1
     }

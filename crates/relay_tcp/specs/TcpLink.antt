@@ -32,6 +32,7 @@ tcp_state link = record {
 -- the link as it was made
 abbrev pub tcp_start : TcpLink → LinkStart
 tcp_start link = record {
+  items = None;
   given = 0;
   taken = 0;
   read_faults = 0;

@@ -66,6 +66,8 @@ impl<R: Net + Clone + Drop> Connector for TcpConnector<R> {
 
     ghost returned = { λ _. None };
 
+    ghost stock = { λ _. None };
+
     ghost out = { links_out };
 
     ghost fault_count = { gets_failed };

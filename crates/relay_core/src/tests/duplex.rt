@@ -65,6 +65,18 @@ impl Up for Upstream {
 
     ghost is_silent = { λ u. ⊥ };
 
+    ghost start = { λ _. record {
+      items = None;
+      given = 0;
+      taken = 0;
+      read_faults = 0;
+      write_faults = 0;
+      waits = 0;
+      used = 0;
+      faults = 0;
+      reused = false;
+    } };
+
     fn kind(&self) -> UpKind {
         UpKind::H1
     }
@@ -208,6 +220,17 @@ impl Down for Client {
     ghost is_silent = { λ client. ⊥ };
 
     ghost faults = { λ client. 0 };
+    ghost start = { λ _. record {
+      items = None;
+      given = 0;
+      taken = 0;
+      read_faults = 0;
+      write_faults = 0;
+      waits = 0;
+      used = 0;
+      faults = 0;
+      reused = false;
+    } };
 
     fn may_read(&self) -> bool {
         true

@@ -1,13 +1,13 @@
 -- What is reported is the run that the proxy made over the links of the script.
 use Rattle.std.proofs.Common.{◌≡◌, ◌≢◌, ◌∙◌, ap, sym, subst, true≢false}
 use Rattle.std.proofs.lemmas.Result.{IfOk-weaker}
-use Rattle.relay_links.specs.ScriptEntries.{links_returned, gets_failed}
+use Rattle.relay_links.specs.ScriptEntries.{links_returned, items_left, gets_failed}
 use Rattle.relay_proxy.specs.declared.outcome.Outcome.TheVariants.{OutOfMemory}
 use Rattle.relay_cli.specs.Exchange.{IsRun, reported}
 use Rattle.relay_cli.specs.Report.{RequestSpec, request_spec}
 use Rattle.relay_cli.specs.Script.{script_spec}
 use Rattle.relay_cli.specs.declared.report.RequestReport.{RequestReport}
-use Rattle.relay_cli.proofs.ExchangeLemmas.{runs_script, is_run}
+use Rattle.relay_cli.proofs.ExchangeLemmas.{runs_script, is_run, are_peer, still_answers}
 use Rattle.relay_cli.proofs.exchange.run_exchange.Goals as goal
 
 pub returns : goal.returns
@@ -23,9 +23,13 @@ returns c =
     (links_returned after) script.turns processed c.in_ok-connector.ensures
     c.new-client.ensures.link c.new-client.ensures.ahead c.new-proxy.ensures.connector
     c.process_new_http-processed.ensures.processes in
+    let client = still_answers c.new-client.result.link c.new-link.result last.link script.client script.client_write
+    c.new-client.ensures.link c.new-link.ensures c.process_new_http-processed.ensures.client_start in
+    let peer = are_peer script.peer c.in_ok-connector.connector c.new-proxy.result.connector (links_returned after) (items_left after)
+    c.in_ok-connector.ensures c.new-proxy.ensures.connector c.process_new_http-processed.ensures.stock in
     let is : IsRun script (reported script.peer.name processed last.link (links_returned after)) =
-    is_run script c.new-link.result last.link c.in_ok-connector.connector last.ahead (gets_failed after) (links_returned after) processed
-    c.new-link.ensures c.in_ok-connector.ensures run printable in
+    is_run script c.new-link.result last.link c.in_ok-connector.connector c.outside_of-outside.result.schedule last.ahead (gets_failed after) (links_returned after) processed
+    c.new-link.ensures c.in_ok-connector.ensures c.outside_of-outside.ensures client peer run printable in
     let link : c.link.result.now ≡ last.link = c.link.ensures in
     let returned : c.returned.result.now ≡ links_returned after = c.returned.ensures ∙ ap links_returned c.connector.ensures in
     let name : c.in_ok-name.name ≡ script.peer.name = c.in_ok-name.ensures.cases in

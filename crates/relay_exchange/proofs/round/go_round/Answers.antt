@@ -1,5 +1,5 @@
 -- Behind silent branches the next one goes on from where they left the exchange.
-use Rattle.std.proofs.Common.{◌≡◌, refl, ap, ◌∙◌, subst}
+use Rattle.std.proofs.Common.{◌≡◌, ◌∙◌, ap, refl, subst}
 use Rattle.relay_tasks.specs.declared.took.Pause.TheVariants as pause
 use Rattle.relay_core.specs.Causes.{Tells, says_failed}
 use Rattle.relay_core.specs.Moves.{Goes}
@@ -32,6 +32,8 @@ loop-turn-preserved g c =
       subst Says silent t.ensures.tells,
       t.ensures.silent silent,
       t.ensures.calm (ap says_failed silent) ∙ c.loop-turn.invariant.3,
+      t.ensures.client_start ∙ c.loop-turn.invariant.4,
+      t.ensures.peer_start ∙ c.loop-turn.invariant.5,
     )
 
 pub returns-then-not-is_silent-2-clause-calm : goal.returns-then-not-is_silent-2-clause-calm

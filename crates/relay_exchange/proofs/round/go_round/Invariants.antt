@@ -1,5 +1,5 @@
 -- So far each branch that was taken found its link silent, and the exchange goes on.
-use Rattle.std.proofs.Common.{◌⊎◌, ◌≡◌}
+use Rattle.std.proofs.Common.{◌≡◌, ◌⊎◌}
 use Rattle.relay_tasks.specs.declared.took.Pause.TheVariants as pause
 use Rattle.relay_core.specs.Causes.{Tells}
 use Rattle.relay_core.specs.Moves.{SoFar, Goes}
@@ -22,3 +22,5 @@ invariant-loop-turn g l =
     × Tells (step.Waited pause.Silent) l.duplex
     × (g.D.Down.is_silent l.client ⊎ g.U.Up.is_silent l.up)
     × (g.D.Down.faults l.client ≡ g.D.Down.faults l.fn.client)
+    × (g.D.Down.start l.client ≡ g.D.Down.start l.fn.client)
+    × (g.U.Up.start l.up ≡ g.U.Up.start l.fn.up)

@@ -1,6 +1,7 @@
 -- Over a link that the connector gave the exchange begins; where it gave none, its count rose.
 use Rattle.relay_proxy.specs.Turn.{world_with}
 use Rattle.relay_proxy.proofs.ConnectSteps.{not_connected}
+use Rattle.relay_proxy.proofs.StockLemmas.{none_out}
 use Rattle.relay_proxy.proofs.connecting.connect.Goals as goal
 
 pub returns-in-Ok-get-clause-run : goal.returns-in-Ok-get-clause-run
@@ -17,3 +18,8 @@ returns-in-Err-clause-run g c = λ s p client ahead run.
     (g.K.Connector.fault_count c.get.new.self) c.args.context c.args.session
     c.asked_peer-peer.result c.in-Err.fault c.get.ensures.fits.0 c.in-Err.ensures.rose
     c.in-Err.ensures.fault c.asked_peer-peer.ensures run)
+
+pub returns-in-Err-clause-stock : goal.returns-in-Err-clause-stock
+returns-in-Err-clause-stock g c =
+    rw (c.refused_link.ensures.phase, c.in-Err.ensures.stays)
+    (none_out (g.K.Connector.stock c.args.connector.now))

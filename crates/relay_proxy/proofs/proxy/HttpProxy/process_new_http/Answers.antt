@@ -16,6 +16,8 @@ loop-turn-init g c =
           c.begin-machine.result.machine refl
           (rw c.take_kept-kept.ensures.after at c.begin-machine.ensures.run)
           c.begin-machine.ensures.no_turns,
+      rw (c.begin-machine.ensures.client, c.take_kept-kept.ensures.after) refl,
+      rw c.begin-machine.ensures.no_items refl,
       omega (arith, c.begin-machine.ensures.no_link),
       rw (c.begin-machine.ensures.client, c.take_kept-kept.ensures.after) refl,
       c.begin-machine.ensures.going,
@@ -60,13 +62,15 @@ loop-turn-preserved g c =
       goes_on state start s _ _ _ _ _ c.loop-turn.machine.machine
           c.step-step.new.machine.machine _ c.step-step.result under steps
           (one_more _ _ c.step-step.result c.step-step.ensures.counted goes) few,
-      omega (arith, c.step-step.ensures.out, c.loop-turn.invariant.1),
-      c.step-step.ensures.kept ∙ c.loop-turn.invariant.2,
+      c.step-step.ensures.client_start ∙ c.loop-turn.invariant.1,
+      c.step-step.ensures.stock ∙ c.loop-turn.invariant.2,
+      omega (arith, c.step-step.ensures.out, c.loop-turn.invariant.3),
+      c.step-step.ensures.kept ∙ c.loop-turn.invariant.4,
       c.step-step.ensures.ended ∙ no_end c.step-step.result goes,
       c.step-step.ensures.same
           ∙ ap (λ (k : HttpProxy g.row.SV.Denot g.row.K.Denot g.row.P.Denot).
-          record k { connector = c.step-step.new.self.connector }) c.loop-turn.invariant.4,
-      c.step-step.ensures.worked c.loop-turn.invariant.5,
+          record k { connector = c.step-step.new.self.connector }) c.loop-turn.invariant.6,
+      c.step-step.ensures.worked c.loop-turn.invariant.7,
     )
 
 pub returns-clause-processes : goal.returns-clause-processes

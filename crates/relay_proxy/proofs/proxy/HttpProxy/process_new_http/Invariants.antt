@@ -1,6 +1,7 @@
 -- What holds between two steps of the call.
-use Rattle.std.proofs.Common.{◌≡◌, ◌+◌, ◌≤◌, None, false}
+use Rattle.std.proofs.Common.{◌≡◌, ◌+◌, ◌≤◌, [], None, false}
 use Rattle.relay_proxy.specs.Passed.{start_of}
+use Rattle.relay_proxy.specs.Stock.{items_held, all_items}
 use Rattle.relay_proxy.specs.Turn.{world_of, links_held, is_over}
 use Rattle.relay_proxy.specs.Work.{total_work}
 use Rattle.relay_proxy.proofs.UnderWay.{IsUnderWay}
@@ -14,6 +15,11 @@ invariant-loop-turn g l =
     (world_of g.D.ByteLink.state l.client (g.K.Connector.fault_count l.self.connector))
     (g.K.Connector.returned l.fn.self.connector) (g.K.Connector.returned l.self.connector)
     l.machine.machine l._turn
+    × (g.D.ByteLink.start l.client.link ≡ g.D.ByteLink.start l.fn.client.link)
+    × (all_items g.K.Byte.ByteLink.start (g.K.Connector.returned l.self.connector)
+    (items_held g.K.Byte.ByteLink.start l.machine.machine.phase) (g.K.Connector.stock l.self.connector)
+    ≡ all_items g.K.Byte.ByteLink.start (g.K.Connector.returned l.fn.self.connector) []
+    (g.K.Connector.stock l.fn.self.connector))
     × (g.K.Connector.out l.self.connector
     ≡ g.K.Connector.out l.fn.self.connector
     + links_held g.K.Byte.ByteLink.state g.K.Byte.ByteLink.start l.machine.machine.phase)
