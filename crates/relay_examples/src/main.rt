@@ -7,12 +7,16 @@ mod serving;
 
 use crate::memory::relay_one;
 use crate::serving::serve_port;
+use relay_proxy::ServerConf;
 use std::io::ErrorKind;
 use std::net::Net;
 use std::process::ExitCode;
 use std::rt::Env;
 use std::sync::Wait;
 use std::{env, io};
+
+/// How the proxy of each use is set up: one attempt for a request.
+const CONF: ServerConf = ServerConf { max_retries: 1 };
 
 fn main(rt: HostRuntime) -> ExitCode {
     match run(&rt) {

@@ -1,7 +1,8 @@
 //! A port of this host that is served for a peer at another one.
 
+use crate::CONF;
 use relay_links::MemoryPurger;
-use relay_proxy::{HttpProxy, NoHooks, ServerConf};
+use relay_proxy::{HttpProxy, NoHooks};
 use relay_server::{TcpPoller, serve_with};
 use relay_tasks::Purged;
 use relay_tcp::TcpConnector;
@@ -20,12 +21,11 @@ pub fn serve_port<R: Net + Wait + Clone + Drop>(
 ) -> io::Result<u8> {
     let mut poller = TcpPoller::new(rt, alloc)?;
     let address = SocketAddr::from((Ipv4Addr::LOCALHOST, peer));
-    let Ok(connector) = TcpConnector::new(rt, address, poller.readiness()?) else {
-        return Err(io::Error::from(AllocError));
-    };
+    let connector = TcpConnector::new(rt, address, poller.readiness()?)
+        .ok()
+        .ok_or(AllocError)?;
     let purger = MemoryPurger::new(alloc, Purged::NotFound);
-    let conf = ServerConf { max_retries: 1 };
-    let mut proxy = HttpProxy::new(alloc, NoHooks, conf, connector, purger);
+    let mut proxy = HttpProxy::new(alloc, NoHooks, CONF, connector, purger);
     let end = serve_with(rt, alloc, &mut proxy, &mut poller, port, u64::MAX);
     Ok(end.status)
 }
