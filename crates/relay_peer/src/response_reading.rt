@@ -2,7 +2,7 @@
 //! piece by piece (RFC 9110, section 15.2; RFC 9112, sections 4 to 8).
 ghost use Rattle.std.specs.Prelude.{◌≡◌, ◌==◌, ℕ, List, [], Bool, true, false, length};
 ghost use Rattle.relay_h1.specs.BodyWire.{says_end};
-ghost use Rattle.relay_peer.specs.ResponseReading.{Told, ReadAt, OpenAt, IsAwaitingHead, lets_keep, is_http_11, step_over, Finds, FindsAtEnd, ReadsTask, ReadsOn, FindsAgain, EndsThere, waits_silent, is_item, is_task, cut_off_error, is_over, may_keep_reading};
+ghost use Rattle.relay_peer.specs.ResponseReading.{Told, ReadAt, OpenAt, IsAwaitingHead, lets_keep, is_http_11, step_over, Finds, FindsAtEnd, ReadsTask, ReadsOn, FindsAgain, EndsThere, FoundCuts, AnswerCuts, waits_silent, is_item, is_task, cut_off_error, is_over, may_keep_reading};
 
 use http::{Method, Version};
 use relay_h1::{Ahead, BodyReader, Cut, Framing, closes, judge_response};
@@ -100,6 +100,7 @@ impl ResponseReading {
             → is_over self.new.place ≡ is_over self.old.place }
         ensures rests { is_over self.old.place ≡ true
             → (result ≡ Found.End) × (self.new ≡ self.old) }
+        ensures cuts { FoundCuts self.old.place self.new.place self.old.ahead self.new.ahead result }
         ensures finds { (closed : Bool) (given : List ℕ) (told : Told)
             → ReadAt method.now closed given told self.old.place self.old.ahead
             → Finds method.now closed given told self.old.place self.new.place self.new.ahead
@@ -144,6 +145,7 @@ impl ResponseReading {
         ensures finds { (closed : Bool) (given : List ℕ) (told : Told)
             → ReadAt method.now closed given told self.old.place self.old.ahead
             → FindsAgain method.now closed given told self.old.place self.new result }
+        ensures cuts { AnswerCuts self.old.place self.old.ahead result self.new.ahead }
     {
         match self.find(alloc, method) {
             Found::Task(task) => Took::Item(task),
@@ -161,6 +163,7 @@ impl ResponseReading {
         ensures ends { (method given : List ℕ) (told : Told)
             → OpenAt method given told self.old.place self.old.ahead
             → EndsThere method given told self.new result }
+        ensures cuts { (bytes rest : List ℕ) → AnswerCuts self.old.place bytes result rest }
     {
         let place = mem::replace(&mut self.place, Place::NoHead);
         let step = end_of_link(place, self.ahead.is_empty());
@@ -189,6 +192,7 @@ fn find(alloc: Global, method: &Method, place: Place, ahead: &mut Ahead) -> Step
     ensures ends { is_task result.found ≡ false → is_over result.place ≡ is_over place }
     ensures rests { is_over place ≡ true
         → (result ≡ record { place = place; found = Found.End }) × (ahead.new ≡ ahead.old) }
+    ensures cuts { FoundCuts place result.place ahead.old ahead.new result.found }
     ensures finds { (closed : Bool) (given : List ℕ) (told : Told)
         → ReadAt method.now closed given told place ahead.old
         → Finds method.now closed given told place result.place ahead.new result.found }
@@ -208,6 +212,7 @@ fn find(alloc: Global, method: &Method, place: Place, ahead: &mut Ahead) -> Step
 fn find_head(alloc: Global, method: &Method, place: Place, ahead: &mut Ahead) -> Step
     requires { IsAwaitingHead place }
     ensures ends { is_task result.found ≡ false → is_over result.place ≡ is_over place }
+    ensures cuts { FoundCuts place result.place ahead.old ahead.new result.found }
     ensures finds { (closed : Bool) (given : List ℕ) (told : Told)
         → ReadAt method.now closed given told place ahead.old
         → Finds method.now closed given told place result.place ahead.new result.found }
@@ -255,6 +260,7 @@ fn step_over(head: ResponseHeader, framing: Framing) -> Step
 /// The piece of a body, or its end, that stands ahead.
 fn find_piece(alloc: Global, mut body: OpenBody, ahead: &mut Ahead) -> Step
     ensures ends { is_task result.found ≡ false → is_over result.place ≡ false }
+    ensures cuts { FoundCuts (Place.InBody body) result.place ahead.old ahead.new result.found }
     ensures finds { (method : List ℕ) (closed : Bool) (given : List ℕ) (told : Told)
         → ReadAt method closed given told (Place.InBody body) ahead.old
         → Finds method closed given told (Place.InBody body) result.place ahead.new result.found }
@@ -293,6 +299,7 @@ fn end_of_link(place: Place, none_ahead: bool) -> Step
     ensures ends { (method given : List ℕ) (told : Told) (ahead : List ℕ)
         → OpenAt method given told place ahead → none_ahead ≡ (length ahead == 0)
         → FindsAtEnd method given told result.place ahead result.found }
+    ensures cuts { (bytes rest : List ℕ) → FoundCuts place result.place bytes rest result.found }
 {
     match place {
         Place::NoHead => cut_off(Place::NoHead, none_ahead),
@@ -311,6 +318,8 @@ fn end_of_body(mut body: OpenBody) -> Step
     ensures ends { (method given : List ℕ) (told : Told) (ahead : List ℕ)
         → OpenAt method given told (Place.InBody body) ahead
         → FindsAtEnd method given told result.place ahead result.found }
+    ensures cuts { (bytes rest : List ℕ)
+        → FoundCuts (Place.InBody body) result.place bytes rest result.found }
 {
     match body.reader.end_of_stream() {
         Ok(()) => Step {
@@ -327,6 +336,7 @@ fn end_of_body(mut body: OpenBody) -> Step
 /// The link ended inside the response. Another attempt may help where no byte had come.
 fn cut_off(place: Place, none_came: bool) -> Step
     ensures stays { result.place ≡ place }
+    ensures cuts { (bytes rest : List ℕ) → FoundCuts place result.place bytes rest result.found }
     ensures fails { (given : List ℕ) → none_came ≡ (length given == 0)
         → result ≡ record {
           place = place;

@@ -1,5 +1,5 @@
 use Rattle.relay_h1.proofs.HeadLemmas.{never_refused, found_is_answer}
-use Rattle.relay_h1.proofs.head.HeadReader.read_response.Goals as goal
+use Rattle.relay_h1.proofs.head.read_one_response.Goals as goal
 
 pub returns-in-Some-clause-refused : goal.returns-in-Some-clause-refused
 returns-in-Some-clause-refused c =
