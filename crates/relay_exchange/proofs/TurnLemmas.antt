@@ -7,7 +7,6 @@ use Rattle.relay_tasks.specs.declared.error.Fail.TheVariants as fail
 use Rattle.relay_tasks.specs.declared.fault.Fault.{Fault}
 use Rattle.relay_links.specs.Link.{LinkState, LinkStart}
 use Rattle.relay_session.specs.Response.{Holds, is_over}
-use Rattle.relay_session.specs.TaskWire.{Sent, nothing_at}
 use Rattle.relay_session.specs.declared.session.HttpSession.{HttpSession}
 use Rattle.relay_session.specs.declared.task_text.Place.{Place}
 use Rattle.relay_session.specs.declared.task_text.Place.TheVariants as place
@@ -41,16 +40,7 @@ use Rattle.relay_exchange.proofs.SentLemmas.{written_of}
 
 -- nothing was queued, so the response is not over
 begun_open : (now : Writing) → Holds now [] [] → is_over now.place ≡ false
-begun_open now holds =
-    let written = written_of now [] [] holds in
-    sym (ap is_over written.at) ∙ on written.text written.says
-  where
-    on : (text : Sent)
-        → ◌≡◌ {A = Result Sent Error} (Ok (nothing_at place.NoHead)) (Ok text)
-        → is_over text.place ≡ false
-    on text same =
-        let is : nothing_at place.NoHead ≡ text = cc in
-        sym (ap (λ (sent : Sent). is_over sent.place) is)
+begun_open now holds = sym (ap is_over (written_of now [] [] holds).at)
 
 -- no batch left it over
 not_done : (done : Bool) (at : Place) → (done ≡ true → is_over at ≡ true) → is_over at ≡ false

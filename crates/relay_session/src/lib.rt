@@ -2,6 +2,7 @@
 //! written (RFC 9112, sections 2 to 9).
 #![tactic(auto)]
 
+mod batch;
 mod front;
 mod generated;
 mod queue;

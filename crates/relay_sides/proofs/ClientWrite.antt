@@ -199,25 +199,25 @@ writes_on s p before after ahead left old new done finished broken answer (outgo
           response = holds;
           broken = λ fault of.
               let is_kept = kept_fault writes.rest answer new.writing.output fault writes.leaves of
-              in
-              (
+              in (
                 rose_from s.faults before.faults after.faults h.client.faults
                     (w.failed fault is_kept),
                 w.kind fault is_kept,
               );
         };
         over = rw (ap (λ (r : Writing). r.request) rest) h.over;
+        plain = h.plain;
+        plain_end = h.plain_end;
         place_over = rw (ap (λ (r : Writing). r.place) rest) h.place_over;
         unasked = h.unasked;
         asked = h.asked;
         closed = rw (ap (λ (r : Writing). r.place) rest) h.closed;
         unbroken = still_open writes.rest answer new.writing.output writes.leaves;
-        fault = λ f is.
-            (
-              rose_from s.faults before.faults after.faults h.client.faults
-                  (w.failed f (found_fault answer f is)),
-              w.kind f (found_fault answer f is),
-            );
+        fault = λ f is. (
+          rose_from s.faults before.faults after.faults h.client.faults
+              (w.failed f (found_fault answer f is)),
+          w.kind f (found_fault answer f is),
+        );
       };
       is_put = refl;
       is_batched = refl;

@@ -250,6 +250,7 @@ impl<F: Front> Down for ClientSide<F> {
     ghost is_silent = { λ client. IsSilent (F.state client) };
 
     ghost faults = { λ client. (F.state client).faults };
+
     ghost start = { F.start };
 
     fn may_read(&self) -> bool {
