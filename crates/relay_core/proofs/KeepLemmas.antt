@@ -513,6 +513,21 @@ module _
             (and_right (not new.duplex.upstream_finished) _ runs)) plain) runs;
       }
 
+  -- a step behind another: what it goes on from goes on from what was before both
+  pub goes_then : (before p : DownPast) (up_before q : UpPast) (s : State) (result : Step)
+      → Extends before up_before p q
+      → Goes holds down_blames refuses cannot_end up_holds up_blames p q s result
+      → Goes holds down_blames refuses cannot_end up_holds up_blames before up_before s result
+  goes_then before p up_before q s result extends went = record {
+    p = went.p;
+    q = went.q;
+    extends = extends_then before p went.p up_before q went.q extends went.extends;
+    so_far = went.so_far;
+    blamed = went.blamed;
+    finished = went.finished;
+    request_full = went.request_full;
+  }
+
   -- no task passed: both pipes and all lists are as they were
   quiet : (dp : DownPast → Type 0) (up : UpPast → Type 0) (ub : UpPast → Error → Type 0)
       (b : Branch) (old new : State) (result : Step) (p p' : DownPast) (q q' : UpPast)
