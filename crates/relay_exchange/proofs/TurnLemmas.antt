@@ -179,14 +179,15 @@ module _ {L : Type 0} (state : L → LinkState) (start_at : L → LinkStart) whe
       comes (step.Failed fail.OutOfMemory) unended blamed = on.order
 
   -- a branch of the duplex is a turn
-  pub bodies_turn : (s : Origin) (link : LinkState) (ahead : List ℕ) (x : Exchange L)
-      (duplex : Duplex) (result : Step) → x.stage ≡ stage.Bodies duplex
+  pub bodies_turn : (s : Origin) (link : LinkState) (ahead : List ℕ) (before : DownPast)
+      (up_before : UpPast) (x : Exchange L) (duplex : Duplex) (result : Step) → x.stage ≡ stage.Bodies duplex
       → Goes (DownHolds link ahead x.client s) (λ p e. ClientBlames s p link e)
       (λ p left e. ClientRefuses s p link left e)
       (λ p e. ClientBlames s p link e ⊎ CannotEnd s p e) (UpHolds state start_at x.peer s)
-      (Blames state start_at x.peer s) (core_of state start_at duplex x.client x.peer) result
+      (Blames state start_at x.peer s) before up_before
+          (core_of state start_at duplex x.client x.peer) result
       → Tells result duplex → Turns state start_at s link ahead x result
-  bodies_turn s link ahead x duplex result is went tells = record {
+  bodies_turn s link ahead before up_before x duplex result is went tells = record {
     passed = passed_by went.p went.q;
     told = told_by s went.p went.q link ahead x.client x.peer went.so_far.down went.so_far.up;
     comes_to = comes result went tells;
@@ -196,7 +197,8 @@ module _ {L : Type 0} (state : L → LinkState) (start_at : L → LinkStart) whe
           → (went : Goes (DownHolds link ahead x.client s) (λ p e. ClientBlames s p link e)
           (λ p left e. ClientRefuses s p link left e)
           (λ p e. ClientBlames s p link e ⊎ CannotEnd s p e) (UpHolds state start_at x.peer s)
-          (Blames state start_at x.peer s) (core_of state start_at duplex x.client x.peer) result)
+          (Blames state start_at x.peer s) before up_before
+          (core_of state start_at duplex x.client x.peer) result)
           → is_finished duplex ≡ false → is_failed duplex.word ≡ false
           → IsUnderWay state start_at s (passed_by went.p went.q) link ahead x
       on result went goes_on unfailed = record {
@@ -239,7 +241,8 @@ module _ {L : Type 0} (state : L → LinkState) (start_at : L → LinkStart) whe
           → (went : Goes (DownHolds link ahead x.client s) (λ p e. ClientBlames s p link e)
           (λ p left e. ClientRefuses s p link left e)
           (λ p e. ClientBlames s p link e ⊎ CannotEnd s p e) (UpHolds state start_at x.peer s)
-          (Blames state start_at x.peer s) (core_of state start_at duplex x.client x.peer) result)
+          (Blames state start_at x.peer s) before up_before
+          (core_of state start_at duplex x.client x.peer) result)
           → Tells result duplex
           → ComesTo state start_at s (passed_by went.p went.q) link ahead x result
       comes step.Moved went tells = on step.Moved went (sym tells.finished) (sym tells.failed)

@@ -116,14 +116,13 @@ is_error took.End = false
 is_error (took.Failed fail.OutOfMemory) = false
 is_error (took.Failed (fail.Error error)) = true
 
--- the answer is that the link is silent
-abbrev pub waits_silent : Took HttpTask → Bool
-waits_silent (took.Item task) = false
-waits_silent took.More = false
-waits_silent (took.Waited pause.NotReady) = false
-waits_silent (took.Waited pause.Silent) = true
-waits_silent took.End = false
-waits_silent (took.Failed fail) = false
+-- the answer is that the link has to be waited for
+abbrev pub is_wait : Took HttpTask → Bool
+is_wait (took.Item task) = false
+is_wait took.More = false
+is_wait (took.Waited pause) = true
+is_wait took.End = false
+is_wait (took.Failed fail) = false
 
 -- the answer is a task
 abbrev pub is_item : Took HttpTask → Bool

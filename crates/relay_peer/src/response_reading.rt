@@ -1,8 +1,9 @@
 //! How the response of a peer is read: the heads that only inform, the final head, and its body
 //! piece by piece (RFC 9110, section 15.2; RFC 9112, sections 4 to 8).
 ghost use Rattle.std.specs.Prelude.{◌≡◌, ◌==◌, ℕ, List, [], Bool, true, false, length};
+ghost use Rattle.relay_links.specs.Count.{up};
 ghost use Rattle.relay_h1.specs.BodyWire.{says_end};
-ghost use Rattle.relay_peer.specs.ResponseReading.{Told, ReadAt, OpenAt, IsAwaitingHead, lets_keep, is_http_11, step_over, Finds, FindsAtEnd, ReadsTask, ReadsOn, FindsAgain, EndsThere, FoundCuts, AnswerCuts, waits_silent, is_item, is_task, cut_off_error, is_over, may_keep_reading};
+ghost use Rattle.relay_peer.specs.ResponseReading.{Told, ReadAt, OpenAt, IsAwaitingHead, lets_keep, is_http_11, step_over, Finds, FindsAtEnd, ReadsTask, ReadsOn, FindsAgain, EndsThere, FoundCuts, AnswerCuts, is_wait, is_item, is_task, cut_off_error, is_over, may_keep_reading};
 
 use http::{Method, Version};
 use relay_h1::{Ahead, BodyReader, Cut, Framing, closes, judge_response};
@@ -81,8 +82,11 @@ impl ResponseReading {
         ensures reads { ReadsTask method.now (L.state link.old) (L.state link.new) self.old
             self.new result }
         ensures start { L.start link.new ≡ L.start link.old }
+        ensures waits { result ≡ Took.Waited Pause.NotReady
+            → (L.state link.new).waits ≡ up (L.state link.old).waits }
         ensures silent { result ≡ Took.Waited Pause.Silent
-            → (L.state link.new).silent_on_read ≡ true }
+            → (L.state link.new ≡ L.state link.old)
+            × ((L.state link.new).silent_on_read ≡ true) }
         ensures ends { is_item result ≡ false
             → is_over self.new.place ≡ is_over self.old.place }
     {
@@ -122,8 +126,11 @@ impl ResponseReading {
         ensures reads { ReadsOn method.now (L.state link.old) (L.state link.new) self.old self.new
             result }
         ensures start { L.start link.new ≡ L.start link.old }
+        ensures waits { result ≡ Took.Waited Pause.NotReady
+            → (L.state link.new).waits ≡ up (L.state link.old).waits }
         ensures silent { result ≡ Took.Waited Pause.Silent
-            → (L.state link.new).silent_on_read ≡ true }
+            → (L.state link.new ≡ L.state link.old)
+            × ((L.state link.new).silent_on_read ≡ true) }
         ensures ends { is_item result ≡ false
             → is_over self.new.place ≡ is_over self.old.place }
     {
@@ -139,7 +146,7 @@ impl ResponseReading {
 
     /// What stands ahead after bytes came.
     fn find_again(&mut self, alloc: Global, method: &Method) -> Took<HttpTask>
-        ensures waits { waits_silent result ≡ false }
+        ensures waits { is_wait result ≡ false }
         ensures stays { is_item result ≡ false
             → is_over self.new.place ≡ is_over self.old.place }
         ensures finds { (closed : Bool) (given : List ℕ) (told : Told)
@@ -157,7 +164,7 @@ impl ResponseReading {
 
     /// No byte comes any more, and nothing stands ahead: what lasts until the link ends has ended.
     fn end(&mut self) -> Took<HttpTask>
-        ensures waits { waits_silent result ≡ false }
+        ensures waits { is_wait result ≡ false }
         ensures stays { is_item result ≡ false
             → is_over self.new.place ≡ is_over self.old.place }
         ensures ends { (method given : List ℕ) (told : Told)

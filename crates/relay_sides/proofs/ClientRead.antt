@@ -13,6 +13,7 @@ use Rattle.relay_tasks.specs.declared.took.Took.{Took}
 use Rattle.relay_tasks.specs.declared.took.Took.TheVariants as took
 use Rattle.relay_tasks.specs.declared.task.HttpTask.{HttpTask}
 use Rattle.relay_tasks.specs.Task.{is_end}
+use Rattle.relay_links.specs.Count.{up}
 use Rattle.relay_links.specs.Link.{LinkState}
 use Rattle.relay_links.proofs.SinceLemmas.{Since-kept, Since-grows}
 use Rattle.relay_h1.proofs.VerdictLemmas.{HasRequest-append}
@@ -35,7 +36,7 @@ use Rattle.relay_core.specs.Down.{ReadsPiece}
 use Rattle.relay_core.specs.Past.{Origin, DownPast, DownGoes, put_in, error_of_took}
 use Rattle.relay_core.specs.Piece.{put_of}
 use Rattle.relay_sides.specs.Body.{body_of}
-use Rattle.relay_sides.specs.Client.{IsClient, HasPassed, IsUnanswered, ClientBlames, IsSilent, state_of, piece_answer, told_read, given_to}
+use Rattle.relay_sides.specs.Client.{IsClient, HasPassed, IsUnanswered, ClientBlames, state_of, piece_answer, told_read, given_to}
 use Rattle.relay_sides.specs.Client as client
 use Rattle.relay_sides.proofs.ClientPast.{reading_whole, body_of-append, rose_from, rose_on}
 
@@ -163,16 +164,27 @@ reads_state before after ahead left old new told done finished broken (took.Fail
     state_same old new _ done finished broken
     (done_same before after ahead left old new (took.Failed why) l (λ is. is)) l.response
 
--- a link that the side waits for in silence is silent
+-- a link that the side waits for in silence is silent, and stays as it was
 pub reads_silent : (before after : LinkState) (answer : Took (List ℕ)) (done : Bool)
     → ReadsLink before after answer → piece_answer answer done ≡ took.Waited Silent
-    → IsSilent after
+    → (after ≡ before) × (after.silent_on_read ≡ true)
 reads_silent before after (took.Item bytes) done link is = cc
 reads_silent before after took.More done link is = cc
 reads_silent before after (took.Waited NotReady) done link is = cc
-reads_silent before after (took.Waited Silent) done link is = inl (link.silent refl)
+reads_silent before after (took.Waited Silent) done link is = link.silent refl
 reads_silent before after took.End done link is = cc
 reads_silent before after (took.Failed why) done link is = cc
+
+-- a link that the side waits for was counted to have to be waited for
+pub reads_waits : (before after : LinkState) (answer : Took (List ℕ)) (done : Bool)
+    → ReadsLink before after answer → piece_answer answer done ≡ took.Waited NotReady
+    → after.waits ≡ up before.waits
+reads_waits before after (took.Item bytes) done link is = cc
+reads_waits before after took.More done link is = cc
+reads_waits before after (took.Waited NotReady) done link is = link.waits refl
+reads_waits before after (took.Waited Silent) done link is = cc
+reads_waits before after took.End done link is = cc
+reads_waits before after (took.Failed why) done link is = cc
 
 -- what a read puts, by the body before and behind it
 record Puts (old_done new_done : Bool) (answer : Took (List ℕ)) (put : List HttpTask) : Type 0 where

@@ -195,10 +195,6 @@ pub data ClientRefuses (s : Origin) (p : DownPast) (link : LinkState) (left : Li
       → ClientRefuses s p link left e
   behind_the_end : 0 < length p.closing → e ≡ ends_short → ClientRefuses s p link left e
 
--- the link is silent on a read or on a write
-abbrev pub IsSilent : LinkState → Type 0
-IsSilent link = (link.silent_on_read ≡ true) ⊎ (link.silent_on_write ≡ true)
-
 -- ---- what the code does between the session and the duplex
 
 -- the piece that an answer of the session is: the end comes with the last bytes, or alone
