@@ -185,7 +185,7 @@ module _ {L : Type 0} (state : L → LinkState) (start_at : L → LinkStart) whe
       (λ p left e. ClientRefuses s p link left e)
       (λ p e. ClientBlames s p link e ⊎ CannotEnd s p e) (UpHolds state start_at x.peer s)
       (Blames state start_at x.peer s) before up_before
-          (core_of state start_at duplex x.client x.peer) result
+      (core_of state start_at duplex x.client x.peer) result
       → Tells result duplex → Turns state start_at s link ahead x result
   bodies_turn s link ahead before up_before x duplex result is went tells = record {
     passed = passed_by went.p went.q;

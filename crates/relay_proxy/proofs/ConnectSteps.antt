@@ -184,7 +184,7 @@ module _ {L C : Type 0} (state : L → LinkState) (start_at : L → LinkStart) w
         relaying.leased,
         (
           inl (part_relayed s p relaying.head a.lease.reused _ _ relaying.built
-          relaying.leased.reused relaying.under_way.order),
+              relaying.leased.reused relaying.under_way.order),
           refl,
         ),
       );

@@ -312,10 +312,9 @@ module _ {L C : Type 0} (state : L → LinkState) (start_at : L → LinkStart) w
   fails s p v client ahead a x fail.OutOfMemory run turns = record {
     passed = turns.passed;
     run = closing s p turns.passed v client ahead a x _ _ run turns.told
-        (IsInOrder.is_exchange run.holds.head _ _ run.holds.built turns.comes_to) (λ same. cc)
-        (
+        (IsInOrder.is_exchange run.holds.head _ _ run.holds.built turns.comes_to) (λ same. cc) (
           inl (part_relayed s turns.passed run.holds.head a.value.lease.reused _ _ run.holds.built
-          turns.told.reused turns.comes_to),
+              turns.told.reused turns.comes_to),
           refl,
         );
     stalled = λ silent. cc;

@@ -175,6 +175,8 @@ impl<SV: ProxyHttp, K: Connector, P: Purger> HttpProxy<SV, K, P> {
             ≡ all_items K.Byte.start (K.returned self.old.connector)
             (items_held K.Byte.start machine.old.machine.phase) (K.stock self.old.connector) }
         ensures kept { client.new.kept ≡ client.old.kept }
+        // Beside the links and the connector it asks the schedule alone.
+        ensures outside { outside.new ≡ record outside.old { schedule = outside.new.schedule } }
         ensures keeps { machine.new.kept ≡ machine.old.kept }
         ensures same { self.new ≡ record self.old { connector = self.new.connector } }
     {
@@ -281,6 +283,8 @@ impl<SV: ProxyHttp, K: Connector, P: Purger> HttpProxy<SV, K, P> {
         ensures stock { all_items K.Byte.start (K.returned self.new.connector) []
             (K.stock self.new.connector) ≡ all_items K.Byte.start (K.returned self.old.connector)
             [] (K.stock self.old.connector) }
+        // Beside the links and the connector it asks the schedule alone.
+        ensures outside { outside.new ≡ record outside.old { schedule = outside.new.schedule } }
         ensures kept { client.new.kept ≡ None }
         // No hook is called yet.
         ensures log { result.history.log ≡ [] }

@@ -240,6 +240,7 @@ impl Down for Client {
       silent_on_read = true;
       silent_on_write = true;
     } };
+
     ghost start = { λ _. record {
       items = None;
       given = 0;

@@ -4,6 +4,7 @@ use Rattle.relay_links.specs.Count.{last_count}
 use Rattle.relay_proxy.specs.Passed.{start_of}
 use Rattle.relay_proxy.specs.Turn.{world_of}
 use Rattle.relay_proxy.specs.declared.proxy.HttpProxy.{HttpProxy}
+use Rattle.relay_proxy.specs.declared.proxy.Outside.{Outside}
 use Rattle.relay_proxy.proofs.UnderWay.{begun, goes_on, all_taken, stopped, one_more, no_end, stops_at}
 use Rattle.relay_proxy.proofs.proxy.HttpProxy.process_new_http.Goals as goal
 
@@ -23,6 +24,7 @@ loop-turn-init g c =
       c.begin-machine.ensures.going,
       refl,
       omega (arith, c.begin-machine.ensures.no_turns),
+      refl,
     )
 
 pub returns-then-is_stop-clause-processes : goal.returns-then-is_stop-clause-processes
@@ -71,6 +73,10 @@ loop-turn-preserved g c =
           ∙ ap (λ (k : HttpProxy g.row.SV.Denot g.row.K.Denot g.row.P.Denot).
           record k { connector = c.step-step.new.self.connector }) c.loop-turn.invariant.6,
       c.step-step.ensures.worked c.loop-turn.invariant.7,
+      c.step-step.ensures.outside ∙ ap
+          (λ (o : Outside g.row.H.Denot g.row.W.Denot g.row.Y.Denot).
+          record o { schedule = c.step-step.new.outside.schedule })
+          c.loop-turn.invariant.8,
     )
 
 pub returns-clause-processes : goal.returns-clause-processes

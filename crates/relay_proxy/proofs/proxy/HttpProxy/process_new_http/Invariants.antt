@@ -27,3 +27,4 @@ invariant-loop-turn g l =
     × (is_over l.machine.machine.phase ≡ false)
     × (l.self ≡ record l.fn.self { connector = l.self.connector })
     × (l.machine.machine.turns ≤ total_work l.machine.machine.work)
+    × (l.outside ≡ record l.fn.outside { schedule = l.outside.schedule })
