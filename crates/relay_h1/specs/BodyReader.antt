@@ -170,17 +170,21 @@ pub record Passes (old : State) (ahead : List ℕ) (new : Passed) (rest : List �
   pub takes : Takes old ahead [] new.state rest
   pub stands : Stands new.front new.state rest
 
--- the longest run of body bytes behind the framing at the front, which are some. The reader stands
--- right behind them, and the body ends with them exactly where they complete its length
+-- the piece is the run at the front, all of it, and the reader stands right behind it
+pub record IsWholeRun (at : State) (bytes piece : List ℕ) (new : State) : Type 0 where
+  pub run_is : piece ≡ run at bytes
+  pub stands : new ≡ after_run at (length piece)
+
+-- the longest run of body bytes behind the framing at the front, which are some. Since the reader
+-- stands right behind them, the body ends with them exactly where they complete its length
 pub record TakesPiece
     (old : State) (ahead piece : List ℕ) (end : Bool) (new : State) (rest : List ℕ) : Type 0 where
   pub at : State
   pub behind_framing : List ℕ
   pub framing : Takes old ahead [] at behind_framing
-  pub longest : piece ≡ run at behind_framing
+  pub longest : IsWholeRun at behind_framing piece new
   pub some : 0 < length piece
   pub moved : behind_framing ≡ piece ++ rest
-  pub stands : new ≡ after_run at (length piece)
   pub is_end : end ≡ is_done new
 
 -- the bytes of the body that a call took

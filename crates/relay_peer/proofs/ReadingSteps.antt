@@ -46,7 +46,6 @@ run_behind old mid new bytes between came piece rest end passes takes = record {
   longest = takes.longest;
   some = takes.some;
   moved = takes.moved;
-  stands = takes.stands;
   is_end = takes.is_end;
 }
 
