@@ -1,5 +1,5 @@
 //! A module: it filters what passes between the client and the hooks, in both directions.
-ghost use Rattle.std.specs.Prelude.{◌≡◌};
+ghost use Rattle.std.specs.Prelude.{◌≡◌, Ok, None};
 ghost use Rattle.relay_h1.specs.ClientHead.{is_informational};
 ghost use Rattle.relay_modules.specs.Module.{ModuleCall, request_header, request_body, response_header, response_body, response_trailer, response_done, AllowsOutcome, AllowsAnswer, LeavesInput};
 
@@ -64,30 +64,62 @@ pub struct NoModules;
 impl HttpModule for NoModules {
     ghost allows = { λ _ call. LeavesInput call };
 
-    fn request_header_filter(&mut self, _head: &mut RequestHeader) -> Result<()> {
+    fn request_header_filter(&mut self, head: &mut RequestHeader) -> Result<()>
+        ensures allowed { AllowsOutcome LeavesInput
+            (λ error. request_header head.old head.new error) result }
+        ensures narrows { (call : ModuleCall) → LeavesInput call → LeavesInput call }
+        ensures same { head.new ≡ head.old }
+        ensures answer { result ≡ Ok tt }
+    {
         Ok(())
     }
 
-    fn request_body_filter(&mut self, _body: &mut Option<Bytes>, _end: bool) -> Result<()> {
+    fn request_body_filter(&mut self, body: &mut Option<Bytes>, end: bool) -> Result<()>
+        ensures allowed { AllowsOutcome LeavesInput
+            (λ error. request_body body.old body.new end error) result }
+        ensures narrows { (call : ModuleCall) → LeavesInput call → LeavesInput call }
+        ensures same { body.new ≡ body.old }
+        ensures answer { result ≡ Ok tt }
+    {
         Ok(())
     }
 
-    fn response_header_filter(&mut self, _head: &mut ResponseHeader, _end: bool) -> Result<()> {
+    fn response_header_filter(&mut self, head: &mut ResponseHeader, end: bool) -> Result<()>
+        ensures allowed { AllowsOutcome LeavesInput
+            (λ error. response_header head.old head.new end error) result }
+        ensures narrows { (call : ModuleCall) → LeavesInput call → LeavesInput call }
+        ensures kind { is_informational head.new.status ≡ is_informational head.old.status }
+        ensures same { head.new ≡ head.old }
+        ensures answer { result ≡ Ok tt }
+    {
         Ok(())
     }
 
-    fn response_body_filter(&mut self, _body: &mut Option<Bytes>, _end: bool) -> Result<()> {
+    fn response_body_filter(&mut self, body: &mut Option<Bytes>, end: bool) -> Result<()>
+        ensures allowed { AllowsOutcome LeavesInput
+            (λ error. response_body body.old body.new end error) result }
+        ensures narrows { (call : ModuleCall) → LeavesInput call → LeavesInput call }
+        ensures same { body.new ≡ body.old }
+        ensures answer { result ≡ Ok tt }
+    {
         Ok(())
     }
 
-    fn response_trailer_filter(
-        &mut self,
-        _trailers: &mut Option<HeaderMap>,
-    ) -> Result<Option<Bytes>> {
+    fn response_trailer_filter(&mut self, trailers: &mut Option<HeaderMap>) -> Result<Option<Bytes>>
+        ensures allowed { AllowsAnswer LeavesInput
+            (λ answer error. response_trailer trailers.old trailers.new answer error) result }
+        ensures narrows { (call : ModuleCall) → LeavesInput call → LeavesInput call }
+        ensures same { trailers.new ≡ trailers.old }
+        ensures answer { result ≡ Ok None }
+    {
         Ok(None)
     }
 
-    fn response_done_filter(&mut self) -> Result<Option<Bytes>> {
+    fn response_done_filter(&mut self) -> Result<Option<Bytes>>
+        ensures allowed { AllowsAnswer LeavesInput response_done result }
+        ensures narrows { (call : ModuleCall) → LeavesInput call → LeavesInput call }
+        ensures answer { result ≡ Ok None }
+    {
         Ok(None)
     }
 }

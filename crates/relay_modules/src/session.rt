@@ -39,7 +39,7 @@ impl Session<NoModules> {
 }
 
 impl<M: HttpModule> Session<M> {
-    ghost use Rattle.relay_modules.specs.Lent.{LendsHead};
+    ghost use Rattle.relay_modules.specs.Lent.{lends_head, lends_client};
 
     /// The session of a client on an HTTP/1 link, with those modules. The client may be kept, the
     /// task API is off, and nothing was counted.
@@ -66,6 +66,26 @@ impl<M: HttpModule> Session<M> {
         ensures { head_of self.now.seen.downstream.reading ≡ Some result.now }
     {
         self.seen.req_header()
+    }
+
+    /// The client's session, to be changed. What it queues by itself passes no module and is not
+    /// noted.
+    pub fn as_downstream_mut(&mut self) -> &mut HttpSession
+        ensures* writes_back { sem 𝓛 (lends_client M.row self.entry result) }
+        ensures value { result.now ≡ self.old.seen.downstream }
+    {
+        let seen = &mut self.seen;
+        &mut seen.downstream
+    }
+
+    /// The request's head, to be changed; the session counts as touched from now on. The response
+    /// answers the request as it came.
+    pub fn req_header_mut(&mut self) -> &mut RequestHeader
+        requires { IsSome (head_of self.old.seen.downstream.reading) }
+        ensures* writes_back { sem 𝓛 (lends_head M.row self.entry result) }
+        ensures value { head_of self.old.seen.downstream.reading ≡ Some result.now }
+    {
+        self.seen.req_header_mut()
     }
 
     /// The calls of hooks and modules so far.
