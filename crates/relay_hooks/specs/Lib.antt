@@ -6,3 +6,4 @@ pub mod Laws
 pub mod Purge
 pub mod DefaultAnswer
 pub mod DefaultLaw
+pub mod Lawful

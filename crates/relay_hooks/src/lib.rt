@@ -2,12 +2,18 @@
 //! what it allows.
 #![tactic(auto)]
 
+mod app;
+mod default_app;
 pub mod defaults;
 mod failing;
+mod filters;
 mod hooks;
 mod purge;
 
+pub use app::{App, Counted};
+pub use default_app::Defaults;
 pub use failing::{FailToProxy, ProxyWarnLogContext};
+pub use filters::Filters;
 pub use hooks::ProxyHttp;
 pub use purge::PurgeStatus;
 pub use relay_modules::{HttpModule, NoModules, Session};
