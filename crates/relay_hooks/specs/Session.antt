@@ -43,6 +43,7 @@ pub record MayAnswer (seen : Seen) : Type 0 where
 
 -- the request was read as far as before, and but for its head it is the same
 pub record SameRequest (old new : Seen) : Type 0 where
+  pub head : IsSome (head_of old.downstream.reading) → IsSome (head_of new.downstream.reading)
   pub but_head : (head : RequestHead)
       → with_head new.downstream.reading head ≡ with_head old.downstream.reading head
   pub untouched : new.touched ≡ false → new.downstream.reading ≡ old.downstream.reading

@@ -90,6 +90,7 @@ impl ProxyHttp for Defaults {
         _end: bool,
         _ctx: &mut (),
     ) -> Result<()> {
+        // the piece goes on as it is
         Ok(())
     }
 

@@ -99,6 +99,7 @@ pub trait Filters {
         requires { IsReady _session.now.seen }
         ensures { KeepsKindUnless result head.old head.new }
     {
+        // the head goes on to the client as it is
         Ok(())
     }
 
