@@ -14,7 +14,7 @@ use Rattle.relay_h1.specs.Verdict.{refused_from}
 use Rattle.relay_session.specs.Reading.{head_of}
 use Rattle.relay_modules.specs.Module.{ModuleCall, request_header, response_header, response_body, response_trailer, response_done}
 use Rattle.relay_modules.specs.Lent.{with_touched}
-use Rattle.relay_modules.specs.Seen.{Queues, CannotQueue, no_task_api}
+use Rattle.relay_modules.specs.Seen.{Notes, CannotQueue, no_task_api}
 use Rattle.relay_modules.specs.declared.seen.Seen.{Seen}
 
 -- ---- one task
@@ -57,6 +57,12 @@ Refuses allows (task.Trailer fields) error =
     (left : Option Fields) × allows (response_trailer fields left None (Some error))
 Refuses allows task.Done error = allows (response_done None (Some error))
 Refuses allows (task.Failed cause) error = ⊥
+
+-- what the modules answer to a task; memory may be wanted
+abbrev pub MakesTask : (ModuleCall → Type 0) → HttpTask → Result HttpTask Fail → Type 0
+MakesTask allows came (Ok made) = Makes allows came made
+MakesTask allows came (Err (fail.Error error)) = Refuses allows came error
+MakesTask allows came (Err fail.OutOfMemory) = Unit {0}
 
 -- what a task is refused with once the modules made it: no upgrade is offered, so neither a head
 -- that switches protocols nor a piece behind one passes
@@ -113,22 +119,22 @@ FiltersTasks allows tasks (Ok made) = AllPass allows tasks made
 FiltersTasks allows tasks (Err (fail.Error error)) = StopsAt allows tasks error
 FiltersTasks allows tasks (Err fail.OutOfMemory) = Unit {0}
 
--- all of the batch passed, and what was made of it is queued
+-- all of the batch passed, and what was made of it is queued, and noted
 pub record WritesBatch (allows : ModuleCall → Type 0) (tasks : List HttpTask) (old new : Seen)
-    (over : Bool) : Type 0 where
+    : Type 0 where
   pub made : List HttpTask
   pub passed : AllPass allows tasks made
-  pub queues : Queues made old new over
+  pub notes : Notes made old new
 
 -- why a batch fails: a task does not pass, and nothing of the batch is queued; or all passed, and
 -- what was made of them can not all be queued. Memory may be wanted before anything is queued
-pub data FailsBatch (allows : ModuleCall → Type 0) (tasks : List HttpTask) (old new : Seen)
+pub data FailsToWrite (allows : ModuleCall → Type 0) (tasks : List HttpTask) (old new : Seen)
     : Fail → Type 0 where
   by_filter : (error : Error) → StopsAt allows tasks error → new ≡ old
-      → FailsBatch allows tasks old new (fail.Error error)
+      → FailsToWrite allows tasks old new (fail.Error error)
   by_writer : (given : Fail) (made : List HttpTask) → AllPass allows tasks made
-      → CannotQueue made old new given → FailsBatch allows tasks old new given
-  wants_memory : new ≡ old → FailsBatch allows tasks old new fail.OutOfMemory
+      → CannotQueue made old new given → FailsToWrite allows tasks old new given
+  wants_memory : new ≡ old → FailsToWrite allows tasks old new fail.OutOfMemory
 
 -- ---- a task that is kept
 

@@ -3,7 +3,7 @@ ghost use Rattle.std.specs.Prelude.{◌≡◌, None, MatchOption};
 ghost use Rattle.relay_tasks.specs.declared.error.ErrorSource.TheVariants.{Internal};
 ghost use Rattle.relay_h1.specs.Verdict.{refused_from};
 ghost use Rattle.relay_modules.specs.Module.{ModuleCall};
-ghost use Rattle.relay_modules.specs.Filtering.{FiltersTask, FiltersTasks, ended_by, refusal_of};
+ghost use Rattle.relay_modules.specs.Filtering.{MakesTask, FiltersTask, FiltersTasks, ended_by, refusal_of};
 
 use crate::module::HttpModule;
 use bytes::Bytes;
@@ -29,7 +29,11 @@ pub fn filter_task<M: HttpModule>(modules: &mut M, task: HttpTask) -> Result<Htt
 }
 
 /// What the modules make of a task.
-fn pass<M: HttpModule>(modules: &mut M, task: HttpTask) -> Result<HttpTask> {
+fn pass<M: HttpModule>(modules: &mut M, task: HttpTask) -> Result<HttpTask>
+    ensures makes { MakesTask (M.allows modules.old) task result }
+    ensures narrows { (call : ModuleCall) → M.allows modules.new call
+        → M.allows modules.old call }
+{
     match task {
         HttpTask::Header(mut head, end) => {
             modules.response_header_filter(&mut head, end)?;

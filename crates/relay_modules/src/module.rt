@@ -62,7 +62,7 @@ pub trait HttpModule {
 pub struct NoModules;
 
 impl HttpModule for NoModules {
-    ghost allows = { λ module call. LeavesInput call };
+    ghost allows = { λ _ call. LeavesInput call };
 
     fn request_header_filter(&mut self, _head: &mut RequestHeader) -> Result<()> {
         Ok(())

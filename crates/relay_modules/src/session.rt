@@ -1,11 +1,13 @@
 //! The session that hooks are given: the client's, and the modules of its request.
-ghost use Rattle.std.specs.Prelude.{◌≡◌, ◌==◌, ◌∷◌, [], not, length, true, Some, IsSome, IfOk, IfErr, OnOk, OnErr};
+ghost use Rattle.std.specs.Prelude.{◌≡◌, ◌==◌, ◌&&◌, ◌∷◌, [], not, length, true, false, Some, IsSome, IfOk, IfErr, OnOk, OnErr};
 ghost use Rattle.std.specs.Borrow.{sem};
 ghost use Rattle.relay_tasks.specs.Head.{IsStatus};
 ghost use Rattle.relay_session.specs.Reading.{head_of};
+ghost use Rattle.relay_session.specs.Generated.{answer_tasks, body_answer_tasks, AnswersText};
+ghost use Rattle.relay_session.specs.Response.{is_over};
 ghost use Rattle.relay_modules.specs.Module.{ModuleCall};
-ghost use Rattle.relay_modules.specs.Filtering.{WritesBatch, FailsBatch, KeepsTask, FailsToKeep, FiltersRequest};
-ghost use Rattle.relay_modules.specs.Seen.{IsNew, Responds, RespondsWith, CannotQueue, WritesKept};
+ghost use Rattle.relay_modules.specs.Filtering.{WritesBatch, FailsToWrite, KeepsTask, FailsToKeep, FiltersRequest};
+ghost use Rattle.relay_modules.specs.Seen.{IsNew, Responds, RespondsWith, FailsToNote, WritesKept, is_due, keeps_none};
 
 use crate::filtering::{filter_task, filter_tasks};
 use crate::module::{HttpModule, NoModules};
@@ -94,7 +96,7 @@ impl<M: HttpModule> Session<M> {
     pub fn write_response_header(&mut self, head: ResponseHeader, end: bool) -> Result<()>
         ensures ok { OnOk result (WritesBatch (M.allows self.old.modules)
             (HttpTask.Header head end ∷ []) self.old.seen self.new.seen) }
-        ensures err { IfErr result (FailsBatch (M.allows self.old.modules)
+        ensures err { IfErr result (FailsToWrite (M.allows self.old.modules)
             (HttpTask.Header head end ∷ []) self.old.seen self.new.seen) }
         ensures narrows { (call : ModuleCall) → M.allows self.new.modules call
             → M.allows self.old.modules call }
@@ -106,7 +108,7 @@ impl<M: HttpModule> Session<M> {
     pub fn write_response_header_ref(&mut self, head: &ResponseHeader, end: bool) -> Result<()>
         ensures ok { OnOk result (WritesBatch (M.allows self.old.modules)
             (HttpTask.Header head.now end ∷ []) self.old.seen self.new.seen) }
-        ensures err { IfErr result (FailsBatch (M.allows self.old.modules)
+        ensures err { IfErr result (FailsToWrite (M.allows self.old.modules)
             (HttpTask.Header head.now end ∷ []) self.old.seen self.new.seen) }
         ensures narrows { (call : ModuleCall) → M.allows self.new.modules call
             → M.allows self.old.modules call }
@@ -122,7 +124,7 @@ impl<M: HttpModule> Session<M> {
     pub fn write_response_body(&mut self, body: Option<Bytes>, end: bool) -> Result<()>
         ensures ok { OnOk result (WritesBatch (M.allows self.old.modules)
             (HttpTask.Body body end ∷ []) self.old.seen self.new.seen) }
-        ensures err { IfErr result (FailsBatch (M.allows self.old.modules)
+        ensures err { IfErr result (FailsToWrite (M.allows self.old.modules)
             (HttpTask.Body body end ∷ []) self.old.seen self.new.seen) }
         ensures narrows { (call : ModuleCall) → M.allows self.new.modules call
             → M.allows self.old.modules call }
@@ -134,7 +136,7 @@ impl<M: HttpModule> Session<M> {
     fn write_one(&mut self, task: HttpTask) -> Result<()>
         ensures ok { OnOk result (WritesBatch (M.allows self.old.modules) (task ∷ []) self.old.seen
             self.new.seen) }
-        ensures err { IfErr result (FailsBatch (M.allows self.old.modules)
+        ensures err { IfErr result (FailsToWrite (M.allows self.old.modules)
             (task ∷ []) self.old.seen self.new.seen) }
         ensures narrows { (call : ModuleCall) → M.allows self.new.modules call
             → M.allows self.old.modules call }
@@ -153,15 +155,17 @@ impl<M: HttpModule> Session<M> {
     /// (`filter_task`); once all passed, as in `Seen::queue_tasks`. Then, and where memory is
     /// wanted, the modules alone have changed.
     pub fn write_response_tasks(&mut self, tasks: TaskList) -> Result<bool>
-        ensures ok { IfOk result (WritesBatch (M.allows self.old.modules) tasks self.old.seen
+        ensures over { IfOk result
+            (λ over. over ≡ is_over self.new.seen.downstream.writing.place) }
+        ensures ok { OnOk result (WritesBatch (M.allows self.old.modules) tasks self.old.seen
             self.new.seen) }
-        ensures err { IfErr result (FailsBatch (M.allows self.old.modules)
+        ensures err { IfErr result (FailsToWrite (M.allows self.old.modules)
             tasks self.old.seen self.new.seen) }
         ensures narrows { (call : ModuleCall) → M.allows self.new.modules call
             → M.allows self.old.modules call }
     {
         let made = filter_tasks(self.seen.alloc, &mut self.modules, tasks)?;
-        self.seen.queue_tasks(made)
+        self.seen.note_tasks(made)
     }
 
     /// Queues the answer with that status, from 100 to 999, that has no body, as the relay makes it
@@ -170,10 +174,14 @@ impl<M: HttpModule> Session<M> {
     /// Refused as in `HttpSession::respond_error`.
     pub fn respond_error(&mut self, code: u16) -> Result<()>
         requires { IsStatus code }
-        ensures answers { Responds code result self.old.seen self.new.seen }
+        ensures answers { Responds
+            (answer_tasks self.old.seen.downstream.writing.place code) result self.old.seen
+            self.new.seen }
+        ensures text { OnOk result (AnswersText code self.old.seen.downstream.writing
+            self.new.seen.downstream.writing) }
         ensures modules { self.new.modules ≡ self.old.modules }
     {
-        self.seen.downstream.respond_error(code)
+        self.seen.respond_error(code)
     }
 
     /// Queues the answer with that status, from 100 to 999, and that body, as the relay makes it
@@ -182,10 +190,12 @@ impl<M: HttpModule> Session<M> {
     /// Refused as in `HttpSession::respond_error_with_body`.
     pub fn respond_error_with_body(&mut self, code: u16, body: Bytes) -> Result<()>
         requires { IsStatus code }
-        ensures answers { RespondsWith code body result self.old.seen self.new.seen }
+        ensures answers { RespondsWith
+            (body_answer_tasks self.old.seen.downstream.writing.place code body) result
+            self.old.seen self.new.seen }
         ensures modules { self.new.modules ≡ self.old.modules }
     {
-        self.seen.downstream.respond_error_with_body(code, body)
+        self.seen.respond_error_with_body(code, body)
     }
 
     /// Turns the task API on or off. It is off at first.
@@ -226,21 +236,23 @@ impl<M: HttpModule> Session<M> {
         self.seen.kept.push(made)
     }
 
-    /// Queues the tasks that were kept, all or none, and keeps none then. Answers whether the
-    /// response is over, and false where none was kept or the task API is off; then nothing changes.
+    /// Queues the tasks that were kept, and keeps none then. Answers whether the response is over,
+    /// and false where none was kept or the task API is off; nothing changes then.
     ///
-    /// Refused as in `Seen::queue_tasks`; the tasks are gone then.
+    /// Refused as in `Seen::queue_tasks`; the tasks that were kept are gone then.
     pub fn write_downstream_proxy_tasks(&mut self) -> Result<bool>
-        ensures ok { IfOk result (WritesKept self.old.seen self.new.seen) }
-        ensures err { IfErr result (CannotQueue self.old.seen.kept
-            (record self.old.seen { kept = [] }) self.new.seen) }
+        ensures over { IfOk result (λ over. over
+            ≡ (is_due self.old.seen && is_over self.new.seen.downstream.writing.place)) }
+        ensures ok { OnOk result (WritesKept (is_due self.old.seen) self.old.seen self.new.seen) }
+        ensures err { IfErr result (FailsToNote self.old.seen.kept (keeps_none self.old.seen)
+            self.new.seen) }
         ensures modules { self.new.modules ≡ self.old.modules }
     {
         if !self.seen.tasks_enabled || self.seen.kept.is_empty() {
             return Ok(false);
         }
         let kept = mem::replace(&mut self.seen.kept, TaskList::new(self.seen.alloc));
-        self.seen.queue_tasks(kept)
+        self.seen.note_tasks(kept)
     }
 
     /// Sets whether the client may be kept for a next request.
