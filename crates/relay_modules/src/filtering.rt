@@ -105,7 +105,10 @@ pub fn filter_tasks<M: HttpModule>(
 {
     let mut made = TaskList::new(alloc);
     while let Some(task) = tasks.take_first() {
-        made.push(filter_task(modules, task)?)?;
+        match filter_task(modules, task) {
+            Ok(one) => made.push(one)?,
+            Err(fail) => return Err(fail),
+        }
     }
     Ok(made)
 }
