@@ -1,5 +1,5 @@
 -- A session without its modules, as clauses see it.
-use Rattle.std.specs.Prelude.{◌≡◌, ◌==◌, ◌&&◌, ◌++◌, ℕ, Bool, true, false, not, length, List, [], None, Result, Ok, Err}
+use Rattle.std.specs.Prelude.{◌≡◌, ◌⊎◌, ◌==◌, ◌&&◌, ◌++◌, ℕ, Bool, true, false, not, length, List, [], None, Result, Ok, Err}
 use Rattle.relay_tasks.specs.declared.error.Error.{Error}
 use Rattle.relay_tasks.specs.declared.error.ErrorType.TheVariants.{WriteError}
 use Rattle.relay_tasks.specs.declared.error.ErrorSource.TheVariants.{Internal}
@@ -13,8 +13,7 @@ use Rattle.relay_session.specs.declared.session.HttpSession.{HttpSession}
 use Rattle.relay_session.specs.declared.task_text.Place.{Place}
 use Rattle.relay_session.specs.declared.writing.Writing.{Writing}
 use Rattle.relay_session.specs.Generated.{IsFaultOrMemory}
-use Rattle.relay_session.specs.TaskWire.{tasks_sent}
-use Rattle.relay_session.specs.Response.{Grows, GoesOnWith, FailsWithin, has_head}
+use Rattle.relay_session.specs.Response.{AreQueued, FailsWithin, FailsBatch, has_head}
 use Rattle.relay_modules.specs.declared.seen.Seen.{Seen}
 
 -- a session of that client before its request, or behind a head that its caller read
@@ -47,11 +46,6 @@ abbrev pub with_response : Seen → Writing → Seen
 with_response seen response =
     record seen { downstream = record seen.downstream { writing = response } }
 
--- these tasks were queued behind what was, and none of them is refused
-pub record AreQueued (old : Writing) (tasks : List HttpTask) (new : Writing) : Type 0 where
-  pub grows : Grows (tasks_sent old.request old.place tasks) old new
-  pub goes_on : GoesOnWith old new tasks
-
 -- tasks were queued; all else stays
 pub record Queues (tasks : List HttpTask) (old new : Seen) : Type 0 where
   pub queued : AreQueued old.downstream.writing tasks new.downstream.writing
@@ -69,14 +63,15 @@ pub record Notes (tasks : List HttpTask) (old new : Seen) : Type 0 where
 -- why tasks are not all queued, and what was queued of them, as the client's session says; all else
 -- stays
 pub record CannotQueue (tasks : List HttpTask) (old new : Seen) (given : Fail) : Type 0 where
-  pub fails : FailsWithin old.downstream.writing.output old.downstream.writing tasks
+  pub fails : FailsBatch old.downstream.writing.output old.downstream.writing tasks
       new.downstream.writing given
   pub rest : new ≡ with_response old new.downstream.writing
 
 -- the same, where memory may be wanted before anything is queued
 pub data FailsToNote (tasks : List HttpTask) (old new : Seen) : Fail → Type 0 where
-  refused : (given : Fail) → CannotQueue tasks old new given → FailsToNote tasks old new given
-  wants_memory : new ≡ old → FailsToNote tasks old new fail.OutOfMemory
+  cannot_queue : (given : Fail) → CannotQueue tasks old new given
+      → FailsToNote tasks old new given
+  wants_note : new ≡ old → FailsToNote tasks old new fail.OutOfMemory
 
 -- the task API is off
 abbrev pub no_task_api : Error
@@ -106,13 +101,20 @@ Responds tasks (Err (fail.Error error)) old new =
 Responds tasks (Err fail.OutOfMemory) old new = new ≡ old
 
 -- a failure that is so, or memory is wanted
-abbrev pub OrMemory : Type 0 → Fail → Type 0
+abbrev pub OrMemory : (Fail → Type 0) → Fail → Type 0
 OrMemory fact fail.OutOfMemory = Unit {0}
-OrMemory fact (fail.Error error) = fact
+OrMemory fact (fail.Error error) = fact (fail.Error error)
 
--- the same for an answer with a body; where memory is wanted, its head may be queued
+-- an answer with a body stopped at a task, and its head may be queued; all else stays
+pub record StopsAnswer (tasks : List HttpTask) (old new : Seen) (given : Fail) : Type 0 where
+  pub fails : FailsWithin old.downstream.writing.output old.downstream.writing tasks
+      new.downstream.writing given
+  pub rest : new ≡ with_response old new.downstream.writing
+
+-- an answer of those tasks was queued; or the fault that is kept was answered, or memory is wanted,
+-- and nothing has changed but that its head may be queued
 abbrev pub RespondsWith : List HttpTask → Result Unit Fail → Seen → Seen → Type 0
 RespondsWith tasks (Ok done) old new = Notes tasks old new
 RespondsWith tasks (Err given) old new =
-    OrMemory (IsFaultOrMemory old.downstream.writing.output given) given
-    × FailsToNote tasks old new given
+    OrMemory (IsFaultOrMemory old.downstream.writing.output) given
+    × ((new ≡ old) ⊎ StopsAnswer tasks old new given)
