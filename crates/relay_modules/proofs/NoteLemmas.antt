@@ -1,5 +1,5 @@
 -- What a call that notes its tasks leaves, by its answers.
-use Rattle.std.proofs.Common.{◌≡◌, true, List, ◌∷◌, ◌++◌, [], Result, Ok, Err, OnOk, OnErr, IfErr, IsOkUnless, refl, sym, ap, ◌∙◌, subst, inl, inr}
+use Rattle.std.proofs.Common.{◌≡◌, Bool, true, List, ◌∷◌, ◌++◌, [], Result, Ok, Err, OnOk, OnErr, IfErr, IsOkUnless, refl, sym, ap, ◌∙◌, subst, inl, inr}
 use Rattle.relay_tasks.specs.declared.error.Error.{Error}
 use Rattle.relay_tasks.specs.declared.error.Fail.{Fail}
 use Rattle.relay_tasks.specs.declared.error.Fail.TheVariants as fail
@@ -103,12 +103,13 @@ pub RespondsWith-fails : (tasks : List HttpTask) (old : Seen) (client : HttpSess
     → FailsWithin old.downstream.writing.output old.downstream.writing tasks client.writing given
     → client ≡ record old.downstream { writing = client.writing }
     → RespondsWith tasks (Err given) old (record old { downstream = client })
-RespondsWith-fails tasks old client given h fails rest =
-    (OrMemory-of (IsFaultOrMemory old.downstream.writing.output) given h,
-    inr (record {
-      fails = fails;
-      rest = ap (λ (d : HttpSession). record old { downstream = d }) rest;
-    }))
+RespondsWith-fails tasks old client given h fails rest = (
+  OrMemory-of (IsFaultOrMemory old.downstream.writing.output) given h,
+  inr (record {
+    fails = fails;
+    rest = ap (λ (d : HttpSession). record old { downstream = d }) rest;
+  }),
+)
 
 -- ---- a task that is kept
 
@@ -129,3 +130,18 @@ FailsToKeep-memory allows came old (Ok done) on h = tt
 FailsToKeep-memory allows came old (Err given) on h =
     subst (λ (f : Fail). FailsToKeep allows came old f) (sym h)
     (filtering.FailsToKeep.wants_memory on)
+
+-- the same, by the answer of the call that queues
+pub FailsToWrite-noted : (allows : ModuleCall → Type 0) (tasks made : List HttpTask)
+    (old new : Seen) (answer : Result Bool Fail) → AllPass allows tasks made
+    → IfErr answer (FailsToNote made old new) → IfErr answer (FailsToWrite allows tasks old new)
+FailsToWrite-noted allows tasks made old new (Ok over) h fails = tt
+FailsToWrite-noted allows tasks made old new (Err given) h fails =
+    FailsToWrite-note allows tasks made old new given h fails
+
+-- memory was wanted before a batch was filtered
+pub FailsToWrite-memory : (allows : ModuleCall → Type 0) (tasks : List HttpTask) (old : Seen)
+    (given : Fail) → given ≡ fail.OutOfMemory → FailsToWrite allows tasks old old given
+FailsToWrite-memory allows tasks old given is =
+    subst (λ (f : Fail). FailsToWrite allows tasks old old f) (sym is)
+    (filtering.FailsToWrite.wants_memory refl)

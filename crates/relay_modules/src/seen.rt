@@ -150,7 +150,8 @@ impl Seen {
         ensures text { OnOk result (AnswersText code self.old.downstream.writing
             self.new.downstream.writing) }
     {
-        let wrote = noted(&self.wrote, &self.answer(code)?)?;
+        let answer = self.answer(code)?;
+        let wrote = noted(&self.wrote, &answer)?;
         self.downstream.respond_error(code)?;
         self.wrote = wrote;
         Ok(())
@@ -163,7 +164,8 @@ impl Seen {
             (body_answer_tasks self.old.downstream.writing.place code body) result self.old
             self.new }
     {
-        let wrote = noted(&self.wrote, &self.answer_with_body(code, &body)?)?;
+        let answer = self.answer_with_body(code, &body)?;
+        let wrote = noted(&self.wrote, &answer)?;
         self.downstream.respond_error_with_body(code, body)?;
         self.wrote = wrote;
         Ok(())

@@ -13,13 +13,14 @@ returns-in-Err-clause-filters g c =
     c.in-Err.ensures.filters
 
 pub loop-task-preserved : goal.loop-task-preserved
-loop-task-preserved g c =
-    (rw c.in_ok-push-in-Ok.ensures.ok
-    (HasFiltered-more (g.M.HttpModule.allows c.args.modules.now) c.args.tasks
-    c.take_first.new.self c.loop-task.made c.in-Some.task c.in-Ok.one
-    (subst (λ (l : List HttpTask). HasFiltered (g.M.HttpModule.allows c.args.modules.now)
-    c.args.tasks l c.loop-task.made) c.in-Some.ensures c.loop-task.invariant.0)
-    (Passes-widen (g.M.HttpModule.allows c.loop-task.modules)
-    (g.M.HttpModule.allows c.args.modules.now) c.loop-task.invariant.1 c.in-Some.task c.in-Ok.one
-    c.in-Ok.ensures.filters)),
-    λ call h. c.loop-task.invariant.1 call (c.filter_task.ensures.narrows call h))
+loop-task-preserved g c = (
+  rw c.in_ok-push-in-Ok.ensures.ok
+      (HasFiltered-more (g.M.HttpModule.allows c.args.modules.now) c.args.tasks
+      c.take_first.new.self c.loop-task.made c.in-Some.task c.in-Ok.one
+      (subst (λ (l : List HttpTask). HasFiltered (g.M.HttpModule.allows c.args.modules.now)
+      c.args.tasks l c.loop-task.made) c.in-Some.ensures c.loop-task.invariant.0)
+      (Passes-widen (g.M.HttpModule.allows c.loop-task.modules)
+      (g.M.HttpModule.allows c.args.modules.now) c.loop-task.invariant.1 c.in-Some.task c.in-Ok.one
+      c.in-Ok.ensures.filters)),
+  λ call h. c.loop-task.invariant.1 call (c.filter_task.ensures.narrows call h),
+)
