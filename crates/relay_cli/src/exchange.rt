@@ -10,29 +10,17 @@ use crate::script::{PeerEntry, Script};
 use bytes::Bytes;
 use relay_h1::Connection;
 use relay_links::{
-    Branch, CountDelay, ListSchedule, MemoryPurger, PeerScript, Returned, ScriptConnector, ScriptLink,
-    ShutdownAt,
+    Branch, CountDelay, ListSchedule, MemoryPurger, PeerScript, Returned, ScriptConnector,
+    ScriptLink, ShutdownAt,
 };
 use relay_proxy::{
-    AttemptList, AttemptRecord, HttpProxy, Outcome, Outside, Processed, ProxyHttp, ServerConf,
+    AttemptList, AttemptRecord, HttpProxy, NoHooks, Outcome, Outside, Processed, ServerConf,
 };
 use relay_tasks::Purged;
 use std::alloc::{AllocError, Global};
 
 /// How the proxy of a script is set up.
 const CONF: ServerConf = ServerConf { max_retries: 2 };
-
-/// An application that has no hooks.
-#[derive(Drop)]
-pub(crate) struct NoHooks;
-
-impl ProxyHttp for NoHooks {
-    type CTX = ();
-
-    type Kept = ();
-
-    fn new_ctx(&self) {}
-}
 
 /// Runs the request of a script.
 pub fn run_exchange(alloc: Global, script: Script) -> Result<RequestReport, AllocError>

@@ -2,6 +2,7 @@
 //! port for a peer at another.
 #![tactic(auto)]
 
+mod announcer;
 mod exchange;
 mod report;
 mod run;

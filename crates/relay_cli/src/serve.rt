@@ -1,8 +1,8 @@
 //! Serving: a port of this host, for a peer at another one.
 
-use crate::exchange::NoHooks;
+use crate::announcer::Announcer;
 use relay_links::MemoryPurger;
-use relay_proxy::{HttpProxy, ServerConf};
+use relay_proxy::{HttpProxy, NoHooks, ServerConf};
 use relay_server::{TcpPoller, serve_with};
 use relay_tasks::Purged;
 use relay_tcp::TcpConnector;
@@ -15,12 +15,30 @@ use std::sync::Wait;
 /// How the proxy of a server is set up.
 const CONF: ServerConf = ServerConf { max_retries: 2 };
 
+/// Why serving stopped before so many requests had ended.
+#[derive(Clone, Copy)]
+enum Stop {
+    OutOfMemory,
+    /// The port is not to be had, or what happens there can not be waited for.
+    Failed(ErrorKind),
+}
+
+impl From<io::Error> for Stop {
+    fn from(error: io::Error) -> Stop {
+        match error.kind() {
+            ErrorKind::OutOfMemory => Stop::OutOfMemory,
+            kind => Stop::Failed(kind),
+        }
+    }
+}
+
 /// Serves 127.0.0.1 at `port`, with the peer 127.0.0.1 at `peer`, until so many requests have
-/// ended, and answers the number of the status. It may wait for ever.
+/// ended, and answers the number of the status. It may wait for ever. Standard error is told where
+/// it serves, and why it does not.
 ///
 /// 0: so many requests have ended. 5: want of memory. 7: the port is not to be had, or what happens
 /// there can not be waited for.
-pub fn serve<R: Net + Wait + Clone + Drop>(
+pub fn serve<R: Net + Wait + Eprint + Clone + Drop>(
     rt: &R,
     alloc: Global,
     port: u16,
@@ -28,28 +46,40 @@ pub fn serve<R: Net + Wait + Clone + Drop>(
     requests: u64,
 ) -> u8 {
     match serve_peer(rt, alloc, port, peer, requests) {
-        Ok(status) => status,
-        Err(error) if error.kind() == ErrorKind::OutOfMemory => 5,
-        Err(_) => 7,
+        Ok(()) => 0,
+        Err(Stop::OutOfMemory) => {
+            let _ = eprintln!(rt; "can not serve 127.0.0.1:{port}: out of memory");
+            5
+        }
+        Err(Stop::Failed(kind)) => {
+            let _ = eprintln!(rt; "can not serve 127.0.0.1:{port}: {kind}");
+            7
+        }
     }
 }
 
-/// Serves over a poller and a connector that waits in it.
-fn serve_peer<R: Net + Wait + Clone + Drop>(
+/// Serves over a poller and a connector that waits in it, until so many requests have ended.
+fn serve_peer<R: Net + Wait + Eprint + Clone + Drop>(
     rt: &R,
     alloc: Global,
     port: u16,
     peer: u16,
     requests: u64,
-) -> io::Result<u8> {
-    let mut poller = TcpPoller::new(rt, alloc)?;
-    let readiness = poller.readiness()?;
+) -> Result<(), Stop> {
+    let poller = TcpPoller::new(rt, alloc)?;
+    let Ok(readiness) = poller.readiness() else {
+        return Err(Stop::OutOfMemory);
+    };
     let address = SocketAddr::from((Ipv4Addr::LOCALHOST, peer));
     let Ok(connector) = TcpConnector::new(rt, address, readiness) else {
-        return Ok(5);
+        return Err(Stop::OutOfMemory);
     };
     let purger = MemoryPurger::new(alloc, Purged::NotFound);
     let mut proxy = HttpProxy::new(alloc, NoHooks, CONF, connector, purger);
-    let end = serve_with(rt, alloc, &mut proxy, &mut poller, port, requests);
-    Ok(end.status)
+    let mut announcer = Announcer { rt, poller, peer };
+    match serve_with(rt, alloc, &mut proxy, &mut announcer, port, requests).status {
+        0 => Ok(()),
+        5 => Err(Stop::OutOfMemory),
+        _ => Err(Stop::Failed(announcer.poller.failure().unwrap_or(ErrorKind::Other))),
+    }
 }

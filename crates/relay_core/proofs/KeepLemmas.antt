@@ -24,8 +24,8 @@ use Rattle.relay_core.specs.Batch.{batch_of, rest_of}
 use Rattle.relay_core.specs.Causes.{says_failed, says_finished}
 use Rattle.relay_core.specs.Down.{DownState, ReadsPiece, TakesBatch}
 use Rattle.relay_core.specs.Ends.{can_send_on}
-use Rattle.relay_core.specs.Moves.{SoFar, Steady, Ordinary, Finishes, Refused, Unended, HasReason, Goes, ResponseHeld, is_over}
-use Rattle.relay_core.specs.Past.{DownPast, UpPast, BatchGoes, put_in, task_in, loses, error_of_fail, error_of_took, error_of_put, error_of_result}
+use Rattle.relay_core.specs.Moves.{Extends, SoFar, Steady, Ordinary, Finishes, Refused, Unended, HasReason, Goes, ResponseHeld, is_over}
+use Rattle.relay_core.specs.Past.{DownPast, UpPast, BatchGoes, put_in, task_in, closing_in, loses, error_of_fail, error_of_took, error_of_put, error_of_result}
 use Rattle.relay_core.specs.Pipe.{places, is_failure, is_empty}
 use Rattle.relay_core.specs.Sound.{Runs, ends_with}
 use Rattle.relay_core.specs.State.{is_response_done, is_reading, is_done}
@@ -408,6 +408,81 @@ requests_stay d tunnel took.End = refl
 requests_stay d tunnel (took.Failed (fail.Error error)) = refl
 requests_stay d tunnel (took.Failed fail.OutOfMemory) = refl
 
+-- ---- what passed goes on
+
+-- nothing was added to a list
+more_none : (xs ys : List HttpTask) → xs ≡ ys → xs ≡ ys ++ []
+more_none xs ys same = same ∙ sym (append-nil ys)
+
+-- nothing passed
+extends_same : (p : DownPast) (q : UpPast) → Extends p q p q
+extends_same p q = record {
+  put = [];
+  is_put = more_none p.put p.put refl;
+  batched = [];
+  is_batched = more_none p.batched p.batched refl;
+  closing = [];
+  is_closing = more_none p.closing p.closing refl;
+  read = [];
+  is_read = more_none q.read q.read refl;
+  taken = [];
+  is_taken = more_none q.taken q.taken refl;
+}
+
+-- something passed through the client's side alone
+extends_down : (p p' : DownPast) (q : UpPast) (put batched closing : List HttpTask)
+    → p'.put ≡ p.put ++ put → p'.batched ≡ p.batched ++ batched → p'.closing ≡ p.closing ++ closing
+    → Extends p q p' q
+extends_down p p' q put batched closing is_put is_batched is_closing = record {
+  put = put;
+  is_put = is_put;
+  batched = batched;
+  is_batched = is_batched;
+  closing = closing;
+  is_closing = is_closing;
+  read = [];
+  is_read = more_none q.read q.read refl;
+  taken = [];
+  is_taken = more_none q.taken q.taken refl;
+}
+
+-- something passed through the upstream's side alone
+extends_up : (p : DownPast) (q q' : UpPast) (read taken : List HttpTask)
+    → q'.read ≡ q.read ++ read → q'.taken ≡ q.taken ++ taken → Extends p q p q'
+extends_up p q q' read taken is_read is_taken = record {
+  put = [];
+  is_put = more_none p.put p.put refl;
+  batched = [];
+  is_batched = more_none p.batched p.batched refl;
+  closing = [];
+  is_closing = more_none p.closing p.closing refl;
+  read = read;
+  is_read = is_read;
+  taken = taken;
+  is_taken = is_taken;
+}
+
+-- what passed in two steps, one behind the other
+pub extends_then : (p p' p'' : DownPast) (q q' q'' : UpPast) → Extends p q p' q'
+    → Extends p' q' p'' q'' → Extends p q p'' q''
+extends_then p p' p'' q q' q'' a b = record {
+  put = a.put ++ b.put;
+  is_put = joined p.put a.put b.put p'.put p''.put a.is_put b.is_put;
+  batched = a.batched ++ b.batched;
+  is_batched = joined p.batched a.batched b.batched p'.batched p''.batched a.is_batched b.is_batched;
+  closing = a.closing ++ b.closing;
+  is_closing = joined p.closing a.closing b.closing p'.closing p''.closing a.is_closing b.is_closing;
+  read = a.read ++ b.read;
+  is_read = joined q.read a.read b.read q'.read q''.read a.is_read b.is_read;
+  taken = a.taken ++ b.taken;
+  is_taken = joined q.taken a.taken b.taken q'.taken q''.taken a.is_taken b.is_taken;
+}
+  where
+    joined : (xs more last ys zs : List HttpTask) → ys ≡ xs ++ more → zs ≡ ys ++ last
+        → zs ≡ xs ++ (more ++ last)
+    joined xs more last ys zs one two =
+        two ∙ ap (λ (l : List HttpTask). l ++ last) one ∙ append_assoc xs more last
+
 -- ---- the branches, over what both sides then mean
 
 module _
@@ -417,16 +492,18 @@ module _
     (up_holds : UpPast → Type 0) (up_blames : UpPast → Error → Type 0) where
   -- the exchange so far after a step, and the cause of its error, are all that is to be shown
   goes_by : (b : Branch) (old new : State) (result : Step) → enabled old b ≡ true
-      → StepsTo b old new result → (p : DownPast) (q : UpPast)
+      → StepsTo b old new result → (before : DownPast) (up_before : UpPast) (p : DownPast)
+      (q : UpPast) → Extends before up_before p q
       → SoFar holds up_holds up_blames new p q
       → ((e : Error) → result ≡ step.Failed (fail.Error e)
       → HasReason down_blames refuses cannot_end up_blames new.down p q e)
-      → Goes holds down_blames refuses cannot_end up_holds up_blames new result
-  goes_by b old new result on by p q so_far blamed =
+      → Goes holds down_blames refuses cannot_end up_holds up_blames before up_before new result
+  goes_by b old new result on by before up_before p q extends so_far blamed =
       let tells = step_tells b old new result on by in
       record {
         p = p;
         q = q;
+        extends = extends;
         so_far = so_far;
         blamed = blamed;
         finished = λ is plain. finishes holds up_holds up_blames new p q so_far
@@ -435,6 +512,21 @@ module _
             (so_far.ordinary (not_true (is_failed new.duplex.word)
             (and_right (not new.duplex.upstream_finished) _ runs)) plain) runs;
       }
+
+  -- a step behind another: what it goes on from goes on from what was before both
+  pub goes_then : (before p : DownPast) (up_before q : UpPast) (s : State) (result : Step)
+      → Extends before up_before p q
+      → Goes holds down_blames refuses cannot_end up_holds up_blames p q s result
+      → Goes holds down_blames refuses cannot_end up_holds up_blames before up_before s result
+  goes_then before p up_before q s result extends went = record {
+    p = went.p;
+    q = went.q;
+    extends = extends_then before p went.p up_before q went.q extends went.extends;
+    so_far = went.so_far;
+    blamed = went.blamed;
+    finished = went.finished;
+    request_full = went.request_full;
+  }
 
   -- no task passed: both pipes and all lists are as they were
   quiet : (dp : DownPast → Type 0) (up : UpPast → Type 0) (ub : UpPast → Error → Type 0)
@@ -475,11 +567,12 @@ module _
       → StepsTo branch.UpWrite old new result
       → UpWritesOn up_holds ub up_blames q old.duplex old.up new.duplex new.up result
       → SoFar holds up ub old p q
-      → Goes holds down_blames refuses cannot_end up_holds up_blames new result
+      → Goes holds down_blames refuses cannot_end up_holds up_blames p q new result
   goes_up_write up ub old new result p q on by w f =
       let g = w.goes in
       let alive = enabled_sound branch.UpWrite old on in
-      goes_by branch.UpWrite old new result on by p g.past
+      goes_by branch.UpWrite old new result on by p q p g.past
+      (extends_up p q g.past [] [] (more_none _ _ g.is_read) (more_none _ _ g.is_taken))
       (quiet holds up ub branch.UpWrite old new result p p q g.past on by
       (leaves_at _ _ _ w.duplex (leaves_up_write old.duplex w.answer)) refl refl g.is_read g.is_taken
       f.down g.stands g.keeps
@@ -502,12 +595,14 @@ module _
       (q : UpPast) → enabled old branch.DownWrite ≡ true → StepsTo branch.DownWrite old new result
       → DownWritesOn holds down_blames p old.duplex old.down new.duplex new.down result
       → SoFar dp up_holds up_blames old p q
-      → Goes holds down_blames refuses cannot_end up_holds up_blames new result
+      → Goes holds down_blames refuses cannot_end up_holds up_blames p q new result
   goes_down_write dp old new result p q on by w f =
       let g = w.goes in
       let alive = enabled_sound branch.DownWrite old on in
       let same = down_writes_body old.down new.down w.answer w.writes in
-      goes_by branch.DownWrite old new result on by g.past q
+      goes_by branch.DownWrite old new result on by p q g.past q
+      (extends_down p g.past q [] [] [] (more_none _ _ g.is_put) (more_none _ _ g.is_batched)
+      (more_none _ _ g.is_closing))
       (quiet dp up_holds up_blames branch.DownWrite old new result p g.past q q on by
       (leaves_at _ _ _ w.duplex (leaves_down_write old.duplex w.answer)) g.is_put g.is_batched refl
       refl g.stands f.up (λ e b. b)
@@ -532,7 +627,7 @@ module _
       → StepsTo branch.UpTake old new result
       → UpTakesOn up_holds ub up_blames q old.down.upgraded old.duplex old.up new.duplex new.up
       result → SoFar holds up ub old p q
-      → Goes holds down_blames refuses cannot_end up_holds up_blames new result
+      → Goes holds down_blames refuses cannot_end up_holds up_blames p q new result
   goes_up_take up ub old new result p q on by w f =
       let d = old.duplex in
       let g = w.goes in
@@ -543,7 +638,8 @@ module _
       (leaves_sent mid old.down.upgraded w.piece) (leaves_piece sent w.answer)) in
       let parts : p.put ≡ q.taken ++ (w.piece ∷ w.rest) =
       f.requests ∙ ap (λ (xs : List HttpTask). q.taken ++ xs) w.held in
-      goes_by branch.UpTake old new result on by p g.past
+      goes_by branch.UpTake old new result on by p q p g.past
+      (extends_up p q g.past [] (w.piece ∷ []) (more_none _ _ g.is_read) g.is_taken)
       (record {
         down = f.down;
         up = g.stands;
@@ -578,7 +674,7 @@ module _
   pub goes_down_drop : (old new : State) (result : Step) (p : DownPast) (q : UpPast)
       → enabled old branch.DownDrop ≡ true → StepsTo branch.DownDrop old new result
       → SoFar holds up_holds up_blames old p q
-      → Goes holds down_blames refuses cannot_end up_holds up_blames new result
+      → Goes holds down_blames refuses cannot_end up_holds up_blames p q new result
   goes_down_drop old new result p q on by f =
       let d = old.duplex in
       let w = by.does in
@@ -586,7 +682,8 @@ module _
       let leaves : Leaves (with_responses d w.rest) new.duplex =
       leaves_at _ _ _ w.duplex (leaves_same (with_responses d w.rest)) in
       let done = and_left (is_response_done d.client_response) _ (and_right (down_runs d) _ on) in
-      goes_by branch.DownDrop old new result on by p q
+      goes_by branch.DownDrop old new result on by p q p q
+      (extends_same p q)
       (record {
         down = f.down;
         up = f.up;
@@ -616,11 +713,12 @@ module _
   pub goes_down_end : (old new : State) (result : Step) (p : DownPast) (q : UpPast)
       → enabled old branch.DownEnd ≡ true → StepsTo branch.DownEnd old new result
       → SoFar holds up_holds up_blames old p q
-      → Goes holds down_blames refuses cannot_end up_holds up_blames new result
+      → Goes holds down_blames refuses cannot_end up_holds up_blames p q new result
   goes_down_end old new result p q on by f =
       let w = by.does in
       let alive = enabled_sound branch.DownEnd old on in
-      goes_by branch.DownEnd old new result on by p q
+      goes_by branch.DownEnd old new result on by p q p q
+      (extends_same p q)
       (quiet holds up_holds up_blames branch.DownEnd old new result p p q q on by
       (leaves_at _ _ _ w.duplex (leaves_response_done old.duplex true)) refl refl refl refl f.down
       f.up (λ e b. b)
@@ -636,12 +734,13 @@ module _
   pub goes_down_closed : (old new : State) (result : Step) (p : DownPast) (q : UpPast)
       → enabled old branch.DownClosed ≡ true → StepsTo branch.DownClosed old new result
       → SoFar holds up_holds up_blames old p q
-      → Goes holds down_blames refuses cannot_end up_holds up_blames new result
+      → Goes holds down_blames refuses cannot_end up_holds up_blames p q new result
   goes_down_closed old new result p q on by f =
       let d = old.duplex in
       let w = by.does in
       let alive = enabled_sound branch.DownClosed old on in
-      goes_by branch.DownClosed old new result on by p q
+      goes_by branch.DownClosed old new result on by p q p q
+      (extends_same p q)
       (quiet holds up_holds up_blames branch.DownClosed old new result p p q q on by
       (leaves_at _ _ _ w.duplex (leaves_request_done d true)) refl refl refl refl f.down f.up
       (λ e b. b)
@@ -660,7 +759,7 @@ module _
       → StepsTo branch.UpRead old new result
       → UpReadsOn up_holds ub up_blames q old.down.upgraded old.duplex old.up new.duplex new.up
       result → SoFar holds up ub old p q
-      → Goes holds down_blames refuses cannot_end up_holds up_blames new result
+      → Goes holds down_blames refuses cannot_end up_holds up_blames p q new result
   goes_up_read up ub old new result p q on by w f =
       let d = old.duplex in
       let g = w.goes in
@@ -672,7 +771,8 @@ module _
       let R : Duplex → Type 0 = λ x. ResponseHeld g.past.read p.batched x.responses.tasks
       (is_failed x.word) (is_over x) x.upstream_response_done in
       let N : Duplex → Type 0 = λ x. x.requests.tasks ≡ d.requests.tasks in
-      goes_by branch.UpRead old new result on by p g.past
+      goes_by branch.UpRead old new result on by p q p g.past
+      (extends_up p q g.past (task_in w.answer) [] g.is_read (more_none _ _ g.is_taken))
       (record {
         down = f.down;
         up = g.stands;
@@ -713,7 +813,7 @@ module _
       (q : UpPast) → enabled old branch.DownRead ≡ true → StepsTo branch.DownRead old new result
       → DownReadsOn holds down_blames p old.duplex old.down new.duplex new.down result
       → SoFar dp up_holds up_blames old p q
-      → Goes holds down_blames refuses cannot_end up_holds up_blames new result
+      → Goes holds down_blames refuses cannot_end up_holds up_blames p q new result
   goes_down_read dp old new result p q on by w f =
       let d = old.duplex in
       let g = w.goes in
@@ -731,7 +831,9 @@ module _
       (ordinary_down_read d old.down new.down old.up w.answer p g.past q (was plain)
       (down_open d (and_left (down_runs d) _ on)) w.reads g.is_put g.is_batched g.is_closing
       (f.ordinary alive (was plain)) (alive_then new.duplex _ w.duplex now)) in
-      goes_by branch.DownRead old new result on by g.past q
+      goes_by branch.DownRead old new result on by p q g.past q
+      (extends_down p g.past q (put_in upgraded w.answer) [] [] g.is_put
+      (more_none _ _ g.is_batched) (more_none _ _ g.is_closing))
       (record {
         down = g.stands;
         up = f.up;
@@ -761,14 +863,15 @@ module _
   pub goes_up_finish : (old new : State) (result : Step) (p : DownPast) (q : UpPast)
       → enabled old branch.UpFinish ≡ true → StepsTo branch.UpFinish old new result
       → SoFar holds up_holds up_blames old p q
-      → Goes holds down_blames refuses cannot_end up_holds up_blames new result
+      → Goes holds down_blames refuses cannot_end up_holds up_blames p q new result
   goes_up_finish old new result p q on by f =
       let d = old.duplex in
       let w = by.does in
       let why = custom_error d.kind d.send_error in
       let alive = enabled_sound branch.UpFinish old on in
       let rest = and_right (up_runs d) _ on in
-      goes_by branch.UpFinish old new result on by p q
+      goes_by branch.UpFinish old new result on by p q p q
+      (extends_same p q)
       (quiet holds up_holds up_blames branch.UpFinish old new result p p q q on by
       (leaves_at _ _ _ w.duplex (leaves_up_finish d why)) refl refl refl refl f.down f.up
       (λ e b. b)
@@ -793,7 +896,7 @@ module _
       → StepsTo branch.DownFinish old new result
       → DownEndsOn holds cannot_end p old.duplex old.down new.duplex new.down result
       → SoFar dp up_holds up_blames old p q
-      → Goes holds down_blames refuses cannot_end up_holds up_blames new result
+      → Goes holds down_blames refuses cannot_end up_holds up_blames p q new result
   goes_down_finish dp old new result p q on by w f =
       let d = old.duplex in
       let g = w.goes in
@@ -802,7 +905,9 @@ module _
       let same = down_ends_body old.down new.down w.answer w.ends in
       let response = and_left (is_response_done d.client_response) _
       (and_right (is_done d.client_request) _ rest) in
-      goes_by branch.DownFinish old new result on by g.past q
+      goes_by branch.DownFinish old new result on by p q g.past q
+      (extends_down p g.past q [] [] (closing_in w.answer) (more_none _ _ g.is_put)
+      (more_none _ _ g.is_batched) g.is_closing)
       (quiet dp up_holds up_blames branch.DownFinish old new result p g.past q q on by
       (leaves_at _ _ _ w.duplex (leaves_down_finish d new.down.pending w.answer alive)) g.is_put
       g.is_batched refl refl g.stands f.up (λ e b. b)
@@ -835,7 +940,7 @@ module _
       → result ≡ step_of_batch answer
       → BatchGoes holds down_blames refuses p (batch_of old.duplex.responses.tasks) answer
       → SoFar dp up_holds up_blames old p q
-      → Goes holds down_blames refuses cannot_end up_holds up_blames new result
+      → Goes holds down_blames refuses cannot_end up_holds up_blames p q new result
   given dp old new result p q (Ok done) on by takes is same g f =
       let d = old.duplex in
       let held = d.responses.tasks in
@@ -853,7 +958,9 @@ module _
       g.is_closing
       (f.ordinary alive (not_before old.down.upgraded new.down.upgraded takes.upgraded_stays
       plain))) in
-      goes_by branch.DownTake old new result on by g.past q
+      goes_by branch.DownTake old new result on by p q g.past q
+      (extends_down p g.past q [] (batch_of held) [] (more_none _ _ g.is_put) g.is_batched
+      (more_none _ _ g.is_closing))
       (record {
         down = g.stands;
         up = f.up;
@@ -903,7 +1010,9 @@ module _
       (blamed : (e : Error) → why ≡ fail.Error e
       → up_blames q e ⊎ (Refused refuses new.down.upgraded b.past q e
       ⊎ Unended cannot_end new.down b.past e)).
-      goes_by branch.DownTake old new result on by b.past q
+      goes_by branch.DownTake old new result on by p q b.past q
+      (extends_down p b.past q [] b.filtered [] (more_none _ _ b.is_put) b.is_batched
+      (more_none _ _ b.is_closing))
       (record {
         down = b.stands;
         up = f.up;
@@ -973,7 +1082,7 @@ module _
       → StepsTo branch.DownTake old new result
       → LosesBatchOn holds p old.duplex old.down new.duplex new.down result
       → SoFar dp up_holds up_blames old p q
-      → Goes holds down_blames refuses cannot_end up_holds up_blames new result
+      → Goes holds down_blames refuses cannot_end up_holds up_blames p q new result
   lost dp old new result p q on by w f =
       let d = old.duplex in
       let l = w.loses in
@@ -983,7 +1092,8 @@ module _
       let leaves : Leaves mid new.duplex = leaves_at _ _ _ l.duplex (leaves_failed mid) in
       let R : Duplex → Type 0 = λ x. ResponseHeld q.read p.batched x.responses.tasks
       (is_failed x.word) (is_over x) x.upstream_response_done in
-      goes_by branch.DownTake old new result on by p q
+      goes_by branch.DownTake old new result on by p q p q
+      (extends_same p q)
       (record {
         down = w.stands;
         up = f.up;
@@ -1010,7 +1120,7 @@ module _
       (q : UpPast) → enabled old branch.DownTake ≡ true → StepsTo branch.DownTake old new result
       → DownTakesOn holds down_blames refuses p old.duplex old.down new.duplex new.down result
       → SoFar dp up_holds up_blames old p q
-      → Goes holds down_blames refuses cannot_end up_holds up_blames new result
+      → Goes holds down_blames refuses cannot_end up_holds up_blames p q new result
   goes_down_take dp old new result p q on by w f =
       elim w [
         | inl gives ↦ given dp old new result p q gives.answer on by gives.takes gives.duplex

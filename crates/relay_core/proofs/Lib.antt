@@ -11,3 +11,4 @@ pub mod EndLemmas
 pub mod StuckLemmas
 pub mod DoneLemmas
 pub mod KeepLemmas
+pub mod StillLemmas

@@ -12,3 +12,4 @@ pub mod Causes
 pub mod Sound
 pub mod Moves
 pub mod Ends
+pub mod Asked

@@ -143,17 +143,32 @@ HasReason down_blames refuses cannot_end up_blames side p q e =
     ⊎ (up_blames q e
     ⊎ (Refused refuses side.upgraded p q e ⊎ Unended cannot_end side p e))
 
--- a step went on with the exchange, and its error has its reason. Without a tunnel, where it
+-- pasts that go on from others: what passed before is the front of what has passed
+pub record Extends (before : DownPast) (up_before : UpPast) (p : DownPast) (q : UpPast)
+    : Type 0 where
+  pub put : List HttpTask
+  pub is_put : p.put ≡ before.put ++ put
+  pub batched : List HttpTask
+  pub is_batched : p.batched ≡ before.batched ++ batched
+  pub closing : List HttpTask
+  pub is_closing : p.closing ≡ before.closing ++ closing
+  pub read : List HttpTask
+  pub is_read : q.read ≡ up_before.read ++ read
+  pub taken : List HttpTask
+  pub is_taken : q.taken ≡ up_before.taken ++ taken
+
+-- a step went on with the exchange from these pasts, and its error has its reason. Without a tunnel, where it
 -- finished both directions were relayed, and where the request pipe is then full and no send error
 -- is kept, the upstream half that runs can go on
 pub record Goes
     (down_past : DownPast → Type 0) (down_blames : DownPast → Error → Type 0)
     (down_refuses : DownPast → List HttpTask → Error → Type 0)
     (down_cannot_end : DownPast → Error → Type 0)
-    (up_past : UpPast → Type 0) (up_blames : UpPast → Error → Type 0) (s : State) (result : Step)
-    : Type 0 where
+    (up_past : UpPast → Type 0) (up_blames : UpPast → Error → Type 0) (before : DownPast)
+    (up_before : UpPast) (s : State) (result : Step) : Type 0 where
   pub p : DownPast
   pub q : UpPast
+  pub extends : Extends before up_before p q
   pub so_far : SoFar down_past up_past up_blames s p q
   pub blamed : (e : Error) → result ≡ step.Failed (fail.Error e)
       → HasReason down_blames down_refuses down_cannot_end up_blames s.down p q e

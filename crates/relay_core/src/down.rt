@@ -1,9 +1,10 @@
 //! The client's side of a duplex: what it means, and what each of its answers does.
-ghost use Rattle.std.specs.Prelude.{◌≡◌, ◌++◌, ◌∷◌, [], List, ℕ, None, IsTrue};
+ghost use Rattle.std.specs.Prelude.{◌≡◌, ◌++◌, ◌∷◌, ◌<◌, [], List, ℕ, None, IsTrue, true};
 ghost use Rattle.relay_tasks.specs.declared.error.Error.{Error};
 ghost use Rattle.relay_tasks.specs.declared.error.ErrorSource.TheVariants.{Downstream};
 ghost use Rattle.relay_tasks.specs.declared.task.HttpTask.{HttpTask};
-ghost use Rattle.relay_links.specs.Link.{LinkStart};
+ghost use Rattle.relay_links.specs.Count.{up};
+ghost use Rattle.relay_links.specs.Link.{LinkState, LinkStart};
 ghost use Rattle.relay_core.specs.Down.{DownState, may_read, ReadsPiece, TakesBatch, Writes, Finishes};
 ghost use Rattle.relay_core.specs.Past.{Origin, DownPast, DownGoes, BatchGoes, put_in, closing_in, error_of_took, error_of_put, error_of_result};
 
@@ -19,9 +20,9 @@ use relay_tasks::{Pause, Result, TaskList, Took};
 /// It also means what passed through it since its request began, by a relation: `past` holds of
 /// more than one past, since a side keeps none, and each call takes every past to one that goes on
 /// from it. `blames` says that the side answers for an error, `refuses` that it refuses these tasks
-/// behind those that it was given, `cannot_end` that the response cannot end where it stands, and
-/// `is_silent` that the client's link is silent on what the side asked of it. `start` is the
-/// client's link as it was handed out, which no call changes.
+/// behind those that it was given, and `cannot_end` that the response cannot end where it stands.
+/// `link` is the client's link as it stands: what an answer waits for stands in it. `start` is that
+/// link as it was handed out, which no call changes.
 pub trait Down {
     /// The client, whose link the side reads and writes.
     type Client;
@@ -36,9 +37,8 @@ pub trait Down {
 
     ghost cannot_end: { Self → Self.Client → Origin → DownPast → Error → Type 0 };
 
-    ghost is_silent: { Self.Client → Type 0 };
+    ghost link: { Self.Client → LinkState };
 
-    ghost faults: { Self.Client → ℕ };
     ghost start: { Self.Client → LinkStart };
 
     /// Whether the client may be read: not where its request has ended and it waits for the answer
@@ -63,8 +63,12 @@ pub trait Down {
             → DownGoes (past self.new client.new s) (blames self.new client.new s)
             (p.put ++ put_in (state self.old).upgraded result) p.batched p.closing
             (error_of_took result) }
-        ensures silent { result ≡ Took.Waited Pause.Silent → is_silent client.new }
-        ensures calm { error_of_took result ≡ None → faults client.new ≡ faults client.old };
+        ensures waits { result ≡ Took.Waited Pause.NotReady
+            → (link client.new).waits ≡ up (link client.old).waits }
+        ensures silent { result ≡ Took.Waited Pause.Silent
+            → (link client.new ≡ link client.old) × ((link client.new).silent_on_read ≡ true) }
+        ensures calm { error_of_took result ≡ None
+            → (link client.new).faults ≡ (link client.old).faults };
 
     /// Filters the tasks in their order and queues them for the client. Ok says whether its
     /// response is done. An error queues none of them, or those in front of a refused one; a task
@@ -88,9 +92,13 @@ pub trait Down {
         ensures goes { (s : Origin) (p : DownPast) → past self.old client.old s p
             → DownGoes (past self.new client.new s) (blames self.new client.new s)
             p.put p.batched p.closing (error_of_put Downstream result) }
-        ensures silent { result ≡ Put.Silent → is_silent client.new }
+        ensures some { (n : ℕ) → result ≡ Put.Took n → 0 < n }
+        ensures waits { result ≡ Put.NotReady
+            → (link client.new).waits ≡ up (link client.old).waits }
+        ensures silent { result ≡ Put.Silent
+            → (link client.new ≡ link client.old) × ((link client.new).silent_on_write ≡ true) }
         ensures calm { error_of_put Downstream result ≡ None
-            → faults client.new ≡ faults client.old };
+            → (link client.new).faults ≡ (link client.old).faults };
 
     /// Ends the response's body. Where it was ended already this queues nothing.
     fn finish(&mut self) -> Result<()>

@@ -1,5 +1,6 @@
 //! The client's half of a duplex: one function for each of its branches.
 ghost use Rattle.std.specs.Prelude.{◌≡◌, ◌<◌, length, IsTrue, true, false};
+ghost use Rattle.relay_links.specs.Count.{up};
 ghost use Rattle.relay_core.specs.Causes.{says_failed};
 ghost use Rattle.relay_core.specs.Pipe.{has_room};
 ghost use Rattle.relay_core.specs.Past.{Origin, DownPast};
@@ -25,8 +26,13 @@ impl Duplex {
         ensures goes { (s : Origin) (p : DownPast) → D.past down.old client.old s p
             → DownWritesOn (D.past down.new client.new s) (D.blames down.new client.new s) p
             self.old (D.state down.old) self.new (D.state down.new) result }
-        ensures silent { result ≡ Step.Waited Pause.Silent → D.is_silent client.new }
-        ensures calm { says_failed result ≡ false → D.faults client.new ≡ D.faults client.old }
+        ensures waits { result ≡ Step.Waited Pause.NotReady
+            → (D.link client.new).waits ≡ up (D.link client.old).waits }
+        ensures silent { result ≡ Step.Waited Pause.Silent
+            → (D.link client.new ≡ D.link client.old)
+            × ((D.link client.new).silent_on_write ≡ true) }
+        ensures calm { says_failed result ≡ false
+            → (D.link client.new).faults ≡ (D.link client.old).faults }
     {
         let answer = down.write_pending(client);
         self.after_down_write(answer)
@@ -125,8 +131,13 @@ impl Duplex {
         ensures goes { (s : Origin) (p : DownPast) → D.past down.old client.old s p
             → DownReadsOn (D.past down.new client.new s) (D.blames down.new client.new s) p
             self.old (D.state down.old) self.new (D.state down.new) result }
-        ensures silent { result ≡ Step.Waited Pause.Silent → D.is_silent client.new }
-        ensures calm { says_failed result ≡ false → D.faults client.new ≡ D.faults client.old }
+        ensures waits { result ≡ Step.Waited Pause.NotReady
+            → (D.link client.new).waits ≡ up (D.link client.old).waits }
+        ensures silent { result ≡ Step.Waited Pause.Silent
+            → (D.link client.new ≡ D.link client.old)
+            × ((D.link client.new).silent_on_read ≡ true) }
+        ensures calm { says_failed result ≡ false
+            → (D.link client.new).faults ≡ (D.link client.old).faults }
     {
         let upgraded = down.upgraded();
         match down.read_piece(client, self.client_request.is_done()) {

@@ -3,13 +3,14 @@
 //! The client's half reads pieces of the request into one pipe and takes tasks of the response out
 //! of the other; the upstream half does the reverse. Which steps are possible is a table over what
 //! both halves hold, `specs/Table.antt`; a schedule picks one of them.
-ghost use Rattle.std.specs.Prelude.{◌≡◌, ◌&&◌, ◌||◌, ◌⊎◌, [], true, false, not, is_none, None, length, IsTrue, IsNone, IfSome};
+ghost use Rattle.std.specs.Prelude.{◌≡◌, ◌&&◌, ◌||◌, [], true, false, not, is_none, None, length, IsTrue, IsNone, IfSome};
 ghost use Rattle.relay_links.specs.Branch.{has, is_same_branch};
 ghost use Rattle.relay_links.specs.declared.branch.Branch.{Branch};
 ghost use Rattle.relay_core.specs.Down.{DownState};
 ghost use Rattle.relay_core.specs.State.{is_reading, is_response_done};
 ghost use Rattle.relay_core.specs.Up.{UpState};
 ghost use Rattle.relay_core.specs.Piece.{task_put_of};
+ghost use Rattle.relay_core.specs.Asked.{MeetsSilence, WaitRose};
 ghost use Rattle.relay_core.specs.Causes.{HasCause, KeepsSendError, Tells, told_of, says_failed};
 ghost use Rattle.relay_core.specs.Past.{Origin, DownPast, UpPast};
 ghost use Rattle.relay_core.specs.Moves.{SoFar, Goes};
@@ -262,13 +263,17 @@ impl Duplex {
             (core self.old (D.state down.old) (U.state up.old)) p q
             → Goes (D.past down.new client.new s) (D.blames down.new client.new s)
             (D.refuses down.new client.new s) (D.cannot_end down.new client.new s)
-            (U.past up.new s) (U.blames up.new s)
+            (U.past up.new s) (U.blames up.new s) p q
             (core self.new (D.state down.new) (U.state up.new)) result }
+        ensures waits { result ≡ Step.Waited Pause.NotReady
+            → WaitRose (D.link client.old) (D.link client.new) (U.link up.old) (U.link up.new) }
         ensures silent { result ≡ Step.Waited Pause.Silent
-            → D.is_silent client.new ⊎ U.is_silent up.new }
+            → MeetsSilence branch (D.link client.old) (D.link client.new) (U.link up.old)
+            (U.link up.new) }
 
         // A step that does not fail leaves the count of the client's faults.
-        ensures calm { says_failed result ≡ false → D.faults client.new ≡ D.faults client.old }
+        ensures calm { says_failed result ≡ false
+            → (D.link client.new).faults ≡ (D.link client.old).faults }
         ensures client_start { D.start client.new ≡ D.start client.old }
         ensures peer_start { U.start up.new ≡ U.start up.old }
     {
@@ -320,7 +325,7 @@ impl Duplex {
         ensures tells { Tells result self.new }
 
         // The exchange so far goes on: what was put into a pipe is what was taken out and what is
-        // held, behind the end of the request nothing is put, where the step finished both
+        // held, and each list goes on from what it was; behind the end of the request nothing is put, where the step finished both
         // directions were relayed, and where the request pipe is then full without a send error,
         // the upstream half can write, take or finish.
         ensures goes { (s : Origin) (p : DownPast) (q : UpPast)
@@ -328,15 +333,23 @@ impl Duplex {
             (core self.old (D.state down.old) (U.state up.old)) p q
             → Goes (D.past down.new client.new s) (D.blames down.new client.new s)
             (D.refuses down.new client.new s) (D.cannot_end down.new client.new s)
-            (U.past up.new s) (U.blames up.new s)
+            (U.past up.new s) (U.blames up.new s) p q
             (core self.new (D.state down.new) (U.state up.new)) result }
 
-        // Silence is that of a link.
+        // A step that waits leaves what can be taken. What it waits for is the link that its branch
+        // asks: that answered so in this call; or it is silent, and neither link changed.
+        ensures rests { (pause : Pause) → result ≡ Step.Waited pause → (b : Branch)
+            → enabled (core self.new (D.state down.new) (U.state up.new)) b
+            ≡ enabled (core self.old (D.state down.old) (U.state up.old)) b }
+        ensures waits { result ≡ Step.Waited Pause.NotReady
+            → WaitRose (D.link client.old) (D.link client.new) (U.link up.old) (U.link up.new) }
         ensures silent { result ≡ Step.Waited Pause.Silent
-            → D.is_silent client.new ⊎ U.is_silent up.new }
+            → MeetsSilence branch (D.link client.old) (D.link client.new) (U.link up.old)
+            (U.link up.new) }
 
         // A step that does not fail leaves the count of the client's faults.
-        ensures calm { says_failed result ≡ false → D.faults client.new ≡ D.faults client.old }
+        ensures calm { says_failed result ≡ false
+            → (D.link client.new).faults ≡ (D.link client.old).faults }
         // No call of a link changes what it was as it was handed out.
         ensures client_start { D.start client.new ≡ D.start client.old }
         ensures peer_start { U.start up.new ≡ U.start up.old }

@@ -1,8 +1,9 @@
 //! The upstream's side of a duplex: what it means, and what each of its answers does.
-ghost use Rattle.std.specs.Prelude.{◌≡◌, ◌++◌, ◌∷◌, ◌||◌, [], IsTrue};
+ghost use Rattle.std.specs.Prelude.{◌≡◌, ◌++◌, ◌∷◌, ◌||◌, ◌<◌, ℕ, [], IsTrue, true};
 ghost use Rattle.relay_tasks.specs.declared.error.Error.{Error};
 ghost use Rattle.relay_tasks.specs.declared.error.ErrorSource.TheVariants.{Upstream};
-ghost use Rattle.relay_links.specs.Link.{LinkStart};
+ghost use Rattle.relay_links.specs.Count.{up};
+ghost use Rattle.relay_links.specs.Link.{LinkState, LinkStart};
 ghost use Rattle.relay_core.specs.Past.{Origin, UpPast, UpGoes, task_in, loses, error_of_took, error_of_put, error_of_result};
 ghost use Rattle.relay_core.specs.Up.{UpState, ReadsTask, TakesPiece, Writes};
 
@@ -16,8 +17,8 @@ use relay_tasks::{HttpTask, Pause, Result, Took};
 ///
 /// It also means what passed through it since its link was handed out, by a relation: each call
 /// takes every past to one that goes on from it. `blames` says that the side answers for an error,
-/// which it does from then on, and `is_silent` that its link is silent on what was asked of it.
-/// `start` is its link as it was handed out, which no call changes.
+/// which it does from then on. `link` is its link as it stands: what an answer waits for stands in
+/// it. `start` is that link as it was handed out, which no call changes.
 pub trait Up {
     ghost state: { Self → UpState };
 
@@ -25,7 +26,7 @@ pub trait Up {
 
     ghost blames: { Self → Origin → UpPast → Error → Type 0 };
 
-    ghost is_silent: { Self → Type 0 };
+    ghost link: { Self → LinkState };
 
     ghost start: { Self → LinkStart };
 
@@ -45,7 +46,10 @@ pub trait Up {
         ensures goes { (s : Origin) (q : UpPast) → past self.old s q
             → UpGoes (past self.new s) (blames self.old s) (blames self.new s) q
             (q.read ++ task_in result) q.taken q.lost (error_of_took result) }
-        ensures silent { result ≡ Took.Waited Pause.Silent → is_silent self.new };
+        ensures waits { result ≡ Took.Waited Pause.NotReady
+            → (link self.new).waits ≡ up (link self.old).waits }
+        ensures silent { result ≡ Took.Waited Pause.Silent
+            → (link self.new ≡ link self.old) × ((link self.new).silent_on_read ≡ true) };
 
     /// Takes a piece of the request, and queues its bytes for the upstream. An error says that the
     /// upstream cannot take it, or that the request ended short of its Content-Length; the piece
@@ -53,6 +57,7 @@ pub trait Up {
     fn take_piece(&mut self, task: HttpTask) -> Result<()>
         ensures takes { TakesPiece (state self.old) (state self.new) result }
         ensures start { start self.new ≡ start self.old }
+        ensures unasked { link self.new ≡ link self.old }
         ensures goes { (s : Origin) (q : UpPast) → past self.old s q
             → UpGoes (past self.new s) (blames self.old s) (blames self.new s) q
             q.read (q.taken ++ task ∷ []) (q.lost || loses result) (error_of_result result) };
@@ -69,7 +74,10 @@ pub trait Up {
         ensures goes { (s : Origin) (q : UpPast) → past self.old s q
             → UpGoes (past self.new s) (blames self.old s) (blames self.new s) q
             q.read q.taken q.lost (error_of_put Upstream result) }
-        ensures silent { result ≡ Put.Silent → is_silent self.new };
+        ensures some { (n : ℕ) → result ≡ Put.Took n → 0 < n }
+        ensures waits { result ≡ Put.NotReady → (link self.new).waits ≡ up (link self.old).waits }
+        ensures silent { result ≡ Put.Silent
+            → (link self.new ≡ link self.old) × ((link self.new).silent_on_write ≡ true) };
 
     /// What the side tells of its answers.
     fn told(&self) -> Told

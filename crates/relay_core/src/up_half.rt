@@ -1,5 +1,6 @@
 //! The upstream half of a duplex: one function for each of its branches.
-ghost use Rattle.std.specs.Prelude.{◌≡◌, ◌<◌, length, IsTrue, false};
+ghost use Rattle.std.specs.Prelude.{◌≡◌, ◌<◌, length, IsTrue, true, false};
+ghost use Rattle.relay_links.specs.Count as count;
 ghost use Rattle.relay_core.specs.Pipe.{has_room};
 ghost use Rattle.relay_core.specs.Past.{Origin, UpPast};
 ghost use Rattle.relay_core.specs.Steps.{UpWrites, UpWritesOn, UpTakes, UpTakesOn, UpReads, UpReadsOn, UpEnds};
@@ -21,7 +22,10 @@ impl Duplex {
         ensures goes { (s : Origin) (q : UpPast) → U.past up.old s q
             → UpWritesOn (U.past up.new s) (U.blames up.old s) (U.blames up.new s) q
             self.old (U.state up.old) self.new (U.state up.new) result }
-        ensures silent { result ≡ Step.Waited Pause.Silent → U.is_silent up.new }
+        ensures waits { result ≡ Step.Waited Pause.NotReady
+            → (U.link up.new).waits ≡ count.up (U.link up.old).waits }
+        ensures silent { result ≡ Step.Waited Pause.Silent
+            → (U.link up.new ≡ U.link up.old) × ((U.link up.new).silent_on_write ≡ true) }
     {
         let answer = up.write_pending();
         self.after_up_write(answer)
@@ -104,7 +108,10 @@ impl Duplex {
         ensures goes { (s : Origin) (q : UpPast) → U.past up.old s q
             → UpReadsOn (U.past up.new s) (U.blames up.old s) (U.blames up.new s) q tunnel
             self.old (U.state up.old) self.new (U.state up.new) result }
-        ensures silent { result ≡ Step.Waited Pause.Silent → U.is_silent up.new }
+        ensures waits { result ≡ Step.Waited Pause.NotReady
+            → (U.link up.new).waits ≡ count.up (U.link up.old).waits }
+        ensures silent { result ≡ Step.Waited Pause.Silent
+            → (U.link up.new ≡ U.link up.old) × ((U.link up.new).silent_on_read ≡ true) }
     {
         match up.read_task() {
             Took::Item(task) => self.put_response(task, tunnel),

@@ -7,7 +7,7 @@
 --   fails_ending  the same where the response cannot end
 --   fails_begun   from Begins and an error for which the peer's side answers: FailsFor
 --   failed_of     from FailsFor: IsFailed
-use Rattle.std.proofs.Common.{◌≡◌, ℕ, Bool, true, false, not, ◌==◌, ◌⊎◌, List, [], ◌∷◌, ◌++◌, length, drop, map, refl, sym, ap, subst, ◌∙◌, append-nil, inl, inr, Option, Some, None, Result, Ok, Err, arith}
+use Rattle.std.proofs.Common.{◌≡◌, ℕ, Bool, true, false, not, ◌==◌, ◌⊎◌, List, [], ◌∷◌, ◌++◌, length, drop, map, refl, sym, ap, subst, ◌∙◌, append-nil, append_assoc, inl, inr, Option, Some, None, Result, Ok, Err, arith}
 use Rattle.std.specs.Prelude.{◌||◌, is_some}
 use Rattle.std.specs.List.{list_any}
 use Rattle.std.proofs.lemmas.Bool.Decides.{nat_tests}
@@ -30,14 +30,14 @@ use Rattle.relay_session.specs.declared.writing.Outgoing.TheVariants as outgoing
 use Rattle.relay_session.specs.Asked.{request_of}
 use Rattle.relay_session.specs.Reading.{is_body_done, IsWhole}
 use Rattle.relay_session.specs.declared.task_text.Request.{Request}
-use Rattle.relay_session.specs.TaskWire.{Sent, task_sent, tasks_sent}
+use Rattle.relay_session.specs.TaskWire.{refusal, wire}
 use Rattle.relay_core.specs.Down.{DownState}
 use Rattle.relay_core.specs.Moves.{SoFar, Finishes, Refused, Unended}
 use Rattle.relay_core.specs.Table as core
 use Rattle.relay_core.proofs.BoolLemmas.{and_right}
 use Rattle.relay_core.specs.Past.{Origin, DownPast, UpPast}
 use Rattle.relay_core.specs.declared.duplex.Duplex.{Duplex}
-use Rattle.relay_sides.specs.Body.{sent_as}
+use Rattle.relay_sides.specs.Body.{IsFrontOf, sent_as}
 use Rattle.relay_sides.specs.Client as client
 use Rattle.relay_sides.specs.Client.{ClientBlames, ClientRefuses, CannotEnd, given_to, queued}
 use Rattle.relay_sides.specs.Peer.{IsPeer, AreTasks, PeerBlames, handed, told_of}
@@ -54,9 +54,9 @@ use Rattle.relay_exchange.specs.declared.exchange.Stage.{Stage}
 use Rattle.relay_exchange.specs.declared.exchange.Stage.TheVariants as stage
 use Rattle.relay_exchange.specs.Order.{FailsFor, SendsWhole, IsRelayed, IsInOrder, Leaves, MayServe}
 use Rattle.relay_exchange.specs.Order as order
-use Rattle.relay_exchange.proofs.SentLemmas.{IsWritten, ends_over}
+use Rattle.relay_exchange.proofs.SentLemmas.{IsWritten, stays_over}
 use Rattle.relay_exchange.proofs.ToldLemmas.{given_ends_last, given_all}
-use Rattle.relay_exchange.proofs.OrderLemmas.{passed_by, own_request, text_written, tasks_own, batched_front, ended_said, order_so_far, begin_order}
+use Rattle.relay_exchange.proofs.OrderLemmas.{passed_by, own_request, answers_own, text_written, tasks_own, batched_front, IsEndGiven, end_given, over_by_end, ended_said, order_so_far, begin_order}
 use Rattle.relay_exchange.proofs.FitLemmas.{never_refused, over_is_whole}
 use Rattle.relay_exchange.proofs.KeepLemmas.{kept_parts, kept_unfailed, sent_whole, read_whole, over_ends}
 use Rattle.relay_exchange.proofs.ValidLemmas.{client_blameless, peer_blameless}
@@ -75,48 +75,6 @@ neither : (waits : Bool) (kept : Option Fault) → waits || is_some kept ≡ fal
 neither false None none = (refl, refl)
 neither false (Some fault) none = absurd (cc)
 neither true kept none = absurd (cc)
-
--- a task ends its response as it is handed on where it did before
-handed_ends : (method : List ℕ) (one : HttpTask) → is_end (handed method one) ≡ is_end one
-handed_ends method (task.Header head end) = refl
-handed_ends method (task.Body piece end) = refl
-handed_ends method (task.UpgradedBody piece end) = refl
-handed_ends method (task.Trailer fields) = refl
-handed_ends method task.Done = refl
-handed_ends method (task.Failed error) = refl
-
--- what is sent is one
-sent_once : {X : Result Sent Error} (a b : Sent) → X ≡ Ok a → X ≡ Ok b → a ≡ b
-sent_once {X} a b one other = on (sym one ∙ other)
-  where
-    on : ◌≡◌ {A = Result Sent Error} (Ok a) (Ok b) → a ≡ b
-    on same = cc
-
--- the front, with an end, of tasks that are handed on is handed on of a front of them, with an end
-pub record IsHanded (method : List ℕ) (tasks front : List HttpTask) : Type 0 where
-  pub before : List HttpTask
-  pub behind : List HttpTask
-  pub are : tasks ≡ before ++ behind
-  pub is : front ≡ map (handed method) before
-  pub ends : list_any is_end before ≡ list_any is_end front
-
--- the front of tasks that are handed on
-handed_front : (method : List ℕ) (tasks front rest : List HttpTask)
-    → front ++ rest ≡ map (handed method) tasks → IsHanded method tasks front
-handed_front method tasks [] rest same =
-    record { before = []; behind = tasks; are = refl; is = refl; ends = refl }
-handed_front method [] (one ∷ front) rest same = absurd (cc)
-handed_front method (first ∷ tasks) (one ∷ front) rest same =
-    let here : one ≡ handed method first = cc in
-    let more = handed_front method tasks front rest (cc) in
-    record {
-      before = first ∷ more.before;
-      behind = more.behind;
-      are = ap (λ (l : List HttpTask). first ∷ l) more.are;
-      is = ap (λ (l : List HttpTask). one ∷ l) more.is
-          ∙ ap (λ (t : HttpTask). t ∷ map (handed method) more.before) here;
-      ends = rw (← more.ends, here, handed_ends method first) refl;
-    }
 
 -- one head
 same_head : (a b : RequestHead) → Some a ≡ Some b → a ≡ b
@@ -186,93 +144,67 @@ module _ {L : Type 0} (state : L → LinkState) (start_at : L → LinkStart)
     tasks_are = tasks_own s (start_at up.client.link) (state up.client.link) up.client up.stopped
         up.lost q peer_holds
 
-    -- an end among the batched tasks is one among all that were handed on, and none is left
-    record IsEndGiven : Type 0 where
-      found : list_any is_end peer_holds.given ≡ true
-      all : p.batched ≡ map (handed s.head.method) peer_holds.given
+    -- the tasks that were queued are a front of those that were handed on
+    abbrev front : IsFrontOf p.batched q.read
+    front = batched_front p q.read _ _ _ _ so_far.down.plain so_far.responses
 
-    end_given : list_any is_end p.batched ≡ true → IsEndGiven
-    end_given ends =
+    -- an end among the batched tasks is one among all that were handed on
+    given_ends : list_any is_end p.batched ≡ true
+        → IsEndGiven s.head.method peer_holds.given p.batched
+    given_ends ends =
         let u = peer_holds in
-        let front = batched_front s p link ahead down.session q.read _ _ _ _ so_far.down.client
-        so_far.responses in
-        let h = handed_front s.head.method u.given p.batched front.rest
+        end_given s.head.method u.given p.batched front.rest
         (front.joined
-        ∙ subst (λ (h : RequestHead). q.read ≡ map (handed h.method) u.given) u.own u.is_read) in
-        let last = given_ends_last s.head.method (state up.client.link).ended q.got u.given
-        u.withheld up.client.response tasks_are in
-        let ended = h.ends ∙ ends in
-        let none = last h.before h.behind h.are ended in
-        let whole : h.before ≡ u.given =
-        sym (append-nil h.before) ∙ ap (λ (l : List HttpTask). h.before ++ l) (sym none)
-        ∙ sym h.are in
-        record {
-          found = subst (λ (l : List HttpTask). list_any is_end l ≡ true) whole ended;
-          all = h.is ∙ ap (λ (l : List HttpTask). map (handed s.head.method) l) whole;
-        }
+        ∙ subst (λ (h : RequestHead). q.read ≡ map (handed h.method) u.given) u.own u.is_read)
+        (given_ends_last s.head.method (state up.client.link).ended q.got u.given u.withheld
+        up.client.response tasks_are)
+        ends
 
-    -- with an end among the tasks the text is over
-    over_by_end : list_any is_end p.batched ≡ true → is_over text.text.place ≡ true
-    over_by_end ends =
-        let u = peer_holds in
-        let method = s.head.method in
-        let closed = (state up.client.link).ended in
-        let end = end_given ends in
-        let said = ended_whole method q.got closed u.given up.client.response
-        (given_all method closed q.got u.given u.withheld up.client.response tasks_are end.found)
-        end.found in
-        ends_over down.session.writing.request method u.given p.closing text.text said.head
-        (given_ends_last method closed q.got u.given u.withheld up.client.response tasks_are)
-        end.found said.final
-        (subst (λ (l : List HttpTask).
-        tasks_sent down.session.writing.request place.NoHead (l ++ p.closing) ≡ Ok text.text)
-        end.all text.says)
-
-    -- a batch that left the response over, to the request with its own head
-    record IsOverBehind : Type 0 where
-      sent : Sent
-      says : tasks_sent (request_of s.head) place.NoHead p.batched ≡ Ok sent
-      over : is_over sent.place ≡ true
-
-    over_behind : down.done ≡ true → IsOverBehind
-    over_behind done =
-        let behind = so_far.down.over done in
-        record {
-          sent = behind.0;
-          says = subst (λ (r : Request). tasks_sent r place.NoHead p.batched ≡ Ok behind.0)
-              (so_far.down.client.answers ∙ ap request_of so_far.down.client.own) behind.1;
-          over = behind.2;
-        }
+    -- with an end among the tasks, or where the response is done, the response is over behind them
+    over_behind : (list_any is_end p.batched ≡ true) ⊎ (down.done ≡ true)
+        → is_over (wire (request_of s.head) place.NoHead p.batched).place ≡ true
+    over_behind (inl ends) =
+        over_by_end s (start_at up.client.link) (state up.client.link) up.client up.stopped up.lost q
+        peer_holds p.batched front ends
+    over_behind (inr done) =
+        subst (λ (r : Request). is_over (wire r place.NoHead p.batched).place ≡ true)
+        (answers_own s p link ahead down.session so_far.down.client) (so_far.down.over done)
 
     -- the response has come whole, with an end among the tasks or where it is done
     whole_by : (list_any is_end p.batched ≡ true) ⊎ (down.done ≡ true)
         → (n : ℕ) × Tasks s.head.method false q.got (state up.client.link).ended
         (says (told_of in_order.are_of.given) (ended n))
-    whole_by (inl ends) = in_order.are_of.whole (end_given ends).found
+    whole_by (inl ends) = in_order.are_of.whole (given_ends ends).found
     whole_by (inr done) =
-        let behind = over_behind done in
-        let front = in_order.first_batched in
         over_is_whole s.head (state up.client.link).ended q.got q.read in_order.are_of p.batched
-        front.rest (sym front.joined) behind.sent behind.says behind.over
+        front.rest (sym front.joined) (over_behind (inr done))
 
-    -- or where the response is done
+    -- and it is over behind all that was queued
     over_by : (list_any is_end p.batched ≡ true) ⊎ (down.done ≡ true)
-        → is_over text.text.place ≡ true
-    over_by (inl ends) = over_by_end ends
-    over_by (inr done) = ap is_over text.at ∙ so_far.down.place_over done
+        → is_over (order.text_of in_order).place ≡ true
+    over_by why =
+        stays_over (request_of s.head) place.NoHead p.batched p.closing (over_behind why)
+
+    -- the text of what was queued answers the request with its own head
+    text_own : (wire down.session.writing.request place.NoHead (queued p)).text
+        ≡ (order.text_of in_order).text
+    text_own =
+        ap (λ (r : Request). (wire r place.NoHead (queued p)).text)
+        (answers_own s p link ahead down.session so_far.down.client)
 
     -- nothing waits, and no fault is kept: all was written
     written_all :
         not (length (pending down.session.writing.output) == 0) || is_some down.broken ≡ false
-        → p.written ≡ text.text.text
+        → p.written ≡ (order.text_of in_order).text
     written_all none =
         let still = neither _ down.broken none in
         on (text.all (none_waits (pending down.session.writing.output) still.0))
-        (so_far.down.unbroken still.1)
+        (so_far.down.unbroken still.1) ∙ text_own
       where
-        on : (p.written ≡ text.text.text)
+        on : (p.written ≡ (wire down.session.writing.request place.NoHead (queued p)).text)
             ⊎ ((fault : Fault) × (down.session.writing.output ≡ outgoing.Broken fault))
-            → IsOpen down.session.writing.output → p.written ≡ text.text.text
+            → IsOpen down.session.writing.output
+            → p.written ≡ (wire down.session.writing.request place.NoHead (queued p)).text
         on (inl all) is = all
         on (inr broken) is =
             absurd (open_is_whole down.session.writing.output is.0 broken.0 is.1 broken.1)
@@ -388,19 +320,18 @@ module _ {L : Type 0} (state : L → LinkState) (start_at : L → LinkStart)
         on (client.ClientRefuses.link_failed fault is rose) =
             order.FailsFor.by_client in_order
             (client.ClientBlames.link_failed fault is rose.0 (inl rose.1))
-        on (client.ClientRefuses.cannot_send head framing len sent at behind has is stands fails) =
+        on (client.ClientRefuses.cannot_send head framing len first at behind has none is fails) =
             let c = so_far.down.client in
             let own = (HasRequest-unique (given_to s p) head s.head framing c.framing len c.len has
             (own_request s p link ahead down.session c)).0 in
             absurd (never_refused s.head (state up.client.link).ended q.got q.read in_order.are_of
-            p.batched (behind ++ r.rest) at
-            (r.came ∙ ap (λ (l : List HttpTask). p.batched ++ (l ++ r.rest)) is) sent
-            (subst (λ (l : List HttpTask).
-            tasks_sent (request_of s.head) place.NoHead l ≡ Ok sent)
-            (ap (λ (l : List HttpTask). p.batched ++ l) (r.unasked refl) ∙ append-nil p.batched)
-            (subst (λ (h : RequestHead). tasks_sent (request_of h) place.NoHead (queued p) ≡ Ok sent)
-            own stands)) e
-            (subst (λ (h : RequestHead). task_sent (request_of h) sent.place at ≡ Err e) own fails))
+            first (behind ++ r.rest) at
+            (r.came ∙ sym (append_assoc p.batched r.left r.rest)
+            ∙ ap (λ (l : List HttpTask). l ++ r.rest) is
+            ∙ append_assoc first (at ∷ behind) r.rest) e
+            (subst (λ (h : RequestHead).
+            refusal (request_of h) (wire (request_of h) place.NoHead first).place at ≡ Some e) own
+            fails))
         on (client.ClientRefuses.behind_the_end some is) =
             let none : length p.closing ≡ 0 = ap (λ (l : List HttpTask). length l) (r.unasked refl)
             in
@@ -421,12 +352,11 @@ module _ {L : Type 0} (state : L → LinkState) (start_at : L → LinkStart)
             let c = so_far.down.client in
             let own = (HasRequest-unique (given_to s p) cannot.head s.head cannot.framing c.framing
             cannot.len c.len cannot.has (own_request s p link ahead down.session c)).0 in
-            let same = sent_once cannot.sent in_order.text
+            over_ends (request_of s.head)
+            (wire (request_of s.head) place.NoHead (queued p)).place e (over_by (u.asked refl))
             (subst (λ (h : RequestHead).
-            tasks_sent (request_of h) place.NoHead (queued p) ≡ Ok cannot.sent) own cannot.stands)
-            in_order.says in
-            over_ends (request_of cannot.head) cannot.sent.place e
-            (ap (λ (t : Sent). is_over t.place) same ∙ over_by (u.asked refl)) cannot.refused
+            refusal (request_of h) (wire (request_of h) place.NoHead (queued p)).place task.Done
+            ≡ Some e) own cannot.refused)
 
 module _ {L : Type 0} (state : L → LinkState) (start_at : L → LinkStart) where
   -- an exchange that finished, and what it leaves

@@ -32,7 +32,7 @@ use Rattle.relay_peer.specs.ResponseReading.{Told, untold, with_task, with_head,
 use Rattle.relay_peer.proofs.ExactLemmas.{Tasks-unique}
 use Rattle.relay_session.specs.Asked.{method_of, asks_of, request_of}
 use Rattle.relay_session.specs.Response.{is_over}
-use Rattle.relay_session.specs.TaskWire.{Sent, nothing_at, joined, in_front, followed, informed, only_piece, only_end, piece_sent, with_text, framed_head_sent, final_head_sent, head_sent, task_sent, tasks_sent}
+use Rattle.relay_session.specs.TaskWire.{Sent, framing_of, shown, piece_sent, piece_refusal, framed_head_sent, framed_head_refusal, head_sent, head_refusal, task_sent, refusal, wire, or_later, first_refusal}
 use Rattle.relay_session.specs.declared.task_text.Place.{Place}
 use Rattle.relay_session.specs.declared.task_text.Place.TheVariants as place
 use Rattle.relay_session.specs.declared.task_text.Request.{Request}
@@ -217,10 +217,9 @@ handed_fits old f g body (inr chunked) whole =
 
 -- ---- what is sent
 
--- it is sent, and the response stands there behind it
-record Goes (result : Result Sent Error) (at : Place) : Type 0 where
-  pub sent : Sent
-  pub is : result ≡ Ok sent
+-- it is not refused, and the response stands there behind it
+record Goes (sent : Sent) (why : Option Error) (at : Place) : Type 0 where
+  pub passes : why ≡ None
   pub leads : sent.place ≡ at
 
 -- where a response stands behind a piece that leaves so much
@@ -230,60 +229,37 @@ behind_piece ends rest = if ends then place.Done else place.Body rest
 -- a piece is sent, unless the body ends short with it
 piece_goes : (rest : Framing) (piece : List ℕ) (ends : Bool)
     → (ends ≡ true → is_short (after_piece rest piece) ≡ false)
-    → Goes (piece_sent rest piece ends) (behind_piece ends (after_piece rest piece))
-piece_goes rest piece false fits =
-    record { sent = only_piece rest piece; is = refl; leads = refl }
-piece_goes rest piece true fits = record {
-  sent = joined (only_piece rest piece) (only_end (after_piece rest piece));
-  is = rw (fits refl) refl;
-  leads = refl;
-}
-
--- so is a text in front of it
-text_goes : (text : List ℕ) (result : Result Sent Error) (at : Place) → Goes result at
-    → Goes (with_text text result) at
-text_goes text result at goes =
-    subst (λ (r : Result Sent Error). Goes (with_text text r) at) (sym goes.is)
-    (record {
-      sent = record goes.sent { text = text ++ goes.sent.text };
-      is = refl;
-      leads = goes.leads;
-    })
+    → Goes (piece_sent rest piece ends) (piece_refusal rest piece ends)
+    (behind_piece ends (after_piece rest piece))
+piece_goes rest piece false fits = record { passes = refl; leads = refl }
+piece_goes rest piece true fits =
+    record { passes = rw (fits refl) refl; leads = rw (fits refl) refl }
 
 -- a head that is framed is sent, unless the body ends short with it
 framed_goes : (head : ResponseHead) (ends : Bool) (g : Framing) (found : Option Framing)
     → found ≡ Some g → (ends ≡ true → is_short (after_piece g []) ≡ false)
-    → Goes (framed_head_sent head ends found) (behind_piece ends (after_piece g []))
+    → Goes (framed_head_sent head ends found) (framed_head_refusal ends found)
+    (behind_piece ends (after_piece g []))
 framed_goes head ends g found is fits =
+    let goes = piece_goes g [] ends fits in
     subst
-    (λ (o : Option Framing).
-    Goes (framed_head_sent head ends o) (behind_piece ends (after_piece g [])))
-    (sym is)
-    (text_goes (response_text head) (piece_sent g [] ends)
-    (behind_piece ends (after_piece g [])) (piece_goes g [] ends fits))
+    (λ (o : Option Framing). Goes (framed_head_sent head ends o) (framed_head_refusal ends o)
+    (behind_piece ends (after_piece g [])))
+    (sym is) (record { passes = goes.passes; leads = goes.leads })
 
 -- a head that informs is sent as such
-informing_sent : (request : Request) (head : ResponseHead) (ends : Bool)
+informing_goes : (request : Request) (head : ResponseHead) (ends : Bool)
     → is_informational head.status ≡ true
-    → head_sent request head ends ≡ Ok (informed request head)
-informing_sent request head ends is = rw is refl
+    → Goes (head_sent request head ends) (head_refusal request head ends) place.NoHead
+informing_goes request head ends is = rw is (record { passes = refl; leads = refl })
 
 -- and any other as a final one
 final_goes : (request : Request) (head : ResponseHead) (ends : Bool) (at : Place)
-    → is_informational head.status ≡ false → Goes (final_head_sent request head ends) at
-    → Goes (head_sent request head ends) at
+    → is_informational head.status ≡ false
+    → Goes (framed_head_sent (shown request head) ends (framing_of request head))
+    (framed_head_refusal ends (framing_of request head)) at
+    → Goes (head_sent request head ends) (head_refusal request head ends) at
 final_goes request head ends at is goes = rw is goes
-
--- one thing was sent
-same_sent : (result : Result Sent Error) (a b : Sent) → result ≡ Ok a → result ≡ Ok b → a ≡ b
-same_sent result a b x y = let same = sym x ∙ y in cc
-
--- and then the next
-then_sent : (first : Result Sent Error) (next : Place → Result Sent Error) (sent rest : Sent)
-    → first ≡ Ok sent → next sent.place ≡ Ok rest → followed first next ≡ Ok (joined sent rest)
-then_sent first next sent rest is behind =
-    ap (λ (r : Result Sent Error). followed r next) is
-    ∙ ap (λ (r : Result Sent Error). in_front sent r) behind
 
 -- ---- what is told
 
@@ -562,11 +538,11 @@ module _
 
     -- ---- one task
 
-    -- a task is sent, and where the response stands behind it
+    -- a task is not refused, and where the response stands behind it
     record Steps (told : Told) (at : Place) (one : HttpTask) : Type 0 where
-      pub sent : Sent
-      pub is : task_sent (request_of head) at (handed head.method one) ≡ Ok sent
-      pub stands : Stands (with_task told one) sent.place
+      pub passes : refusal (request_of head) at (handed head.method one) ≡ None
+      pub stands : Stands (with_task told one)
+          (task_sent (request_of head) at (handed head.method one)).place
 
     -- where it stands behind a piece, which may be the last
     stands_behind : (told : Told) (at : Place) (ends : Bool) (rest : Framing)
@@ -610,9 +586,8 @@ module _
         (λ (l : List ℕ). is_short (after_piece (framing_for old g) l) ≡ false) bare
         (end_fits told one rest left given f g is over.comes last))) in
         record {
-          sent = goes.sent;
-          is = goes.is;
-          stands = stands_behind (with_task told one) goes.sent.place ends
+          passes = goes.passes;
+          stands = stands_behind (with_task told one) (head_sent (request_of head) out ends).place ends
               (after_piece (framing_for old g) []) given f g tells is over.comes
               (λ last. (ends_all told one rest left last).among)
               (ap (λ (l : List ℕ). after_piece (framing_for old g) l) (sym bare)) goes.leads;
@@ -624,12 +599,12 @@ module _
         → Steps told place.NoHead (task.Header given ends)
     informs_steps told given ends none bare informs =
         let out = handed_head head.method ends given in
+        let goes = informing_goes (request_of head) out ends
+        (ap is_informational (handed_status head.method ends given) ∙ informs) in
         record {
-          sent = informed (request_of head) out;
-          is = informing_sent (request_of head) out ends
-              (ap is_informational (handed_status head.method ends given) ∙ informs);
-          stands = subst (λ (t : Told). Stands t place.NoHead)
-              (sym (told_informs told given informs)) (none_yet none bare refl);
+          passes = goes.passes;
+          stands = subst (λ (t : Told). Stands t (head_sent (request_of head) out ends).place)
+              (sym (told_informs told given informs)) (none_yet none bare goes.leads);
         }
 
     -- where no final head was sent
@@ -646,7 +621,7 @@ module _
     from_none told (task.UpgradedBody piece ends) rest left none bare = absurd left.follow.0
     from_none told (task.Trailer fields) rest left none bare = absurd left.follow.0
     from_none told task.Done rest left none bare =
-        record { sent = nothing_at place.NoHead; is = refl; stands = none_yet none bare refl }
+        record { passes = refl; stands = none_yet none bare refl }
     from_none told (task.Failed error) rest left none bare = absurd left.follow.0
 
     -- a piece of the body
@@ -655,9 +630,9 @@ module _
         → told.final ≡ Some final → IsFinal final f → IsHandedAs f g → (piece : List ℕ)
         → (with_task told one).final ≡ told.final
         → (with_task told one).body ≡ told.body ++ piece
-        → (sent : Sent)
-        × (piece_sent (after_piece (framing_for old g) told.body) piece (is_end one) ≡ Ok sent)
-        × Stands (with_task told one) sent.place
+        → (piece_refusal (after_piece (framing_for old g) told.body) piece (is_end one) ≡ None)
+        × Stands (with_task told one)
+        (piece_sent (after_piece (framing_for old g) told.body) piece (is_end one)).place
     piece_steps told one rest left final f g tells is comes piece same grows =
         let left_of : after_piece (after_piece (framing_for old g) told.body) piece
         ≡ after_piece (framing_for old g) (with_task told one).body =
@@ -665,9 +640,10 @@ module _
         ∙ ap (λ (l : List ℕ). after_piece (framing_for old g) l) (sym grows) in
         let goes = piece_goes (after_piece (framing_for old g) told.body) piece (is_end one)
         (λ last. ap is_short left_of ∙ end_fits told one rest left final f g is comes last) in (
-          goes.sent,
-          goes.is,
-          stands_behind (with_task told one) goes.sent.place (is_end one)
+          goes.passes,
+          stands_behind (with_task told one)
+              (piece_sent (after_piece (framing_for old g) told.body) piece (is_end one)).place
+              (is_end one)
               (after_piece (after_piece (framing_for old g) told.body) piece) final f g
               (same ∙ tells) is comes
               (λ last. (ends_all told one rest left last).among) left_of goes.leads,
@@ -684,14 +660,14 @@ module _
     from_body told (task.Body (Some piece) ends) rest left final f g tells is comes =
         let goes = piece_steps told (task.Body (Some piece) ends) rest left final f g tells is comes
         piece refl refl in
-        record { sent = goes.0; is = goes.1; stands = goes.2 }
+        record { passes = goes.0; stands = goes.1 }
     from_body told (task.UpgradedBody piece ends) rest left final f g tells is comes =
         absurd left.follow.0
     from_body told (task.Trailer fields) rest left final f g tells is comes = absurd left.follow.0
     from_body told task.Done rest left final f g tells is comes =
         let goes = piece_steps told task.Done rest left final f g tells is comes [] refl
         (sym (append-nil told.body)) in
-        record { sent = goes.0; is = goes.1; stands = goes.2 }
+        record { passes = goes.0; stands = goes.1 }
     from_body told (task.Failed error) rest left final f g tells is comes = absurd left.follow.0
 
     -- behind the end
@@ -702,20 +678,12 @@ module _
         never_both told.final final left.follow.0 tells
     from_done told (task.Body None ends) rest left final tells among = absurd left.follow.0
     from_done told (task.Body (Some piece) ends) rest left final tells among =
-        record {
-          sent = nothing_at place.Done;
-          is = refl;
-          stands = is_done final tells among refl;
-        }
+        record { passes = refl; stands = is_done final tells among refl }
     from_done told (task.UpgradedBody piece ends) rest left final tells among =
         absurd left.follow.0
     from_done told (task.Trailer fields) rest left final tells among = absurd left.follow.0
     from_done told task.Done rest left final tells among =
-        record {
-          sent = nothing_at place.Done;
-          is = refl;
-          stands = is_done final tells among refl;
-        }
+        record { passes = refl; stands = is_done final tells among refl }
     from_done told (task.Failed error) rest left final tells among = absurd left.follow.0
 
     -- from wherever it stands
@@ -733,80 +701,81 @@ module _
 
     -- ---- tasks in order
 
-    -- a front of them is sent, and where the response stands behind it
+    -- none of a front of them is refused, and where the response stands behind it
     record Walks (told : Told) (at : Place) (front rest : List HttpTask) : Type 0 where
-      pub sent : Sent
-      pub is : tasks_sent (request_of head) at (map (handed head.method) front) ≡ Ok sent
-      pub stands : Stands (told_behind told front) sent.place
+      pub passes : first_refusal (request_of head) at (map (handed head.method) front) ≡ None
+      pub stands : Stands (told_behind told front)
+          (wire (request_of head) at (map (handed head.method) front)).place
       pub left : Left (told_behind told front) rest
 
-    -- every front is, from wherever the response stands
+    -- every front is so, from wherever the response stands
     walks : (told : Told) (at : Place) (front rest : List HttpTask) → Left told (front ++ rest)
         → Stands told at → Walks told at front rest
-    walks told at [] rest left stands =
-        record { sent = nothing_at at; is = refl; stands = stands; left = left }
+    walks told at [] rest left stands = record { passes = refl; stands = stands; left = left }
     walks told at (one ∷ front) rest left stands =
         let first = steps told at one (front ++ rest) left stands in
-        let later = walks (with_task told one) first.sent.place front rest
+        let next = (task_sent (request_of head) at (handed head.method one)).place in
+        let later = walks (with_task told one) next front rest
         (one_less told one (front ++ rest) left) first.stands in
         record {
-          sent = joined first.sent later.sent;
-          is = then_sent (task_sent (request_of head) at (handed head.method one))
-              (λ next. tasks_sent (request_of head) next (map (handed head.method) front))
-              first.sent later.sent first.is later.is;
+          passes = ap (λ (o : Option Error). or_later o
+              (first_refusal (request_of head) next (map (handed head.method) front)))
+              first.passes ∙ later.passes;
           stands = later.stands;
           left = later.left;
         }
 
-    -- the front that was sent, by the tasks that it was handed on from
-    record SendsFront (front rest : List HttpTask) (sent : Sent) : Type 0 where
+    -- where the response stands behind a front, by the tasks that it was handed on from
+    record SendsFront (front rest : List HttpTask) : Type 0 where
       pub told : Told
       pub next : List HttpTask
       pub are_next : map (handed head.method) next ≡ rest
-      pub stands : Stands told sent.place
+      pub passes : first_refusal (request_of head) place.NoHead front ≡ None
+      pub stands : Stands told (wire (request_of head) place.NoHead front).place
       pub left : Left told next
 
     -- from the first task on
-    sends_front : (front rest : List HttpTask) → tasks ≡ front ++ rest → (sent : Sent)
-        → tasks_sent (request_of head) place.NoHead front ≡ Ok sent → SendsFront front rest sent
-    sends_front front rest same sent is =
+    sends_front : (front rest : List HttpTask) → tasks ≡ front ++ rest → SendsFront front rest
+    sends_front front rest same =
         let parts = parts_of head.method are.given front rest (sym are.are ∙ same) in
         let walk = walks untold place.NoHead parts.first parts.next
         (subst (λ (l : List HttpTask). Left untold l) parts.joined all_left)
         (none_yet refl refl refl) in
-        let one = same_sent (tasks_sent (request_of head) place.NoHead front) walk.sent sent
-        (subst
-        (λ (l : List HttpTask).
-        tasks_sent (request_of head) place.NoHead l ≡ Ok walk.sent)
-        parts.are_first walk.is)
-        is in
         record {
           told = told_of parts.first;
           next = parts.next;
           are_next = parts.are_next;
-          stands = subst (λ (s : Sent). Stands (told_of parts.first) s.place) one walk.stands;
+          passes = subst
+              (λ (l : List HttpTask). first_refusal (request_of head) place.NoHead l ≡ None)
+              parts.are_first walk.passes;
+          stands = subst
+              (λ (l : List HttpTask).
+              Stands (told_of parts.first) (wire (request_of head) place.NoHead l).place)
+              parts.are_first walk.stands;
           left = walk.left;
         }
 
     -- no task of the response is refused by the client's writer
+    pub front_passes : (front rest : List HttpTask) → tasks ≡ front ++ rest
+        → first_refusal (request_of head) place.NoHead front ≡ None
+    front_passes front rest same = (sends_front front rest same).passes
+
     pub never_refused : (front behind : List HttpTask) (at : HttpTask)
-        → tasks ≡ front ++ at ∷ behind → (sent : Sent)
-        → tasks_sent (request_of head) place.NoHead front ≡ Ok sent → (e : Error)
-        → task_sent (request_of head) sent.place at ≡ Err e → ⊥
-    never_refused front behind at same sent is e refused =
-        let there = sends_front front (at ∷ behind) same sent is in
+        → tasks ≡ front ++ at ∷ behind → (e : Error)
+        → refusal (request_of head) (wire (request_of head) place.NoHead front).place at ≡ Some e
+        → ⊥
+    never_refused front behind at same e refused =
+        let there = sends_front front (at ∷ behind) same in
         let next = heads_of head.method there.next at behind there.are_next in
-        let step = steps there.told sent.place next.one next.behind
+        let stands = (wire (request_of head) place.NoHead front).place in
+        let step = steps there.told stands next.one next.behind
         (subst (λ (l : List HttpTask). Left there.told l) next.is there.left) there.stands in
-        never (task_sent (request_of head) sent.place at) step.sent e
-        (subst
-        (λ (t : HttpTask). task_sent (request_of head) sent.place t ≡ Ok step.sent)
-        next.handed_on step.is)
-        refused
+        never (refusal (request_of head) stands at) e
+        (subst (λ (t : HttpTask). refusal (request_of head) stands t ≡ None)
+        next.handed_on step.passes) refused
       where
-        never : (result : Result Sent Error) (more : Sent) (error : Error) → result ≡ Ok more
-            → result ≡ Err error → ⊥
-        never result more error x y = let both = sym x ∙ y in cc
+        never : (why : Option Error) (error : Error) → why ≡ None → why ≡ Some error → ⊥
+        never why error x y = let both = sym x ∙ y in cc
 
     -- ---- the whole response
 
@@ -876,10 +845,10 @@ module _
     over_told told rest at left (is_done final tells among there) over = are.whole among
 
     -- where the text of a front of the tasks is over, the response has come whole
-    pub over_is_whole : (front rest : List HttpTask) → tasks ≡ front ++ rest → (sent : Sent)
-        → tasks_sent (request_of head) place.NoHead front ≡ Ok sent
-        → is_over sent.place ≡ true
+    pub over_is_whole : (front rest : List HttpTask) → tasks ≡ front ++ rest
+        → is_over (wire (request_of head) place.NoHead front).place ≡ true
         → (n : ℕ) × Tasks head.method false got closed (says (told_of are.given) (ended n))
-    over_is_whole front rest same sent is over =
-        let there = sends_front front rest same sent is in
-        over_told there.told there.next sent.place there.left there.stands over
+    over_is_whole front rest same over =
+        let there = sends_front front rest same in
+        over_told there.told there.next (wire (request_of head) place.NoHead front).place there.left
+        there.stands over

@@ -28,7 +28,7 @@ use Rattle.relay_peer.specs.declared.response_reading.Place.{Place}
 use Rattle.relay_peer.specs.declared.response_reading.Place.TheVariants as place
 use Rattle.relay_peer.specs.declared.response_reading.ResponseReading.{ResponseReading}
 use Rattle.relay_peer.proofs.ExactLemmas.{Tasks-unique}
-use Rattle.relay_session.specs.TaskWire.{task_sent}
+use Rattle.relay_session.specs.TaskWire.{refusal}
 use Rattle.relay_session.specs.Response.{is_over}
 use Rattle.relay_session.specs.declared.task_text.Request as answered
 use Rattle.relay_session.specs.declared.task_text.Place as response
@@ -187,7 +187,7 @@ none_left_of left none =
 
 -- a response that is over is not refused its end
 pub over_ends : (to : answered.Request) (stands : response.Place) (e : Error) → is_over stands ≡ true
-    → task_sent to stands task.Done ≡ Err e → ⊥
+    → refusal to stands task.Done ≡ Some e → ⊥
 over_ends to at.NoHead e over fails = cc
 over_ends to (at.Body framing.Empty) e over fails = cc
 over_ends to (at.Body (framing.Length left)) e over fails =

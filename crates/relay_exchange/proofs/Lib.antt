@@ -6,3 +6,4 @@ pub mod ValidLemmas
 pub mod KeepLemmas
 pub mod EndLemmas
 pub mod TurnLemmas
+pub mod RoundLemmas

@@ -33,7 +33,7 @@ use Rattle.relay_peer.specs.ResponseReading.{says}
 use Rattle.relay_session.specs.Asked.{request_of}
 use Rattle.relay_session.specs.Reading.{head_of, RequestSoFar, IsWhole}
 use Rattle.relay_session.specs.Response.{is_over}
-use Rattle.relay_session.specs.TaskWire.{Sent, tasks_sent}
+use Rattle.relay_session.specs.TaskWire.{first_refusal, wire}
 use Rattle.relay_session.specs.declared.reading.Reading.{Reading}
 use Rattle.relay_session.specs.declared.reading.Reading.TheVariants as reading
 use Rattle.relay_session.specs.declared.session.HttpSession.{HttpSession}
@@ -56,7 +56,8 @@ use Rattle.relay_sides.proofs.TaskLemmas.{ended_whole}
 use Rattle.relay_exchange.specs.Exchange.{DownHolds, UpHolds, Blames, core_of, Begins, AreTold}
 use Rattle.relay_exchange.specs.Order.{ArePieces, AreOf, IsInOrder}
 use Rattle.relay_exchange.specs.Passed.{Passed}
-use Rattle.relay_exchange.proofs.SentLemmas.{in_parts, sent_plain, IsWritten, written_of}
+use Rattle.relay_exchange.proofs.SentLemmas.{IsWritten, ends_over, closed_passes, written_of}
+use Rattle.relay_exchange.proofs.FitLemmas.{front_passes}
 use Rattle.relay_exchange.proofs.ToldLemmas.{given_follow, given_informed, given_final, given_body, given_ends_last, given_all}
 
 -- what passed, by the pasts of both sides
@@ -157,12 +158,16 @@ module _
     pub text_written : IsWritten session.writing (queued p) p.written
     text_written = written_of session.writing (queued p) p.written c.response
 
-    -- the text is that of what was queued, to the request with its own head
-    pub text_says : tasks_sent (request_of s.head) place.NoHead (p.batched ++ p.closing)
-        ≡ Ok text_written.text
-    text_says =
-        subst (λ (r : Request). tasks_sent r place.NoHead (queued p) ≡ Ok text_written.text)
-        (c.answers ∙ ap request_of c.own) text_written.says
+    -- it answers the request with its own head
+    pub answers_own : session.writing.request ≡ request_of s.head
+    answers_own = c.answers ∙ ap request_of c.own
+
+    -- so the text is that of what was queued, to that request
+    pub front_own : IsFrontOf p.written
+        (wire (request_of s.head) place.NoHead (p.batched ++ p.closing)).text
+    front_own =
+        subst (λ (r : Request). IsFrontOf p.written (wire r place.NoHead (queued p)).text)
+        answers_own text_written.front
 
 -- ---- the response
 
@@ -250,19 +255,120 @@ pub late : (s : Origin) (p : DownPast) (link : LinkState) (ahead : List ℕ) (se
     (done finished : Bool) (broken : Option Fault)
     (h : HasPassed s p link ahead session done finished broken) → ClosesLate p done
     → (p.closing ≡ []) ⊎ ((list_any is_end p.batched ≡ true)
-    ⊎ ((sent : Sent) × (tasks_sent (request_of s.head) place.NoHead p.batched ≡ Ok sent)
-    × (is_over sent.place ≡ true)))
+    ⊎ (is_over (wire (request_of s.head) place.NoHead p.batched).place ≡ true))
 late s p link ahead session done finished broken h (inl none) = inl none
 late s p link ahead session done finished broken h (inr (inl ends)) = inr (inl ends)
 late s p link ahead session done finished broken h (inr (inr is)) =
-    let behind = h.over is in
     inr
-    (inr (
-      behind.0,
-      subst (λ (r : Request). tasks_sent r place.NoHead p.batched ≡ Ok behind.0)
-          (h.client.answers ∙ ap request_of h.client.own) behind.1,
-      behind.2,
-    ))
+    (inr
+    (subst (λ (r : Request). is_over (wire r place.NoHead p.batched).place ≡ true)
+    (answers_own s p link ahead session h.client) (h.over is)))
+
+-- a task ends its response as it is handed on where it did before
+handed_ends : (method : List ℕ) (one : HttpTask) → is_end (handed method one) ≡ is_end one
+handed_ends method (task.Header head end) = refl
+handed_ends method (task.Body piece end) = refl
+handed_ends method (task.UpgradedBody piece end) = refl
+handed_ends method (task.Trailer fields) = refl
+handed_ends method task.Done = refl
+handed_ends method (task.Failed error) = refl
+
+-- the front, with an end, of tasks that are handed on is handed on of a front of them, with an end
+pub record IsHanded (method : List ℕ) (tasks front : List HttpTask) : Type 0 where
+  pub before : List HttpTask
+  pub behind : List HttpTask
+  pub are : tasks ≡ before ++ behind
+  pub is : front ≡ map (handed method) before
+  pub ends : list_any is_end before ≡ list_any is_end front
+
+-- the front of tasks that are handed on
+handed_front : (method : List ℕ) (tasks front rest : List HttpTask)
+    → front ++ rest ≡ map (handed method) tasks → IsHanded method tasks front
+handed_front method tasks [] rest same =
+    record { before = []; behind = tasks; are = refl; is = refl; ends = refl }
+handed_front method [] (one ∷ front) rest same = absurd (cc)
+handed_front method (first ∷ tasks) (one ∷ front) rest same =
+    let here : one ≡ handed method first = cc in
+    let more = handed_front method tasks front rest (cc) in
+    record {
+      before = first ∷ more.before;
+      behind = more.behind;
+      are = ap (λ (l : List HttpTask). first ∷ l) more.are;
+      is = ap (λ (l : List HttpTask). one ∷ l) more.is
+          ∙ ap (λ (t : HttpTask). t ∷ map (handed method) more.before) here;
+      ends = rw (← more.ends, here, handed_ends method first) refl;
+    }
+
+-- an end among the batched tasks is one among all that were handed on, and none is left
+pub record IsEndGiven (method : List ℕ) (given batched : List HttpTask) : Type 0 where
+  pub found : list_any is_end given ≡ true
+  pub all : batched ≡ map (handed method) given
+
+pub end_given : (method : List ℕ) (given batched rest : List HttpTask)
+    → batched ++ rest ≡ map (handed method) given → EndsLast given
+    → list_any is_end batched ≡ true → IsEndGiven method given batched
+end_given method given batched rest joined last ends =
+    let h = handed_front method given batched rest joined in
+    let ended = h.ends ∙ ends in
+    let none = last h.before h.behind h.are ended in
+    let whole : h.before ≡ given =
+    sym (append-nil h.before) ∙ ap (λ (l : List HttpTask). h.before ++ l) (sym none) ∙ sym h.are in
+    record {
+      found = subst (λ (l : List HttpTask). list_any is_end l ≡ true) whole ended;
+      all = h.is ∙ ap (λ (l : List HttpTask). map (handed method) l) whole;
+    }
+
+module _
+    {L : Type 0} (s : Origin) (start : LinkStart) (link : LinkState) (client : H1Client L)
+    (stopped lost : Option Fail) (q : UpPast) (u : IsPeer s start link client stopped lost q)
+    (batched : List HttpTask) (front : IsFrontOf batched q.read)
+  where
+    -- none of the tasks that were queued is refused
+    pub batched_passes : first_refusal (request_of s.head) place.NoHead batched ≡ None
+    batched_passes =
+        front_passes s.head link.ended q.got q.read
+        (tasks_of s start link client stopped lost q u) batched front.rest (sym front.joined)
+
+    -- with an end among the tasks the response is over
+    pub over_by_end : list_any is_end batched ≡ true
+        → is_over (wire (request_of s.head) place.NoHead batched).place ≡ true
+    over_by_end ends =
+        let method = s.head.method in
+        let tasks = tasks_own s start link client stopped lost q u in
+        let last = given_ends_last method link.ended q.got u.given u.withheld client.response tasks
+        in
+        let end = end_given method u.given batched front.rest
+        (front.joined
+        ∙ subst (λ (h : RequestHead). q.read ≡ map (handed h.method) u.given) u.own u.is_read) last
+        ends in
+        let said = ended_whole method q.got link.ended u.given client.response
+        (given_all method link.ended q.got u.given u.withheld client.response tasks end.found)
+        end.found in
+        subst
+        (λ (l : List HttpTask). is_over (wire (request_of s.head) place.NoHead l).place ≡ true)
+        (sym end.all)
+        (ends_over (request_of s.head) method u.given said.head last end.found said.final
+        (subst
+        (λ (l : List HttpTask). first_refusal (request_of s.head) place.NoHead l ≡ None)
+        end.all batched_passes))
+
+    -- where an end was asked for, the response is over
+    over_late : (closing : List HttpTask)
+        → (closing ≡ []) ⊎ ((list_any is_end batched ≡ true)
+        ⊎ (is_over (wire (request_of s.head) place.NoHead batched).place ≡ true))
+        → (closing ≡ []) ⊎ (is_over (wire (request_of s.head) place.NoHead batched).place ≡ true)
+    over_late closing (inl none) = inl none
+    over_late closing (inr (inl ends)) = inr (over_by_end ends)
+    over_late closing (inr (inr over)) = inr over
+
+    -- nor is an end that is asked for behind them
+    pub all_pass : (closing : List HttpTask) → list_any is_failure closing ≡ false
+        → (closing ≡ []) ⊎ ((list_any is_end batched ≡ true)
+        ⊎ (is_over (wire (request_of s.head) place.NoHead batched).place ≡ true))
+        → first_refusal (request_of s.head) place.NoHead (batched ++ closing) ≡ None
+    all_pass closing plain closes =
+        closed_passes (request_of s.head) place.NoHead batched closing batched_passes plain
+        (over_late closing closes)
 
 -- what both sides hold is in order, where the pieces are the front of what was put, and the batches
 -- that of what was read
@@ -291,22 +397,18 @@ order_with s p q link ahead session done finished broken start peer_link client 
       batched = p.batched;
       first_batched = batched;
       closing = p.closing;
-      text = (text_written s p link ahead session h.client).text;
-      says = text_says s p link ahead session h.client;
+      passes = all_pass s start peer_link client stopped lost q u p.batched batched p.closing
+          h.plain_end (late s p link ahead session done finished broken h closes);
       closes_late = late s p link ahead session done finished broken h closes;
-      written = (text_written s p link ahead session h.client).front;
+      written = front_own s p link ahead session h.client;
     }
 
 -- the tasks that were queued are a front of what was read
-pub batched_front : (s : Origin) (p : DownPast) (link : LinkState) (ahead : List ℕ)
-    (session : HttpSession) (read held : List HttpTask) (failed over ended : Bool)
-    → IsClient s p link ahead session → ResponseHeld read p.batched held failed over ended
-    → IsFrontOf p.batched read
-batched_front s p link ahead session read held failed over ended c h =
-    let parts = in_parts session.writing.request place.NoHead p.batched p.closing
-    (text_written s p link ahead session c).text (text_written s p link ahead session c).says in
-    plain_front read p.batched held failed over ended h
-    (sent_plain session.writing.request place.NoHead p.batched parts.mid parts.first)
+pub batched_front : (p : DownPast) (read held : List HttpTask) (failed over ended : Bool)
+    → list_any is_failure p.batched ≡ false
+    → ResponseHeld read p.batched held failed over ended → IsFrontOf p.batched read
+batched_front p read held failed over ended plain h =
+    plain_front read p.batched held failed over ended h plain
 
 -- the order, from what both sides hold and what moved between them
 abbrev pub order_of : {L : Type 0} (s : Origin) (p : DownPast) (q : UpPast) (link : LinkState)
@@ -323,7 +425,7 @@ order_of s p q link ahead session told done finished broken start peer_link clie
     duplex up held rheld failed over ended h u puts responses steady =
     order_with s p q link ahead session done finished broken start peer_link client stopped lost h u
     (record { rest = held; joined = sym puts })
-    (batched_front s p link ahead session q.read rheld failed over ended h.client responses)
+    (batched_front p q.read rheld failed over ended h.plain responses)
     steady.ends_last steady.closed
 
 -- nothing passed is in order
@@ -351,8 +453,7 @@ module _ {L : Type 0} (state : L → LinkState) (start_at : L → LinkStart) whe
       (start_at up.client.link) (state up.client.link) up.client up.stopped up.lost
       so_far.down so_far.up.peer
       (record { rest = duplex.requests.tasks; joined = sym so_far.requests })
-      (batched_front s p link ahead down.session q.read _ _ _ _ so_far.down.client
-      so_far.responses)
+      (batched_front p q.read _ _ _ _ so_far.down.plain so_far.responses)
       (so_far.steady refl).ends_last (so_far.steady refl).closed
 
   -- the order of an exchange whose head is being sent

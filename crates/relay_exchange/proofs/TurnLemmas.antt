@@ -7,7 +7,6 @@ use Rattle.relay_tasks.specs.declared.error.Fail.TheVariants as fail
 use Rattle.relay_tasks.specs.declared.fault.Fault.{Fault}
 use Rattle.relay_links.specs.Link.{LinkState, LinkStart}
 use Rattle.relay_session.specs.Response.{Holds, is_over}
-use Rattle.relay_session.specs.TaskWire.{Sent, nothing_at}
 use Rattle.relay_session.specs.declared.session.HttpSession.{HttpSession}
 use Rattle.relay_session.specs.declared.task_text.Place.{Place}
 use Rattle.relay_session.specs.declared.task_text.Place.TheVariants as place
@@ -41,16 +40,7 @@ use Rattle.relay_exchange.proofs.SentLemmas.{written_of}
 
 -- nothing was queued, so the response is not over
 begun_open : (now : Writing) → Holds now [] [] → is_over now.place ≡ false
-begun_open now holds =
-    let written = written_of now [] [] holds in
-    sym (ap is_over written.at) ∙ on written.text written.says
-  where
-    on : (text : Sent)
-        → ◌≡◌ {A = Result Sent Error} (Ok (nothing_at place.NoHead)) (Ok text)
-        → is_over text.place ≡ false
-    on text same =
-        let is : nothing_at place.NoHead ≡ text = cc in
-        sym (ap (λ (sent : Sent). is_over sent.place) is)
+begun_open now holds = sym (ap is_over (written_of now [] [] holds).at)
 
 -- no batch left it over
 not_done : (done : Bool) (at : Place) → (done ≡ true → is_over at ≡ true) → is_over at ≡ false
@@ -189,14 +179,15 @@ module _ {L : Type 0} (state : L → LinkState) (start_at : L → LinkStart) whe
       comes (step.Failed fail.OutOfMemory) unended blamed = on.order
 
   -- a branch of the duplex is a turn
-  pub bodies_turn : (s : Origin) (link : LinkState) (ahead : List ℕ) (x : Exchange L)
-      (duplex : Duplex) (result : Step) → x.stage ≡ stage.Bodies duplex
+  pub bodies_turn : (s : Origin) (link : LinkState) (ahead : List ℕ) (before : DownPast)
+      (up_before : UpPast) (x : Exchange L) (duplex : Duplex) (result : Step) → x.stage ≡ stage.Bodies duplex
       → Goes (DownHolds link ahead x.client s) (λ p e. ClientBlames s p link e)
       (λ p left e. ClientRefuses s p link left e)
       (λ p e. ClientBlames s p link e ⊎ CannotEnd s p e) (UpHolds state start_at x.peer s)
-      (Blames state start_at x.peer s) (core_of state start_at duplex x.client x.peer) result
+      (Blames state start_at x.peer s) before up_before
+          (core_of state start_at duplex x.client x.peer) result
       → Tells result duplex → Turns state start_at s link ahead x result
-  bodies_turn s link ahead x duplex result is went tells = record {
+  bodies_turn s link ahead before up_before x duplex result is went tells = record {
     passed = passed_by went.p went.q;
     told = told_by s went.p went.q link ahead x.client x.peer went.so_far.down went.so_far.up;
     comes_to = comes result went tells;
@@ -206,7 +197,8 @@ module _ {L : Type 0} (state : L → LinkState) (start_at : L → LinkStart) whe
           → (went : Goes (DownHolds link ahead x.client s) (λ p e. ClientBlames s p link e)
           (λ p left e. ClientRefuses s p link left e)
           (λ p e. ClientBlames s p link e ⊎ CannotEnd s p e) (UpHolds state start_at x.peer s)
-          (Blames state start_at x.peer s) (core_of state start_at duplex x.client x.peer) result)
+          (Blames state start_at x.peer s) before up_before
+          (core_of state start_at duplex x.client x.peer) result)
           → is_finished duplex ≡ false → is_failed duplex.word ≡ false
           → IsUnderWay state start_at s (passed_by went.p went.q) link ahead x
       on result went goes_on unfailed = record {
@@ -249,7 +241,8 @@ module _ {L : Type 0} (state : L → LinkState) (start_at : L → LinkStart) whe
           → (went : Goes (DownHolds link ahead x.client s) (λ p e. ClientBlames s p link e)
           (λ p left e. ClientRefuses s p link left e)
           (λ p e. ClientBlames s p link e ⊎ CannotEnd s p e) (UpHolds state start_at x.peer s)
-          (Blames state start_at x.peer s) (core_of state start_at duplex x.client x.peer) result)
+          (Blames state start_at x.peer s) before up_before
+          (core_of state start_at duplex x.client x.peer) result)
           → Tells result duplex
           → ComesTo state start_at s (passed_by went.p went.q) link ahead x result
       comes step.Moved went tells = on step.Moved went (sym tells.finished) (sym tells.failed)

@@ -7,6 +7,7 @@ use Rattle.relay_links.specs.Link.{LinkState, LinkStart}
 use Rattle.relay_links.specs.Told.{Since}
 use Rattle.relay_peer.specs.RequestWriting.{head_in}
 use Rattle.relay_session.specs.Reading.{head_of, is_body_done}
+use Rattle.relay_core.specs.Asked.{IsQuiet}
 use Rattle.relay_core.specs.Moves.{SoFar}
 use Rattle.relay_core.specs.Past.{Origin, DownPast, UpPast}
 use Rattle.relay_core.specs.Table.{State, core, is_failed, is_finished}
@@ -31,6 +32,10 @@ use Rattle.relay_exchange.specs.Valid.{IsValid}
 abbrev pub DownHolds : LinkState → List ℕ → ClientState → Origin → DownPast → Type 0
 DownHolds link ahead side s p =
     HasPassed s p link ahead side.session side.done side.finished side.broken
+
+-- the link is silent on a read or on a write
+abbrev pub IsSilentLink : LinkState → Type 0
+IsSilentLink link = (link.silent_on_read ≡ true) ⊎ (link.silent_on_write ≡ true)
 
 module _ {L : Type 0} (state : L → LinkState) (start_at : L → LinkStart) where
   -- the past of the peer's side holds
@@ -134,6 +139,19 @@ module _ {L : Type 0} (state : L → LinkState) (start_at : L → LinkStart) whe
     pub told : AreTold s passed link (state x.peer.client.link) (start_at x.peer.client.link)
     pub comes_to : ComesTo s passed link ahead x result
 
+  -- all that can be done asks a link that is silent on it: the write of the head, or each branch
+  -- that can be taken
+  abbrev pub SilentIn : LinkState → ClientState → PeerSide L → Stage → Type 0
+  SilentIn link down up stage.Head = (state up.client.link).silent_on_write ≡ true
+  SilentIn link down up (stage.Bodies duplex) =
+      IsQuiet (core_of duplex down up) link (state up.client.link)
+
   -- a link of the exchange is silent
   abbrev pub IsSilent : LinkState → Exchange L → Type 0
-  IsSilent link x = client.IsSilent link ⊎ peer.IsSilent (state x.peer.client.link)
+  IsSilent link x = IsSilentLink link ⊎ IsSilentLink (state x.peer.client.link)
+
+  -- a turn met silence, and neither link changed
+  pub record MeetsSilence (before after : LinkState) (old new : Exchange L) : Type 0 where
+    pub silent : SilentIn after new.client new.peer new.stage
+    pub client_same : after ≡ before
+    pub peer_same : state new.peer.client.link ≡ state old.peer.client.link

@@ -1,6 +1,6 @@
 -- What was sent to the peer and what was written to the client, in terms of the bytes that passed
 -- (RFC 9110, section 15.2; RFC 9112, sections 3 to 8).
-use Rattle.std.specs.Prelude.{◌≡◌, ◌↔◌, IsTrue, ℕ, All, Bool, true, false, ◌⊎◌, List, [], ◌++◌, drop, map, Some, Ok}
+use Rattle.std.specs.Prelude.{◌≡◌, ◌↔◌, IsTrue, ℕ, All, Bool, true, false, ◌⊎◌, List, [], ◌++◌, drop, map, Some, None}
 use Rattle.std.specs.List.{list_any}
 use Rattle.relay_tasks.specs.declared.error.Error.{Error}
 use Rattle.relay_tasks.specs.declared.task.HttpTask.{HttpTask}
@@ -19,7 +19,7 @@ use Rattle.relay_peer.specs.ResponseReading.{untold, says, IsReadWhole}
 use Rattle.relay_session.specs.Asked.{request_of}
 use Rattle.relay_session.specs.Front.{ends_with_head}
 use Rattle.relay_session.specs.Reading.{IsWhole}
-use Rattle.relay_session.specs.TaskWire.{Sent, tasks_sent}
+use Rattle.relay_session.specs.TaskWire.{Sent, first_refusal, wire}
 use Rattle.relay_session.specs.Response.{is_over}
 use Rattle.relay_session.specs.declared.task_text.Place.TheVariants as place
 use Rattle.relay_core.specs.Moves.{EndsLast}
@@ -74,8 +74,8 @@ pub record AreOf (method : List ℕ) (closed : Bool) (got : List ℕ) (tasks : L
 
 -- what was sent is the front of the text of the client's head and of pieces of its body, from the
 -- first on, with the end only where the body has ended. What was written is the front of the text
--- of the first of the tasks that the peer's bytes are; an end is asked for behind them only where
--- one is among them, or where the response is over behind them
+-- of the first of the tasks that the peer's bytes are, none of which is refused; an end is asked for
+-- behind them only where one is among them, or where the response is over behind them
 pub record IsInOrder (s : Origin) (p : Passed) (closed : Bool) : Type 0 where
   pub asks : Asks s p
   pub pieces : List HttpTask
@@ -88,13 +88,18 @@ pub record IsInOrder (s : Origin) (p : Passed) (closed : Bool) : Type 0 where
   pub batched : List HttpTask
   pub first_batched : IsFrontOf batched read
   pub closing : List HttpTask
-  pub text : Sent
-  pub says : tasks_sent (request_of s.head) place.NoHead (batched ++ closing) ≡ Ok text
+  pub passes : first_refusal (request_of s.head) place.NoHead (batched ++ closing) ≡ None
   pub closes_late : (closing ≡ [])
       ⊎ ((list_any is_end batched ≡ true)
-      ⊎ ((sent : Sent) × (tasks_sent (request_of s.head) place.NoHead batched ≡ Ok sent)
-      × (is_over sent.place ≡ true)))
-  pub written : IsFrontOf p.written text.text
+      ⊎ (is_over (wire (request_of s.head) place.NoHead batched).place ≡ true))
+  pub written : IsFrontOf p.written
+      (wire (request_of s.head) place.NoHead (batched ++ closing)).text
+
+-- what the tasks that were queued for the client are sent as
+abbrev pub text_of :
+    {s : Origin} {p : Passed} {closed : Bool} → IsInOrder s p closed → Sent
+text_of {s = s} order =
+    wire (request_of s.head) place.NoHead (order.batched ++ order.closing)
 
 -- ---- ends
 
@@ -150,8 +155,8 @@ pub record IsRelayed (s : Origin) (p : Passed) (link : LinkState) (start : LinkS
   pub n : ℕ
   pub whole : Tasks s.head.method false p.got link.ended
       (says (told_of order.are_of.given) (ended n))
-  pub over : is_over order.text.place ≡ true
-  pub written : p.written ≡ order.text.text
+  pub over : is_over (text_of order).place ≡ true
+  pub written : p.written ≡ (text_of order).text
   pub request : SendsWhole s p link.ended order
       ⊎ ((e : Error) × (lost : Bool) × PeerBlames start link s.head (up_past order lost) e)
 

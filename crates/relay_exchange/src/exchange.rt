@@ -1,11 +1,13 @@
 //! One exchange over one link to a peer: the head of the request is sent, and then both bodies flow
 //! (RFC 9112, sections 6, 7 and 9.3).
-ghost use Rattle.std.specs.Prelude.{◌≡◌, ◌↔◌, ◌⊎◌, ◌&&◌, Bool, ℕ, List, [], None, false, IfOk, IfErr};
+ghost use Rattle.std.specs.Prelude.{◌≡◌, ◌↔◌, ◌⊎◌, ◌&&◌, Bool, ℕ, List, [], None, false, IfOk, IfErr, true};
 ghost use Rattle.relay_tasks.specs.Error.{IsMemoryOr};
 ghost use Rattle.relay_links.specs.Link.{LinkState, IsHandedOut};
 ghost use Rattle.relay_h1.specs.Framing.{request_framing};
 ghost use Rattle.relay_h1.specs.Verdict.{refused_from};
 ghost use Rattle.relay_session.specs.Reading.{is_body_done};
+ghost use Rattle.relay_links.specs.Count.{up};
+ghost use Rattle.relay_core.specs.Asked.{WaitRose};
 ghost use Rattle.relay_core.specs.Causes.{says_failed, says_finished};
 ghost use Rattle.relay_core.specs.Past.{Origin, DownPast, UpPast, UpGoes};
 ghost use Rattle.relay_sides.specs.Client.{BeginsBehind};
@@ -13,7 +15,7 @@ ghost use Rattle.relay_sides.specs.Client;
 ghost use Rattle.relay_sides.specs.Peer;
 ghost use Rattle.relay_exchange.specs.Passed.{Passed};
 ghost use Rattle.relay_exchange.specs.Head.{error_of_step, IsRefusedFor, IsBehind, may_keep};
-ghost use Rattle.relay_exchange.specs.Exchange.{IsUnderWay, Turns, IsSilent, UpHolds, Blames, Begins, Flows, StageHolds};
+ghost use Rattle.relay_exchange.specs.Exchange.{IsUnderWay, Turns, SilentIn, MeetsSilence, IsSilent, IsSilentLink, UpHolds, Blames, Begins, Flows, StageHolds};
 
 use crate::round::go_round;
 use relay_core::{Duplex, Step, Up, UpKind};
@@ -113,8 +115,16 @@ impl<L: ByteLink> Exchange<L> {
             → IsUnderWay L.state L.start s p (F.state client.old) (F.ahead client.old) self.old
             → Turns L.state L.start s (F.state client.new) (F.ahead client.new) self.new
             result.step }
+        // It waits only where a link answered so in this turn.
+        ensures waits { result.step ≡ Step.Waited Pause.NotReady
+            → WaitRose (F.state client.old) (F.state client.new)
+            (L.state self.old.peer.client.link) (L.state self.new.peer.client.link) }
         ensures silent { result.step ≡ Step.Waited Pause.Silent
             → IsSilent L.state L.start (F.state client.new) self.new }
+        // In silence all that can be done asks a link that is silent on it, and neither link changed.
+        ensures quiet { result.step ≡ Step.Waited Pause.Silent
+            → MeetsSilence L.state L.start (F.state client.old) (F.state client.new) self.old
+            self.new }
         // A turn that does not fail leaves the count of the client's faults.
         ensures calm { says_failed result.step ≡ false
             → (F.state client.new).faults ≡ (F.state client.old).faults }
@@ -191,8 +201,13 @@ fn send_head<L: ByteLink>(
         → Begins L.state L.start s p q link ahead client.now peer.old
         → Turns L.state L.start s link ahead
         (record { alloc = alloc; client = client.now; peer = peer.new; stage = stage.new }) result }
+    ensures waits { result ≡ Step.Waited Pause.NotReady
+        → (L.state peer.new.client.link).waits ≡ up (L.state peer.old.client.link).waits }
     ensures silent { result ≡ Step.Waited Pause.Silent
-        → Peer.IsSilent (L.state peer.new.client.link) }
+        → IsSilentLink (L.state peer.new.client.link) }
+    ensures quiet { result ≡ Step.Waited Pause.Silent → (link : LinkState)
+        → SilentIn L.state L.start link client.now peer.new stage.new
+        × (L.state peer.new.client.link ≡ L.state peer.old.client.link) }
     ensures peer_start { L.start peer.new.client.link ≡ L.start peer.old.client.link }
 {
     let step = write_head(peer);
@@ -205,8 +220,12 @@ fn write_head<L: ByteLink>(peer: &mut PeerSide<L>) -> Step
     ensures goes { (s : Origin) (q : UpPast) → UpHolds L.state L.start peer.old s q
         → UpGoes (UpHolds L.state L.start peer.new s) (Blames L.state L.start peer.old s)
         (Blames L.state L.start peer.new s) q q.read q.taken q.lost (error_of_step result) }
+    ensures waits { result ≡ Step.Waited Pause.NotReady
+        → (L.state peer.new.client.link).waits ≡ up (L.state peer.old.client.link).waits }
     ensures silent { result ≡ Step.Waited Pause.Silent
-        → Peer.IsSilent (L.state peer.new.client.link) }
+        → ((Peer.state_of peer.new.client peer.new.told).pending ≡ true)
+        × ((L.state peer.new.client.link).silent_on_write ≡ true)
+        × (L.state peer.new.client.link ≡ L.state peer.old.client.link) }
     ensures peer_start { L.start peer.new.client.link ≡ L.start peer.old.client.link }
     ensures unfinished { says_finished result ≡ false }
     // An error that the side told is the answer.
@@ -258,8 +277,15 @@ fn move_bodies<L: ByteLink, F: Front, H: Schedule>(
           peer = peer.new;
           stage = Stage.Bodies duplex.new;
         }) result.step }
+    ensures waits { result.step ≡ Step.Waited Pause.NotReady
+        → WaitRose (F.state client.old) (F.state client.new) (L.state peer.old.client.link)
+        (L.state peer.new.client.link) }
     ensures silent { result.step ≡ Step.Waited Pause.Silent
-        → Client.IsSilent (F.state client.new) ⊎ Peer.IsSilent (L.state peer.new.client.link) }
+        → IsSilentLink (F.state client.new) ⊎ IsSilentLink (L.state peer.new.client.link) }
+    ensures quiet { result.step ≡ Step.Waited Pause.Silent
+        → SilentIn L.state L.start (F.state client.new) state.new peer.new (Stage.Bodies duplex.new)
+        × (F.state client.new ≡ F.state client.old)
+        × (L.state peer.new.client.link ≡ L.state peer.old.client.link) }
     ensures calm { says_failed result.step ≡ false
         → (F.state client.new).faults ≡ (F.state client.old).faults }
     ensures client_start { F.start client.new ≡ F.start client.old }

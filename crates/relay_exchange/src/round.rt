@@ -1,11 +1,13 @@
 //! One turn of a duplex: the branch that a schedule picks, and where its link is silent the next
 //! enabled ones, going round.
 ghost use Rattle.std.specs.Prelude.{◌≡◌, ◌⊎◌, false, IsTrue};
+ghost use Rattle.relay_core.specs.Asked.{IsQuiet, WaitRose};
 ghost use Rattle.relay_core.specs.Causes.{Tells, says_failed};
 ghost use Rattle.relay_core.specs.Moves.{SoFar, Goes};
 ghost use Rattle.relay_core.specs.Past.{Origin, DownPast, UpPast};
 ghost use Rattle.relay_core.specs.Sound.{IsSound};
 ghost use Rattle.relay_core.specs.Table.{core, is_failed, is_finished};
+ghost use Rattle.relay_exchange.specs.Exchange.{IsSilentLink};
 
 use relay_core::{Down, Duplex, Step, Up};
 use relay_links::{BRANCHES, Branch, Schedule};
@@ -29,7 +31,7 @@ pub(crate) fn go_round<D: Down, U: Up, H: Schedule>(
         → is_finished duplex.old ≡ false → is_failed duplex.old.word ≡ false
         → Goes (D.past down.new client.new s) (D.blames down.new client.new s)
         (D.refuses down.new client.new s) (D.cannot_end down.new client.new s)
-        (U.past up.new s) (U.blames up.new s)
+        (U.past up.new s) (U.blames up.new s) p q
         (core duplex.new (D.state down.new) (U.state up.new)) result.0 }
 
     // The answer says exactly whether a half failed, and whether both have finished.
@@ -41,12 +43,23 @@ pub(crate) fn go_round<D: Down, U: Up, H: Schedule>(
     ensures client_start { D.start client.new ≡ D.start client.old }
     ensures peer_start { U.start up.new ≡ U.start up.old }
 
+    // It waits only where a link answered so in this turn.
+    ensures waits { result.0 ≡ Step.Waited Pause.NotReady
+        → WaitRose (D.link client.old) (D.link client.new) (U.link up.old) (U.link up.new) }
+
     // Silence is that of a link.
     ensures silent { result.0 ≡ Step.Waited Pause.Silent
-        → D.is_silent client.new ⊎ U.is_silent up.new }
+        → IsSilentLink (D.link client.new) ⊎ IsSilentLink (U.link up.new) }
+
+    // In silence each branch that can be taken asks a link that is silent on it, and neither link
+    // changed.
+    ensures quiet { result.0 ≡ Step.Waited Pause.Silent
+        → IsQuiet (core duplex.new (D.state down.new) (U.state up.new)) (D.link client.new)
+        (U.link up.new) × (D.link client.new ≡ D.link client.old) × (U.link up.new ≡ U.link up.old) }
 
     // A turn that does not fail leaves the count of the client's faults.
-    ensures calm { says_failed result.0 ≡ false → D.faults client.new ≡ D.faults client.old }
+    ensures calm { says_failed result.0 ≡ false
+        → (D.link client.new).faults ≡ (D.link client.old).faults }
 {
     let Some(first) = duplex.choose(down, up, schedule) else {
         return (Step::Failed(Fail::OutOfMemory), None);

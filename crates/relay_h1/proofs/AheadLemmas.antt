@@ -9,7 +9,7 @@ use Rattle.relay_links.specs.declared.link.Got.TheVariants as got
 use Rattle.relay_links.specs.Link.{LinkState, Reads}
 use Rattle.relay_h1.specs.Ahead.{IsAhead}
 use Rattle.relay_h1.specs.HeadEnd.{head_end, NoMarkBefore}
-use Rattle.relay_h1.specs.Move.{ReadsMore, given}
+use Rattle.relay_h1.specs.Move.{ReadsMore, given, read_size}
 use Rattle.relay_h1.proofs.HeadEndLemmas.{NoMarkBefore-drop, NoMarkBefore-append, no_mark_without_end}
 
 -- the front is consumed
@@ -49,22 +49,23 @@ take-behind front room post end n size fits =
 
 -- what a read left in the room stands behind the bytes before it
 pub ReadsMore-room : (before after : LinkState) (old room new : List ℕ) (end : ℕ) (answer : Got)
-    → Reads before room after answer
+    → length room ≡ read_size → Reads before room after answer
     → ((n : ℕ) → n ≤ length room → take (end + n) new ≡ old ++ take n room)
     → ReadsMore before after old (take (end + given answer) new) answer
-ReadsMore-room before after old room new end (got.Bytes n) reads behind =
+ReadsMore-room before after old room new end (got.Bytes n) size reads behind =
     record {
       room = room;
+      sized = size;
       gives = reads;
       grown = behind n reads.fits;
     }
-ReadsMore-room before after old room new end got.NotReady reads behind =
+ReadsMore-room before after old room new end got.NotReady size reads behind =
     (reads, behind 0 (omega arith) ∙ append-nil old)
-ReadsMore-room before after old room new end got.Silent reads behind =
+ReadsMore-room before after old room new end got.Silent size reads behind =
     (reads, behind 0 (omega arith) ∙ append-nil old)
-ReadsMore-room before after old room new end got.End reads behind =
+ReadsMore-room before after old room new end got.End size reads behind =
     (reads, behind 0 (omega arith) ∙ append-nil old)
-ReadsMore-room before after old room new end (got.Failed fault) reads behind =
+ReadsMore-room before after old room new end (got.Failed fault) size reads behind =
     (reads, behind 0 (omega arith) ∙ append-nil old)
 
 -- the same behind what was consumed
@@ -74,6 +75,7 @@ pub ReadsMore-drop : (before after : LinkState) (old new : List ℕ) (start : �
 ReadsMore-drop before after old new start (got.Bytes n) inside more =
     record {
       room = more.room;
+      sized = more.sized;
       gives = more.gives;
       grown = ap (drop start) more.grown ∙ drop-append-le start old (take n more.room) inside;
     }

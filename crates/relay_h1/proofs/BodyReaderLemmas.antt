@@ -430,6 +430,7 @@ answers_run old new ahead mid rest passed (cut.Piece piece end) passes is takes 
       longest = takes.0;
       some = omega (arith, some, ap (λ (x : List ℕ). length x) takes.0);
       moved = rw (takes.0, takes.2) (run_split passed.state mid);
+      stands = takes.1 ∙ ap (λ (x : List ℕ). after_run passed.state (length x)) (sym takes.0);
       is_end = takes.3;
     }
 answers_run old new ahead mid rest passed cut.End passes is takes = absurd takes

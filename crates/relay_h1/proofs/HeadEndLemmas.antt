@@ -1,6 +1,6 @@
 -- How the end of a head is found from a place in the middle.
-use Rattle.std.proofs.Common.{◌≡◌, ℕ, zero, suc, ◌+◌, ◌-◌, ◌<◌, ◌≤◌, List, [], ◌∷◌, length, drop, Bool, false, true, ◌&&◌, refl, sym, ◌∙◌, ap, arith, Option, Some, None, get_or, add-one, drop-cons, option_map, ◌++◌, inl, inr, bytes_eq}
-use Rattle.std.proofs.lemmas.List.{drop-drop, drop-append-le, take-append-le, length-drop}
+use Rattle.std.proofs.Common.{◌≡◌, ℕ, zero, suc, ◌+◌, ◌-◌, ◌<◌, ◌≤◌, List, [], ◌∷◌, length, take, drop, Bool, false, true, ◌&&◌, refl, sym, ◌∙◌, ap, arith, Option, Some, None, get_or, add-one, drop-cons, option_map, ◌++◌, inl, inr, bytes_eq, subst}
+use Rattle.std.proofs.lemmas.List.{drop-drop, drop-append-le, take-append-le, take-append-drop, length-drop, length-take-le}
 use Rattle.std.proofs.lemmas.Bool.{cases_Bool, cases_lt}
 use Rattle.relay_h1.specs.HeadEnd.{begins_with_mark, end_mark, head_end, shifted, NoMarkBefore}
 
@@ -189,3 +189,21 @@ head_end-later bytes more len none ends =
           let same = mark-append (drop k bytes) more room in
           cc
     ]
+
+-- the end of the whole is that of a front as long, by what that front holds
+ends_there : (front rest : List ℕ) (len : ℕ) (place : Option ℕ) → head_end front ≡ place
+    → length front ≡ len → head_end (front ++ rest) ≡ Some len
+    → head_end front ≡ Some (length front)
+ends_there front rest len None is size ends =
+    let later = head_end-later front rest len is ends in absurd (omega (arith, later))
+ends_there front rest len (Some k) is size ends =
+    is ∙ sym (head_end-append front rest k is) ∙ ends ∙ ap Some (sym size)
+
+-- the bytes up to the first end are one head
+pub head_end-take : (bytes : List ℕ) (len : ℕ) → head_end bytes ≡ Some len
+    → head_end (take len bytes) ≡ Some (length (take len bytes))
+head_end-take bytes len ends =
+    let size = length-take-le len bytes (head_end-within bytes len ends).1 in
+    let whole = take-append-drop len bytes in
+    ends_there (take len bytes) (drop len bytes) len (head_end (take len bytes)) refl size
+    (subst (λ (b : List ℕ). head_end b ≡ Some len) (sym whole) ends)

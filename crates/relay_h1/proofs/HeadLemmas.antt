@@ -24,7 +24,7 @@ use Rattle.relay_tasks.specs.declared.error.Fail.{Fail}
 use Rattle.relay_tasks.specs.declared.error.Fail.TheVariants as fail
 use Rattle.relay_tasks.specs.Error.{IsMemoryOr}
 use Rattle.relay_tasks.specs.Head.{Fields, RequestHead, ResponseHead, IsRawTarget, new_request, new_response}
-use Rattle.relay_h1.specs.Head.{most_fields, most_bytes, kept_fields, version_of, request_of, response_of, ReadsRequest, ReadsResponse}
+use Rattle.relay_h1.specs.Head.{IsOneHead, most_fields, most_bytes, kept_fields, version_of, request_of, response_of, ReadsRequest, ReadsResponse}
 use Rattle.relay_h1.specs.HeadSpans.{kept_at, kept_fields_at, IsFieldAt, IsRequestFound, IsResponseFound}
 
 -- above a blank is from the first visible byte on
@@ -66,8 +66,9 @@ count_of_fields text spans count fields are fits =
 pub request_found : (text : List ℕ) (spans : List HeaderSpan) (found : RequestSpans)
     (form : grammar.RequestHead)
     → IsRequestWithin text spans found → IsRequestAt text spans found form → found.len ≡ length text
-    → length text ≤ most_bytes → length spans ≤ most_fields → IsRequestFound text spans found
-request_found text spans found form within at whole short few =
+    → length text ≤ most_bytes → length spans ≤ most_fields → IsOneHead text
+    → IsRequestFound text spans found
+request_found text spans found form within at whole short few ends =
     let fits = within.section.count_fits in
     let count = count_of_fields text spans found.headers form.fields at.fields fits in
     let reads : grammar.ReadsRequest text form [] = (
@@ -85,6 +86,7 @@ request_found text spans found form within at whole short few =
         few_fields = omega arith;
         target = raw_target text form reads short;
         short = short;
+        ends = ends;
       };
     }
 

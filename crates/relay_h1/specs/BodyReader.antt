@@ -170,8 +170,8 @@ pub record Passes (old : State) (ahead : List ℕ) (new : Passed) (rest : List �
   pub takes : Takes old ahead [] new.state rest
   pub stands : Stands new.front new.state rest
 
--- the longest run of body bytes behind the framing at the front, which are some, and whether the
--- body ends with them
+-- the longest run of body bytes behind the framing at the front, which are some. The reader stands
+-- right behind them, and the body ends with them exactly where they complete its length
 pub record TakesPiece
     (old : State) (ahead piece : List ℕ) (end : Bool) (new : State) (rest : List ℕ) : Type 0 where
   pub at : State
@@ -180,6 +180,7 @@ pub record TakesPiece
   pub longest : piece ≡ run at behind_framing
   pub some : 0 < length piece
   pub moved : behind_framing ≡ piece ++ rest
+  pub stands : new ≡ after_run at (length piece)
   pub is_end : end ≡ is_done new
 
 -- the bytes of the body that a call took

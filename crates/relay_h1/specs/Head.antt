@@ -1,5 +1,5 @@
 -- What the text of a message head says (RFC 9112, sections 2 to 5).
-use Rattle.std.specs.Prelude.{◌≡◌, ℕ, ◌≤◌, List, [], length, map, if◌then◌else◌, ◌==◌, nat_lt, None, true}
+use Rattle.std.specs.Prelude.{◌≡◌, ℕ, ◌≤◌, List, [], length, map, if◌then◌else◌, ◌==◌, nat_lt, Some, None, true}
 use Rattle.http.specs.declared.Version.{Version}
 use Rattle.http.specs.declared.version.TheConstants.Version.{HTTP_10, HTTP_11}
 use Rattle.http_header.specs.FieldValue.{FieldValue, plain_value}
@@ -10,6 +10,7 @@ use Rattle.relay_tasks.specs.declared.context.Context.TheVariants.{HeadGrammar, 
 use Rattle.relay_tasks.specs.declared.error.Error.{Error}
 use Rattle.relay_tasks.specs.Error.{refused}
 use Rattle.relay_tasks.specs.Head.{Fields, RequestHead, ResponseHead, IsRawTarget, IsStatus}
+use Rattle.relay_h1.specs.HeadEnd.{head_end}
 
 -- how many fields a head may have
 abbrev pub most_fields : ℕ
@@ -52,12 +53,17 @@ response_of form =
       fields = kept_fields form.fields;
     }
 
+-- the text is one head: it ends at its first CR LF CR LF, and nowhere else
+abbrev pub IsOneHead : List ℕ → Type 0
+IsOneHead text = head_end text ≡ Some (length text)
+
 -- the text, whole, is that form of a request head, which keeps the limits
 pub record IsRequestText (text : List ℕ) (form : grammar.RequestHead) : Type 0 where
   pub reads : grammar.ReadsRequest text form []
   pub few_fields : length form.fields ≤ most_fields
   pub target : IsRawTarget form.target
   pub short : length text ≤ most_bytes
+  pub ends : IsOneHead text
 
 -- the text, whole, is that form of a response head, which keeps the limits
 pub record IsResponseText (text : List ℕ) (form : grammar.ResponseHead) : Type 0 where
@@ -65,6 +71,7 @@ pub record IsResponseText (text : List ℕ) (form : grammar.ResponseHead) : Type
   pub few_fields : length form.fields ≤ most_fields
   pub status : IsStatus (grammar.status_code form)
   pub short : length text ≤ most_bytes
+  pub ends : IsOneHead text
 
 -- the text is a request head that says `head`
 pub record ReadsRequest (text : List ℕ) (head : RequestHead) : Type 0 where

@@ -1,14 +1,19 @@
 -- How bytes move between a link and the relay.
-use Rattle.std.specs.Prelude.{◌≡◌, ℕ, List, ◌++◌, take, drop}
+use Rattle.std.specs.Prelude.{◌≡◌, ℕ, List, ◌++◌, length, take, drop}
 use Rattle.relay_links.specs.declared.link.Got.{Got}
 use Rattle.relay_links.specs.declared.link.Got.TheVariants as got
 use Rattle.relay_links.specs.declared.link.Put.{Put}
 use Rattle.relay_links.specs.declared.link.Put.TheVariants as put
 use Rattle.relay_links.specs.Link.{LinkState, GivesBytes, WaitsOnRead, IsSilentOnRead, EndsRead, FailsRead, Writes}
 
--- the link gave the first n bytes of a room, and they follow the bytes that were ahead
+-- how many bytes one read of a link asks for
+abbrev pub read_size : ℕ
+read_size = 16384
+
+-- the link gave the first n bytes of a room of that size, and they follow the bytes that were ahead
 pub record GrowsBy (before after : LinkState) (old new : List ℕ) (n : ℕ) : Type 0 where
   pub room : List ℕ
+  pub sized : length room ≡ read_size
   pub gives : GivesBytes before room n after
   pub grown : new ≡ old ++ take n room
 

@@ -1,7 +1,8 @@
 //! The bytes that were read from a link and not consumed yet.
 ghost use Rattle.std.specs.Prelude.{◌≡◌, ◌≤◌, ◌==◌, ◌+◌, [], length, drop, take, vec_len, IfOk, OnOk, OnErr};
 ghost use Rattle.relay_h1.specs.HeadEnd.{head_end};
-ghost use Rattle.relay_h1.specs.Move.{ReadsMore, given};
+ghost use Rattle.relay_links.specs.Link.{Reads};
+ghost use Rattle.relay_h1.specs.Move.{ReadsMore, given, read_size};
 
 use crate::head::find_from;
 use relay_links::{ByteLink, Got};
@@ -130,7 +131,16 @@ fn read_behind<L: ByteLink>(link: &mut L, buffer: &mut Vec<u8>, end: usize) -> G
     ensures start { L.start link.new ≡ L.start link.old }
     ensures within { end + given result ≤ vec_len buffer.new }
 {
-    link.read(&mut buffer.as_mut_slice()[end..end + READ_SIZE])
+    ask(link, &mut buffer.as_mut_slice()[end..end + READ_SIZE])
+}
+
+/// One read of the link. Each has room for `READ_SIZE` bytes.
+fn ask<L: ByteLink>(link: &mut L, room: &mut [u8]) -> Got
+    requires { length room.old ≡ read_size }
+    ensures answer { Reads (L.state link.old) room.new (L.state link.new) result }
+    ensures start { L.start link.new ≡ L.start link.old }
+{
+    link.read(room)
 }
 
 /// How many bytes a read gave.

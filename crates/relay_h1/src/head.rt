@@ -1,11 +1,11 @@
 //! Where a message head ends, and what it says (RFC 9112, sections 2 to 5).
-ghost use Rattle.std.specs.Prelude.{◌≡◌, ◌+◌, ◌≤◌, ◌↔◌, [], length, drop, All, IfOk, IfErr, IfSome, IfNone, OnOk, IsErrOf, IsOkUnless};
+ghost use Rattle.std.specs.Prelude.{◌≡◌, ◌+◌, ◌≤◌, ◌↔◌, [], length, drop, All, IfOk, IfErr, IfSome, IfNone, OnOk, IsErrOf, IsOkUnless, IsTrue};
 ghost use Rattle.http_header.specs.FieldName.{IsFieldName};
 ghost use Rattle.http_header.specs.FieldValue.{IsFieldValue, plain_value};
 ghost use Rattle.http_header.specs.Token.{IsToken, lowercase};
 ghost use Rattle.relay_tasks.specs.Error.{IsMemoryOr};
 ghost use Rattle.relay_tasks.specs.Head.{RequestHead, ResponseHead};
-ghost use Rattle.relay_h1.specs.Head.{ReadsRequest, ReadsResponse, RefusesRequest, RefusesResponse, head_refusal, version_of};
+ghost use Rattle.relay_h1.specs.Head.{IsOneHead, ReadsRequest, ReadsResponse, RefusesRequest, RefusesResponse, head_refusal, version_of};
 ghost use Rattle.relay_h1.specs.HeadEnd.{begins_with_mark, head_end, NoMarkBefore};
 ghost use Rattle.relay_h1.specs.HeadSpans.{IsFieldAt, IsRequestFound, IsResponseFound, kept_fields_at};
 
@@ -39,8 +39,8 @@ impl HeadReader {
     /// Reads the text of a request head, whole.
     ///
     /// `InvalidHTTPHeader`, about `HeadTooLong`: the text has more than 65,536 bytes. About
-    /// `HeadGrammar`: it is no request head of HTTP/1.0 or HTTP/1.1 with at most 256 fields, with
-    /// nothing behind it.
+    /// `HeadGrammar`: it is no request head of HTTP/1.0 or HTTP/1.1 with at most 256 fields that
+    /// ends, with the text, at its first CR LF CR LF.
     pub fn read_request(alloc: Global, bytes: &[u8]) -> Result<RequestHeader>
         ensures ok { IfOk result (ReadsRequest bytes.now) }
         ensures refused { IsErrOf result (Fail.Error (head_refusal bytes.now))
@@ -49,18 +49,17 @@ impl HeadReader {
             → (head : RequestHead) × ReadsRequest bytes.now head }
         ensures causes { IfErr result (IsMemoryOr (head_refusal bytes.now)) }
     {
-        let mut spans = [EMPTY_HEADER_SPAN; MAX_FIELDS];
-        match find_request(bytes, &mut spans) {
-            Some(found) => make_request(alloc, bytes, &found, &spans),
-            None => Err(Fail::Error(head_refusal(bytes))),
+        if !is_one_head(bytes) {
+            return Err(Fail::Error(head_refusal(bytes)));
         }
+        read_one_request(alloc, bytes)
     }
 
     /// Reads the text of a response head, whole.
     ///
     /// `InvalidHTTPHeader`, about `HeadTooLong`: the text has more than 65,536 bytes. About
     /// `HeadGrammar`: it is no response head of HTTP/1.0 or HTTP/1.1 with a status from 100 to
-    /// 999 and at most 256 fields, with nothing behind it.
+    /// 999 and at most 256 fields that ends, with the text, at its first CR LF CR LF.
     pub fn read_response(alloc: Global, bytes: &[u8]) -> Result<ResponseHeader>
         ensures ok { IfOk result (ReadsResponse bytes.now) }
         ensures refused { IsErrOf result (Fail.Error (head_refusal bytes.now))
@@ -69,11 +68,54 @@ impl HeadReader {
             → (head : ResponseHead) × ReadsResponse bytes.now head }
         ensures causes { IfErr result (IsMemoryOr (head_refusal bytes.now)) }
     {
-        let mut spans = [EMPTY_HEADER_SPAN; MAX_FIELDS];
-        match find_response(bytes, &mut spans) {
-            Some(found) => make_response(alloc, bytes, &found, &spans),
-            None => Err(Fail::Error(head_refusal(bytes))),
+        if !is_one_head(bytes) {
+            return Err(Fail::Error(head_refusal(bytes)));
         }
+        read_one_response(alloc, bytes)
+    }
+}
+
+/// Whether the text ends at its first CR LF CR LF.
+fn is_one_head(bytes: &[u8]) -> bool
+    ensures { IsTrue result ↔ IsOneHead bytes.now }
+{
+    match HeadReader::find(bytes) {
+        Some(place) => place == bytes.len(),
+        None => false,
+    }
+}
+
+/// `HeadReader::read_request` of a text that was found to end as a head does.
+pub(crate) fn read_one_request(alloc: Global, bytes: &[u8]) -> Result<RequestHeader>
+    requires { IsOneHead bytes.now }
+    ensures ok { IfOk result (ReadsRequest bytes.now) }
+    ensures refused { IsErrOf result (Fail.Error (head_refusal bytes.now))
+        ↔ RefusesRequest bytes.now }
+    ensures memory { IsErrOf result Fail.OutOfMemory
+        → (head : RequestHead) × ReadsRequest bytes.now head }
+    ensures causes { IfErr result (IsMemoryOr (head_refusal bytes.now)) }
+{
+    let mut spans = [EMPTY_HEADER_SPAN; MAX_FIELDS];
+    match find_request(bytes, &mut spans) {
+        Some(found) => make_request(alloc, bytes, &found, &spans),
+        None => Err(Fail::Error(head_refusal(bytes))),
+    }
+}
+
+/// `HeadReader::read_response` of a text that was found to end as a head does.
+pub(crate) fn read_one_response(alloc: Global, bytes: &[u8]) -> Result<ResponseHeader>
+    requires { IsOneHead bytes.now }
+    ensures ok { IfOk result (ReadsResponse bytes.now) }
+    ensures refused { IsErrOf result (Fail.Error (head_refusal bytes.now))
+        ↔ RefusesResponse bytes.now }
+    ensures memory { IsErrOf result Fail.OutOfMemory
+        → (head : ResponseHead) × ReadsResponse bytes.now head }
+    ensures causes { IfErr result (IsMemoryOr (head_refusal bytes.now)) }
+{
+    let mut spans = [EMPTY_HEADER_SPAN; MAX_FIELDS];
+    match find_response(bytes, &mut spans) {
+        Some(found) => make_response(alloc, bytes, &found, &spans),
+        None => Err(Fail::Error(head_refusal(bytes))),
     }
 }
 
@@ -89,7 +131,8 @@ fn head_refusal(bytes: &[u8]) -> Error
 }
 
 fn find_request(bytes: &[u8], spans: &mut [HeaderSpan]) -> Option<RequestSpans>
-    requires { length spans.old ≡ MAX_FIELDS }
+    requires ends { IsOneHead bytes.now }
+    requires room { length spans.old ≡ MAX_FIELDS }
     ensures found { IfSome result (IsRequestFound bytes.now spans.new) }
     ensures refused { IfNone result (RefusesRequest bytes.now) }
 {
@@ -106,7 +149,8 @@ fn find_request(bytes: &[u8], spans: &mut [HeaderSpan]) -> Option<RequestSpans>
 }
 
 fn find_response(bytes: &[u8], spans: &mut [HeaderSpan]) -> Option<ResponseSpans>
-    requires { length spans.old ≡ MAX_FIELDS }
+    requires ends { IsOneHead bytes.now }
+    requires room { length spans.old ≡ MAX_FIELDS }
     ensures found { IfSome result (IsResponseFound bytes.now spans.new) }
     ensures refused { IfNone result (RefusesResponse bytes.now) }
 {

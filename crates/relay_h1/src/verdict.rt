@@ -2,12 +2,12 @@
 //! (RFC 9112, sections 2, 3 and 6; RFC 9110, section 7.2).
 ghost use Rattle.std.specs.Prelude.{◌≡◌, ◌≤◌, length};
 ghost use Rattle.relay_tasks.specs.Error.{refused};
-ghost use Rattle.relay_h1.specs.Head.{most_bytes};
+ghost use Rattle.relay_h1.specs.Head.{IsOneHead, most_bytes};
 ghost use Rattle.relay_h1.specs.Verdict.{JudgesRequest, JudgesResponse, LocatesHead, fail_from, AdmitsHead, AdmitsRequest, AdmitsResponse, has_host, settled};
 
 use crate::ahead::Ahead;
 use crate::framing::{Framing, is_http_10, request_framing, response_framing};
-use crate::head::{HeadReader, MAX_HEAD};
+use crate::head::{MAX_HEAD, read_one_request, read_one_response};
 use http::Method;
 use http_header::CONTENT_LENGTH;
 use relay_tasks::{
@@ -74,10 +74,11 @@ fn too_long() -> Error
 
 /// Reads the text of a request head, frames it and looks at its host.
 fn admit_request(alloc: Global, text: &[u8]) -> Result<RequestRead>
-    requires { length text.now ≤ most_bytes }
+    requires short { length text.now ≤ most_bytes }
+    requires ends { IsOneHead text.now }
     ensures { AdmitsRequest text.now result }
 {
-    let head = HeadReader::read_request(alloc, text)?;
+    let head = read_one_request(alloc, text)?;
     match admit_head(&head) {
         Ok(framing) => Ok(RequestRead {
             head,
@@ -145,10 +146,11 @@ pub fn judge_response(
 
 /// Reads the text of a response head, frames it and settles its framing fields.
 fn admit_response(alloc: Global, text: &[u8], method: &Method, asked: bool) -> Result<ResponseRead>
-    requires { length text.now ≤ most_bytes }
+    requires short { length text.now ≤ most_bytes }
+    requires ends { IsOneHead text.now }
     ensures { AdmitsResponse method.now asked text.now result }
 {
-    let mut head = HeadReader::read_response(alloc, text)?;
+    let mut head = read_one_response(alloc, text)?;
     match response_framing(method, asked, &head) {
         Ok(framing) => {
             settle(framing, &mut head);

@@ -28,7 +28,7 @@ use Rattle.relay_h1.proofs.TasksLemmas.{Informs-unique, Informs-front, Stops-ope
 use Rattle.relay_peer.specs.declared.response_reading.Place.{Place}
 use Rattle.relay_peer.specs.declared.response_reading.Place.TheVariants as place
 use Rattle.relay_peer.specs.declared.response_reading.ResponseReading.{ResponseReading}
-use Rattle.relay_peer.specs.ResponseReading.{Told, ReadSoFar, ReadAt, IsAwaiting, IsInBody, IsPiece, says, with_head, with_piece, is_over, got_of, cut_off_error, fault_error, end_answer, IsAnswerOfLink, IsAnswerAt, IsItem, AnswersExactly, Answers, Asks, Refuses, Rests, ReadsTask}
+use Rattle.relay_peer.specs.ResponseReading.{Told, ReadSoFar, ReadAt, IsAwaiting, IsInBody, IsPiece, says, with_head, with_piece, is_over, got_of, cut_off_error, fault_error, end_answer, IsAnswerOfLink, IsAnswerAt, IsItem, AnswersExactly, Answers, Asks, Refuses, Rests, ReadsTask, AnswerCuts}
 use Rattle.relay_peer.specs.ResponseReading as reading
 
 -- ---- one text
@@ -493,21 +493,24 @@ pub reads_task : (method : List ℕ) (before after : LinkState) (old new : Respo
     → ((fault : Fault) → asked ≡ Some (got.Failed fault)
     → answer ≡ took.Failed (fail.Error (fault_error fault)))
     → (is_over old.place ≡ true → Rests old new asked answer)
+    → AnswerCuts old.place (old.ahead ++ came) answer new.ahead
     → ((given : List ℕ) (told : Told) (got : Got) → ReadSoFar method before.ended given told old
     → asked ≡ Some got → Tasks method false given false (says told still_open))
     → ((given : List ℕ) (told : Told) → ReadSoFar method before.ended given told old
     → Answers method after.ended (given ++ came) told asked old.place new answer)
     → ReadsTask method before after old new answer
-reads_task method before after old new answer came asked asks fails rests needs answers = record {
-  came = came;
-  asked = asked;
-  asks = asks;
-  fails = fails;
-  rests = rests;
-  needs = needs;
-  answers = answers;
-  exact = λ given told read.
-      exactly method after.ended (given ++ came) told asked (is_over old.place) answer
-      (answer_says method before after (given ++ came) came told asked old new answer asks rests
-      (answers given told read));
-}
+reads_task method before after old new answer came asked asks fails rests cuts needs answers =
+    record {
+      came = came;
+      asked = asked;
+      asks = asks;
+      fails = fails;
+      rests = rests;
+      cuts = cuts;
+      needs = needs;
+      answers = answers;
+      exact = λ given told read.
+          exactly method after.ended (given ++ came) told asked (is_over old.place) answer
+          (answer_says method before after (given ++ came) came told asked old new answer asks rests
+          (answers given told read));
+    }

@@ -1,5 +1,5 @@
 -- What a step of the reading found, as the answer of a call.
-use Rattle.std.proofs.Common.{◌≡◌, ℕ, Bool, true, false, List, [], ◌++◌, take, refl, sym, ap, subst, ◌∙◌, Option, Some, None, append-nil}
+use Rattle.std.proofs.Common.{◌≡◌, ℕ, Bool, true, false, List, [], ◌++◌, take, refl, sym, ap, subst, ◌∙◌, Option, Some, None, append-nil, append_assoc}
 use Rattle.relay_tasks.specs.declared.error.Error.{Error}
 use Rattle.relay_tasks.specs.declared.error.Fail.TheVariants as fail
 use Rattle.relay_tasks.specs.declared.fault.Fault.{Fault}
@@ -12,17 +12,90 @@ use Rattle.relay_tasks.specs.declared.took.Took.TheVariants as took
 use Rattle.relay_links.specs.Link.{LinkState}
 use Rattle.relay_links.specs.declared.link.Got.{Got}
 use Rattle.relay_links.specs.declared.link.Got.TheVariants as got
+use Rattle.relay_h1.specs.declared.body_reader.State.{State}
+use Rattle.relay_h1.specs.BodyReader.{Takes, TakesPiece}
 use Rattle.relay_h1.specs.Move.{ReadsMore}
+use Rattle.relay_h1.proofs.BodyReaderLemmas.{Takes-append}
 use Rattle.relay_peer.specs.declared.response_reading.Found.{Found}
 use Rattle.relay_peer.specs.declared.response_reading.Found.TheVariants as found
 use Rattle.relay_peer.specs.declared.response_reading.Place.{Place}
+use Rattle.relay_peer.specs.declared.response_reading.Place.TheVariants as place
 use Rattle.relay_peer.specs.declared.response_reading.ResponseReading.{ResponseReading}
-use Rattle.relay_peer.specs.ResponseReading.{Told, ReadAt, OpenAt, Finds, FindsAgain, FindsAtEnd, EndsThere, Answers, Refuses, ReadsTask, ReadsOn, Asks, is_over, got_of, fault_error}
+use Rattle.relay_peer.specs.ResponseReading.{Told, ReadAt, OpenAt, Finds, FindsAgain, FindsAtEnd, EndsThere, Answers, Refuses, ReadsTask, ReadsOn, Asks, Cuts, CutsBody, AnswerCuts, PassesOn, FoundCuts, is_over, got_of, fault_error}
 use Rattle.relay_peer.specs.ResponseReading as reading
 use Rattle.relay_peer.proofs.ExactLemmas.{reads_task}
 use Rattle.relay_peer.proofs.ResponseLemmas.{came_more, open_read, open_not_over, open_tells}
 
--- ---- without a use of the link
+-- ---- how a body is cut
+
+-- the longest run behind framing that was passed before more bytes came
+run_behind : (old mid new : State) (bytes between came piece rest : List ℕ) (end : Bool)
+    → Takes old bytes [] mid between → TakesPiece mid (between ++ came) piece end new rest
+    → TakesPiece old (bytes ++ came) piece end new rest
+run_behind old mid new bytes between came piece rest end passes takes = record {
+  at = takes.at;
+  behind_framing = takes.behind_framing;
+  framing =
+      Takes-append old mid takes.at (bytes ++ came) (between ++ came) takes.behind_framing [] []
+      (record {
+        taken = passes.taken;
+        split = ap (λ (xs : List ℕ). xs ++ came) passes.split
+            ∙ append_assoc passes.taken between came;
+        over = passes.over;
+      }) takes.framing;
+  longest = takes.longest;
+  some = takes.some;
+  moved = takes.moved;
+  stands = takes.stands;
+  is_end = takes.is_end;
+}
+
+-- a piece behind framing that was passed before more bytes came
+body_cuts : (old mid : State) (bytes between came rest : List ℕ) (here : HttpTask)
+    → Takes old bytes [] mid between → CutsBody mid (between ++ came) here rest
+    → CutsBody old (bytes ++ came) here rest
+body_cuts old mid bytes between came rest (task.Header head end) passes cuts = absurd cuts
+body_cuts old mid bytes between came rest (task.Body None end) passes cuts = absurd cuts
+body_cuts old mid bytes between came rest (task.Body (Some piece) end) passes cuts =
+    (cuts.0, run_behind old mid cuts.0 bytes between came piece rest end passes cuts.1)
+body_cuts old mid bytes between came rest (task.UpgradedBody piece end) passes cuts = absurd cuts
+body_cuts old mid bytes between came rest (task.Trailer fields) passes cuts = absurd cuts
+body_cuts old mid bytes between came rest task.Done passes cuts = tt
+body_cuts old mid bytes between came rest (task.Failed error) passes cuts = absurd cuts
+
+-- the same for a task at any place
+task_cuts : (old mid : Place) (bytes between came rest : List ℕ) (here : HttpTask)
+    → PassesOn old mid bytes between → Cuts mid (between ++ came) here rest
+    → Cuts old (bytes ++ came) here rest
+task_cuts place.NoHead place.NoHead bytes between came rest here passes cuts = cuts
+task_cuts place.NoHead place.Informed bytes between came rest here passes cuts = cuts
+task_cuts place.NoHead (place.InBody body) bytes between came rest here passes cuts = absurd passes
+task_cuts place.NoHead (place.Ended keeps) bytes between came rest here passes cuts = absurd passes
+task_cuts place.Informed place.NoHead bytes between came rest here passes cuts = cuts
+task_cuts place.Informed place.Informed bytes between came rest here passes cuts = cuts
+task_cuts place.Informed (place.InBody body) bytes between came rest here passes cuts =
+    absurd passes
+task_cuts place.Informed (place.Ended keeps) bytes between came rest here passes cuts =
+    absurd passes
+task_cuts (place.InBody body) place.NoHead bytes between came rest here passes cuts = absurd passes
+task_cuts (place.InBody body) place.Informed bytes between came rest here passes cuts =
+    absurd passes
+task_cuts (place.InBody body) (place.InBody next) bytes between came rest here passes cuts =
+    body_cuts body.reader next.reader bytes between came rest here passes cuts
+task_cuts (place.InBody body) (place.Ended keeps) bytes between came rest here passes cuts =
+    absurd passes
+task_cuts (place.Ended keeps) mid bytes between came rest here passes cuts = absurd passes
+
+-- the same for an answer
+answer_cuts : (old mid : Place) (bytes between came rest : List ℕ) (answer : Took HttpTask)
+    → PassesOn old mid bytes between → AnswerCuts mid (between ++ came) answer rest
+    → AnswerCuts old (bytes ++ came) answer rest
+answer_cuts old mid bytes between came rest (took.Item task) passes cuts =
+    task_cuts old mid bytes between came rest task passes cuts
+answer_cuts old mid bytes between came rest took.More passes cuts = tt
+answer_cuts old mid bytes between came rest (took.Waited pause) passes cuts = tt
+answer_cuts old mid bytes between came rest took.End passes cuts = tt
+answer_cuts old mid bytes between came rest (took.Failed fail) passes cuts = tt
 
 -- what was found, as an answer
 abbrev pub took_of : Found → Took HttpTask
@@ -30,6 +103,17 @@ took_of (found.Task task) = took.Item task
 took_of found.Nothing = took.More
 took_of found.End = took.End
 took_of (found.Failed fail) = took.Failed fail
+
+-- what was found ahead, as an answer that is cut so
+found_cuts : (old new : Place) (bytes rest : List ℕ) (here : Found)
+    → FoundCuts old new bytes rest here → AnswerCuts old (bytes ++ []) (took_of here) rest
+found_cuts old new bytes rest (found.Task task) cuts =
+    subst (λ (xs : List ℕ). Cuts old xs task rest) (sym (append-nil bytes)) cuts
+found_cuts old new bytes rest found.Nothing cuts = tt
+found_cuts old new bytes rest found.End cuts = tt
+found_cuts old new bytes rest (found.Failed fail) cuts = tt
+
+-- ---- without a use of the link
 
 -- something was found
 abbrev pub IsFound : Found → Type 0
@@ -64,15 +148,17 @@ pub reads_found : (method : List ℕ) (link : LinkState) (old new : ResponseRead
     → ReadAt method closed given told old.place old.ahead
     → Finds method closed given told old.place new.place new.ahead here)
     → (is_over old.place ≡ true → (here ≡ found.End) × (new ≡ old))
+    → FoundCuts old.place new.place old.ahead new.ahead here
     → ReadsTask method link link old new (took_of here)
-reads_found method link old new here is finds rests =
+reads_found method link old new here is finds rests cuts =
     reads_task method link link old new (took_of here) [] None (refl, refl)
     (λ fault asked. absurd (nothing_asked (got.Failed fault) asked))
     (λ over. record {
       is_end = ap took_of (rests over).0;
       unasked = refl;
       same = (rests over).1;
-    }) (λ given told got read asked. absurd (nothing_asked got asked))
+    }) (found_cuts old.place new.place old.ahead new.ahead here cuts)
+    (λ given told got read asked. absurd (nothing_asked got asked))
     (λ given told read.
     subst (λ (xs : List ℕ). Answers method link.ended xs told None old.place new (took_of here))
     (sym (append-nil given))
@@ -110,10 +196,13 @@ pub reads_on : (method : List ℕ) (before after : LinkState) (old mid new : Res
     → ReadAt method closed given told old.place old.ahead
     → OpenAt method given told mid.place mid.ahead)
     → (is_over old.place ≡ true → (found.Nothing ≡ found.End) × (mid ≡ old))
+    → PassesOn old.place mid.place old.ahead mid.ahead
     → ReadsOn method before after mid new answer → ReadsTask method before after old new answer
-reads_on method before after old mid new answer opens rests reads =
+reads_on method before after old mid new answer opens rests passes reads =
     reads_task method before after old new answer reads.came reads.asked reads.asks reads.fails
     (λ over. absurd (nothing_is_no_end (rests over).0))
+    (answer_cuts old.place mid.place old.ahead mid.ahead reads.came new.ahead answer passes
+    reads.cuts)
     (λ given told got read asked.
     open_tells method given told mid.place mid.ahead (opens before.ended given told read.at))
     (λ given told read.
@@ -131,6 +220,7 @@ wants_memory method before after old ahead same kept = record {
   asked = None;
   asks = (same, refl);
   fails = λ fault asked. absurd (nothing_asked (got.Failed fault) asked);
+  cuts = tt;
   answers = λ given told still.
       record {
         at = subst (λ (xs : List ℕ). ReadAt method after.ended xs told old.place ahead)
@@ -159,6 +249,7 @@ link_waits method before after old ahead pause asks kept = record {
   asked = Some (got_of pause);
   asks = asks;
   fails = λ fault is. absurd (never_waits pause fault is);
+  cuts = tt;
   answers = λ given told still.
       subst (λ (xs : List ℕ). Answers method after.ended xs told (Some (got_of pause)) old.place
       (record old { ahead = ahead }) (took.Waited pause)) (sym (append-nil given)) (
@@ -185,6 +276,7 @@ link_fails method before after old ahead fault error asks kept is = record {
   fails = λ other same.
       ap (λ (e : Error). took.Failed (fail.Error e))
       (is ∙ ap fault_error (same_failed fault other same));
+  cuts = tt;
   answers = λ given told still.
       subst (λ (xs : List ℕ). Answers method after.ended xs told (Some (got.Failed fault)) old.place
       (record old { ahead = ahead }) (took.Failed (fail.Error error))) (sym (append-nil given)) (
@@ -227,12 +319,14 @@ pub link_gives : (method : List ℕ) (before after : LinkState) (old new : Respo
     → ((closed : Bool) (given : List ℕ) (told : Told)
     → ReadAt method closed given told old.place ahead
     → FindsAgain method closed given told old.place new answer)
+    → AnswerCuts old.place ahead answer new.ahead
     → ReadsOn method before after old new answer
-link_gives method before after old new ahead n answer more finds = record {
+link_gives method before after old new ahead n answer more finds cuts = record {
   came = take n more.room;
   asked = Some (got.Bytes n);
-  asks = record { room = more.room; gives = more.gives; grown = refl };
+  asks = record { room = more.room; sized = more.sized; gives = more.gives; grown = refl };
   fails = λ fault same. absurd (cc);
+  cuts = subst (λ (xs : List ℕ). AnswerCuts old.place xs answer new.ahead) more.grown cuts;
   answers = λ given told still.
       answers_again method after.ended (given ++ take n more.room) told n old.place new answer
       (open_not_over method given told old.place old.ahead still)
@@ -267,12 +361,14 @@ pub link_ends : (method : List ℕ) (before after : LinkState) (old new : Respon
     → Asks before after [] (Some got.End) → after.ended ≡ true → ahead ≡ old.ahead
     → ((method given : List ℕ) (told : Told) → OpenAt method given told old.place ahead
     → EndsThere method given told new answer)
+    → ((bytes rest : List ℕ) → AnswerCuts old.place bytes answer rest)
     → ReadsOn method before after old new answer
-link_ends method before after old new ahead answer asks ended kept ends = record {
+link_ends method before after old new ahead answer asks ended kept ends cuts = record {
   came = [];
   asked = Some got.End;
   asks = asks;
   fails = λ fault same. absurd (cc);
+  cuts = cuts (old.ahead ++ []) new.ahead;
   answers = λ given told still.
       subst (λ (xs : List ℕ).
       Answers method after.ended xs told (Some got.End) old.place new answer)

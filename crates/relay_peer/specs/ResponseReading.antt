@@ -26,7 +26,8 @@ use Rattle.relay_links.specs.declared.link.Got.{Got}
 use Rattle.relay_links.specs.declared.link.Got.TheVariants as got
 use Rattle.relay_h1.specs.declared.framing.Framing.{Framing}
 use Rattle.relay_h1.specs.Body.{Body, open_text}
-use Rattle.relay_h1.specs.BodyReader.{SoFar, first_state, is_done}
+use Rattle.relay_h1.specs.declared.body_reader.State.{State}
+use Rattle.relay_h1.specs.BodyReader.{SoFar, Takes, TakesPiece, first_state, is_done}
 use Rattle.relay_h1.specs.BodyWire.{says_end}
 use Rattle.relay_h1.specs.ClientHead.{is_informational}
 use Rattle.relay_h1.specs.Move.{ReadsMore}
@@ -115,14 +116,13 @@ is_error took.End = false
 is_error (took.Failed fail.OutOfMemory) = false
 is_error (took.Failed (fail.Error error)) = true
 
--- the answer is that the link is silent
-abbrev pub waits_silent : Took HttpTask → Bool
-waits_silent (took.Item task) = false
-waits_silent took.More = false
-waits_silent (took.Waited pause.NotReady) = false
-waits_silent (took.Waited pause.Silent) = true
-waits_silent took.End = false
-waits_silent (took.Failed fail) = false
+-- the answer is that the link has to be waited for
+abbrev pub is_wait : Took HttpTask → Bool
+is_wait (took.Item task) = false
+is_wait took.More = false
+is_wait (took.Waited pause) = true
+is_wait took.End = false
+is_wait (took.Failed fail) = false
 
 -- the answer is a task
 abbrev pub is_item : Took HttpTask → Bool
@@ -273,6 +273,69 @@ OpenAt method given told (place.InBody body) ahead =
     × Body here.framing (drop (here.n + here.len) given) (open_text told.body)
 OpenAt method given told (place.Ended keeps) ahead = ⊥
 
+-- ---- how a body is cut
+
+-- a piece as a reader there cuts it from the bytes: all that they hold of its run, of one chunk at
+-- most, and the end exactly where it completes the body's length
+abbrev pub IsCut : State → List ℕ → Option (List ℕ) → Bool → List ℕ → Type 0
+IsCut at bytes None end rest = ⊥
+IsCut at bytes (Some piece) end rest = (new : State) × TakesPiece at bytes piece end new rest
+
+-- a task of a body that is read from there: a piece as it is cut, or the end alone
+abbrev pub CutsBody : State → List ℕ → HttpTask → List ℕ → Type 0
+CutsBody at bytes (task.Header head end) rest = ⊥
+CutsBody at bytes (task.Body piece end) rest = IsCut at bytes piece end rest
+CutsBody at bytes (task.UpgradedBody piece end) rest = ⊥
+CutsBody at bytes (task.Trailer fields) rest = ⊥
+CutsBody at bytes task.Done rest = Unit {0}
+CutsBody at bytes (task.Failed error) rest = ⊥
+
+-- the task is a head
+abbrev pub IsHead : HttpTask → Type 0
+IsHead (task.Header head end) = Unit {0}
+IsHead (task.Body piece end) = ⊥
+IsHead (task.UpgradedBody piece end) = ⊥
+IsHead (task.Trailer fields) = ⊥
+IsHead task.Done = ⊥
+IsHead (task.Failed error) = ⊥
+
+-- a task out of the bytes, from where the reading is: a head up to the final one, and then the body
+-- as it is cut
+abbrev pub Cuts : Place → List ℕ → HttpTask → List ℕ → Type 0
+Cuts place.NoHead bytes task rest = IsHead task
+Cuts place.Informed bytes task rest = IsHead task
+Cuts (place.InBody body) bytes task rest = CutsBody body.reader bytes task rest
+Cuts (place.Ended keeps) bytes task rest = ⊥
+
+-- the same for an answer
+abbrev pub AnswerCuts : Place → List ℕ → Took HttpTask → List ℕ → Type 0
+AnswerCuts at bytes (took.Item task) rest = Cuts at bytes task rest
+AnswerCuts at bytes took.More rest = Unit {0}
+AnswerCuts at bytes (took.Waited pause) rest = Unit {0}
+AnswerCuts at bytes took.End rest = Unit {0}
+AnswerCuts at bytes (took.Failed fail) rest = Unit {0}
+
+-- in a body no more than framing was passed
+abbrev pub PassesIn : State → Place → List ℕ → List ℕ → Type 0
+PassesIn at place.NoHead bytes rest = ⊥
+PassesIn at place.Informed bytes rest = ⊥
+PassesIn at (place.InBody body) bytes rest = Takes at bytes [] body.reader rest
+PassesIn at (place.Ended keeps) bytes rest = ⊥
+
+-- the same at each place
+abbrev pub PassesOn : Place → Place → List ℕ → List ℕ → Type 0
+PassesOn place.NoHead new bytes rest = IsAwaitingHead new
+PassesOn place.Informed new bytes rest = IsAwaitingHead new
+PassesOn (place.InBody body) new bytes rest = PassesIn body.reader new bytes rest
+PassesOn (place.Ended keeps) new bytes rest = ⊥
+
+-- what was found in the bytes ahead was cut so, or nothing was taken of the body
+abbrev pub FoundCuts : Place → Place → List ℕ → List ℕ → Found → Type 0
+FoundCuts old new bytes rest (found.Task task) = Cuts old bytes task rest
+FoundCuts old new bytes rest found.Nothing = PassesOn old new bytes rest
+FoundCuts old new bytes rest found.End = Unit {0}
+FoundCuts old new bytes rest (found.Failed fail) = Unit {0}
+
 -- ---- what stands ahead
 
 -- a task was found
@@ -413,7 +476,7 @@ pub record AnswersExactly
 -- ---- a call
 
 -- a call on a reading: it asks the link only where the bytes ahead hold no task, no end and nothing
--- to refuse, and goes on with what was told
+-- to refuse, goes on with what was told, and cuts a piece out of the bytes ahead and those that came
 pub record ReadsTask
     (method : List ℕ) (before after : LinkState) (old new : ResponseReading)
     (answer : Took HttpTask) : Type 0 where
@@ -424,6 +487,7 @@ pub record ReadsTask
   pub fails : (fault : Fault) → asked ≡ Some (got.Failed fault)
       → answer ≡ took.Failed (fail.Error (fault_error fault))
   pub rests : is_over old.place ≡ true → Rests old new asked answer
+  pub cuts : AnswerCuts old.place (old.ahead ++ came) answer new.ahead
   pub needs : (given : List ℕ) (told : Told) (got : Got)
       → ReadSoFar method before.ended given told old → asked ≡ Some got
       → Tasks method false given false (says told still_open)
@@ -441,6 +505,7 @@ pub record ReadsOn
   pub asks : Asks before after came asked
   pub fails : (fault : Fault) → asked ≡ Some (got.Failed fault)
       → answer ≡ took.Failed (fail.Error (fault_error fault))
+  pub cuts : AnswerCuts old.place (old.ahead ++ came) answer new.ahead
   pub answers : (given : List ℕ) (told : Told) → OpenAt method given told old.place old.ahead
       → Answers method after.ended (given ++ came) told asked old.place new answer
 

@@ -2,6 +2,7 @@
 //! response is read (RFC 9112, sections 3 to 9).
 ghost use Rattle.std.specs.Prelude.{◌≡◌, ◌↔◌, ◌++◌, ◌<◌, ◌||◌, ℕ, List, [], Bool, true, false, length, take, None, unwrap_or, IfOk, IfErr, OnOk, OnErr, IsErrOf, IsOkUnless, IsTrue, option_copied};
 ghost use Rattle.relay_tasks.specs.Error.{IsMemoryOr};
+ghost use Rattle.relay_links.specs.Count.{up};
 ghost use Rattle.relay_h1.specs.BodyWire.{count_of, is_short};
 ghost use Rattle.relay_h1.specs.Framing.{request_framing};
 ghost use Rattle.relay_h1.specs.Move.{WritesOut, taken};
@@ -216,8 +217,11 @@ impl<L: ByteLink> H1Client<L> {
         ensures reads { ReadsTask (method_of self.old.request.request) (L.state self.old.link)
             (L.state self.new.link) self.old.response self.new.response result }
         ensures start { L.start self.new.link ≡ L.start self.old.link }
+        ensures waits { result ≡ Took.Waited Pause.NotReady
+            → (L.state self.new.link).waits ≡ up (L.state self.old.link).waits }
         ensures silent { result ≡ Took.Waited Pause.Silent
-            → (L.state self.new.link).silent_on_read ≡ true }
+            → (L.state self.new.link ≡ L.state self.old.link)
+            × ((L.state self.new.link).silent_on_read ≡ true) }
         ensures ends { is_item result ≡ false
             → is_over self.new.response.place ≡ is_over self.old.response.place }
         ensures received { self.new.received ≡ counted self.old.received (body_len result) }
@@ -241,8 +245,11 @@ impl<L: ByteLink> H1Client<L> {
         ensures reads { ReadsTask (method_of self.old.request.request) (L.state self.old.link)
             (L.state self.new.link) self.old.response self.new.response result }
         ensures start { L.start self.new.link ≡ L.start self.old.link }
+        ensures waits { result ≡ Took.Waited Pause.NotReady
+            → (L.state self.new.link).waits ≡ up (L.state self.old.link).waits }
         ensures silent { result ≡ Took.Waited Pause.Silent
-            → (L.state self.new.link).silent_on_read ≡ true }
+            → (L.state self.new.link ≡ L.state self.old.link)
+            × ((L.state self.new.link).silent_on_read ≡ true) }
         ensures ends { is_item result ≡ false
             → is_over self.new.response.place ≡ is_over self.old.response.place }
         ensures same { self.new ≡ record self.old {

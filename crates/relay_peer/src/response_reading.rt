@@ -1,8 +1,9 @@
 //! How the response of a peer is read: the heads that only inform, the final head, and its body
 //! piece by piece (RFC 9110, section 15.2; RFC 9112, sections 4 to 8).
 ghost use Rattle.std.specs.Prelude.{◌≡◌, ◌==◌, ℕ, List, [], Bool, true, false, length};
+ghost use Rattle.relay_links.specs.Count.{up};
 ghost use Rattle.relay_h1.specs.BodyWire.{says_end};
-ghost use Rattle.relay_peer.specs.ResponseReading.{Told, ReadAt, OpenAt, IsAwaitingHead, lets_keep, is_http_11, step_over, Finds, FindsAtEnd, ReadsTask, ReadsOn, FindsAgain, EndsThere, waits_silent, is_item, is_task, cut_off_error, is_over, may_keep_reading};
+ghost use Rattle.relay_peer.specs.ResponseReading.{Told, ReadAt, OpenAt, IsAwaitingHead, lets_keep, is_http_11, step_over, Finds, FindsAtEnd, ReadsTask, ReadsOn, FindsAgain, EndsThere, FoundCuts, AnswerCuts, is_wait, is_item, is_task, cut_off_error, is_over, may_keep_reading};
 
 use http::{Method, Version};
 use relay_h1::{Ahead, BodyReader, Cut, Framing, closes, judge_response};
@@ -81,8 +82,11 @@ impl ResponseReading {
         ensures reads { ReadsTask method.now (L.state link.old) (L.state link.new) self.old
             self.new result }
         ensures start { L.start link.new ≡ L.start link.old }
+        ensures waits { result ≡ Took.Waited Pause.NotReady
+            → (L.state link.new).waits ≡ up (L.state link.old).waits }
         ensures silent { result ≡ Took.Waited Pause.Silent
-            → (L.state link.new).silent_on_read ≡ true }
+            → (L.state link.new ≡ L.state link.old)
+            × ((L.state link.new).silent_on_read ≡ true) }
         ensures ends { is_item result ≡ false
             → is_over self.new.place ≡ is_over self.old.place }
     {
@@ -100,6 +104,7 @@ impl ResponseReading {
             → is_over self.new.place ≡ is_over self.old.place }
         ensures rests { is_over self.old.place ≡ true
             → (result ≡ Found.End) × (self.new ≡ self.old) }
+        ensures cuts { FoundCuts self.old.place self.new.place self.old.ahead self.new.ahead result }
         ensures finds { (closed : Bool) (given : List ℕ) (told : Told)
             → ReadAt method.now closed given told self.old.place self.old.ahead
             → Finds method.now closed given told self.old.place self.new.place self.new.ahead
@@ -121,8 +126,11 @@ impl ResponseReading {
         ensures reads { ReadsOn method.now (L.state link.old) (L.state link.new) self.old self.new
             result }
         ensures start { L.start link.new ≡ L.start link.old }
+        ensures waits { result ≡ Took.Waited Pause.NotReady
+            → (L.state link.new).waits ≡ up (L.state link.old).waits }
         ensures silent { result ≡ Took.Waited Pause.Silent
-            → (L.state link.new).silent_on_read ≡ true }
+            → (L.state link.new ≡ L.state link.old)
+            × ((L.state link.new).silent_on_read ≡ true) }
         ensures ends { is_item result ≡ false
             → is_over self.new.place ≡ is_over self.old.place }
     {
@@ -138,12 +146,13 @@ impl ResponseReading {
 
     /// What stands ahead after bytes came.
     fn find_again(&mut self, alloc: Global, method: &Method) -> Took<HttpTask>
-        ensures waits { waits_silent result ≡ false }
+        ensures waits { is_wait result ≡ false }
         ensures stays { is_item result ≡ false
             → is_over self.new.place ≡ is_over self.old.place }
         ensures finds { (closed : Bool) (given : List ℕ) (told : Told)
             → ReadAt method.now closed given told self.old.place self.old.ahead
             → FindsAgain method.now closed given told self.old.place self.new result }
+        ensures cuts { AnswerCuts self.old.place self.old.ahead result self.new.ahead }
     {
         match self.find(alloc, method) {
             Found::Task(task) => Took::Item(task),
@@ -155,12 +164,13 @@ impl ResponseReading {
 
     /// No byte comes any more, and nothing stands ahead: what lasts until the link ends has ended.
     fn end(&mut self) -> Took<HttpTask>
-        ensures waits { waits_silent result ≡ false }
+        ensures waits { is_wait result ≡ false }
         ensures stays { is_item result ≡ false
             → is_over self.new.place ≡ is_over self.old.place }
         ensures ends { (method given : List ℕ) (told : Told)
             → OpenAt method given told self.old.place self.old.ahead
             → EndsThere method given told self.new result }
+        ensures cuts { (bytes rest : List ℕ) → AnswerCuts self.old.place bytes result rest }
     {
         let place = mem::replace(&mut self.place, Place::NoHead);
         let step = end_of_link(place, self.ahead.is_empty());
@@ -189,6 +199,7 @@ fn find(alloc: Global, method: &Method, place: Place, ahead: &mut Ahead) -> Step
     ensures ends { is_task result.found ≡ false → is_over result.place ≡ is_over place }
     ensures rests { is_over place ≡ true
         → (result ≡ record { place = place; found = Found.End }) × (ahead.new ≡ ahead.old) }
+    ensures cuts { FoundCuts place result.place ahead.old ahead.new result.found }
     ensures finds { (closed : Bool) (given : List ℕ) (told : Told)
         → ReadAt method.now closed given told place ahead.old
         → Finds method.now closed given told place result.place ahead.new result.found }
@@ -208,6 +219,7 @@ fn find(alloc: Global, method: &Method, place: Place, ahead: &mut Ahead) -> Step
 fn find_head(alloc: Global, method: &Method, place: Place, ahead: &mut Ahead) -> Step
     requires { IsAwaitingHead place }
     ensures ends { is_task result.found ≡ false → is_over result.place ≡ is_over place }
+    ensures cuts { FoundCuts place result.place ahead.old ahead.new result.found }
     ensures finds { (closed : Bool) (given : List ℕ) (told : Told)
         → ReadAt method.now closed given told place ahead.old
         → Finds method.now closed given told place result.place ahead.new result.found }
@@ -255,6 +267,7 @@ fn step_over(head: ResponseHeader, framing: Framing) -> Step
 /// The piece of a body, or its end, that stands ahead.
 fn find_piece(alloc: Global, mut body: OpenBody, ahead: &mut Ahead) -> Step
     ensures ends { is_task result.found ≡ false → is_over result.place ≡ false }
+    ensures cuts { FoundCuts (Place.InBody body) result.place ahead.old ahead.new result.found }
     ensures finds { (method : List ℕ) (closed : Bool) (given : List ℕ) (told : Told)
         → ReadAt method closed given told (Place.InBody body) ahead.old
         → Finds method closed given told (Place.InBody body) result.place ahead.new result.found }
@@ -293,6 +306,7 @@ fn end_of_link(place: Place, none_ahead: bool) -> Step
     ensures ends { (method given : List ℕ) (told : Told) (ahead : List ℕ)
         → OpenAt method given told place ahead → none_ahead ≡ (length ahead == 0)
         → FindsAtEnd method given told result.place ahead result.found }
+    ensures cuts { (bytes rest : List ℕ) → FoundCuts place result.place bytes rest result.found }
 {
     match place {
         Place::NoHead => cut_off(Place::NoHead, none_ahead),
@@ -311,6 +325,8 @@ fn end_of_body(mut body: OpenBody) -> Step
     ensures ends { (method given : List ℕ) (told : Told) (ahead : List ℕ)
         → OpenAt method given told (Place.InBody body) ahead
         → FindsAtEnd method given told result.place ahead result.found }
+    ensures cuts { (bytes rest : List ℕ)
+        → FoundCuts (Place.InBody body) result.place bytes rest result.found }
 {
     match body.reader.end_of_stream() {
         Ok(()) => Step {
@@ -327,6 +343,7 @@ fn end_of_body(mut body: OpenBody) -> Step
 /// The link ended inside the response. Another attempt may help where no byte had come.
 fn cut_off(place: Place, none_came: bool) -> Step
     ensures stays { result.place ≡ place }
+    ensures cuts { (bytes rest : List ℕ) → FoundCuts place result.place bytes rest result.found }
     ensures fails { (given : List ℕ) → none_came ≡ (length given == 0)
         → result ≡ record {
           place = place;

@@ -12,3 +12,15 @@ pub trait ProxyHttp {
     /// A context for a request whose head was accepted.
     fn new_ctx(&self) -> Self::CTX;
 }
+
+/// An application that has no hooks, and keeps nothing.
+#[derive(Drop)]
+pub struct NoHooks;
+
+impl ProxyHttp for NoHooks {
+    type CTX = ();
+
+    type Kept = ();
+
+    fn new_ctx(&self) {}
+}

@@ -15,7 +15,7 @@ mod relaying;
 mod turn;
 mod work;
 
-pub use hooks::ProxyHttp;
+pub use hooks::{NoHooks, ProxyHttp};
 pub use machine::RunStep;
 pub use outcome::{Outcome, Processed};
 pub use proxy::{HttpProxy, Outside, RequestMachine, ServerConf};

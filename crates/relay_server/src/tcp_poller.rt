@@ -35,6 +35,8 @@ pub struct TcpPoller<R> {
     crowded: bool,
     lingering: Lingering,
     faults: u64,
+    // Why the last `listen` or `wait` failed that did.
+    failure: Option<ErrorKind>,
 }
 
 impl<R: Net + Clone + Drop> TcpPoller<R> {
@@ -52,7 +54,13 @@ impl<R: Net + Clone + Drop> TcpPoller<R> {
             crowded: false,
             lingering: Lingering::new(alloc)?,
             faults: 0,
+            failure: None,
         })
+    }
+
+    /// Why a `listen` or a `wait` failed, the last one where several did; `None` where none did.
+    pub fn failure(&self) -> Option<ErrorKind> {
+        self.failure
     }
 
     /// What the waits tell of each connection, so that others can be waited for.
@@ -110,7 +118,8 @@ impl<R: Net + Clone + Drop> Poller for TcpPoller<R> {
         let faults = self.faults;
         match self.open(port) {
             Ok(()) => Listening::Ready,
-            Err(_) => {
+            Err(error) => {
+                self.failure = Some(error.kind());
                 self.faults = faults.saturating_add(1);
                 Listening::Failed
             }
@@ -153,7 +162,8 @@ impl<R: Net + Clone + Drop> Poller for TcpPoller<R> {
                 self.lingering.drain();
                 Polled::Ready
             }
-            Err(_) => {
+            Err(error) => {
+                self.failure = Some(error.kind());
                 self.faults = faults.saturating_add(1);
                 Polled::Failed
             }

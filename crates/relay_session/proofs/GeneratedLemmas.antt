@@ -1,5 +1,5 @@
 -- The answers that the relay makes itself are never refused, and their text is known.
-use Rattle.std.proofs.Common.{◌≡◌, ℕ, ◌-◌, ◌^◌, ◌<◌, Bool, true, false, List, [], ◌∷◌, ◌++◌, length, refl, ◌∙◌, ap, arith, append-nil, append_assoc, Result, Ok, Err, Option, Some, if◌then◌else◌, codes, option_map, unwrap_or, not, ◌==◌}
+use Rattle.std.proofs.Common.{◌≡◌, ℕ, ◌-◌, ◌^◌, ◌<◌, Bool, true, false, List, [], ◌∷◌, ◌++◌, length, refl, ◌∙◌, ap, arith, append-nil, append_assoc, Option, Some, None, if◌then◌else◌, codes, option_map, unwrap_or, not, ◌==◌}
 use Rattle.std.proofs.lemmas.Bool.{eq-eqb, le-leb, lt-ltb}
 use Rattle.std.proofs.lemmas.Fmt.{decimal_is_IsNumeral, decimal_digit}
 use Rattle.std.proofs.lemmas.Str.Parse.{digit_from_value}
@@ -20,7 +20,7 @@ use Rattle.relay_session.specs.declared.task_text.Request.{Request}
 use Rattle.relay_session.specs.Generated.{generated_head}
 use Rattle.relay_session.specs.declared.task_text.Place.{Place}
 use Rattle.relay_session.specs.declared.task_text.Place.TheVariants as place
-use Rattle.relay_session.specs.TaskWire.{Sent, ends_short, nothing_at, informed, joined, only_piece, only_end, piece_sent, piece_at, with_text, framed_head_sent, final_head_sent, head_sent}
+use Rattle.relay_session.specs.TaskWire.{Sent, ends_short, informed, framing_of, shown, piece_sent, piece_refusal, piece_refusal_at, framed_head_sent, framed_head_refusal, head_sent, head_refusal}
 
 -- ---- the length that a number writes
 
@@ -162,31 +162,15 @@ generated_text code =
 
 -- an answer without a body: an empty piece ends it, and gives nothing
 answer_ends : (given : Framing) → IsAnswerFraming 0 given
-    → (more : Sent) × (piece_sent given [] true ≡ Ok more) × (more.text ≡ [])
-answer_ends framing.Tunnel kind = (_, refl, refl)
-answer_ends framing.Empty kind = (_, refl, refl)
+    → (piece_refusal given [] true ≡ None) × ((piece_sent given [] true).text ≡ [])
+answer_ends framing.Tunnel kind = (refl, refl)
+answer_ends framing.Empty kind = (refl, refl)
 answer_ends (framing.Length n) kind =
-    rw (says_length 0 (framing.Length n) kind)
-    (joined (only_piece (framing.Length 0) []) (only_end (framing.Length 0)), refl, refl)
+    rw (says_length 0 (framing.Length n) kind) (refl, refl)
 answer_ends framing.Chunked kind = absurd (no_chunks 0 kind)
 answer_ends framing.UntilClose kind = absurd (no_close 0 kind)
 
--- what the choice of a head that informs gives
-either : (informs : Bool) (a b : Sent) (other : Result Sent Error) → other ≡ Ok b
-    → (more : Sent) × ((if informs then Ok a else other) ≡ Ok more)
-    × (more ≡ (if informs then a else b))
-either true a b other is = (a, refl, refl)
-either false a b other is = (b, is, refl)
-
--- a final head that is framed, with what follows it
-framed_sent : (head : ResponseHead) (ends : Bool) (framing : Option Framing) (given : Framing)
-    (more : Sent) → framing ≡ Some given → piece_sent given [] ends ≡ Ok more
-    → framed_head_sent head ends framing
-    ≡ Ok (record more { text = response_text head ++ more.text })
-framed_sent head ends framing given more framed is =
-    rw framed (ap (with_text (response_text head)) is)
-
--- the text of the one that was chosen, where its client is sent it
+-- the text of the head that was chosen, where its client is sent it
 chosen_text : (informs told : Bool) (text want : List ℕ) (other : Sent) → told ≡ true
     → text ≡ want → other.text ≡ want
     → (if informs
@@ -196,91 +180,78 @@ chosen_text true true text want other holds is same = is
 chosen_text true false text want other holds is same = cc
 chosen_text false told text want other holds is same = same
 
--- the answer without a body: it is sent, and its text is known where the client is sent its head
+-- a head that informs is not refused, nor is a final one that is not
+chosen_passes : (informs : Bool) (why : Option Error) → why ≡ None
+    → (if informs then None else why) ≡ None
+chosen_passes true why passes = refl
+chosen_passes false why passes = passes
+
+-- the answer without a body: it is not refused, and its text is known where the client is sent its
+-- head
 pub answer_sent : (request : Request) (code : ℕ)
-    → (more : Sent) × (head_sent request (generated_head code 0) true ≡ Ok more)
-    × (is_sent_to request.version code ≡ true → more.text ≡ generated code)
+    → (head_refusal request (generated_head code 0) true ≡ None)
+    × (is_sent_to request.version code ≡ true
+    → (head_sent request (generated_head code 0) true).text ≡ generated code)
 unfolding generated_head
 answer_sent request code =
     let head = generated_head code 0 in
     let a = is_framed_answer request code 0 (omega arith) in
     let end = answer_ends a.is_framed a.kind in
-    let shown = client_head (method_of request.method) request.version request.asked head in
-    let framing = client_framing (method_of request.method) request.version request.asked head in
-    let final = framed_sent shown true framing a.is_framed end.0 a.framed end.1 in
-    let both =
-    either (is_informational code) (informed request head)
-    (record end.0 { text = response_text shown ++ end.0.text })
-    (final_head_sent request head true) final in
-    let text : response_text shown ++ end.0.text ≡ generated code =
-    rw (a.head, end.2, append-nil (response_text head)) (generated_text code) in (
-      both.0,
-      both.1,
+    let final = framed_head_sent (shown request head) true (framing_of request head) in
+    let passes : framed_head_refusal true (framing_of request head) ≡ None =
+    ap (framed_head_refusal true) a.framed ∙ end.0 in
+    let text : final.text ≡ generated code =
+    rw (a.framed, a.head, end.1, append-nil (response_text head)) (generated_text code) in (
+      chosen_passes (is_informational code) (framed_head_refusal true (framing_of request head))
+          passes,
       λ told.
-          ap (λ (s : Sent). s.text) both.2
-          ∙ chosen_text (is_informational code) (is_sent_to request.version code)
-          (response_text head) (generated code)
-          (record end.0 { text = response_text shown ++ end.0.text }) told (generated_text code)
-          text,
+          chosen_text (is_informational code) (is_sent_to request.version code)
+          (response_text head) (generated code) final told (generated_text code) text,
     )
 
-not_refused : (refuses : Bool) (error : Error) (sent : Sent) → refuses ≡ false
-    → (if refuses then Err error else Ok sent) ≡ Ok sent
-not_refused true error sent no_refusal = cc
-not_refused false error sent no_refusal = refl
+not_short : (short : Bool) (error : Error) → short ≡ false
+    → (if short then Some error else None) ≡ None
+not_short true error fits = cc
+not_short false error fits = refl
 
 -- the body of an answer has the length that its head says
 answer_body_ends : (size : ℕ) (given : Framing) (body : List ℕ) → IsAnswerFraming size given
-    → length body ≡ size
-    → (more : Sent) × (piece_sent (after_piece given []) body true ≡ Ok more)
-answer_body_ends size framing.Tunnel body kind sized = (_, refl)
-answer_body_ends size framing.Empty body kind sized = (_, refl)
+    → length body ≡ size → piece_refusal (after_piece given []) body true ≡ None
+answer_body_ends size framing.Tunnel body kind sized = refl
+answer_body_ends size framing.Empty body kind sized = refl
 answer_body_ends size (framing.Length n) body kind sized =
     let said = says_length size (framing.Length n) kind in
     let none : n - 0 - length body ≡ 0 = omega arith in
-    let enough : not (n - 0 - length body == 0) ≡ false =
-    rw (eq-eqb (n - 0 - length body) 0 none) refl in
-    let rest = framing.Length (n - 0) in (
-      joined (only_piece rest body) (only_end (after_piece rest body)),
-      not_refused _ ends_short _ enough,
-    )
+    not_short _ ends_short (rw (eq-eqb (n - 0 - length body) 0 none) refl)
 answer_body_ends size framing.Chunked body kind sized = absurd (no_chunks size kind)
 answer_body_ends size framing.UntilClose body kind sized = absurd (no_close size kind)
 
--- an answer with a body: its head is sent, and then its body, which ends it
-pub record IsSentAnswer (request : Request) (code : ℕ) (body : List ℕ) : Type 0 where
-  pub first : Sent
-  pub head : head_sent request (generated_head code (length body)) false ≡ Ok first
-  pub next : Sent
-  pub piece : piece_at first.place body true ≡ Ok next
-
 -- the body, where the head only informs or is final
-body_behind : (informs : Bool) (told final first : Sent) (rest : Framing) (body : List ℕ)
-    (more : Sent) → first ≡ (if informs then told else final)
+body_behind : (informs : Bool) (told final : Sent) (rest : Framing) (body : List ℕ)
     → told.place ≡ place.NoHead → final.place ≡ place.Body rest
-    → piece_sent rest body true ≡ Ok more
-    → (next : Sent) × (piece_at first.place body true ≡ Ok next)
-body_behind true told final first rest body more is at behind sent =
-    (nothing_at place.NoHead, ap (λ (p : Place). piece_at p body true) (ap (λ (s : Sent). s.place) is ∙ at))
-body_behind false told final first rest body more is at behind sent =
-    (more, ap (λ (p : Place). piece_at p body true) (ap (λ (s : Sent). s.place) is ∙ behind) ∙ sent)
+    → piece_refusal rest body true ≡ None
+    → piece_refusal_at (if informs then told else final).place body true ≡ None
+body_behind true told final rest body at behind passes =
+    ap (λ (p : Place). piece_refusal_at p body true) at
+body_behind false told final rest body at behind passes =
+    ap (λ (p : Place). piece_refusal_at p body true) behind ∙ passes
 
+-- an answer with a body: its head is not refused, nor is its body behind it
 pub body_answer_sent : (request : Request) (code : ℕ) (body : List ℕ) → length body < 2 ^ 64
-    → IsSentAnswer request code body
+    → (head_refusal request (generated_head code (length body)) false ≡ None)
+    × (piece_refusal_at (head_sent request (generated_head code (length body)) false).place body
+    true ≡ None)
 body_answer_sent request code body fits =
-    let size = length body in
-    let head = generated_head code size in
-    let a = is_framed_answer request code size fits in
-    let shown = client_head (method_of request.method) request.version request.asked head in
-    let framing = client_framing (method_of request.method) request.version request.asked head in
-    let begun = only_piece a.is_framed [] in
-    let final = framed_sent shown false framing a.is_framed begun a.framed refl in
-    let sent = record begun { text = response_text shown ++ begun.text } in
-    let both =
-    either (is_informational head.status) (informed request head) sent
-    (final_head_sent request head false) final in
-    let end = answer_body_ends size a.is_framed body a.kind refl in
-    let behind =
-    body_behind (is_informational head.status) (informed request head) sent both.0
-    (after_piece a.is_framed []) body end.0 both.2 refl refl end.1 in
-    record { first = both.0; head = both.1; next = behind.0; piece = behind.1 }
+    let head = generated_head code (length body) in
+    let a = is_framed_answer request code (length body) fits in
+    let final = framed_head_sent (shown request head) false (framing_of request head) in
+    let behind : final.place ≡ place.Body (after_piece a.is_framed []) =
+    ap (λ (f : Option Framing). (framed_head_sent (shown request head) false f).place) a.framed in
+    let passes : framed_head_refusal false (framing_of request head) ≡ None =
+    ap (framed_head_refusal false) a.framed in (
+      chosen_passes (is_informational head.status)
+          (framed_head_refusal false (framing_of request head)) passes,
+      body_behind (is_informational head.status) (informed request head) final
+          (after_piece a.is_framed []) body refl behind
+          (answer_body_ends (length body) a.is_framed body a.kind refl),
+    )

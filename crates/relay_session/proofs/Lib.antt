@@ -1,5 +1,6 @@
 pub mod AnswerLemmas
 pub mod AskedLemmas
+pub mod BatchLemmas
 pub mod FrontLemmas
 pub mod GeneratedLemmas
 pub mod LinkLemmas

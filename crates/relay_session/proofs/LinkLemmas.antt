@@ -4,6 +4,7 @@ use Rattle.std.proofs.lemmas.Bool.{cases_Bool, cases_lt}
 use Rattle.relay_tasks.specs.declared.error.Error.{Error}
 use Rattle.relay_tasks.specs.declared.error.Fail.TheVariants as fail
 use Rattle.relay_tasks.specs.declared.fault.Fault.{Fault}
+use Rattle.relay_tasks.specs.declared.took.Pause.{Pause}
 use Rattle.relay_tasks.specs.declared.took.Pause.TheVariants.{NotReady, Silent}
 use Rattle.relay_tasks.specs.declared.took.Took.{Took}
 use Rattle.relay_tasks.specs.declared.took.Took.TheVariants as took
@@ -23,9 +24,9 @@ use Rattle.relay_session.proofs.ReadingLemmas.{plain}
 
 -- ---- the link
 
--- an answer that is not Silent
+-- an answer that waits for nothing
 abbrev Speaks : Took (List ℕ) → Type 0
-Speaks answer = ¬ (answer ≡ took.Waited Silent)
+Speaks answer = (why : Pause) → answer ≡ took.Waited why → ⊥
 
 -- the link stays as it was
 link_stays : (before after : LinkState) (answer : Took (List ℕ)) → Speaks answer → after ≡ before
@@ -35,7 +36,8 @@ link_stays before after answer speaks same = rw same (record {
   faults = le_refl before.faults;
   calm = λ none. refl;
   sound = λ sound. sound;
-  silent = λ is. absurd (speaks is);
+  waits = λ is. absurd (speaks NotReady is);
+  silent = λ is. absurd (speaks Silent is);
 })
 
 -- a read gave bytes
@@ -46,7 +48,8 @@ link_gave before after came answer speaks gave = record {
   faults = rw gave.gives.faults (le_refl before.faults);
   calm = λ none. gave.gives.faults;
   sound = λ sound. gave.gives.sound;
-  silent = λ is. absurd (speaks is);
+  waits = λ is. absurd (speaks NotReady is);
+  silent = λ is. absurd (speaks Silent is);
 }
 
 -- the link was asked or not
@@ -66,6 +69,7 @@ link_waits before after waits = record {
   faults = rw waits.faults (le_refl before.faults);
   calm = λ none. waits.faults;
   sound = λ sound. waits.sound;
+  waits = λ is. waits.waits;
   silent = λ is. cc;
 }
 
@@ -77,7 +81,8 @@ link_silent before after silent = rw silent.same (record {
   faults = le_refl before.faults;
   calm = λ none. refl;
   sound = λ sound. sound;
-  silent = λ is. silent.silent;
+  waits = λ is. cc;
+  silent = λ is. (refl, silent.silent);
 })
 
 -- the client ended
@@ -88,7 +93,8 @@ link_ends before after answer speaks ends = record {
   faults = rw ends.faults (le_refl before.faults);
   calm = λ none. ends.faults;
   sound = λ sound. ends.sound;
-  silent = λ is. absurd (speaks is);
+  waits = λ is. absurd (speaks NotReady is);
+  silent = λ is. absurd (speaks Silent is);
 }
 
 -- a count that rose has not fallen
@@ -99,9 +105,9 @@ not_fallen before after fits rose =
       | inr last ↦ omega (arith, fits, last)
     ]
 
--- a failure is not Silent
+-- a failure waits for nothing
 fails_speaking : (error : Error) → Speaks (took.Failed (fail.Error error))
-fails_speaking error is = cc
+fails_speaking error why is = cc
 
 -- a read failed
 link_fails : (before after : LinkState) (fault : Fault) (error : Error)
@@ -111,7 +117,8 @@ link_fails before after fault error fails = record {
   faults = not_fallen before.faults after.faults fails.sound_before.faults_fit fails.faults;
   calm = λ none. absurd (none error refl);
   sound = λ sound. fails.sound;
-  silent = λ is. absurd (fails_speaking error is);
+  waits = λ is. absurd (fails_speaking error NotReady is);
+  silent = λ is. absurd (fails_speaking error Silent is);
 }
 
 module _ (before after : LinkState) (old new : State) (ahead left : List ℕ) where
@@ -120,17 +127,17 @@ module _ (before after : LinkState) (old new : State) (ahead left : List ℕ) wh
       → ReadsPiece before after old new ahead left answer
       → ReadsLink before after (plain answer)
   piece_link (took.Item item) gives =
-      link_comes _ before after gives.came (took.Item item.0) (λ is. cc) gives.comes
+      link_comes _ before after gives.came (took.Item item.0) (λ why is. cc) gives.comes
   piece_link took.More leaves =
-      link_gave before after leaves.came took.More (λ is. cc) leaves.gave
+      link_gave before after leaves.came took.More (λ why is. cc) leaves.gave
   piece_link (took.Waited NotReady) stays = link_waits before after stays.1
   piece_link (took.Waited Silent) stays = link_silent before after stays.1
   piece_link took.End (front.EndsBody.is_whole came n comes takes reads size done) =
-      link_comes _ before after came took.End (λ is. cc) comes
+      link_comes _ before after came took.End (λ why is. cc) comes
   piece_link took.End (front.EndsBody.client_ended at stays ends may is) =
-      link_ends before after took.End (λ is. cc) ends
+      link_ends before after took.End (λ why is. cc) ends
   piece_link (took.Failed fail.OutOfMemory) kept =
-      link_comes _ before after kept.came (took.Failed fail.OutOfMemory) (λ is. cc) kept.comes
+      link_comes _ before after kept.came (took.Failed fail.OutOfMemory) (λ why is. cc) kept.comes
   piece_link (took.Failed (fail.Error error))
       (front.RefusesBody.is_broken came comes takes reads is) =
       link_comes _ before after came (took.Failed (fail.Error error)) (fails_speaking error) comes
@@ -148,7 +155,7 @@ module _ (before after : LinkState) (old new : State) (ahead left : List ℕ) wh
   watch_link (took.Waited Silent) watches = link_silent before after watches.1
   watch_link took.End watches = absurd watches
   watch_link (took.Failed fail.OutOfMemory) watches =
-      link_stays before after (took.Failed fail.OutOfMemory) (λ is. cc) watches.1
+      link_stays before after (took.Failed fail.OutOfMemory) (λ why is. cc) watches.1
   watch_link (took.Failed (fail.Error error)) (front.Stirs.had_sent some same kept is) =
       link_stays before after (took.Failed (fail.Error error)) (fails_speaking error) same
   watch_link (took.Failed (fail.Error error)) (front.Stirs.sends came none gave kept is) =

@@ -10,7 +10,7 @@ use Rattle.relay_tasks.specs.declared.took.Pause.TheVariants.{NotReady, Silent}
 use Rattle.relay_tasks.specs.declared.took.Took.{Took}
 use Rattle.relay_tasks.specs.declared.took.Took.TheVariants as took
 use Rattle.relay_tasks.specs.Head.{RequestHead}
-use Rattle.relay_links.specs.Count.{last_count}
+use Rattle.relay_links.specs.Count.{last_count, up}
 use Rattle.relay_links.specs.Link.{LinkState, IsSound, WaitsOnRead, IsSilentOnRead, EndsRead, FailsRead}
 use Rattle.relay_links.specs.Told.{more}
 use Rattle.relay_h1.specs.declared.framing.Framing.{Framing}
@@ -238,14 +238,16 @@ pub record ReadsRest
 -- ---- what a call for the body leaves
 
 -- of the link: no byte was taken, its count of faults does not fall, and a sound link stays sound;
--- where the answer is Silent, it is silent on a read
+-- where the answer is NotReady, it was counted; where it is Silent, the link is silent on a read and
+-- stays as it was
 pub record ReadsLink (before after : LinkState) (answer : Took (List ℕ)) : Type 0 where
   pub taken : after.taken ≡ before.taken
   pub faults : before.faults ≤ after.faults
   pub calm : ((e : Error) → answer ≡ took.Failed (fail.Error e) → ⊥)
       → after.faults ≡ before.faults
   pub sound : IsSound before → IsSound after
-  pub silent : answer ≡ took.Waited Silent → after.silent_on_read ≡ true
+  pub waits : answer ≡ took.Waited NotReady → after.waits ≡ up before.waits
+  pub silent : answer ≡ took.Waited Silent → (after ≡ before) × (after.silent_on_read ≡ true)
 
 -- whether the body has ended then, by the answer: it ends with a piece or by `End` alone
 abbrev pub EndsBy : {T : Type 0} → Took T → Bool → Type 0

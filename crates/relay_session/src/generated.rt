@@ -10,7 +10,7 @@ use std::alloc::Global;
 
 /// The head of an answer with that status, from 100 to 999, before a body of so many bytes.
 #[tactic(auto, unfolding(crate::specs::Generated::generated_head))]
-pub(crate) fn generated_head(alloc: Global, code: u16, size: u64) -> Result<ResponseHeader>
+pub fn generated_head(alloc: Global, code: u16, size: u64) -> Result<ResponseHeader>
     requires { IsStatus code }
     ensures ok { IfOk result (λ head. head ≡ generated_head code size) }
     ensures memory { IsOkUnless result Fail.OutOfMemory }
@@ -24,7 +24,7 @@ pub(crate) fn generated_head(alloc: Global, code: u16, size: u64) -> Result<Resp
 }
 
 /// The tasks of an answer with that status, from 100 to 999, and that body.
-pub(crate) fn answer_with_body(alloc: Global, code: u16, body: Bytes) -> Result<TaskList>
+pub fn answer_with_body(alloc: Global, code: u16, body: Bytes) -> Result<TaskList>
     requires { IsStatus code }
     ensures ok { IfOk result (λ tasks. tasks ≡ head_and_body code body) }
     ensures fits { OnOk result (length body < 2 ^ 64) }

@@ -2,6 +2,7 @@
 //! written (RFC 9112, sections 2 to 9).
 #![tactic(auto)]
 
+mod batch;
 mod front;
 mod generated;
 mod queue;
@@ -14,6 +15,7 @@ mod tests;
 mod writing;
 
 pub use front::Front;
+pub use generated::{answer_with_body, generated_head};
 pub use session::HttpSession;
 pub use task_text::{Asks, Place, Request};
 pub use writing::Writing;

@@ -1,14 +1,14 @@
 //! Bytes that wait for the link of a client to take them.
-ghost use Rattle.std.specs.Prelude.{◌≡◌, ◌<◌, ◌++◌, ◌==◌, [], length, IfOk, IfErr, OnOk, OnErr};
+ghost use Rattle.std.specs.Prelude.{◌≡◌, ◌<◌, ◌++◌, ◌==◌, [], length, IfOk, OnOk, OnErr, IsOkUnless};
 ghost use Rattle.relay_h1.specs.Move.{WritesOut};
-ghost use Rattle.relay_session.specs.TaskWire.{head_at, piece_at, IsRefusal};
+ghost use Rattle.relay_session.specs.TaskWire.{head_at, head_refusal_at, piece_at, piece_refusal_at};
 ghost use Rattle.relay_session.specs.TaskSteps.{HeadGoesOnAt, PieceGoesOnAt, HasPushed};
 
 use crate::front::Front;
 use crate::task_text::{Place, Pushed, Request, push_head_at, push_piece_at};
 use relay_h1::Output;
 use relay_links::Put;
-use relay_tasks::{ResponseHeader, Result};
+use relay_tasks::{Fail, ResponseHeader, Result};
 use std::alloc::Global;
 use std::marker::Model;
 use std::mem;
@@ -54,8 +54,8 @@ impl Queue {
         self.front.is_empty() && self.back.is_empty()
     }
 
-    /// Queues a head by where the response stands, as `push_head_at` does. After a refusal, and
-    /// where memory is wanted, the queue stays as it was.
+    /// Queues a head by where the response stands, as `push_head_at` does. Where memory is wanted,
+    /// the queue stays as it was.
     pub(crate) fn push_head(
         &mut self,
         request: &Request,
@@ -63,9 +63,9 @@ impl Queue {
         head: ResponseHeader,
         ends: bool,
     ) -> Result<Pushed>
-        ensures ok { IfOk result
-            (HasPushed (head_at request.now place head ends) self.old self.new) }
-        ensures err { IfErr result (IsRefusal (head_at request.now place head ends)) }
+        ensures ok { IfOk result (HasPushed (head_at request.now place head ends)
+            (head_refusal_at request.now place head ends) self.old self.new) }
+        ensures memory { IsOkUnless result Fail.OutOfMemory }
         ensures kept { OnErr result (self.new ≡ self.old) }
         ensures goes_on { OnOk result (HeadGoesOnAt request.now place head ends) }
     {
@@ -79,12 +79,12 @@ impl Queue {
         }
     }
 
-    /// Queues a piece of the body by where the response stands, as `push_piece_at` does. After a
-    /// refusal, and where memory is wanted, the queue stays as it was.
+    /// Queues a piece of the body by where the response stands, as `push_piece_at` does. Where
+    /// memory is wanted, the queue stays as it was.
     pub(crate) fn push_piece(&mut self, place: Place, piece: &[u8], ends: bool) -> Result<Pushed>
-        ensures ok { IfOk result
-            (HasPushed (piece_at place piece.now ends) self.old self.new) }
-        ensures err { IfErr result (IsRefusal (piece_at place piece.now ends)) }
+        ensures ok { IfOk result (HasPushed (piece_at place piece.now ends)
+            (piece_refusal_at place piece.now ends) self.old self.new) }
+        ensures memory { IsOkUnless result Fail.OutOfMemory }
         ensures kept { OnErr result (self.new ≡ self.old) }
         ensures goes_on { OnOk result (PieceGoesOnAt place piece.now ends) }
     {

@@ -15,9 +15,9 @@ ghost use Rattle.relay_session.specs.Asked.{request_of, unread};
 ghost use Rattle.relay_session.specs.Session.{AnswersRead, AnswersTo};
 ghost use Rattle.relay_session.specs.Reading.{head_of, with_head, is_body_done, is_body_empty, received, RequestSoFar, IsWhole, IsItem, ReadsOn, ReadsRest, ReadsLink, EndsBy};
 ghost use Rattle.relay_session.specs.Summary.{without_body_fields, request_summary};
-ghost use Rattle.relay_session.specs.TaskWire.{task_sent, tasks_sent};
+ghost use Rattle.relay_session.specs.TaskWire.{refusal};
 ghost use Rattle.relay_session.specs.Generated.{answer_tasks, body_answer_tasks, AnswersText, IsFaultOrMemory};
-ghost use Rattle.relay_session.specs.Response.{Holds, GoesOnWith, Grows, IsFailure, has_head, is_over, pending, MayWrite, WritesPending, FailsWithin};
+ghost use Rattle.relay_session.specs.Response.{Holds, IsQueued, AreQueued, IsFailure, FailsOn, has_head, is_over, pending, MayWrite, WritesPending, FailsWithin, FailsBatch};
 
 use crate::front::Front;
 use crate::reading::Reading;
@@ -254,12 +254,10 @@ impl HttpSession {
     /// head is refused. `WriteError` or `WriteTimedout`, of the client's side: exactly where a
     /// write failed so before. Then, and where memory is wanted, the session stays as it was.
     pub fn write_response_header(&mut self, head: ResponseHeader) -> Result<()>
-        ensures ok { OnOk result (Grows (task_sent self.old.writing.request self.old.writing.place
-            (HttpTask.Header head false)) self.old.writing self.new.writing) }
-        ensures keeps { OnOk result (GoesOnWith self.old.writing self.new.writing
-            (HttpTask.Header head false ∷ [])) }
+        ensures ok { OnOk result
+            (IsQueued self.old.writing (HttpTask.Header head false) self.new.writing) }
         ensures err { IfErr result (IsFailure self.old.writing.output
-            (task_sent self.old.writing.request self.old.writing.place
+            (refusal self.old.writing.request self.old.writing.place
             (HttpTask.Header head false))) }
         ensures kept { OnErr result (self.new ≡ self.old) }
         ensures reading { self.new ≡ record self.old { writing = self.new.writing } }
@@ -270,18 +268,15 @@ impl HttpSession {
     /// Queues a piece of the response's body in the framing of the final head, and the end where
     /// the body ends with it: none past a length, and none before the final head or behind the end.
     ///
-    /// `PrematureBodyEnd`, of the client's side: exactly where the end comes short of a length.
-    /// `WriteError` or `WriteTimedout`, of the client's side: exactly where a write failed so
-    /// before. Then, and where memory is wanted, the session stays as it was.
+    /// `PrematureBodyEnd`, of the client's side: exactly where the end comes short of a length. The
+    /// piece is queued then too, and the body stays open. `WriteError` or `WriteTimedout`, of the
+    /// client's side: exactly where a write failed so before. Then, and where memory is wanted, the
+    /// session stays as it was.
     pub fn write_response_body(&mut self, piece: &[u8], end: bool) -> Result<()>
-        ensures ok { OnOk result (Grows (task_sent self.old.writing.request self.old.writing.place
-            (HttpTask.Body (Some piece.now) end)) self.old.writing self.new.writing) }
-        ensures keeps { OnOk result (GoesOnWith self.old.writing self.new.writing
-            (HttpTask.Body (Some piece.now) end ∷ [])) }
-        ensures err { IfErr result (IsFailure self.old.writing.output
-            (task_sent self.old.writing.request self.old.writing.place
-            (HttpTask.Body (Some piece.now) end))) }
-        ensures kept { OnErr result (self.new ≡ self.old) }
+        ensures ok { OnOk result
+            (IsQueued self.old.writing (HttpTask.Body (Some piece.now) end) self.new.writing) }
+        ensures err { IfErr result (FailsOn self.old.writing.output self.old.writing
+            (HttpTask.Body (Some piece.now) end) self.new.writing) }
         ensures reading { self.new ≡ record self.old { writing = self.new.writing } }
     {
         self.writing.write_response_body(piece, end)
@@ -290,14 +285,12 @@ impl HttpSession {
     /// Queues the end of the response's body: the last chunk where it is chunked. It gives nothing
     /// before the final head and behind the end.
     ///
-    /// Refused as in `write_response_body`.
+    /// Refused as in `write_response_body`; the session then stays as it was.
     pub fn finish_body(&mut self) -> Result<()>
-        ensures ok { OnOk result (Grows (task_sent self.old.writing.request self.old.writing.place
-            HttpTask.Done) self.old.writing self.new.writing) }
-        ensures keeps { OnOk result
-            (GoesOnWith self.old.writing self.new.writing (HttpTask.Done ∷ [])) }
+        ensures ok { OnOk result
+            (IsQueued self.old.writing HttpTask.Done self.new.writing) }
         ensures err { IfErr result (IsFailure self.old.writing.output
-            (task_sent self.old.writing.request self.old.writing.place HttpTask.Done)) }
+            (refusal self.old.writing.request self.old.writing.place HttpTask.Done)) }
         ensures kept { OnErr result (self.new ≡ self.old) }
         ensures reading { self.new ≡ record self.old { writing = self.new.writing } }
     {
@@ -307,16 +300,17 @@ impl HttpSession {
     /// Queues the tasks of a response in order, each as the calls above do; trailer fields give
     /// nothing and end the body. Answers whether the response is over then.
     ///
-    /// The first task that is refused ends the call: by the error of a `Failed` task, else as in
-    /// the calls above. What the tasks before it gave stays queued; so it is where memory is
-    /// wanted. `WriteError` or `WriteTimedout`, of the client's side: exactly where a write failed
-    /// so before; the response then stays as it was.
+    /// `InvalidHTTPHeader`, of the relay's own side: exactly where the framing of the first final
+    /// head is refused, and no failed task stands before it. This is looked at first, and none of
+    /// the tasks is queued then. Else the first task that is refused ends the call, by the error of
+    /// a `Failed` task or as in the calls above. What it and the tasks before it gave is queued; so
+    /// is what the tasks before it gave where memory is wanted. `WriteError` or `WriteTimedout`, of
+    /// the client's side: exactly where a write failed so before; the response then stays as it
+    /// was.
     pub fn response_duplex_vec(&mut self, tasks: TaskList) -> Result<bool>
         ensures over { IfOk result (λ over. over ≡ is_over self.new.writing.place) }
-        ensures ok { OnOk result (Grows (tasks_sent self.old.writing.request
-            self.old.writing.place tasks) self.old.writing self.new.writing) }
-        ensures keeps { OnOk result (GoesOnWith self.old.writing self.new.writing tasks) }
-        ensures err { IfErr result (FailsWithin self.old.writing.output self.old.writing tasks
+        ensures ok { OnOk result (AreQueued self.old.writing tasks self.new.writing) }
+        ensures err { IfErr result (FailsBatch self.old.writing.output self.old.writing tasks
             self.new.writing) }
         ensures reading { self.new ≡ record self.old { writing = self.new.writing } }
     {
@@ -330,11 +324,8 @@ impl HttpSession {
     /// before. Then, and where memory is wanted, the session stays as it was.
     pub fn respond_error(&mut self, code: u16) -> Result<()>
         requires { IsStatus code }
-        ensures ok { OnOk result (Grows (tasks_sent self.old.writing.request
-            self.old.writing.place (answer_tasks self.old.writing.place code)) self.old.writing
-            self.new.writing) }
-        ensures keeps { OnOk result (GoesOnWith self.old.writing self.new.writing
-            (answer_tasks self.old.writing.place code)) }
+        ensures ok { OnOk result (AreQueued self.old.writing
+            (answer_tasks self.old.writing.place code) self.new.writing) }
         ensures text { OnOk result (AnswersText code self.old.writing self.new.writing) }
         ensures err { IfErr result (IsFaultOrMemory self.old.writing.output) }
         ensures kept { OnErr result (self.new ≡ self.old) }
@@ -351,11 +342,8 @@ impl HttpSession {
     /// before; the response then stays as it was. Where memory is wanted, the head may be queued.
     pub fn respond_error_with_body(&mut self, code: u16, body: Bytes) -> Result<()>
         requires { IsStatus code }
-        ensures ok { OnOk result (Grows (tasks_sent self.old.writing.request
-            self.old.writing.place (body_answer_tasks self.old.writing.place code body))
-            self.old.writing self.new.writing) }
-        ensures keeps { OnOk result (GoesOnWith self.old.writing self.new.writing
-            (body_answer_tasks self.old.writing.place code body)) }
+        ensures ok { OnOk result (AreQueued self.old.writing
+            (body_answer_tasks self.old.writing.place code body) self.new.writing) }
         ensures err { IfErr result (FailsWithin self.old.writing.output self.old.writing
             (body_answer_tasks self.old.writing.place code body) self.new.writing) }
         ensures memory { IfErr result (IsFaultOrMemory self.old.writing.output) }

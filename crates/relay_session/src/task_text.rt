@@ -1,17 +1,19 @@
 //! The text that a task of a response is sent as to a client of HTTP/1 (RFC 9112, sections 4, 6
 //! and 7).
-ghost use Rattle.std.specs.Prelude.{◌≡◌, false, Ok, IfOk, IfErr, OnOk, IsOkUnless};
+ghost use Rattle.std.specs.Prelude.{◌≡◌, [], false, None, IfOk, OnOk, IsOkUnless};
 ghost use Rattle.relay_tasks.specs.Head.{ResponseHead};
 ghost use Rattle.relay_h1.specs.Framing.{response_framing};
-ghost use Rattle.relay_h1.specs.Wire.{KeepsFront};
+ghost use Rattle.relay_h1.specs.Wire.{KeepsFront, response_text};
 ghost use Rattle.relay_h1.specs.BodyWire.{after_piece};
 ghost use Rattle.relay_h1.specs.ClientHead.{client_framing, client_head};
 ghost use Rattle.relay_session.specs.Asked.{method_of, asks_of, request_of, unread};
-ghost use Rattle.relay_session.specs.TaskWire.{piece_sent, head_sent, final_head_sent, informed, head_at, piece_at, of_client, IsFramedInside, IsRefusal};
+ghost use Rattle.relay_session.specs.TaskWire.{piece_sent, piece_refusal, head_sent, head_refusal, with_text, framed_head_sent, framed_head_refusal, framing_of, shown, informed, head_at, head_refusal_at, piece_at, piece_refusal_at, IsFramedInside};
 ghost use Rattle.relay_session.specs.TaskSteps.{GoesOn, HeadGoesOn, HeadGoesOnAt, PieceGoesOnAt, HasPushed};
 
 use http::{Method, Version};
-use relay_h1::{BodyWriter, Framing, frame_for_client, is_sent_to, write_response_head};
+use relay_h1::{
+    BodyWriter, Framing, client_framing, frame_for_client, is_sent_to, write_response_head,
+};
 use relay_tasks::{Error, Fail, RequestHeader, ResponseHeader, Result};
 
 /// What a response depends on of its request's method: a response to HEAD has no body.
@@ -97,40 +99,66 @@ pub enum Place {
     Done,
 }
 
-/// What was appended for a task: how many bytes of the body, and where the response stands then.
+/// What was appended for a task: how many bytes of the body, where the response stands then, and
+/// the error where the task is refused.
 #[derive(Clone, Copy)]
 pub(crate) struct Pushed {
     pub(crate) counted: u64,
     pub(crate) place: Place,
+    pub(crate) refused: Option<Error>,
+}
+
+impl Pushed {
+    /// Nothing was appended, and the response stays there.
+    fn nothing_at(place: Place) -> Pushed
+        ensures { result ≡ record { counted = 0; place = place; refused = None } }
+    {
+        Pushed {
+            counted: 0,
+            place,
+            refused: None,
+        }
+    }
 }
 
 /// Appends a piece of a body whose rest is framed so, and the end where it ends with the piece.
 ///
-/// `PrematureBodyEnd`, of the client's side: exactly where the end comes short of a length.
+/// It is refused with `PrematureBodyEnd`, of the client's side, exactly where the end comes short
+/// of a length. The piece is appended then too, and the body stays open.
 pub(crate) fn push_piece(
     rest: Framing,
     out: &mut Vec<u8>,
     piece: &[u8],
     ends: bool,
 ) -> Result<Pushed>
-    ensures ok { IfOk result
-        (HasPushed (piece_sent rest piece.now ends) out.old.items out.new.items) }
-    ensures err { IfErr result (IsRefusal (piece_sent rest piece.now ends)) }
+    ensures ok { IfOk result (HasPushed (piece_sent rest piece.now ends)
+        (piece_refusal rest piece.now ends) out.old.items out.new.items) }
+    ensures memory { IsOkUnless result Fail.OutOfMemory }
     ensures front { KeepsFront out.old.items out.new.items }
     ensures goes_on { OnOk result (GoesOn rest piece.now ends) }
 {
     let mut body = BodyWriter::new(rest);
     let counted = body.write(out, piece)?.unwrap_or(0);
+    let left = after_piece(rest, piece);
     if !ends {
-        let place = Place::Body(after_piece(rest, piece));
-        return Ok(Pushed { counted, place });
+        return Ok(Pushed {
+            counted,
+            place: Place::Body(left),
+            refused: None,
+        });
     }
     match body.finish(out) {
         Ok(()) => Ok(Pushed {
             counted,
             place: Place::Done,
+            refused: None,
         }),
-        Err(fail) => Err(of_client(fail)),
+        Err(Fail::Error(error)) => Ok(Pushed {
+            counted,
+            place: Place::Body(left),
+            refused: Some(error.into_down()),
+        }),
+        Err(Fail::OutOfMemory) => Err(Fail::OutOfMemory),
     }
 }
 
@@ -147,32 +175,22 @@ fn after_piece(rest: Framing, piece: &[u8]) -> Framing
     }
 }
 
-/// The error on the client's side.
-fn of_client(fail: Fail) -> Fail
-    ensures { result ≡ of_client fail }
-{
-    match fail {
-        Fail::Error(error) => Fail::Error(error.into_down()),
-        Fail::OutOfMemory => Fail::OutOfMemory,
-    }
-}
-
 /// Appends a head where no final head was appended: for a final head its text as the client gets
 /// it, and the end of the body where it ends with the head; for a head that only informs its text,
 /// and nothing for a client of HTTP/1.0.
 ///
-/// `InvalidHTTPHeader`, of the relay's own side: exactly where the framing of a final head is
-/// refused. `PrematureBodyEnd`, of the client's side: exactly where the end comes short of a
-/// length.
+/// It is refused with `InvalidHTTPHeader`, of the relay's own side, exactly where the framing of a
+/// final head is refused; nothing is appended then. It is refused with `PrematureBodyEnd`, of the
+/// client's side, exactly where the end comes short of a length; the head is appended then.
 fn push_head(
     request: &Request,
     out: &mut Vec<u8>,
     head: ResponseHeader,
     ends: bool,
 ) -> Result<Pushed>
-    ensures ok { IfOk result
-        (HasPushed (head_sent request.now head ends) out.old.items out.new.items) }
-    ensures err { IfErr result (IsRefusal (head_sent request.now head ends)) }
+    ensures ok { IfOk result (HasPushed (head_sent request.now head ends)
+        (head_refusal request.now head ends) out.old.items out.new.items) }
+    ensures memory { IsOkUnless result Fail.OutOfMemory }
     ensures front { KeepsFront out.old.items out.new.items }
     ensures goes_on { OnOk result (HeadGoesOn request.now head ends) }
 {
@@ -184,19 +202,14 @@ fn push_head(
 
 fn push_informing(request: &Request, out: &mut Vec<u8>, head: &ResponseHeader) -> Result<Pushed>
     ensures ok { IfOk result
-        (HasPushed (Ok (informed request.now head.now)) out.old.items out.new.items) }
+        (HasPushed (informed request.now head.now) None out.old.items out.new.items) }
     ensures memory { IsOkUnless result Fail.OutOfMemory }
     ensures front { KeepsFront out.old.items out.new.items }
 {
-    let pushed = Pushed {
-        counted: 0,
-        place: Place::NoHead,
-    };
-    if !is_sent_to(request.version, head) {
-        return Ok(pushed);
+    if is_sent_to(request.version, head) {
+        write_response_head(out, head)?;
     }
-    write_response_head(out, head)?;
-    Ok(pushed)
+    Ok(Pushed::nothing_at(Place::NoHead))
 }
 
 fn push_final(
@@ -205,25 +218,45 @@ fn push_final(
     mut head: ResponseHeader,
     ends: bool,
 ) -> Result<Pushed>
-    ensures ok { IfOk result
-        (HasPushed (final_head_sent request.now head ends) out.old.items out.new.items) }
-    ensures err { IfErr result (IsRefusal (final_head_sent request.now head ends)) }
+    ensures ok { IfOk result (HasPushed
+        (framed_head_sent (shown request.now head) ends (framing_of request.now head))
+        (framed_head_refusal ends (framing_of request.now head)) out.old.items out.new.items) }
+    ensures memory { IsOkUnless result Fail.OutOfMemory }
     ensures front { KeepsFront out.old.items out.new.items }
     ensures goes_on { OnOk result (HeadGoesOn request.now head ends) }
 {
-    let framing = frame(request, &mut head)?;
-    write_response_head(out, &head)?;
+    match frame(request, &mut head) {
+        Ok(framing) => push_framed(framing, out, &head, ends),
+        Err(error) => Ok(Pushed {
+            counted: 0,
+            place: Place::NoHead,
+            refused: Some(error),
+        }),
+    }
+}
+
+/// Appends a final head as the client gets it, whose body is framed so.
+fn push_framed(
+    framing: Framing,
+    out: &mut Vec<u8>,
+    head: &ResponseHeader,
+    ends: bool,
+) -> Result<Pushed>
+    ensures ok { IfOk result (HasPushed
+        (with_text (response_text head.now) (piece_sent framing [] ends))
+        (piece_refusal framing [] ends) out.old.items out.new.items) }
+    ensures memory { IsOkUnless result Fail.OutOfMemory }
+    ensures front { KeepsFront out.old.items out.new.items }
+    ensures goes_on { OnOk result (GoesOn framing [] ends) }
+{
+    write_response_head(out, head)?;
     push_piece(framing, out, b"", ends)
 }
 
 /// Makes the head the one that the client gets, and gives the framing of the body behind it.
 fn frame(request: &Request, head: &mut ResponseHeader) -> std::result::Result<Framing, Error>
-    ensures framing { IsFramedInside result
-        (client_framing (method_of request.now.method) request.now.version request.now.asked
-        head.old) }
-    ensures head { head.new
-        ≡ client_head (method_of request.now.method) request.now.version request.now.asked
-        head.old }
+    ensures framing { IsFramedInside result (framing_of request.now head.old) }
+    ensures head { head.new ≡ shown request.now head.old }
 {
     let method = method_of(request.method);
     frame_inside(&method, request.version, request.asked, head)
@@ -245,6 +278,32 @@ fn frame_inside(
     }
 }
 
+/// The framing of the body behind a final head towards its client.
+pub(crate) fn framing_of(
+    request: &Request,
+    head: &ResponseHeader,
+) -> std::result::Result<Framing, Error>
+    ensures { IsFramedInside result (framing_of request.now head.now) }
+{
+    let method = method_of(request.method);
+    framing_inside(&method, request.version, request.asked, head)
+}
+
+/// As `client_framing`, with a refusal on the relay's own side.
+fn framing_inside(
+    method: &Method,
+    version: Version,
+    asked: bool,
+    head: &ResponseHeader,
+) -> std::result::Result<Framing, Error>
+    ensures { IsFramedInside result (client_framing method.now version asked head.now) }
+{
+    match client_framing(method, version, asked, head) {
+        Ok(framing) => Ok(framing),
+        Err(error) => Err(error.into_in()),
+    }
+}
+
 /// Appends a head by where the response stands.
 pub(crate) fn push_head_at(
     request: &Request,
@@ -253,16 +312,16 @@ pub(crate) fn push_head_at(
     head: ResponseHeader,
     ends: bool,
 ) -> Result<Pushed>
-    ensures ok { IfOk result
-        (HasPushed (head_at request.now place head ends) out.old.items out.new.items) }
-    ensures err { IfErr result (IsRefusal (head_at request.now place head ends)) }
+    ensures ok { IfOk result (HasPushed (head_at request.now place head ends)
+        (head_refusal_at request.now place head ends) out.old.items out.new.items) }
+    ensures memory { IsOkUnless result Fail.OutOfMemory }
     ensures front { KeepsFront out.old.items out.new.items }
     ensures goes_on { OnOk result (HeadGoesOnAt request.now place head ends) }
 {
     match place {
         Place::NoHead => push_head(request, out, head, ends),
         Place::Body(rest) => push_piece(rest, out, b"", ends),
-        Place::Done => Ok(Pushed { counted: 0, place }),
+        Place::Done => Ok(Pushed::nothing_at(place)),
     }
 }
 
@@ -273,14 +332,14 @@ pub(crate) fn push_piece_at(
     piece: &[u8],
     ends: bool,
 ) -> Result<Pushed>
-    ensures ok { IfOk result
-        (HasPushed (piece_at place piece.now ends) out.old.items out.new.items) }
-    ensures err { IfErr result (IsRefusal (piece_at place piece.now ends)) }
+    ensures ok { IfOk result (HasPushed (piece_at place piece.now ends)
+        (piece_refusal_at place piece.now ends) out.old.items out.new.items) }
+    ensures memory { IsOkUnless result Fail.OutOfMemory }
     ensures front { KeepsFront out.old.items out.new.items }
     ensures goes_on { OnOk result (PieceGoesOnAt place piece.now ends) }
 {
     match place {
-        Place::NoHead | Place::Done => Ok(Pushed { counted: 0, place }),
+        Place::NoHead | Place::Done => Ok(Pushed::nothing_at(place)),
         Place::Body(rest) => push_piece(rest, out, piece, ends),
     }
 }

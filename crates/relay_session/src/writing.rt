@@ -5,11 +5,12 @@ ghost use Rattle.relay_tasks.specs.declared.task.HttpTask.{HttpTask};
 ghost use Rattle.relay_tasks.specs.Head.{IsStatus};
 ghost use Rattle.relay_links.specs.Count.{last_count};
 ghost use Rattle.relay_h1.specs.Move.{taken};
-ghost use Rattle.relay_session.specs.TaskWire.{bytes_of, head_at, piece_at, task_sent, tasks_sent};
+ghost use Rattle.relay_session.specs.TaskWire.{bytes_of, head_at, head_refusal_at, piece_at, piece_refusal_at, refusal};
 ghost use Rattle.relay_session.specs.TaskSteps.{HeadGoesOnAt, PieceGoesOnAt};
 ghost use Rattle.relay_session.specs.Generated.{answer_tasks, body_answer_tasks, AnswersText, IsKeptFault, IsFaultOrMemory};
-ghost use Rattle.relay_session.specs.Response.{Holds, GoesOnWith, Grows, IsFailure, error_of, has_head, is_over, pending, MayWrite, WritesPending, LeavesOpen, IsOpen, StopsAt, FailsWithin};
+ghost use Rattle.relay_session.specs.Response.{Holds, IsQueued, AreQueued, Takes, passed, IsFailure, FailsOn, error_of, has_head, is_over, pending, MayWrite, WritesPending, LeavesOpen, IsOpen, StopsAt, FailsWithin, FailsBatch};
 
+use crate::batch::batch_refusal;
 use crate::front::Front;
 use crate::generated::{answer_with_body, generated_head};
 use crate::queue::Queue;
@@ -142,33 +143,28 @@ impl Writing {
     /// head is refused. `WriteError` or `WriteTimedout`, of the client's side: exactly where a
     /// write failed so before. Then, and where memory is wanted, the response stays as it was.
     pub fn write_response_header(&mut self, head: ResponseHeader) -> Result<()>
-        ensures ok { OnOk result (Grows
-            (task_sent self.old.request self.old.place (HttpTask.Header head false)) self.old
-            self.new) }
-        ensures keeps { OnOk result
-            (GoesOnWith self.old self.new (HttpTask.Header head false ∷ [])) }
+        ensures ok { OnOk result (IsQueued self.old (HttpTask.Header head false) self.new) }
         ensures err { IfErr result (IsFailure self.old.output
-            (task_sent self.old.request self.old.place (HttpTask.Header head false))) }
+            (refusal self.old.request self.old.place (HttpTask.Header head false))) }
         ensures kept { OnErr result (self.new ≡ self.old) }
     {
+        // read, so that its range is known
+        let _bytes = self.body_bytes;
         self.queue_head(head, false)
     }
 
     /// Queues a piece of the body in the framing of the final head, and the end where the body ends
     /// with it: none past a length, and none before the final head or behind the end.
     ///
-    /// `PrematureBodyEnd`, of the client's side: exactly where the end comes short of a length.
-    /// `WriteError` or `WriteTimedout`, of the client's side: exactly where a write failed so
-    /// before. Then, and where memory is wanted, the response stays as it was.
+    /// `PrematureBodyEnd`, of the client's side: exactly where the end comes short of a length. The
+    /// piece is queued then too, and the body stays open. `WriteError` or `WriteTimedout`, of the
+    /// client's side: exactly where a write failed so before. Then, and where memory is wanted, the
+    /// response stays as it was.
     pub fn write_response_body(&mut self, piece: &[u8], end: bool) -> Result<()>
-        ensures ok { OnOk result (Grows
-            (task_sent self.old.request self.old.place (HttpTask.Body (Some piece.now) end))
-            self.old self.new) }
-        ensures keeps { OnOk result
-            (GoesOnWith self.old self.new (HttpTask.Body (Some piece.now) end ∷ [])) }
-        ensures err { IfErr result (IsFailure self.old.output
-            (task_sent self.old.request self.old.place (HttpTask.Body (Some piece.now) end))) }
-        ensures kept { OnErr result (self.new ≡ self.old) }
+        ensures ok { OnOk result
+            (IsQueued self.old (HttpTask.Body (Some piece.now) end) self.new) }
+        ensures err { IfErr result
+            (FailsOn self.old.output self.old (HttpTask.Body (Some piece.now) end) self.new) }
     {
         self.queue_piece(piece, end)
     }
@@ -176,15 +172,15 @@ impl Writing {
     /// Queues the end of the body: the last chunk where it is chunked. It gives nothing before the
     /// final head and behind the end.
     ///
-    /// Refused as in `write_response_body`.
+    /// Refused as in `write_response_body`; the response then stays as it was.
     pub fn finish_body(&mut self) -> Result<()>
-        ensures ok { OnOk result (Grows
-            (task_sent self.old.request self.old.place HttpTask.Done) self.old self.new) }
-        ensures keeps { OnOk result (GoesOnWith self.old self.new (HttpTask.Done ∷ [])) }
+        ensures ok { OnOk result (IsQueued self.old HttpTask.Done self.new) }
         ensures err { IfErr result (IsFailure self.old.output
-            (task_sent self.old.request self.old.place HttpTask.Done)) }
+            (refusal self.old.request self.old.place HttpTask.Done)) }
         ensures kept { OnErr result (self.new ≡ self.old) }
     {
+        // read, so that its range is known
+        let _bytes = self.body_bytes;
         self.queue_piece(b"", true)
     }
 
@@ -195,10 +191,8 @@ impl Writing {
     /// before. Then, and where memory is wanted, the response stays as it was.
     pub fn respond_error(&mut self, code: u16) -> Result<()>
         requires { IsStatus code }
-        ensures ok { OnOk result (Grows (tasks_sent self.old.request self.old.place
-            (answer_tasks self.old.place code)) self.old self.new) }
-        ensures keeps { OnOk result
-            (GoesOnWith self.old self.new (answer_tasks self.old.place code)) }
+        ensures ok { OnOk result
+            (AreQueued self.old (answer_tasks self.old.place code) self.new) }
         ensures text { OnOk result (AnswersText code self.old self.new) }
         ensures err { IfErr result (IsFaultOrMemory self.old.output) }
         ensures kept { OnErr result (self.new ≡ self.old) }
@@ -219,10 +213,8 @@ impl Writing {
     /// before; the response then stays as it was. Where memory is wanted, the head may be queued.
     pub fn respond_error_with_body(&mut self, code: u16, body: Bytes) -> Result<()>
         requires { IsStatus code }
-        ensures ok { OnOk result (Grows (tasks_sent self.old.request self.old.place
-            (body_answer_tasks self.old.place code body)) self.old self.new) }
-        ensures keeps { OnOk result
-            (GoesOnWith self.old self.new (body_answer_tasks self.old.place code body)) }
+        ensures ok { OnOk result
+            (AreQueued self.old (body_answer_tasks self.old.place code body) self.new) }
         ensures err { IfErr result (FailsWithin self.old.output self.old
             (body_answer_tasks self.old.place code body) self.new) }
         ensures memory { IfErr result (IsFaultOrMemory self.old.output) }
@@ -252,19 +244,23 @@ impl Writing {
     /// Queues the tasks in order, each as the calls above do; trailer fields give nothing and end
     /// the body. Answers whether the response is over then.
     ///
-    /// The first task that is refused ends the call: by the error of a `Failed` task, else as in
-    /// the calls above. What the tasks before it gave stays queued; so it is where memory is
-    /// wanted. `WriteError` or `WriteTimedout`, of the client's side: exactly where a write failed
-    /// so before; the response then stays as it was.
+    /// `InvalidHTTPHeader`, of the relay's own side: exactly where the framing of the first final
+    /// head is refused, and no failed task stands before it. This is looked at first, and none of
+    /// the tasks is queued then. Else the first task that is refused ends the call, by the error of
+    /// a `Failed` task or as in the calls above. What it and the tasks before it gave is queued; so
+    /// is what the tasks before it gave where memory is wanted. `WriteError` or `WriteTimedout`, of
+    /// the client's side: exactly where a write failed so before; the response then stays as it
+    /// was.
     pub fn response_duplex_vec(&mut self, tasks: TaskList) -> Result<bool>
         ensures over { IfOk result (λ over. over ≡ is_over self.new.place) }
-        ensures ok { OnOk result (Grows
-            (tasks_sent self.old.request self.old.place tasks) self.old self.new) }
-        ensures keeps { OnOk result (GoesOnWith self.old self.new tasks) }
-        ensures err { IfErr result (FailsWithin self.old.output self.old tasks self.new) }
+        ensures ok { OnOk result (AreQueued self.old tasks self.new) }
+        ensures err { IfErr result (FailsBatch self.old.output self.old tasks self.new) }
     {
         if let Outgoing::Broken(fault) = &self.output {
             return Err(Fail::Error(error_of(*fault)));
+        }
+        if let Some(error) = batch_refusal(&self.request, self.place, &tasks) {
+            return Err(Fail::Error(error));
         }
         self.queue_tasks(tasks)?;
         Ok(self.response_done())
@@ -273,9 +269,7 @@ impl Writing {
     /// Queues the tasks in order, up to the first that is refused.
     fn queue_tasks(&mut self, mut tasks: TaskList) -> Result<()>
         requires { IsOpen self.old.output }
-        ensures ok { OnOk result (Grows
-            (tasks_sent self.old.request self.old.place tasks) self.old self.new) }
-        ensures keeps { OnOk result (GoesOnWith self.old self.new tasks) }
+        ensures ok { OnOk result (AreQueued self.old tasks self.new) }
         ensures err { IfErr result (StopsAt self.old tasks self.new) }
     {
         // read, so that its range is known
@@ -288,13 +282,11 @@ impl Writing {
 
     /// Queues a task.
     fn queue_task(&mut self, task: HttpTask) -> Result<()>
-        ensures ok { OnOk result (Grows
-            (task_sent self.old.request self.old.place task) self.old self.new) }
-        ensures keeps { OnOk result (GoesOnWith self.old self.new (task ∷ [])) }
-        ensures err { IfErr result (IsFailure self.old.output
-            (task_sent self.old.request self.old.place task)) }
-        ensures kept { OnErr result (self.new ≡ self.old) }
+        ensures ok { OnOk result (IsQueued self.old task self.new) }
+        ensures err { IfErr result (FailsOn self.old.output self.old task self.new) }
     {
+        // read, so that its range is known
+        let _bytes = self.body_bytes;
         match task {
             HttpTask::Header(head, ends) => self.queue_head(head, ends),
             HttpTask::Body(piece, ends) => self.queue_piece(bytes_of(&piece), ends),
@@ -307,7 +299,7 @@ impl Writing {
 
     /// The failure of a call on which that error came.
     fn failure(&self, error: Error) -> Fail
-        ensures { IsFailure self.now.output (Err error) result }
+        ensures { IsFailure self.now.output (Some error) result }
     {
         match &self.output {
             Outgoing::Open(_) => Fail::Error(error),
@@ -316,13 +308,9 @@ impl Writing {
     }
 
     fn queue_head(&mut self, head: ResponseHeader, ends: bool) -> Result<()>
-        ensures ok { OnOk result
-            (Grows (head_at self.old.request self.old.place head ends) self.old self.new) }
-        ensures err { IfErr result (IsFailure self.old.output
-            (head_at self.old.request self.old.place head ends)) }
-        ensures kept { OnErr result (self.new ≡ self.old) }
-        ensures goes_on { OnOk result
-            (HeadGoesOnAt self.old.request self.old.place head ends) }
+        ensures { Takes self.old.output (head_at self.old.request self.old.place head ends)
+            (head_refusal_at self.old.request self.old.place head ends)
+            (HeadGoesOnAt self.old.request self.old.place head ends) self.old self.new result }
     {
         match &mut self.output {
             Outgoing::Broken(fault) => Err(Fail::Error(error_of(*fault))),
@@ -330,18 +318,15 @@ impl Writing {
                 let pushed = queue.push_head(&self.request, self.place, head, ends)?;
                 self.place = pushed.place;
                 self.body_bytes = self.body_bytes.saturating_add(pushed.counted);
-                Ok(())
+                passed(pushed.refused)
             }
         }
     }
 
     fn queue_piece(&mut self, piece: &[u8], ends: bool) -> Result<()>
-        ensures ok { OnOk result
-            (Grows (piece_at self.old.place piece.now ends) self.old self.new) }
-        ensures err { IfErr result (IsFailure self.old.output
-            (piece_at self.old.place piece.now ends)) }
-        ensures kept { OnErr result (self.new ≡ self.old) }
-        ensures goes_on { OnOk result (PieceGoesOnAt self.old.place piece.now ends) }
+        ensures { Takes self.old.output (piece_at self.old.place piece.now ends)
+            (piece_refusal_at self.old.place piece.now ends)
+            (PieceGoesOnAt self.old.place piece.now ends) self.old self.new result }
     {
         match &mut self.output {
             Outgoing::Broken(fault) => Err(Fail::Error(error_of(*fault))),
@@ -349,9 +334,19 @@ impl Writing {
                 let pushed = queue.push_piece(self.place, piece, ends)?;
                 self.place = pushed.place;
                 self.body_bytes = self.body_bytes.saturating_add(pushed.counted);
-                Ok(())
+                passed(pushed.refused)
             }
         }
+    }
+}
+
+/// Ok where there is no refusal.
+fn passed(refused: Option<Error>) -> Result<()>
+    ensures { result ≡ passed refused }
+{
+    match refused {
+        None => Ok(()),
+        Some(error) => Err(Fail::Error(error)),
     }
 }
 

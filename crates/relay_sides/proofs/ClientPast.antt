@@ -49,6 +49,8 @@ begins s came link ahead session b = record {
         absurd (open_is_whole session.writing.output [] fault b.output is);
   };
   over = λ done. absurd (cc);
+  plain = refl;
+  plain_end = refl;
   place_over = λ done. absurd (cc);
   unasked = λ is. refl;
   asked = λ finished. absurd (cc);

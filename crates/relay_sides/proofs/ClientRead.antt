@@ -13,6 +13,7 @@ use Rattle.relay_tasks.specs.declared.took.Took.{Took}
 use Rattle.relay_tasks.specs.declared.took.Took.TheVariants as took
 use Rattle.relay_tasks.specs.declared.task.HttpTask.{HttpTask}
 use Rattle.relay_tasks.specs.Task.{is_end}
+use Rattle.relay_links.specs.Count.{up}
 use Rattle.relay_links.specs.Link.{LinkState}
 use Rattle.relay_links.proofs.SinceLemmas.{Since-kept, Since-grows}
 use Rattle.relay_h1.proofs.VerdictLemmas.{HasRequest-append}
@@ -23,7 +24,7 @@ use Rattle.relay_session.specs.Reading as says
 use Rattle.relay_session.specs.Reading.{RequestSoFar, SaysBody, IsWhole, ReadsRest, ReadsLink, EndsBy, RefusesRest, piece_of, head_of, is_body_done}
 use Rattle.relay_session.specs.Response.{Holds, HoldsOn, is_over}
 use Rattle.relay_session.specs.Asked.{request_of}
-use Rattle.relay_session.specs.TaskWire.{Sent, tasks_sent}
+use Rattle.relay_session.specs.TaskWire.{Sent, wire}
 use Rattle.relay_session.specs.declared.task_text.Request.{Request}
 use Rattle.relay_session.specs.declared.task_text.Place.TheVariants as place
 use Rattle.relay_session.specs.declared.writing.Outgoing.{Outgoing}
@@ -35,7 +36,7 @@ use Rattle.relay_core.specs.Down.{ReadsPiece}
 use Rattle.relay_core.specs.Past.{Origin, DownPast, DownGoes, put_in, error_of_took}
 use Rattle.relay_core.specs.Piece.{put_of}
 use Rattle.relay_sides.specs.Body.{body_of}
-use Rattle.relay_sides.specs.Client.{IsClient, HasPassed, IsUnanswered, ClientBlames, IsSilent, state_of, piece_answer, told_read, given_to}
+use Rattle.relay_sides.specs.Client.{IsClient, HasPassed, IsUnanswered, ClientBlames, state_of, piece_answer, told_read, given_to}
 use Rattle.relay_sides.specs.Client as client
 use Rattle.relay_sides.proofs.ClientPast.{reading_whole, body_of-append, rose_from, rose_on}
 
@@ -163,16 +164,27 @@ reads_state before after ahead left old new told done finished broken (took.Fail
     state_same old new _ done finished broken
     (done_same before after ahead left old new (took.Failed why) l (λ is. is)) l.response
 
--- a link that the side waits for in silence is silent
+-- a link that the side waits for in silence is silent, and stays as it was
 pub reads_silent : (before after : LinkState) (answer : Took (List ℕ)) (done : Bool)
     → ReadsLink before after answer → piece_answer answer done ≡ took.Waited Silent
-    → IsSilent after
+    → (after ≡ before) × (after.silent_on_read ≡ true)
 reads_silent before after (took.Item bytes) done link is = cc
 reads_silent before after took.More done link is = cc
 reads_silent before after (took.Waited NotReady) done link is = cc
-reads_silent before after (took.Waited Silent) done link is = inl (link.silent refl)
+reads_silent before after (took.Waited Silent) done link is = link.silent refl
 reads_silent before after took.End done link is = cc
 reads_silent before after (took.Failed why) done link is = cc
+
+-- a link that the side waits for was counted to have to be waited for
+pub reads_waits : (before after : LinkState) (answer : Took (List ℕ)) (done : Bool)
+    → ReadsLink before after answer → piece_answer answer done ≡ took.Waited NotReady
+    → after.waits ≡ up before.waits
+reads_waits before after (took.Item bytes) done link is = cc
+reads_waits before after took.More done link is = cc
+reads_waits before after (took.Waited NotReady) done link is = link.waits refl
+reads_waits before after (took.Waited Silent) done link is = cc
+reads_waits before after took.End done link is = cc
+reads_waits before after (took.Failed why) done link is = cc
 
 -- what a read puts, by the body before and behind it
 record Puts (old_done new_done : Bool) (answer : Took (List ℕ)) (put : List HttpTask) : Type 0 where
@@ -326,28 +338,20 @@ refused_rest s q before after body e earlier
     (rose_from s.faults before.faults after.faults earlier fails.faults)
     (inr (inl (body, open_still)))
 
--- what is sent is one
-sent_once : {a b : Sent} → ◌≡◌ {A = Result Sent Error} (Ok a) (Ok b) → a ≡ b
-sent_once {a} {b} same = cc
-
 -- the tasks that were queued leave the response where the session stands
 stands_at : (now : Writing) (output : Outgoing) (tasks : List HttpTask) (taken : List ℕ)
-    → HoldsOn now output tasks taken → (sent : Sent)
-    → tasks_sent now.request place.NoHead tasks ≡ Ok sent → sent.place ≡ now.place
-stands_at now (outgoing.Open queue) tasks taken holds sent says =
-    let one : ◌≡◌ {A = Result Sent Error} (Ok sent) (Ok _) = sym says ∙ holds.wire.is in
-    ap (λ (t : Sent). t.place) (sent_once one)
-stands_at now (outgoing.Broken fault) tasks taken holds sent says =
-    let one : ◌≡◌ {A = Result Sent Error} (Ok sent) (Ok _) = sym says ∙ holds.1.wire.is in
-    ap (λ (t : Sent). t.place) (sent_once one)
+    → HoldsOn now output tasks taken → (wire now.request place.NoHead tasks).place ≡ now.place
+stands_at now (outgoing.Open queue) tasks taken holds =
+    ap (λ (t : Sent). t.place) holds.wire.is
+stands_at now (outgoing.Broken fault) tasks taken holds =
+    ap (λ (t : Sent). t.place) holds.1.wire.is
 
 -- where the session stands open, the response is not over
 not_over : (s : Origin) (q : DownPast) (now : Writing) → Holds now (client.queued q) q.written
     → now.request ≡ request_of s.head → is_over now.place ≡ false → IsUnanswered s q
-not_over s q now holds answers open_still = λ sent says.
-    ap is_over (stands_at now now.output (client.queued q) q.written holds sent
-    (subst (λ (r : Request). tasks_sent r place.NoHead (client.queued q) ≡ Ok sent) (sym answers)
-    says)) ∙ open_still
+not_over s q now holds answers open_still =
+    ap (λ (r : Request). is_over (wire r place.NoHead (client.queued q)).place) (sym answers)
+    ∙ ap is_over (stands_at now now.output (client.queued q) q.written holds) ∙ open_still
 
 -- why a client stirred that was to be still
 stirred : (s : Origin) (q : DownPast) (before after : LinkState) (ahead left body : List ℕ)
@@ -419,16 +423,17 @@ reads_on s p before after ahead left old new done finished broken answer h l =
       stands = record {
         client = client_on s p before after ahead left old new answer put h.client l given r;
         over = rw l.response h.over;
+        plain = h.plain;
+        plain_end = h.plain_end;
         place_over = rw l.response h.place_over;
         unasked = h.unasked;
         asked = h.asked;
         closed = rw l.response h.closed;
         unbroken = rw l.response h.unbroken;
-        fault = λ f is.
-            (
-              rose_on s.faults before.faults after.faults l.link.faults (h.fault f is).0,
-              (h.fault f is).1,
-            );
+        fault = λ f is. (
+          rose_on s.faults before.faults after.faults l.link.faults (h.fault f is).0,
+          (h.fault f is).1,
+        );
       };
       is_put = refl;
       is_batched = refl;

@@ -3,20 +3,23 @@ use Rattle.std.proofs.Common.{◌≡◌, ℕ, ◌<◌, Bool, true, false, List, 
 use Rattle.std.specs.Prelude.{◌||◌, ◌⊎◌}
 use Rattle.std.specs.List.{list_any}
 use Rattle.std.proofs.lemmas.Bool.{cases_Bool}
+use Rattle.std.proofs.lemmas.List.Folds.{list_any-append}
 use Rattle.relay_tasks.specs.declared.error.Error.{Error}
 use Rattle.relay_tasks.specs.declared.error.Fail.{Fail}
 use Rattle.relay_tasks.specs.declared.error.Fail.TheVariants as fail
 use Rattle.relay_tasks.specs.declared.fault.Fault.{Fault}
 use Rattle.relay_tasks.specs.declared.task.HttpTask.{HttpTask}
 use Rattle.relay_tasks.specs.declared.task.HttpTask.TheVariants as task
+use Rattle.relay_tasks.specs.Head.{ResponseHead}
 use Rattle.relay_links.specs.Count.{Rose}
 use Rattle.relay_links.specs.Link.{LinkState}
 use Rattle.relay_h1.specs.declared.framing.Framing.{Framing}
 use Rattle.relay_h1.specs.declared.framing.Framing.TheVariants as framing
 use Rattle.relay_h1.specs.BodyWire.{is_full, is_short, after_piece}
-use Rattle.relay_session.specs.Response.{IsText, Holds, HoldsOn, Grows, GoesOnWith, IsFailure, StopsAt, FailsWithin, error_of, is_over}
+use Rattle.relay_session.specs.Response.{IsText, Holds, HoldsOn, Grows, GoesOnWith, IsQueued, AreQueued, IsRefusal, IsFailure, given_of, StopsOn, StopsAt, StopsBatch, FailsBatch, error_of, is_over}
 use Rattle.relay_session.specs.TaskSteps.{IsWire}
-use Rattle.relay_session.specs.TaskWire.{Sent, nothing_at, joined, in_front, followed, IsRefusal, ends_short, only_piece, only_end, piece_sent, piece_at, task_sent, tasks_sent}
+use Rattle.relay_session.specs.TaskWire.{Sent, ends_short, ends_with, piece_sent, piece_at, piece_refusal_at, head_at, task_sent, refusal, wire, or_later, first_refusal, batch_refusal}
+use Rattle.relay_session.specs.Asked.{request_of}
 use Rattle.relay_session.specs.declared.reading.Reading.{Reading}
 use Rattle.relay_session.specs.declared.session.HttpSession.{HttpSession}
 use Rattle.relay_session.specs.declared.task_text.Place.{Place}
@@ -25,7 +28,8 @@ use Rattle.relay_session.specs.declared.task_text.Request.{Request}
 use Rattle.relay_session.specs.declared.writing.Outgoing.{Outgoing}
 use Rattle.relay_session.specs.declared.writing.Outgoing.TheVariants as outgoing
 use Rattle.relay_session.specs.declared.writing.Writing.{Writing}
-use Rattle.relay_session.proofs.WireSteps.{IsWire-push}
+use Rattle.relay_session.proofs.WireSteps.{IsWire-push, wire-append}
+use Rattle.relay_session.proofs.BatchLemmas.{refused_in}
 use Rattle.relay_core.specs.declared.told.Told.{Told}
 use Rattle.relay_core.specs.Down.{QueuesBatch, RefusesBatch}
 use Rattle.relay_core.specs.Past.{Origin, DownPast, DownGoes, BatchRefused, error_of_result}
@@ -37,50 +41,46 @@ use Rattle.relay_sides.proofs.ClientPast.{open_is_whole}
 
 -- ---- what was sent
 
--- what follows was sent, where all was
-in_front_ok : (sent more : Sent) (next : Result Sent Error) → in_front sent next ≡ Ok more
-    → (rest : Sent) × (next ≡ Ok rest) × (rest.place ≡ more.place)
-in_front_ok sent more (Ok rest) is = (rest, refl, ap (λ (s : Sent). s.place) (same_ok is))
-  where
-    same_ok : {a b : Sent} → (let first : Result Sent Error = Ok a in first ≡ Ok b) → a ≡ b
-    same_ok both = cc
-in_front_ok sent more (Err error) is = absurd (cc)
+-- a task that is not refused is no failure
+task_plain : (request : Request) (at : Place) (one : HttpTask)
+    → refusal request at one ≡ None → is_failure one ≡ false
+task_plain request at (task.Header head ends) passes = refl
+task_plain request at (task.Body piece ends) passes = refl
+task_plain request at (task.UpgradedBody piece ends) passes = refl
+task_plain request at (task.Trailer fields) passes = refl
+task_plain request at task.Done passes = refl
+task_plain request at (task.Failed error) passes = absurd (cc)
 
--- the first was sent, and what follows it
-followed_ok : (first : Result Sent Error) (next : Place → Result Sent Error) (more : Sent)
-    → followed first next ≡ Ok more
-    → (sent : Sent) × (first ≡ Ok sent)
-    × ((rest : Sent) × (next sent.place ≡ Ok rest) × (rest.place ≡ more.place))
-followed_ok (Ok sent) next more is = (sent, refl, in_front_ok sent more (next sent.place) is)
-followed_ok (Err error) next more is = absurd (cc)
+-- of two refusals there is none where neither is
+pub or_none : (a b : Option Error) → or_later a b ≡ None → (a ≡ None) × (b ≡ None)
+or_none None b none = (refl, none)
+or_none (Some error) b none = absurd (cc)
 
--- a task that was sent is no failure
-task_plain : (request : Request) (at : Place) (one : HttpTask) (sent : Sent)
-    → task_sent request at one ≡ Ok sent → is_failure one ≡ false
-task_plain request at (task.Header head ends) sent is = refl
-task_plain request at (task.Body piece ends) sent is = refl
-task_plain request at (task.UpgradedBody piece ends) sent is = refl
-task_plain request at (task.Trailer fields) sent is = refl
-task_plain request at task.Done sent is = refl
-task_plain request at (task.Failed error) sent is = absurd (cc)
+-- tasks of which none is refused hold no failure
+tasks_plain : (request : Request) (at : Place) (tasks : List HttpTask)
+    → first_refusal request at tasks ≡ None → list_any is_failure tasks ≡ false
+tasks_plain request at [] passes = refl
+tasks_plain request at (one ∷ tasks) passes =
+    let next = (task_sent request at one).place in
+    let parts = or_none (refusal request at one) (first_refusal request next tasks) passes in
+    rw (task_plain request at one parts.0) (tasks_plain request next tasks parts.1)
 
--- tasks that were sent hold no failure
-tasks_plain : (request : Request) (at : Place) (tasks : List HttpTask) (sent : Sent)
-    → tasks_sent request at tasks ≡ Ok sent → list_any is_failure tasks ≡ false
-tasks_plain request at [] sent is = refl
-tasks_plain request at (one ∷ tasks) sent is =
-    let parts =
-    followed_ok (task_sent request at one) (λ next. tasks_sent request next tasks) sent is in
-    rw (task_plain request at one parts.0 parts.1)
-    (tasks_plain request parts.0.place tasks parts.2.0 parts.2.1)
+-- a task that counts as given where it is refused is no failure
+given_plain : (one : HttpTask) → list_any is_failure (given_of one) ≡ false
+given_plain (task.Header head ends) = refl
+given_plain (task.Body piece ends) = refl
+given_plain (task.UpgradedBody piece ends) = refl
+given_plain (task.Trailer fields) = refl
+given_plain task.Done = refl
+given_plain (task.Failed error) = refl
 
--- what was sent is one thing
-sent_is : (sent more : Sent)
-    → (let given : Result Sent Error = Ok sent in given ≡ Ok more) → sent ≡ more
-sent_is sent more is = cc
+-- lists without a failure, joined
+plain-append : (xs ys : List HttpTask) → list_any is_failure xs ≡ false
+    → list_any is_failure ys ≡ false → list_any is_failure (xs ++ ys) ≡ false
+plain-append xs ys first next = list_any-append is_failure xs ys ∙ rw (first, next) refl
 
 -- a framing that takes no more bytes takes none behind a piece
-full_stays : (rest : Framing) (piece : List ℕ) → is_full rest ≡ true
+pub full_stays : (rest : Framing) (piece : List ℕ) → is_full rest ≡ true
     → is_full (after_piece rest piece) ≡ true
 full_stays framing.Empty piece full = refl
 full_stays (framing.Length left) piece full = grind (arith, full)
@@ -89,78 +89,64 @@ full_stays framing.UntilClose piece full = absurd (cc)
 full_stays framing.Tunnel piece full = absurd (cc)
 
 -- behind a piece of a body, or its end
-body_over : (rest : Framing) (piece : List ℕ) (ends : Bool) (more : Sent) → is_full rest ≡ true
-    → piece_sent rest piece ends ≡ Ok more → is_over more.place ≡ true
-body_over rest piece false more full is =
-    rw (← sent_is (only_piece rest piece) more is) (full_stays rest piece full)
-body_over rest piece true more full is =
-    elim (cases_Bool (is_short (after_piece rest piece))) [
-      | inl short ↦ let refused = rw short at is in absurd (cc)
-      | inr fits ↦ rw (← sent_is
-          (joined (only_piece rest piece) (only_end (after_piece rest piece))) more
-          (rw fits at is)) refl
+body_over : (rest : Framing) (piece : List ℕ) (ends : Bool) → is_full rest ≡ true
+    → is_over (piece_sent rest piece ends).place ≡ true
+body_over rest piece ends full =
+    elim (cases_Bool (ends_with rest piece ends)) [
+      | inl whole ↦ rw whole refl
+      | inr goes_on ↦ rw goes_on (full_stays rest piece full)
     ]
 
 -- a response that is over stays so behind a piece
-piece_over : (at : Place) (piece : List ℕ) (ends : Bool) (more : Sent) → is_over at ≡ true
-    → piece_at at piece ends ≡ Ok more → is_over more.place ≡ true
-piece_over place.NoHead piece ends more over is = absurd (cc)
-piece_over (place.Body rest) piece ends more over is = body_over rest piece ends more over is
-piece_over place.Done piece ends more over is =
-    rw (← sent_is (nothing_at place.Done) more is) refl
+piece_over : (at : Place) (piece : List ℕ) (ends : Bool) → is_over at ≡ true
+    → is_over (piece_at at piece ends).place ≡ true
+piece_over place.NoHead piece ends over = absurd (cc)
+piece_over (place.Body rest) piece ends over = body_over rest piece ends over
+piece_over place.Done piece ends over = refl
+
+-- and behind a head
+head_over : (request : Request) (at : Place) (head : ResponseHead) (ends : Bool)
+    → is_over at ≡ true → is_over (head_at request at head ends).place ≡ true
+head_over request place.NoHead head ends over = absurd (cc)
+head_over request (place.Body rest) head ends over = body_over rest [] ends over
+head_over request place.Done head ends over = refl
 
 -- and behind a task
-task_over : (request : Request) (at : Place) (one : HttpTask) (more : Sent) → is_over at ≡ true
-    → task_sent request at one ≡ Ok more → is_over more.place ≡ true
-task_over request place.NoHead one more over is = absurd (cc)
-task_over request (place.Body rest) (task.Header head ends) more over is =
-    body_over rest [] ends more over is
-task_over request place.Done (task.Header head ends) more over is =
-    rw (← sent_is (nothing_at place.Done) more is) refl
-task_over request (place.Body rest) (task.Body piece ends) more over is =
-    piece_over (place.Body rest) _ ends more over is
-task_over request place.Done (task.Body piece ends) more over is =
-    piece_over place.Done [] ends more over is
-task_over request (place.Body rest) (task.UpgradedBody piece ends) more over is =
-    piece_over (place.Body rest) _ ends more over is
-task_over request place.Done (task.UpgradedBody piece ends) more over is =
-    piece_over place.Done [] ends more over is
-task_over request (place.Body rest) (task.Trailer fields) more over is =
-    piece_over (place.Body rest) [] true more over is
-task_over request place.Done (task.Trailer fields) more over is =
-    piece_over place.Done [] true more over is
-task_over request (place.Body rest) task.Done more over is =
-    piece_over (place.Body rest) [] true more over is
-task_over request place.Done task.Done more over is = piece_over place.Done [] true more over is
-task_over request (place.Body rest) (task.Failed error) more over is = absurd (cc)
-task_over request place.Done (task.Failed error) more over is = absurd (cc)
+pub task_over : (request : Request) (at : Place) (one : HttpTask) → is_over at ≡ true
+    → is_over (task_sent request at one).place ≡ true
+task_over request at (task.Header head ends) over = head_over request at head ends over
+task_over request at (task.Body piece ends) over = piece_over at _ ends over
+task_over request at (task.UpgradedBody piece ends) over = piece_over at _ ends over
+task_over request at (task.Trailer fields) over = piece_over at [] true over
+task_over request at task.Done over = piece_over at [] true over
+task_over request at (task.Failed error) over = over
 
 -- and behind tasks in order
-tasks_over : (request : Request) (at : Place) (tasks : List HttpTask) (more : Sent)
-    → is_over at ≡ true → tasks_sent request at tasks ≡ Ok more → is_over more.place ≡ true
-tasks_over request at [] more over is = rw (← sent_is (nothing_at at) more is) over
-tasks_over request at (one ∷ tasks) more over is =
-    let parts =
-    followed_ok (task_sent request at one) (λ next. tasks_sent request next tasks) more is in
-    rw (← parts.2.2)
-    (tasks_over request parts.0.place tasks parts.2.0
-    (task_over request at one parts.0 over parts.1) parts.2.1)
+pub tasks_over : (request : Request) (at : Place) (tasks : List HttpTask)
+    → is_over at ≡ true → is_over (wire request at tasks).place ≡ true
+tasks_over request at [] over = over
+tasks_over request at (one ∷ tasks) over =
+    tasks_over request (task_sent request at one).place tasks (task_over request at one over)
+
+-- what grew by something stands where that leads
+grows_to : (old new : Writing) (sent : Sent) → Grows sent old new → is_over sent.place ≡ true
+    → is_over new.place ≡ true
+grows_to old new sent g over = rw (ap (λ (w : Writing). w.place) g.grown) over
 
 -- the place behind tasks that were queued
-grows_over : (old new : Writing) (tasks : List HttpTask)
-    → Grows (tasks_sent old.request old.place tasks) old new → is_over old.place ≡ true
-    → is_over new.place ≡ true
-grows_over old new tasks g over =
-    rw (ap (λ (w : Writing). w.place) g.grown)
-    (tasks_over old.request old.place tasks g.more over g.is)
+queued_over : (old new : Writing) (tasks : List HttpTask) → AreQueued old tasks new
+    → is_over old.place ≡ true → is_over new.place ≡ true
+queued_over old new tasks q over =
+    grows_to old new (wire old.request old.place tasks) q.grows
+    (tasks_over old.request old.place tasks over)
 
--- the tasks of a session were sent, to the place where its response stands
+-- the tasks of a session lead to the place where its response stands
 holds_sent : (now : Writing) (output : Outgoing) (tasks : List HttpTask) (taken : List ℕ)
-    → HoldsOn now output tasks taken
-    → (sent : Sent) × (tasks_sent now.request place.NoHead tasks ≡ Ok sent)
-    × (sent.place ≡ now.place)
-holds_sent now (outgoing.Open queue) tasks taken text = (_, text.wire.is, refl)
-holds_sent now (outgoing.Broken fault) tasks taken text = (_, text.1.wire.is, refl)
+    → HoldsOn now output tasks taken → (wire now.request place.NoHead tasks).place ≡ now.place
+holds_sent now (outgoing.Open queue) tasks taken text =
+    ap (λ (t : Sent). t.place) text.wire.is
+holds_sent now (outgoing.Broken fault) tasks taken text =
+    ap (λ (t : Sent). t.place) text.1.wire.is
 
 -- ---- what passed
 
@@ -228,8 +214,7 @@ queues_state old new tasks told done finished broken over q = record {
   upgraded_stays = λ is. absurd (cc);
   done_stays = λ is. either_stands done over is;
   finished_stays = λ is. is;
-  no_failure =
-      tasks_plain old.writing.request old.writing.place tasks q.grows.more q.grows.is;
+  no_failure = tasks_plain old.writing.request old.writing.place tasks q.queued.passes;
 }
 
 -- a failure alone is the one in front
@@ -281,15 +266,11 @@ over_by false over old new was stays is either = sym is ∙ either
 -- the batched tasks, behind which no end was asked for, left the response over where it stands so
 over_batched : (now : Writing) (batched closing : List HttpTask) (taken : List ℕ) → closing ≡ []
     → Holds now (batched ++ closing) taken → is_over now.place ≡ true
-    → (sent : Sent) × (tasks_sent now.request place.NoHead batched ≡ Ok sent)
-    × (is_over sent.place ≡ true)
+    → is_over (wire now.request place.NoHead batched).place ≡ true
 over_batched now batched closing taken none holds over =
-    let sent = holds_sent now now.output (batched ++ closing) taken holds in (
-      sent.0,
-      subst (λ (l : List HttpTask). tasks_sent now.request place.NoHead l ≡ Ok sent.0)
-          (ap (λ (l : List HttpTask). batched ++ l) none ∙ append-nil batched) sent.1,
-      ap is_over sent.2 ∙ over,
-    )
+    ap (λ (l : List HttpTask). is_over (wire now.request place.NoHead l).place)
+    (sym (append-nil batched) ∙ ap (λ (l : List HttpTask). batched ++ l) (sym none))
+    ∙ ap is_over (holds_sent now now.output (batched ++ closing) taken holds) ∙ over
 
 -- all tasks were queued: what passed
 pub queues_on : (s : Origin) (p : DownPast) (link : LinkState) (ahead : List ℕ)
@@ -298,34 +279,39 @@ pub queues_on : (s : Origin) (p : DownPast) (link : LinkState) (ahead : List ℕ
     → HasPassed s p link ahead old done finished broken → QueuesAll old new tasks finished over
     → DownGoes (λ q. HasPassed s q link ahead new (done || over) finished broken)
     (λ q e. ClientBlames s q link e) p.put (p.batched ++ tasks) p.closing None
-queues_on s p link ahead old new tasks done finished broken over h q = record {
-  past = past_queued p (p.batched ++ tasks) p.closing;
-  stands = record {
-    client = requeued s p link ahead old new (p.batched ++ tasks) p.closing h.client q.reading
-        (ap (λ (w : Writing). w.request) q.grows.grown)
-        (follow new.writing p.batched p.closing tasks p.written (h.unasked q.unasked)
-        (q.goes_on (client.queued p) p.written h.client.response))
-        (λ fault is. absurd (open_is_whole new.writing.output _ fault
-        (ap (λ (w : Writing). w.output) q.grows.grown) is));
-    over = λ is.
-        over_batched new.writing (p.batched ++ tasks) p.closing p.written (h.unasked q.unasked)
-        (follow new.writing p.batched p.closing tasks p.written (h.unasked q.unasked)
-        (q.goes_on (client.queued p) p.written h.client.response))
-        (over_by done over old.writing.place new.writing.place h.place_over
-        (grows_over old.writing new.writing tasks q.grows) q.is_over is);
-    place_over = over_by done over old.writing.place new.writing.place h.place_over
-        (grows_over old.writing new.writing tasks q.grows) q.is_over;
-    unasked = h.unasked;
-    asked = h.asked;
-    closed = λ is. let wrong = sym q.unasked ∙ is in absurd (cc);
-    unbroken = λ none. (_, ap (λ (w : Writing). w.output) q.grows.grown);
-    fault = h.fault;
-  };
-  is_put = refl;
-  is_batched = refl;
-  is_closing = refl;
-  blamed = λ e is. absurd (cc);
-}
+queues_on s p link ahead old new tasks done finished broken over h q =
+    let grown = q.queued.grows.grown in
+    record {
+      past = past_queued p (p.batched ++ tasks) p.closing;
+      stands = record {
+        client = requeued s p link ahead old new (p.batched ++ tasks) p.closing h.client q.reading
+            (ap (λ (w : Writing). w.request) grown)
+            (follow new.writing p.batched p.closing tasks p.written (h.unasked q.unasked)
+            (q.queued.goes_on (client.queued p) p.written h.client.response))
+            (λ fault is. absurd (open_is_whole new.writing.output _ fault
+            (ap (λ (w : Writing). w.output) grown) is));
+        over = λ is.
+            over_batched new.writing (p.batched ++ tasks) p.closing p.written (h.unasked q.unasked)
+            (follow new.writing p.batched p.closing tasks p.written (h.unasked q.unasked)
+            (q.queued.goes_on (client.queued p) p.written h.client.response))
+            (over_by done over old.writing.place new.writing.place h.place_over
+            (queued_over old.writing new.writing tasks q.queued) q.is_over is);
+        plain = plain-append p.batched tasks h.plain
+            (tasks_plain old.writing.request old.writing.place tasks q.queued.passes);
+        plain_end = h.plain_end;
+        place_over = over_by done over old.writing.place new.writing.place h.place_over
+            (queued_over old.writing new.writing tasks q.queued) q.is_over;
+        unasked = h.unasked;
+        asked = h.asked;
+        closed = λ is. let wrong = sym q.unasked ∙ is in absurd (cc);
+        unbroken = λ none. (_, ap (λ (w : Writing). w.output) grown);
+        fault = h.fault;
+      };
+      is_put = refl;
+      is_batched = refl;
+      is_closing = refl;
+      blamed = λ e is. absurd (cc);
+    }
 
 -- tasks with a failure in front hold one
 front_fails : (tasks : List HttpTask) (found : Error) → failure_in_front tasks ≡ Some found
@@ -363,65 +349,172 @@ none_queued s p link ahead old new tasks done finished broken why h same refused
   refused = refused;
 }
 
--- a call that stopped on a session whose write failed, or at a task
+-- of a list whose task counts as given or not, what is left
+left_of : HttpTask → List HttpTask → List HttpTask
+left_of (task.Header head ends) behind = behind
+left_of (task.Body piece ends) behind = behind
+left_of (task.UpgradedBody piece ends) behind = behind
+left_of (task.Trailer fields) behind = behind
+left_of task.Done behind = behind
+left_of (task.Failed error) behind = task.Failed error ∷ behind
+
+-- what is given and what is left is all
+given_left : (one : HttpTask) (behind : List HttpTask)
+    → given_of one ++ left_of one behind ≡ one ∷ behind
+unfolding left_of
+given_left (task.Header head ends) behind = refl
+given_left (task.Body piece ends) behind = refl
+given_left (task.UpgradedBody piece ends) behind = refl
+given_left (task.Trailer fields) behind = refl
+given_left task.Done behind = refl
+given_left (task.Failed error) behind = refl
+
+-- a call that stopped on a session whose write failed, at the check, or at a task
 module _
     (s : Origin) (p : DownPast) (link : LinkState) (ahead : List ℕ) (old new : HttpSession)
     (tasks : List HttpTask) (done finished : Bool) (broken : Option Fault) (why : Fail)
     (h : HasPassed s p link ahead old done finished broken) (unasked : finished ≡ false)
     (reading : new.reading ≡ old.reading) where
-  -- the session stopped at a task
-  stops_at : StopsAt old.writing tasks new.writing why
+  -- the session went on with a front of the tasks, and one of them is refused where an error comes
+  stopped : (front left : List HttpTask) → front ++ left ≡ tasks
+      → new.writing.request ≡ old.writing.request → (queue : List ℕ)
+      → new.writing.output ≡ outgoing.Open queue
+      → GoesOnWith old.writing new.writing front
+      → (is_over old.writing.place ≡ true → is_over new.writing.place ≡ true)
+      → list_any is_failure front ≡ false
+      → ((e : Error) → why ≡ fail.Error e
+      → ClientRefuses s (past_queued p (p.batched ++ front) p.closing) link left e)
       → BatchRefused (λ q. HasPassed s q link ahead new done finished broken)
       (λ q left e. ClientRefuses s q link left e) p tasks why
-  stops_at stops =
-      let request = ap (λ (w : Writing). w.request) stops.grows.grown in
-      let holds = follow new.writing p.batched p.closing stops.before p.written (h.unasked unasked)
-      (stops.goes_on (client.queued p) p.written h.client.response) in
-      let sent = holds_sent new.writing new.writing.output
-      ((p.batched ++ stops.before) ++ p.closing) p.written holds in
+  stopped front left parts request queue is_open goes stays plain refused =
+      let holds = follow new.writing p.batched p.closing front p.written (h.unasked unasked)
+      (goes (client.queued p) p.written h.client.response) in
       record {
-        filtered = stops.before;
-        left = stops.at ∷ stops.behind;
-        parts = sym stops.are_tasks;
-        past = past_queued p (p.batched ++ stops.before) p.closing;
+        filtered = front;
+        left = left;
+        parts = parts;
+        past = past_queued p (p.batched ++ front) p.closing;
         stands = record {
-          client = requeued s p link ahead old new (p.batched ++ stops.before) p.closing h.client
+          client = requeued s p link ahead old new (p.batched ++ front) p.closing h.client
               reading request holds
-              (λ fault is. absurd (open_is_whole new.writing.output _ fault
-              (ap (λ (w : Writing). w.output) stops.grows.grown) is));
+              (λ fault is. absurd (open_is_whole new.writing.output queue fault is_open is));
           over = λ is.
-              over_batched new.writing (p.batched ++ stops.before) p.closing p.written
-              (h.unasked unasked) holds
-              (grows_over old.writing new.writing stops.before stops.grows (h.place_over is));
-          place_over = λ is.
-              grows_over old.writing new.writing stops.before stops.grows (h.place_over is);
+              over_batched new.writing (p.batched ++ front) p.closing p.written
+              (h.unasked unasked) holds (stays (h.place_over is));
+          plain = plain-append p.batched front h.plain plain;
+          plain_end = h.plain_end;
+          place_over = λ is. stays (h.place_over is);
           unasked = h.unasked;
           asked = h.asked;
           closed = λ is. let wrong = sym unasked ∙ is in absurd (cc);
-          unbroken = λ none. (_, ap (λ (w : Writing). w.output) stops.grows.grown);
+          unbroken = λ none. (queue, is_open);
           fault = h.fault;
         };
         is_put = refl;
         is_batched = refl;
         is_closing = refl;
-        refused = λ e plain is.
-            client.ClientRefuses.cannot_send h.client.head h.client.framing h.client.len sent.0
-            stops.at stops.behind h.client.has refl
-            (rw (← h.client.answers, ← request) sent.1)
-            (rw (← h.client.answers, ← request, sent.2)
-            (subst
-            (λ (f : Fail).
-            IsRefusal (task_sent new.writing.request new.writing.place stops.at) f) is
-            stops.refusal));
+        refused = λ e none is. refused e is;
       }
 
-  -- by the state of the output
-  stops_by : (output : Outgoing) → old.writing.output ≡ output
-      → FailsWithin output old.writing tasks new.writing why
+  -- the text behind a front of the tasks leads to where a task of them is refused
+  refused_at : (front : List HttpTask) (at : HttpTask) (e : Error)
+      → refusal old.writing.request (wire old.writing.request old.writing.place front).place at
+      ≡ Some e
+      → refusal (request_of h.client.head)
+      (wire (request_of h.client.head) place.NoHead (p.batched ++ front)).place at ≡ Some e
+  refused_at front at e is =
+      let request = old.writing.request in
+      let sent = holds_sent old.writing old.writing.output (client.queued p) p.written
+      h.client.response in
+      let batched : client.queued p ≡ p.batched =
+      ap (λ (l : List HttpTask). p.batched ++ l) (h.unasked unasked) ∙ append-nil p.batched in
+      let there : (wire request place.NoHead p.batched).place ≡ old.writing.place =
+      ap (λ (l : List HttpTask). (wire request place.NoHead l).place) (sym batched) ∙ sent in
+      let leads : (wire request place.NoHead (p.batched ++ front)).place
+      ≡ (wire request old.writing.place front).place =
+      ap (λ (t : Sent). t.place) (wire-append request place.NoHead p.batched front)
+      ∙ ap (λ (q : Place). (wire request q front).place) there in
+      subst (λ (r : Request).
+      refusal r (wire r place.NoHead (p.batched ++ front)).place at ≡ Some e) h.client.answers
+      (ap (λ (q : Place). refusal request q at) leads ∙ is)
+
+  -- the session stopped at a task, for want of memory or since it is refused
+  stops_on : (stops : StopsAt old.writing tasks new.writing why) (given : Fail) → why ≡ given
+      → StopsOn stops.mid stops.at new.writing given
+      → BatchRefused (λ q. HasPassed s q link ahead new done finished broken)
+      (λ q left e. ClientRefuses s q link left e) p tasks why
+  stops_on stops fail.OutOfMemory is same =
+      let grown = stops.queued.grows.grown in
+      stopped stops.before (stops.at ∷ stops.behind) (sym stops.are_tasks)
+      (ap (λ (w : Writing). w.request) (same ∙ grown)) _
+      (ap (λ (w : Writing). w.output) (same ∙ grown))
+      (subst (λ (w : Writing). GoesOnWith old.writing w stops.before) (sym same)
+      stops.queued.goes_on)
+      (λ over. ap (λ (w : Writing). is_over w.place) same
+      ∙ queued_over old.writing stops.mid stops.before stops.queued over)
+      (tasks_plain old.writing.request old.writing.place stops.before stops.queued.passes)
+      (λ e wrong. let both = sym is ∙ wrong in absurd (cc))
+  stops_on stops (fail.Error error) is refused =
+      let grown = stops.queued.grows.grown in
+      let more = refused.grows.grown in
+      let front = stops.before ++ given_of stops.at in
+      let left = left_of stops.at stops.behind in
+      stopped front left
+      (append_assoc stops.before (given_of stops.at) left
+      ∙ ap (λ (l : List HttpTask). stops.before ++ l) (given_left stops.at stops.behind)
+      ∙ sym stops.are_tasks)
+      (ap (λ (w : Writing). w.request) more ∙ ap (λ (w : Writing). w.request) grown) _
+      (ap (λ (w : Writing). w.output) more)
+      (λ l taken holds.
+      subst (λ (m : List HttpTask). Holds new.writing m taken)
+      (append_assoc l stops.before (given_of stops.at))
+      (refused.goes_on (l ++ stops.before) taken (stops.queued.goes_on l taken holds)))
+      (λ over. grows_to stops.mid new.writing (task_sent stops.mid.request stops.mid.place stops.at)
+      refused.grows
+      (task_over stops.mid.request stops.mid.place stops.at
+      (queued_over old.writing stops.mid stops.before stops.queued over)))
+      (plain-append stops.before (given_of stops.at)
+      (tasks_plain old.writing.request old.writing.place stops.before stops.queued.passes)
+      (given_plain stops.at))
+      (λ e of.
+      client.ClientRefuses.cannot_send h.client.head h.client.framing h.client.len
+      (p.batched ++ stops.before) stops.at stops.behind h.client.has (h.unasked unasked)
+      (append_assoc p.batched front left
+      ∙ ap (λ (l : List HttpTask). p.batched ++ l)
+      (append_assoc stops.before (given_of stops.at) left
+      ∙ ap (λ (l : List HttpTask). stops.before ++ l) (given_left stops.at stops.behind))
+      ∙ sym (append_assoc p.batched stops.before (stops.at ∷ stops.behind)))
+      (refused_at stops.before stops.at e
+      (subst (λ (w : Writing). refusal w.request w.place stops.at ≡ Some e) grown
+      (refused.refused ∙ ap (λ (x : Error). Some x) (sym (fail_is why error e is of))))))
+
+  -- the check refused the batch, or the session stopped at a task
+  stops_batch : (checked : Option Error)
+      → batch_refusal old.writing.request old.writing.place tasks ≡ checked
+      → StopsBatch checked old.writing tasks new.writing why
       → (new.writing ≡ old.writing → new ≡ old)
       → BatchRefused (λ q. HasPassed s q link ahead new done finished broken)
       (λ q left e. ClientRefuses s q link left e) p tasks why
-  stops_by (outgoing.Open queue) is fails same = stops_at fails
+  stops_batch None is stops same = stops_on stops why refl stops.stops
+  stops_batch (Some error) is stops same =
+      let there = refused_in old.writing.request old.writing.place tasks error is in
+      none_queued s p link ahead old new tasks done finished broken why h (same stops.1)
+      (λ e plain of.
+      client.ClientRefuses.cannot_send h.client.head h.client.framing h.client.len
+      (p.batched ++ there.before) there.at there.behind h.client.has (h.unasked unasked)
+      (ap (λ (l : List HttpTask). p.batched ++ l) there.are
+      ∙ sym (append_assoc p.batched there.before (there.at ∷ there.behind)))
+      (refused_at there.before there.at e
+      (there.refused ∙ ap (λ (x : Error). Some x) (sym (fail_is why error e stops.0 of)))))
+
+  -- by the state of the output
+  stops_by : (output : Outgoing) → old.writing.output ≡ output
+      → FailsBatch output old.writing tasks new.writing why
+      → (new.writing ≡ old.writing → new ≡ old)
+      → BatchRefused (λ q. HasPassed s q link ahead new done finished broken)
+      (λ q left e. ClientRefuses s q link left e) p tasks why
+  stops_by (outgoing.Open queue) is fails same =
+      stops_batch (batch_refusal old.writing.request old.writing.place tasks) refl fails same
   stops_by (outgoing.Broken fault) is fails same =
       none_queued s p link ahead old new tasks done finished broken why h (same fails.1)
       (λ e plain of.
@@ -458,19 +551,16 @@ refuses_on s p link ahead old new tasks done finished broken why h
 
 -- ---- the end of the response
 
--- behind the end no body is open
-end_closes : (at : Place) (more : Sent) → piece_at at [] true ≡ Ok more → IsClosed more.place
-end_closes place.NoHead more is =
-    subst (λ (m : Sent). IsClosed m.place) (sent_is (nothing_at place.NoHead) more is) tt
-end_closes (place.Body rest) more is =
+-- behind an end that is not refused no body is open
+end_closes : (at : Place) → piece_refusal_at at [] true ≡ None
+    → IsClosed (piece_at at [] true).place
+end_closes place.NoHead passes = tt
+end_closes (place.Body rest) passes =
     elim (cases_Bool (is_short (after_piece rest []))) [
-      | inl short ↦ let refused = rw short at is in absurd (cc)
-      | inr fits ↦ subst (λ (m : Sent). IsClosed m.place)
-          (sent_is (joined (only_piece rest []) (only_end (after_piece rest []))) more
-          (rw fits at is)) tt
+      | inl short ↦ let refused = rw short at passes in absurd (cc)
+      | inr fits ↦ rw fits tt
     ]
-end_closes place.Done more is =
-    subst (λ (m : Sent). IsClosed m.place) (sent_is (nothing_at place.Done) more is) tt
+end_closes place.Done passes = tt
 
 -- an end where no body is open gives nothing
 wire_again : (request : Request) (tasks : List HttpTask) (text : List ℕ) (counted : ℕ) (at : Place)
@@ -479,14 +569,12 @@ wire_again : (request : Request) (tasks : List HttpTask) (text : List ℕ) (coun
     (record { text = text; counted = counted; place = at })
 wire_again request tasks text counted place.NoHead closed wire =
     let pushed = IsWire-push request tasks
-    (record { text = text; counted = counted; place = place.NoHead }) task.Done
-    (nothing_at place.NoHead) wire refl tt in
+    (record { text = text; counted = counted; place = place.NoHead }) task.Done wire tt in
     rw (append-nil, add-zero) at pushed
 wire_again request tasks text counted (place.Body rest) closed wire = absurd closed
 wire_again request tasks text counted place.Done closed wire =
     let pushed = IsWire-push request tasks
-    (record { text = text; counted = counted; place = place.Done }) task.Done
-    (nothing_at place.Done) wire refl tt in
+    (record { text = text; counted = counted; place = place.Done }) task.Done wire tt in
     rw (append-nil, add-zero) at pushed
 
 text_again : (now : Writing) (tasks : List HttpTask) (text : List ℕ) → IsClosed now.place
@@ -527,6 +615,8 @@ ends_again s p link ahead session done finished broken asked h = record {
         (h.closed asked) h.client.response))
         h.client.broken;
     over = h.over;
+    plain = h.plain;
+    plain_end = plain-append p.closing (task.Done ∷ []) h.plain_end refl;
     place_over = h.place_over;
     unasked = λ is. let wrong = sym asked ∙ is in absurd (cc);
     asked = λ is. some_closing p.closing;
@@ -545,30 +635,31 @@ pub ends_on : (s : Origin) (p : DownPast) (link : LinkState) (ahead : List ℕ)
     (old new : HttpSession) (done finished : Bool) (broken : Option Fault) → finished ≡ false
     → HasPassed s p link ahead old done finished broken
     → new.reading ≡ old.reading
-    → Grows (task_sent old.writing.request old.writing.place task.Done) old.writing new.writing
-    → GoesOnWith old.writing new.writing (task.Done ∷ [])
+    → IsQueued old.writing task.Done new.writing
     → DownGoes (λ q. HasPassed s q link ahead new done true broken)
     (λ q e. ClientBlames s q link e ⊎ CannotEnd s q e) p.put p.batched
     (p.closing ++ task.Done ∷ []) None
-ends_on s p link ahead old new done finished broken unasked h reading g goes = record {
+ends_on s p link ahead old new done finished broken unasked h reading one = record {
   past = past_queued p p.batched (p.closing ++ task.Done ∷ []);
   stands = record {
     client = requeued s p link ahead old new p.batched (p.closing ++ task.Done ∷ []) h.client
         reading
-        (ap (λ (w : Writing). w.request) g.grown)
+        (ap (λ (w : Writing). w.request) one.grows.grown)
         (subst (λ (l : List HttpTask). Holds new.writing l p.written)
         (append_assoc p.batched p.closing (task.Done ∷ []))
-        (goes (client.queued p) p.written h.client.response))
+        (one.goes_on (client.queued p) p.written h.client.response))
         (λ fault is. absurd (open_is_whole new.writing.output _ fault
-        (ap (λ (w : Writing). w.output) g.grown) is));
-    over = rw (ap (λ (w : Writing). w.request) g.grown) h.over;
-    place_over = λ is. rw (ap (λ (w : Writing). w.place) g.grown)
-        (piece_over old.writing.place [] true g.more (h.place_over is) g.is);
+        (ap (λ (w : Writing). w.output) one.grows.grown) is));
+    over = rw (ap (λ (w : Writing). w.request) one.grows.grown) h.over;
+    plain = h.plain;
+    plain_end = plain-append p.closing (task.Done ∷ []) h.plain_end refl;
+    place_over = λ is. rw (ap (λ (w : Writing). w.place) one.grows.grown)
+        (piece_over old.writing.place [] true (h.place_over is));
     unasked = λ is. absurd (cc);
     asked = λ is. some_closing p.closing;
-    closed = λ is. rw (ap (λ (w : Writing). w.place) g.grown)
-        (end_closes old.writing.place g.more g.is);
-    unbroken = λ none. (_, ap (λ (w : Writing). w.output) g.grown);
+    closed = λ is. rw (ap (λ (w : Writing). w.place) one.grows.grown)
+        (end_closes old.writing.place one.passes);
+    unbroken = λ none. (_, ap (λ (w : Writing). w.output) one.grows.grown);
     fault = h.fault;
   };
   is_put = refl;
@@ -586,21 +677,22 @@ same_why (fail.Error error) e is = cc
 end_refused : (s : Origin) (p : DownPast) (link : LinkState) (ahead : List ℕ)
     (session : HttpSession) (output : Outgoing) (why : Fail) (e : Error)
     → IsClient s p link ahead session → session.writing.output ≡ output
-    → IsFailure output (task_sent session.writing.request session.writing.place task.Done) why
+    → IsFailure output (refusal session.writing.request session.writing.place task.Done) why
     → why ≡ fail.Error e → ClientBlames s p link e ⊎ CannotEnd s p e
 end_refused s p link ahead session (outgoing.Open queue) why e h is refused of =
+    let request = session.writing.request in
     let sent = holds_sent session.writing session.writing.output (client.queued p) p.written
     h.response in
+    let there = subst
+    (λ (f : Fail). IsRefusal (refusal request session.writing.place task.Done) f) of refused in
     inr (record {
       head = h.head;
       framing = h.framing;
       len = h.len;
-      sent = sent.0;
       has = h.has;
-      stands = rw (← h.answers) sent.1;
-      refused = rw sent.2
-          (subst (λ (f : Fail). IsRefusal
-          (task_sent session.writing.request session.writing.place task.Done) f) of refused);
+      refused = subst (λ (r : Request).
+          refusal r (wire r place.NoHead (client.queued p)).place task.Done ≡ Some e) h.answers
+          (ap (λ (q : Place). refusal request q task.Done) sent ∙ there);
     })
 end_refused s p link ahead session (outgoing.Broken fault) why e h is refused of =
     inl (client.ClientBlames.link_failed fault (fail_is why (error_of fault) e refused of)
@@ -611,7 +703,7 @@ pub ends_refused : (s : Origin) (p : DownPast) (link : LinkState) (ahead : List 
     (old new : HttpSession) (done finished : Bool) (broken : Option Fault) (why : Fail)
     → HasPassed s p link ahead old done finished broken → new ≡ old
     → IsFailure old.writing.output
-    (task_sent old.writing.request old.writing.place task.Done) why
+    (refusal old.writing.request old.writing.place task.Done) why
     → DownGoes (λ q. HasPassed s q link ahead new done finished broken)
     (λ q e. ClientBlames s q link e ⊎ CannotEnd s q e) p.put p.batched (p.closing ++ [])
     (error_of_result {T = Unit {0}} (Err why))

@@ -1,11 +1,11 @@
 -- A write to the client: what it says of the state, and how what passed goes on with it.
-use Rattle.std.proofs.Common.{◌≡◌, ℕ, ◌≤◌, Bool, true, false, List, [], ◌++◌, length, take, drop, Option, Some, None, refl, sym, ◌∙◌, ap, subst, append-nil, le_refl, inl, inr, arith}
+use Rattle.std.proofs.Common.{◌≡◌, ℕ, ◌≤◌, Bool, true, false, List, [], ◌++◌, length, take, drop, Option, Some, None, refl, sym, ◌∙◌, ap, subst, append-nil, le_refl, inl, inr, arith, ◌<◌}
 use Rattle.std.specs.Prelude.{not, ◌==◌, ◌||◌, is_some}
 use Rattle.relay_tasks.specs.declared.error.Error.{Error}
 use Rattle.relay_tasks.specs.declared.error.ErrorSource.TheVariants.{Downstream}
 use Rattle.relay_tasks.specs.declared.fault.Fault.{Fault}
 use Rattle.std.proofs.lemmas.Bool.{cases_lt}
-use Rattle.relay_links.specs.Count.{Rose, last_count}
+use Rattle.relay_links.specs.Count.{Rose, last_count, up}
 use Rattle.relay_links.specs.Link as link
 use Rattle.relay_links.specs.Link.{LinkState, IsWriteFault}
 use Rattle.relay_links.specs.Told.{more}
@@ -22,7 +22,7 @@ use Rattle.relay_core.specs.declared.told.Told.{Told}
 use Rattle.relay_core.specs.Down.{Writes}
 use Rattle.relay_core.specs.Past.{Origin, DownPast, DownGoes, error_of_put}
 use Rattle.relay_core.specs.Told.{written, fault_of}
-use Rattle.relay_sides.specs.Client.{IsClient, HasPassed, ClientBlames, IsSilent, fault_in, state_of}
+use Rattle.relay_sides.specs.Client.{IsClient, HasPassed, ClientBlames, fault_in, state_of}
 use Rattle.relay_sides.specs.Client as client
 use Rattle.relay_sides.proofs.ClientPast.{rose_from, open_is_whole}
 
@@ -199,25 +199,25 @@ writes_on s p before after ahead left old new done finished broken answer (outgo
           response = holds;
           broken = λ fault of.
               let is_kept = kept_fault writes.rest answer new.writing.output fault writes.leaves of
-              in
-              (
+              in (
                 rose_from s.faults before.faults after.faults h.client.faults
                     (w.failed fault is_kept),
                 w.kind fault is_kept,
               );
         };
         over = rw (ap (λ (r : Writing). r.request) rest) h.over;
+        plain = h.plain;
+        plain_end = h.plain_end;
         place_over = rw (ap (λ (r : Writing). r.place) rest) h.place_over;
         unasked = h.unasked;
         asked = h.asked;
         closed = rw (ap (λ (r : Writing). r.place) rest) h.closed;
         unbroken = still_open writes.rest answer new.writing.output writes.leaves;
-        fault = λ f is.
-            (
-              rose_from s.faults before.faults after.faults h.client.faults
-                  (w.failed f (found_fault answer f is)),
-              w.kind f (found_fault answer f is),
-            );
+        fault = λ f is. (
+          rose_from s.faults before.faults after.faults h.client.faults
+              (w.failed f (found_fault answer f is)),
+          w.kind f (found_fault answer f is),
+        );
       };
       is_put = refl;
       is_batched = refl;
@@ -298,15 +298,41 @@ writes_state before after old new told done finished put.OutOfMemory (outgoing.O
     state_waits old new _ done finished queue reading is
     (waits_still queue writes.rest new.writing.output writes.writes.left writes.leaves)
 
--- a link that the side waits for in silence is silent
+-- a link that the side waits for in silence is silent, and stays as it was
 pub writes_silent : (before after : LinkState) (output left : Outgoing) (answer : Put)
     → not (length (pending output) == 0) ≡ true → WritesPending output before after answer left
-    → answer ≡ put.Silent → IsSilent after
+    → answer ≡ put.Silent → (after ≡ before) × (after.silent_on_write ≡ true)
 writes_silent before after (outgoing.Broken fault) left answer some writes is =
     absurd (nothing_waits fault some)
 writes_silent before after (outgoing.Open queue) left (put.Took n) some writes is = cc
 writes_silent before after (outgoing.Open queue) left put.NotReady some writes is = cc
 writes_silent before after (outgoing.Open queue) left put.Silent some writes is =
-    inr (rw writes.writes.writes.same writes.writes.writes.silent)
+    (writes.writes.writes.same, rw writes.writes.writes.same writes.writes.writes.silent)
 writes_silent before after (outgoing.Open queue) left (put.Failed fault) some writes is = cc
 writes_silent before after (outgoing.Open queue) left put.OutOfMemory some writes is = cc
+
+-- a link that the side waits for was counted to have to be waited for
+pub writes_waits : (before after : LinkState) (output left : Outgoing) (answer : Put)
+    → not (length (pending output) == 0) ≡ true → WritesPending output before after answer left
+    → answer ≡ put.NotReady → after.waits ≡ up before.waits
+writes_waits before after (outgoing.Broken fault) left answer some writes is =
+    absurd (nothing_waits fault some)
+writes_waits before after (outgoing.Open queue) left (put.Took n) some writes is = cc
+writes_waits before after (outgoing.Open queue) left put.NotReady some writes is =
+    writes.writes.writes.waits
+writes_waits before after (outgoing.Open queue) left put.Silent some writes is = cc
+writes_waits before after (outgoing.Open queue) left (put.Failed fault) some writes is = cc
+writes_waits before after (outgoing.Open queue) left put.OutOfMemory some writes is = cc
+
+-- a write that took bytes took one at least
+pub writes_some : (before after : LinkState) (output left : Outgoing) (answer : Put) (n : ℕ)
+    → not (length (pending output) == 0) ≡ true → WritesPending output before after answer left
+    → answer ≡ put.Took n → 0 < n
+writes_some before after (outgoing.Broken fault) left answer n some writes is =
+    absurd (nothing_waits fault some)
+writes_some before after (outgoing.Open queue) left (put.Took m) n some writes is =
+    let same : m ≡ n = cc in omega (arith, writes.writes.writes.some, same)
+writes_some before after (outgoing.Open queue) left put.NotReady n some writes is = cc
+writes_some before after (outgoing.Open queue) left put.Silent n some writes is = cc
+writes_some before after (outgoing.Open queue) left (put.Failed fault) n some writes is = cc
+writes_some before after (outgoing.Open queue) left put.OutOfMemory n some writes is = cc

@@ -23,14 +23,15 @@ use Rattle.relay_h1.specs.Verdict.{HasRequest}
 use Rattle.relay_session.specs.Asked.{request_of}
 use Rattle.relay_session.specs.Front.{link_fault, client_closed, client_sent_more, body_broken, ends_with_head}
 use Rattle.relay_session.specs.Reading.{head_of, is_body_done, RequestSoFar, SaysBody, IsWhole}
-use Rattle.relay_session.specs.Response.{Holds, Grows, GoesOnWith, FailsWithin, IsOpen, is_over, pending}
-use Rattle.relay_session.specs.TaskWire.{Sent, ends_short, task_sent, tasks_sent}
+use Rattle.relay_session.specs.Response.{Holds, AreQueued, FailsBatch, IsOpen, is_over, pending}
+use Rattle.relay_session.specs.TaskWire.{ends_short, refusal, wire}
 use Rattle.relay_session.specs.declared.session.HttpSession.{HttpSession}
 use Rattle.relay_session.specs.declared.task_text.Place.{Place}
 use Rattle.relay_session.specs.declared.task_text.Place.TheVariants as place
 use Rattle.relay_session.specs.declared.writing.Outgoing.TheVariants as outgoing
 use Rattle.relay_core.specs.Down.{DownState}
 use Rattle.relay_core.specs.Past.{Origin, DownPast}
+use Rattle.relay_core.specs.Pipe.{is_failure}
 use Rattle.relay_core.specs.declared.piece.Piece.{Piece}
 use Rattle.relay_core.specs.declared.told.Told.{Told}
 use Rattle.relay_core.specs.Told.{paused, failed}
@@ -107,8 +108,10 @@ pub record HasPassed
     (done finished : Bool) (kept : Option Fault) : Type 0 where
   pub client : IsClient s p link ahead session
   pub over : done ≡ true
-      → (sent : Sent) × (tasks_sent session.writing.request place.NoHead p.batched ≡ Ok sent)
-      × (is_over sent.place ≡ true)
+      → is_over (wire session.writing.request place.NoHead p.batched).place ≡ true
+  -- a failure is not queued
+  pub plain : list_any is_failure p.batched ≡ false
+  pub plain_end : list_any is_failure p.closing ≡ false
   pub place_over : done ≡ true → is_over session.writing.place ≡ true
   pub unasked : finished ≡ false → p.closing ≡ []
   pub asked : finished ≡ true → 0 < length p.closing
@@ -144,8 +147,7 @@ begun_past came = record { came = came; written = []; put = []; batched = []; cl
 -- the response is not over behind the tasks that were queued
 abbrev pub IsUnanswered : Origin → DownPast → Type 0
 IsUnanswered s p =
-    (sent : Sent) → tasks_sent (request_of s.head) place.NoHead (queued p) ≡ Ok sent
-    → is_over sent.place ≡ false
+    is_over (wire (request_of s.head) place.NoHead (queued p)).place ≡ false
 
 -- a fault of the client's link counts: it is that of a write, the body of the request is open, or
 -- the response is not over
@@ -175,27 +177,23 @@ pub record CannotEnd (s : Origin) (p : DownPast) (e : Error) : Type 0 where
   pub head : RequestHead
   pub framing : Framing
   pub len : ℕ
-  pub sent : Sent
   pub has : HasRequest (given_to s p) head framing len
-  pub stands : tasks_sent (request_of head) place.NoHead (queued p) ≡ Ok sent
-  pub refused : task_sent (request_of head) sent.place task.Done ≡ Err e
+  pub refused : refusal (request_of head) (wire (request_of head) place.NoHead (queued p)).place
+      task.Done ≡ Some e
 
--- why the side refuses these tasks behind those that were queued: the first of them cannot be sent,
--- a write failed before, or the end of the response was asked for before
+-- why the side refuses a batch of which these tasks are left: a task is refused behind those before
+-- it, the last that was given or one that is left; a write failed before; or the end of the response
+-- was asked for before
 pub data ClientRefuses (s : Origin) (p : DownPast) (link : LinkState) (left : List HttpTask)
     (e : Error) : Type 0 where
   link_failed : (fault : Fault) → e ≡ link_fault fault → FailsWrite s link fault
       → ClientRefuses s p link left e
-  cannot_send : (head : RequestHead) (framing : Framing) (len : ℕ) (sent : Sent) (at : HttpTask)
-      (behind : List HttpTask) → HasRequest (given_to s p) head framing len
-      → left ≡ at ∷ behind
-      → tasks_sent (request_of head) place.NoHead (queued p) ≡ Ok sent
-      → task_sent (request_of head) sent.place at ≡ Err e → ClientRefuses s p link left e
+  cannot_send : (head : RequestHead) (framing : Framing) (len : ℕ) (front : List HttpTask)
+      (at : HttpTask) (behind : List HttpTask) → HasRequest (given_to s p) head framing len
+      → p.closing ≡ [] → p.batched ++ left ≡ front ++ at ∷ behind
+      → refusal (request_of head) (wire (request_of head) place.NoHead front).place at ≡ Some e
+      → ClientRefuses s p link left e
   behind_the_end : 0 < length p.closing → e ≡ ends_short → ClientRefuses s p link left e
-
--- the link is silent on a read or on a write
-abbrev pub IsSilent : LinkState → Type 0
-IsSilent link = (link.silent_on_read ≡ true) ⊎ (link.silent_on_write ≡ true)
 
 -- ---- what the code does between the session and the duplex
 
@@ -240,8 +238,7 @@ pub record QueuesAll (old new : HttpSession) (tasks : List HttpTask) (finished o
     : Type 0 where
   pub unasked : finished ≡ false
   pub reading : new.reading ≡ old.reading
-  pub grows : Grows (tasks_sent old.writing.request old.writing.place tasks) old.writing new.writing
-  pub goes_on : GoesOnWith old.writing new.writing tasks
+  pub queued : AreQueued old.writing tasks new.writing
   pub is_over : over ≡ is_over new.writing.place
 
 -- why not all of them were
@@ -252,7 +249,7 @@ pub data QueuesFront (old new : HttpSession) (tasks : List HttpTask) (finished :
   is_late : failure_in_front tasks ≡ None → finished ≡ true → why ≡ fail.Error ends_short
       → new ≡ old → QueuesFront old new tasks finished why
   stops : failure_in_front tasks ≡ None → finished ≡ false → new.reading ≡ old.reading
-      → FailsWithin old.writing.output old.writing tasks new.writing why
+      → FailsBatch old.writing.output old.writing tasks new.writing why
       → QueuesFront old new tasks finished why
 
 -- what queueing tasks does, by its answer

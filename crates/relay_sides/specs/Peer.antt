@@ -253,7 +253,3 @@ pub record IsNew {L : Type 0} (side : PeerSide L) : Type 0 where
 -- nothing passed yet
 abbrev pub none_passed : UpPast
 none_passed = record { got = []; sent = []; read = []; taken = []; lost = false }
-
--- the link is silent on a read or on a write
-abbrev pub IsSilent : LinkState → Type 0
-IsSilent link = (link.silent_on_read ≡ true) ⊎ (link.silent_on_write ≡ true)

@@ -6,7 +6,7 @@ ghost use Rattle.relay_core.specs.Past.{Origin};
 ghost use Rattle.relay_session.specs.Reading.{is_body_done};
 ghost use Rattle.relay_session.specs.Response.{is_over};
 ghost use Rattle.relay_session.specs.TaskWire.{ends_short};
-ghost use Rattle.relay_sides.specs.Client.{HasPassed, BeginsBehind, begun_past, ClientBlames, ClientRefuses, CannotEnd, IsSilent, Queues, state_of, fault_in, piece_answer, told_read, failure_in_front};
+ghost use Rattle.relay_sides.specs.Client.{HasPassed, BeginsBehind, begun_past, ClientBlames, ClientRefuses, CannotEnd, Queues, state_of, fault_in, piece_answer, told_read, failure_in_front};
 
 use bytes::Bytes;
 use relay_core::{Down, Piece, Told, UpKind};
@@ -247,9 +247,8 @@ impl<F: Front> Down for ClientSide<F> {
     ghost cannot_end = { λ side client s p e.
         ClientBlames s p (F.state client) e ⊎ CannotEnd s p e };
 
-    ghost is_silent = { λ client. IsSilent (F.state client) };
+    ghost link = { F.state };
 
-    ghost faults = { λ client. (F.state client).faults };
     ghost start = { F.start };
 
     fn may_read(&self) -> bool {

@@ -14,7 +14,7 @@ ghost use Rattle.relay_peer.specs.ResponseReading as reading;
 ghost use Rattle.relay_core.specs.declared.told.TheConstants.Told.{NOTHING};
 ghost use Rattle.relay_core.specs.Past.{Origin};
 ghost use Rattle.relay_sides.specs.Body.{bytes_of};
-ghost use Rattle.relay_sides.specs.Peer.{IsPeerSide, PeerBlames, asks_to_close, IsSilent, IsNew, HandsOn, Queues, inside, none_passed, state_of};
+ghost use Rattle.relay_sides.specs.Peer.{IsPeerSide, PeerBlames, asks_to_close, IsNew, HandsOn, Queues, inside, none_passed, state_of};
 
 use crate::client_side::either;
 use http::{Method, Version};
@@ -246,7 +246,7 @@ impl<L: ByteLink> Up for PeerSide<L> {
         × (head_in side.client.request.request ≡ Some head)
         × PeerBlames (L.start side.client.link) (L.state side.client.link) head q e };
 
-    ghost is_silent = { λ side. IsSilent (L.state side.client.link) };
+    ghost link = { λ side. L.state side.client.link };
 
     ghost start = { λ side. L.start side.client.link };
 

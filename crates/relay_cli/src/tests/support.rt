@@ -5,23 +5,12 @@ use relay_links::{
     Branch, ByteLink, CountDelay, ListSchedule, MemoryPurger, PeerScript, ReadItem,
     ScriptConnector, ScriptLink, ShutdownAt,
 };
-use relay_proxy::{HttpProxy, Outcome, Outside, ProxyHttp, ServerConf};
+use relay_proxy::{HttpProxy, NoHooks, Outcome, Outside, ServerConf};
 use relay_tasks::{ErrorSource, ErrorType, Purged};
 use std::alloc::{AllocError, Global};
 use std::process::Abort;
 use std::str;
 use std::test::Fail;
-
-#[derive(Drop)]
-struct NoHooks;
-
-impl ProxyHttp for NoHooks {
-    type CTX = ();
-
-    type Kept = ();
-
-    fn new_ctx(&self) {}
-}
 
 /// What a request came to: its outcome, what the client and the peer took, whether the peer's link
 /// was kept, and how many calls of both links failed.

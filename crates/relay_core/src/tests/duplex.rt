@@ -63,7 +63,18 @@ impl Up for Upstream {
 
     ghost blames = { λ u s q e. u.refuses ≡ Some e };
 
-    ghost is_silent = { λ u. ⊥ };
+    ghost link = { λ u. record {
+      given = None;
+      taken = None;
+      read_faults = None;
+      write_faults = None;
+      waits = 0;
+      used = 0;
+      faults = 0;
+      ended = false;
+      silent_on_read = true;
+      silent_on_write = true;
+    } };
 
     ghost start = { λ _. record {
       items = None;
@@ -217,9 +228,18 @@ impl Down for Client {
 
     ghost cannot_end = { λ c client s p e. c.told.last ≡ Some e };
 
-    ghost is_silent = { λ client. ⊥ };
-
-    ghost faults = { λ client. 0 };
+    ghost link = { λ client. record {
+      given = None;
+      taken = None;
+      read_faults = None;
+      write_faults = None;
+      waits = 0;
+      used = 0;
+      faults = 0;
+      ended = false;
+      silent_on_read = true;
+      silent_on_write = true;
+    } };
     ghost start = { λ _. record {
       items = None;
       given = 0;

@@ -55,9 +55,12 @@ fn refusal(alloc: Global, text: &[u8]) -> Option<Context> {
 fn refuses_what_is_no_request(rt: HostRuntime) {
     let grammar = Some(Context::HeadGrammar);
     for (text, want) in [
-        ("GET / HTTP/1.1\nHost: a\n\r\n", None),
+        ("GET / HTTP/1.1\nHost: a\r\n\r\n", None),
         ("\r\nGET / HTTP/1.1\r\n\r\n", None),
         ("\r\n\r\n", grammar),
+        ("\r\n\r\nGET / HTTP/1.1\r\n\r\n", grammar),
+        ("GET / HTTP/1.1\nHost: a\n\n", grammar),
+        ("GET / HTTP/1.1\nHost: a\n\r\n", grammar),
         ("GET / HTTP/1.1\r\n\r\nmore", grammar),
         ("GET / HTTP/1.1\r\nHost : a\r\n\r\n", grammar),
         ("GET / HTTP/1.1\r\nHost: a\r\n b\r\n\r\n", grammar),

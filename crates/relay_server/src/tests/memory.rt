@@ -1,9 +1,9 @@
 //! Serving clients in memory.
-use super::support::{ANSWER, MemoryPoller, NoHooks, REQUEST, SENT, WRITTEN};
+use super::support::{ANSWER, MemoryPoller, REQUEST, SENT, WRITTEN};
 use crate::{Poller, ServeEnd, serve_with};
 use bytes::Bytes;
 use relay_links::{MemoryPurger, PeerScript, ReadItem, ScriptConnector, ScriptLink};
-use relay_proxy::{HttpProxy, ServerConf};
+use relay_proxy::{HttpProxy, NoHooks, ServerConf};
 use relay_tasks::Purged;
 use std::alloc::Global;
 use std::collections::VecDeque;

@@ -1,8 +1,6 @@
-//! What the tests of the server share: one request and its answer, an application, and a poller in
-//! memory.
+//! What the tests of the server share: one request and its answer, and a poller in memory.
 use crate::{Listening, Polled, Poller};
 use relay_links::ScriptLink;
-use relay_proxy::ProxyHttp;
 use std::alloc::Global;
 use std::collections::VecDeque;
 
@@ -15,18 +13,6 @@ pub(super) const SENT: &str = "GET /a HTTP/1.1\r\nhost: h.example\r\n\r\n";
 pub(super) const ANSWER: &str = "HTTP/1.1 200 OK\r\nContent-Length: 2\r\n\r\nhi";
 
 pub(super) const WRITTEN: &str = "HTTP/1.1 200 OK\r\ncontent-length: 2\r\n\r\nhi";
-
-/// An application without hooks.
-#[derive(Drop)]
-pub(super) struct NoHooks;
-
-impl ProxyHttp for NoHooks {
-    type CTX = ();
-
-    type Kept = ();
-
-    fn new_ctx(&self) {}
-}
 
 /// A poller over links in memory. It keeps each link that is closed, and its waits fail after so
 /// many.

@@ -4,7 +4,9 @@ use bytes::Bytes;
 use http_header::{CONTENT_LENGTH, HeaderValue};
 use relay_h1::{Connection, Framing};
 use relay_links::{Put, ReadItem, ScriptLink, WriteItem};
-use relay_tasks::{HttpTask, RequestHeader, ResponseHeader, TaskList, Took};
+use relay_tasks::{
+    Context, Error, ErrorType, Fail, HttpTask, RequestHeader, ResponseHeader, TaskList, Took,
+};
 use std::alloc::{AllocError, Global};
 use std::process::Abort;
 use std::str;
@@ -131,6 +133,60 @@ fn goes_on_behind_a_head_that_its_caller_read(rt: HostRuntime) -> Checked {
         read_begun(&rt, rt.alloc(), &mut client, head, Framing::Length(3))?;
     }
     Ok(())
+}
+
+/// The error of a body that ends short of its length.
+fn short() -> Fail {
+    Fail::Error(Error::explain(ErrorType::PrematureBodyEnd, Context::BodyShort).into_down())
+}
+
+#[test]
+fn queues_a_piece_that_ends_its_body_short(rt: HostRuntime) -> Checked {
+    let mut client = client(rt.alloc(), b"GET / HTTP/1.1\r\nHost: h\r\n\r\n")?;
+    let mut session = session_of(rt.alloc(), &mut client);
+    let given = head(rt.alloc(), 2)?;
+    assert_eq!(rt; session.write_response_header(given), Ok(()));
+    assert_eq!(rt; session.write_response_body(b"h", true), Err(short()));
+    assert_eq!(rt; session.body_bytes_sent(), 1);
+    assert_eq!(rt; session.finish_body(), Err(short()));
+    assert!(rt; !session.response_done());
+    expect_written(
+        &rt,
+        &mut session,
+        &mut client,
+        "HTTP/1.1 200 OK\r\ncontent-length: 2\r\n\r\nh",
+    )
+}
+
+/// A head that informs, and a final head whose Content-Length is no number.
+fn unframed_tasks(alloc: Global) -> relay_tasks::Result<TaskList> {
+    let mut bad = ResponseHeader::build(alloc, 200)?;
+    let value = HeaderValue::from_bytes(alloc, b"x").map_err(|_| Fail::OutOfMemory)?;
+    bad.insert_header(CONTENT_LENGTH, value)?;
+    let mut tasks = TaskList::new(alloc);
+    tasks.push(HttpTask::Header(ResponseHeader::build(alloc, 103)?, false))?;
+    tasks.push(HttpTask::Header(bad, false))?;
+    Ok(tasks)
+}
+
+#[test]
+fn queues_nothing_of_a_batch_that_the_check_refuses(rt: HostRuntime) -> Checked {
+    let mut client = client(rt.alloc(), b"GET / HTTP/1.1\r\nHost: h\r\n\r\n")?;
+    let mut session = session_of(rt.alloc(), &mut client);
+    let bad = Error::explain(ErrorType::InvalidHTTPHeader, Context::BadFraming).into_in();
+    let tasks = unframed_tasks(rt.alloc())?;
+    assert_eq!(rt; session.response_duplex_vec(tasks), Err(Fail::Error(bad)));
+    assert!(rt; !session.has_pending() && !session.response_written());
+    let mut tasks = TaskList::new(rt.alloc());
+    tasks.push(HttpTask::Header(head(rt.alloc(), 2)?, false))?;
+    tasks.push(HttpTask::Body(Some(Bytes::from_static(b"h")), true))?;
+    assert_eq!(rt; session.response_duplex_vec(tasks), Err(short()));
+    expect_written(
+        &rt,
+        &mut session,
+        &mut client,
+        "HTTP/1.1 200 OK\r\ncontent-length: 2\r\n\r\nh",
+    )
 }
 
 const NOT_FOUND: &str =

@@ -118,7 +118,7 @@ fn writes_a_response_call_by_call(rt: HostRuntime) -> Checked {
 }
 
 #[test]
-fn refuses_for_its_reasons_and_keeps_what_was_queued(rt: HostRuntime) -> Checked {
+fn refuses_for_its_reasons_and_queues_what_is_given(rt: HostRuntime) -> Checked {
     let mut writing = response(rt.alloc(), Asks::Other, Version::HTTP_11);
     let bad = Error::explain(ErrorType::InvalidHTTPHeader, Context::BadFraming).into_in();
     let given = head(rt.alloc(), 200, CONTENT_LENGTH, b"x")?;
@@ -141,7 +141,7 @@ fn refuses_for_its_reasons_and_keeps_what_was_queued(rt: HostRuntime) -> Checked
         &rt,
         rt.alloc(),
         &mut writing,
-        "HTTP/1.1 200 OK\r\ncontent-length: 3\r\n\r\na",
+        "HTTP/1.1 200 OK\r\ncontent-length: 3\r\n\r\naba",
     )
 }
 

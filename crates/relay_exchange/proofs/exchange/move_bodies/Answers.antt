@@ -42,7 +42,7 @@ returns-clause-goes g c =
     old.ensures.session old.ensures.told old.ensures.done old.ensures.finished old.ensures.broken
     flows.so_far in
     subst Comes (sym c.suspend.ensures)
-    (bodies_turn state start_at s link ahead
+    (bodies_turn state start_at s link ahead p q
     (record {
       alloc = c.args.alloc;
       client = down;

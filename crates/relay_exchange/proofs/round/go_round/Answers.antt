@@ -1,41 +1,148 @@
 -- Behind silent branches the next one goes on from where they left the exchange.
-use Rattle.std.proofs.Common.{◌≡◌, ◌∙◌, ap, refl, subst}
+use Rattle.std.proofs.Common.{◌≡◌, ℕ, ◌+◌, ◌%◌, ◌<◌, true, false, ◌⊎◌, get_or, ◌∙◌, ap, refl, sym, subst, arith}
 use Rattle.relay_tasks.specs.declared.took.Pause.TheVariants as pause
+use Rattle.relay_links.specs.Link.{LinkState}
+use Rattle.relay_links.specs.declared.branch.Branch.{Branch}
+use Rattle.relay_links.specs.declared.branch.Branch.TheVariants as branch
+use Rattle.relay_links.specs.declared.branch.TheConstants.{BRANCHES}
+use Rattle.relay_core.specs.Asked.{is_silent_for}
 use Rattle.relay_core.specs.Causes.{Tells, says_failed}
 use Rattle.relay_core.specs.Moves.{Goes}
-use Rattle.relay_core.specs.Past.{Origin}
-use Rattle.relay_core.specs.Table.{core}
+use Rattle.relay_core.specs.Past.{Origin, DownPast, UpPast}
+use Rattle.relay_core.specs.Table.{State, core, enabled}
 use Rattle.relay_core.specs.declared.step.Step.{Step}
 use Rattle.relay_core.specs.declared.step.Step.TheVariants as step
+use Rattle.relay_core.proofs.BoolLemmas.{clash}
+use Rattle.relay_core.proofs.KeepLemmas.{goes_then}
+use Rattle.relay_exchange.specs.Exchange.{IsSilentLink}
+use Rattle.relay_exchange.proofs.RoundLemmas.{behind, all_round, passed_first, passed_more, met, comes_first, silent_link}
+use Rattle.relay_exchange.proofs.round.go_round.Given.{Over}
 use Rattle.relay_exchange.proofs.round.go_round.Goals as goal
+
+pub loop-turn-init : goal.loop-turn-init
+loop-turn-init g c =
+    let t = c.step-step in
+    let first = c.in-Some.first in
+    let client = g.D.Down.link c.args.client.now in
+    let up = g.U.Up.link c.args.up.now in
+    let at : State =
+    core c.args.duplex.now (g.D.Down.state c.args.down.now) (g.U.Up.state c.args.up.now) in
+    let On : Origin → DownPast → UpPast → Step → Type 0 = λ s p q r.
+    Goes (g.D.Down.past t.new.down t.new.client s) (g.D.Down.blames t.new.down t.new.client s)
+    (g.D.Down.refuses t.new.down t.new.client s)
+    (g.D.Down.cannot_end t.new.down t.new.client s) (g.U.Up.past t.new.up s)
+    (g.U.Up.blames t.new.up s) p q
+    (core t.new.self (g.D.Down.state t.new.down) (g.U.Up.state t.new.up)) r in
+    let Says : Step → Type 0 = λ r. Tells r t.new.self in
+    let Silent : Branch → Type 0 = λ b. enabled at b ≡ true → is_silent_for client up b ≡ true in
+    let silent : t.result ≡ step.Waited pause.Silent = c.if-not-is_silent.ensures.yes refl in
+    let m = t.ensures.silent silent in (
+      λ s p q f. subst (On s p q) silent (t.ensures.goes s p q f),
+      subst Says silent t.ensures.tells,
+      m.client_same,
+      m.upstream_same,
+      t.ensures.rests pause.Silent silent,
+      passed_first Silent first (λ on. met first client client _ up up _ refl refl m),
+      t.ensures.client_start,
+      t.ensures.peer_start,
+    )
+
+pub loop-turn-preserved-then-not-enabled : goal.loop-turn-preserved-then-not-enabled
+loop-turn-preserved-then-not-enabled g c =
+    let i = c.loop-turn.invariant in
+    let first = c.in-Some.first in
+    let at : State =
+    core c.args.duplex.now (g.D.Down.state c.args.down.now) (g.U.Up.state c.args.up.now) in
+    let Silent : Branch → Type 0 = λ b. enabled at b ≡ true
+    → is_silent_for (g.D.Down.link c.args.client.now) (g.U.Up.link c.args.up.now) b ≡ true in (
+      i.0,
+      i.1,
+      i.2,
+      i.3,
+      i.4,
+      passed_more Silent first _ c.loop-turn.turn _ refl i.5
+          (ap (λ (n : ℕ). get_or BRANCHES ((n + c.loop-turn.turn) % 13) branch.UpWrite)
+          (sym c.place.ensures))
+          (λ on. clash _ (i.4 _ ∙ on) (sym c.enabled.ensures ∙ c.if-not-enabled.true)),
+      i.6,
+      i.7,
+    )
 
 pub returns-then-not-is_silent-2-clause-goes : goal.returns-then-not-is_silent-2-clause-goes
 returns-then-not-is_silent-2-clause-goes g c =
     λ s p q f _ _.
     let before = c.loop-turn.invariant.0 s p q f in
-    c.step-step-in-loop-turn.ensures.goes s before.p before.q before.so_far
+    goes_then _ _ _ _ _ _ p before.p q before.q _ _ before.extends
+    (c.step-step-in-loop-turn.ensures.goes s before.p before.q before.so_far)
 
 pub loop-turn-preserved : goal.loop-turn-preserved
 loop-turn-preserved g c =
+    let i = c.loop-turn.invariant in
     let t = c.step-step-in-loop-turn in
-    let On : Origin → Step → Type 0 = λ s r.
+    let first = c.in-Some.first in
+    let client = g.D.Down.link c.args.client.now in
+    let up = g.U.Up.link c.args.up.now in
+    let at : State =
+    core c.args.duplex.now (g.D.Down.state c.args.down.now) (g.U.Up.state c.args.up.now) in
+    let On : Origin → DownPast → UpPast → Step → Type 0 = λ s p q r.
     Goes (g.D.Down.past t.new.down t.new.client s) (g.D.Down.blames t.new.down t.new.client s)
     (g.D.Down.refuses t.new.down t.new.client s)
     (g.D.Down.cannot_end t.new.down t.new.client s) (g.U.Up.past t.new.up s)
-    (g.U.Up.blames t.new.up s)
+    (g.U.Up.blames t.new.up s) p q
     (core t.new.self (g.D.Down.state t.new.down) (g.U.Up.state t.new.up)) r in
     let Says : Step → Type 0 = λ r. Tells r t.new.self in
-    let silent : t.result ≡ step.Waited pause.Silent = c.if-not-is_silent-2.ensures.yes refl in (
+    let Silent : Branch → Type 0 = λ b. enabled at b ≡ true → is_silent_for client up b ≡ true in
+    let silent : t.result ≡ step.Waited pause.Silent = c.if-not-is_silent-2.ensures.yes refl in
+    let m = t.ensures.silent silent in (
       λ s p q f.
-          let before = c.loop-turn.invariant.0 s p q f in
-          subst (On s) silent (t.ensures.goes s before.p before.q before.so_far),
+          let before = i.0 s p q f in
+          goes_then _ _ _ _ _ _ p before.p q before.q _ _ before.extends
+          (subst (On s before.p before.q) silent
+          (t.ensures.goes s before.p before.q before.so_far)),
       subst Says silent t.ensures.tells,
-      t.ensures.silent silent,
-      t.ensures.calm (ap says_failed silent) ∙ c.loop-turn.invariant.3,
-      t.ensures.client_start ∙ c.loop-turn.invariant.4,
-      t.ensures.peer_start ∙ c.loop-turn.invariant.5,
+      m.client_same ∙ i.2,
+      m.upstream_same ∙ i.3,
+      λ b. t.ensures.rests pause.Silent silent b ∙ i.4 b,
+      passed_more Silent first _ c.loop-turn.turn _ refl i.5
+          (ap (λ (n : ℕ). get_or BRANCHES ((n + c.loop-turn.turn) % 13) branch.UpWrite)
+          (sym c.place.ensures))
+          (λ on. met _ client _ _ up _ _ i.2 i.3 m),
+      t.ensures.client_start ∙ i.6,
+      t.ensures.peer_start ∙ i.7,
     )
 
-pub returns-then-not-is_silent-2-clause-calm : goal.returns-then-not-is_silent-2-clause-calm
-returns-then-not-is_silent-2-clause-calm g c =
-    λ none. c.step-step-in-loop-turn.ensures.calm none ∙ c.loop-turn.invariant.3
+pub returns-clause-quiet : goal.returns-clause-quiet
+returns-clause-quiet g c = λ _.
+    let i = c.loop-turn.invariant in
+    let first = c.in-Some.first in
+    let client = g.D.Down.link c.args.client.now in
+    let up = g.U.Up.link c.args.up.now in
+    let at : State =
+    core c.args.duplex.now (g.D.Down.state c.args.down.now) (g.U.Up.state c.args.up.now) in
+    let Silent : Branch → Type 0 = λ b. enabled at b ≡ true → is_silent_for client up b ≡ true in
+    let Met : LinkState → LinkState → Branch → Type 0 = λ l k b. is_silent_for l k b ≡ true in (
+      λ b on.
+          subst (λ (l : LinkState). Met l (g.U.Up.link c.loop-turn.up) b) (sym i.2)
+          (subst (λ (k : LinkState). Met client k b) (sym i.3)
+          (all_round Silent first c.loop-turn.turn (omega (arith, c.loop-turn-test.false)) i.5 b
+          (sym (i.4 b) ∙ on))),
+      i.2,
+      i.3,
+    )
+
+pub returns-clause-silent : goal.returns-clause-silent
+returns-clause-silent g c = λ _.
+    let i = c.loop-turn.invariant in
+    let first = c.in-Some.first in
+    let client = g.D.Down.link c.args.client.now in
+    let up = g.U.Up.link c.args.up.now in
+    let at : State =
+    core c.args.duplex.now (g.D.Down.state c.args.down.now) (g.U.Up.state c.args.up.now) in
+    let Silent : Branch → Type 0 = λ b. enabled at b ≡ true → is_silent_for client up b ≡ true in
+    let Some_link : LinkState → LinkState → Type 0 =
+    λ l k. IsSilentLink l ⊎ IsSilentLink k in
+    subst (λ (l : LinkState). Some_link l (g.U.Up.link c.loop-turn.up)) (sym i.2)
+    (subst (λ (k : LinkState). Some_link client k) (sym i.3)
+    (silent_link client up first
+    (all_round Silent first c.loop-turn.turn (omega (arith, c.loop-turn-test.false)) i.5 first
+    c.in-Some.ensures.can)))

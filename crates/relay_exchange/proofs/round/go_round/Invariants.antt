@@ -1,26 +1,33 @@
--- So far each branch that was taken found its link silent, and the exchange goes on.
-use Rattle.std.proofs.Common.{◌≡◌, ◌⊎◌}
+-- So far each branch that was taken found its link silent, which changed nothing, and the exchange
+-- goes on.
+use Rattle.std.proofs.Common.{◌≡◌, ℕ, ◌<◌, true}
 use Rattle.relay_tasks.specs.declared.took.Pause.TheVariants as pause
+use Rattle.relay_links.specs.declared.branch.Branch.{Branch}
+use Rattle.relay_core.specs.Asked.{is_silent_for}
 use Rattle.relay_core.specs.Causes.{Tells}
 use Rattle.relay_core.specs.Moves.{SoFar, Goes}
 use Rattle.relay_core.specs.Past.{Origin, DownPast, UpPast}
-use Rattle.relay_core.specs.Table.{core}
+use Rattle.relay_core.specs.Table.{State, core, enabled}
 use Rattle.relay_core.specs.declared.step.Step.TheVariants as step
+use Rattle.relay_exchange.proofs.RoundLemmas.{behind}
 use Rattle.relay_exchange.proofs.round.go_round.Given as goal
 
 abbrev pub invariant-loop-turn : goal.invariant-loop-turn
 invariant-loop-turn g l =
+    let at_first : State =
+    core l.fn.duplex (g.D.Down.state l.fn.down) (g.U.Up.state l.fn.up) in
+    let at : State = core l.duplex (g.D.Down.state l.down) (g.U.Up.state l.up) in
     ((s : Origin) (p : DownPast) (q : UpPast)
     → SoFar (g.D.Down.past l.fn.down l.fn.client s) (g.U.Up.past l.fn.up s)
-    (g.U.Up.blames l.fn.up s)
-    (core l.fn.duplex (g.D.Down.state l.fn.down) (g.U.Up.state l.fn.up)) p q
+    (g.U.Up.blames l.fn.up s) at_first p q
     → Goes (g.D.Down.past l.down l.client s) (g.D.Down.blames l.down l.client s)
     (g.D.Down.refuses l.down l.client s) (g.D.Down.cannot_end l.down l.client s)
-    (g.U.Up.past l.up s) (g.U.Up.blames l.up s)
-    (core l.duplex (g.D.Down.state l.down) (g.U.Up.state l.up))
-    (step.Waited pause.Silent))
+    (g.U.Up.past l.up s) (g.U.Up.blames l.up s) p q at (step.Waited pause.Silent))
     × Tells (step.Waited pause.Silent) l.duplex
-    × (g.D.Down.is_silent l.client ⊎ g.U.Up.is_silent l.up)
-    × (g.D.Down.faults l.client ≡ g.D.Down.faults l.fn.client)
+    × (g.D.Down.link l.client ≡ g.D.Down.link l.fn.client)
+    × (g.U.Up.link l.up ≡ g.U.Up.link l.fn.up)
+    × ((b : Branch) → enabled at b ≡ enabled at_first b)
+    × ((k : ℕ) → k < l.turn → enabled at_first (behind l.first k) ≡ true
+    → is_silent_for (g.D.Down.link l.fn.client) (g.U.Up.link l.fn.up) (behind l.first k) ≡ true)
     × (g.D.Down.start l.client ≡ g.D.Down.start l.fn.client)
     × (g.U.Up.start l.up ≡ g.U.Up.start l.fn.up)

@@ -8,9 +8,10 @@ pub returns-clause-answer : goal.returns-clause-answer
 returns-clause-answer g c =
     let end = c.args.end in
     let all = c.as_mut_slice.result.now in
-    let room = c.read.new.room in
+    let room = c.ask.new.room in
     let after = put_mid end (end + 16384 - end) all room in
     let buffer = c.args.buffer.now in
+    let size : length room ≡ 16384 = search (rules, places) in
     let front : length (take end all) ≡ end = length-take-le end all (search (rules, places)) in
     let behind : (n : ℕ) → n ≤ length room → take (end + n) after ≡ take end buffer.items ++ take n
     room =
@@ -19,5 +20,5 @@ returns-clause-answer g c =
     ∙ ap (λ x. take end x ++ take n room) c.as_mut_slice.ensures.value
     in
     rw (with_items_is buffer after (search (rules, places)))
-    (ReadsMore-room _ _ (take end buffer.items) room after end c.read.result c.read.ensures.answer
+    (ReadsMore-room _ _ (take end buffer.items) room after end c.ask.result size c.ask.ensures.answer
     behind)

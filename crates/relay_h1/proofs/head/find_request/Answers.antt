@@ -8,3 +8,4 @@ returns-clause-found c =
     request_found c.args.bytes.now c.parse_request.new.headers c.in-Ok-Complete.found
     ensured.complete.0
     ensured.within ensured.complete.1 (omega arith) (omega arith) (omega arith)
+    c.requires.ends

@@ -8,7 +8,7 @@ returns-in_err-head c =
     let failure = c.in_err-head.field-0.0 in
     let is = err_is c.from_residual.result failure c.from_residual.ensures.1 in
     let answer =
-    admits_refusal c.args.text.now failure c.requires c.in_err-head.ensures.causes
+    admits_refusal c.args.text.now failure c.requires.short c.in_err-head.ensures.causes
     c.in_err-head.ensures.refused.0
     c.in_err-head.ensures.memory
     in

@@ -10,7 +10,7 @@ returns-in_err-head c =
     let failure = c.in_err-head.field-0.0 in
     let is = err_is c.from_residual.result failure c.from_residual.ensures.1 in
     let answer =
-    admits_no_answer c.args.method.now c.args.asked c.args.text.now failure c.requires
+    admits_no_answer c.args.method.now c.args.asked c.args.text.now failure c.requires.short
     c.in_err-head.ensures.causes
     c.in_err-head.ensures.refused.0 c.in_err-head.ensures.memory
     in

@@ -3,8 +3,9 @@ use Rattle.std.proofs.lemmas.List.{length-take-le}
 use Rattle.relay_tasks.specs.declared.context.Context.TheVariants.{HeadTooLong}
 use Rattle.relay_tasks.specs.declared.error.Error.{Error}
 use Rattle.relay_tasks.specs.declared.error.ErrorSource.TheVariants.{Upstream}
+use Rattle.relay_h1.specs.Head.{IsOneHead}
 use Rattle.relay_h1.specs.Verdict as verdict
-use Rattle.relay_h1.proofs.HeadEndLemmas.{head_end-within}
+use Rattle.relay_h1.proofs.HeadEndLemmas.{head_end-within, head_end-take}
 use Rattle.relay_h1.proofs.JudgeLemmas.{judges_response, judges_no_response}
 use Rattle.relay_h1.proofs.verdict.judge_response.Goals as goal
 
@@ -15,6 +16,14 @@ slice_bounds-admit_response-end c =
     let place = rw c.in-Ok-Some.field-0-is at c.in-Ok-Some.ensures.place in
     let same : c.bytes.result.now ≡ bytes = c.bytes.ensures ∙ c.locate_head.ensures.same in
     rw same (sym (length-take-le len bytes (head_end-within bytes len place.0).1))
+
+pub admit_response-requires-clause-ends : goal.admit_response-requires-clause-ends
+admit_response-requires-clause-ends c =
+    let bytes = c.args.ahead.now in
+    let len = c.in-Ok-Some.len in
+    let place = rw c.in-Ok-Some.field-0-is at c.in-Ok-Some.ensures.place in
+    let same : c.bytes.result.now ≡ bytes = c.bytes.ensures ∙ c.locate_head.ensures.same in
+    subst (λ (b : List ℕ). IsOneHead (take len b)) (sym same) (head_end-take bytes len place.0)
 
 pub returns-in-Ok-clause-verdict : goal.returns-in-Ok-clause-verdict
 returns-in-Ok-clause-verdict c =

@@ -19,3 +19,14 @@ returns-in-Informed-clause-ends c = λ method given told ahead still none.
 pub returns-in-InBody-clause-ends : goal.returns-in-InBody-clause-ends
 returns-in-InBody-clause-ends c = λ method given told ahead still none.
     c.end_of_body.ensures.ends method given told ahead (rw c.in-InBody.is at still)
+
+pub returns-in-NoHead-clause-cuts : goal.returns-in-NoHead-clause-cuts
+returns-in-NoHead-clause-cuts c = λ bytes rest. rw c.in-NoHead.is (c.cut_off.ensures.cuts bytes rest)
+
+pub returns-in-Informed-clause-cuts : goal.returns-in-Informed-clause-cuts
+returns-in-Informed-clause-cuts c = λ bytes rest.
+    rw c.in-Informed.is (c.cut_off-in-Informed.ensures.cuts bytes rest)
+
+pub returns-in-InBody-clause-cuts : goal.returns-in-InBody-clause-cuts
+returns-in-InBody-clause-cuts c = λ bytes rest.
+    rw c.in-InBody.is (c.end_of_body.ensures.cuts bytes rest)

@@ -1,8 +1,9 @@
 -- What the reader of the body answers, as a step of the response.
-use Rattle.std.proofs.Common.{refl, sym, ap, ◌∙◌, ◌+◌, ◌++◌, drop}
+use Rattle.std.proofs.Common.{refl, sym, ap, ◌∙◌, ◌+◌, ◌++◌, drop, subst, Bool}
 use Rattle.relay_tasks.specs.declared.context.Context.TheVariants.{BadFraming}
 use Rattle.relay_tasks.specs.declared.error.Error.{Error}
 use Rattle.relay_tasks.specs.declared.error.ErrorSource.TheVariants.{Upstream}
+use Rattle.relay_h1.specs.BodyReader.{TakesPiece}
 use Rattle.relay_peer.proofs.ResponseLemmas.{body_ended, body_ended_here, body_goes_on, body_stays, body_open, body_broken, run_goes_on}
 use Rattle.relay_peer.proofs.response_reading.find_piece.Goals as goal
 
@@ -78,3 +79,22 @@ returns-in-Failed-Error-clause-finds c = λ method closed given told here.
       is_broken.says_so,
       is_broken.read,
     )
+
+pub returns-in-Piece-default-true-clause-cuts : goal.returns-in-Piece-default-true-clause-cuts
+returns-in-Piece-default-true-clause-cuts c =
+    let here = c.in-Piece-default-true in (
+      c.take.new.self,
+      subst (λ (end : Bool). TakesPiece c.args.body.reader c.args.ahead.now here.piece end
+          c.take.new.self c.take.new.ahead) here.field-1-test here.ensures.answer,
+    )
+
+pub returns-in-Piece-default-false-clause-cuts : goal.returns-in-Piece-default-false-clause-cuts
+returns-in-Piece-default-false-clause-cuts c =
+    let here = c.in-Piece-default-false in (
+      c.take.new.self,
+      subst (λ (end : Bool). TakesPiece c.args.body.reader c.args.ahead.now here.piece end
+          c.take.new.self c.take.new.ahead) here.field-1-test here.ensures.answer,
+    )
+
+pub returns-in-More-clause-cuts : goal.returns-in-More-clause-cuts
+returns-in-More-clause-cuts c = c.in-More.ensures.takes

@@ -1,6 +1,10 @@
-use Rattle.relay_session.proofs.WireSteps.{KeepsFront-shorter}
+use Rattle.relay_session.specs.TaskWire.{framing_of, shown}
+use Rattle.relay_session.proofs.WireSteps.{pushed_final}
 use Rattle.relay_session.proofs.task_text.push_final.Goals as goal
 
-pub returns-clause-front : goal.returns-clause-front
-returns-clause-front c =
-    KeepsFront-shorter _ _ _ _ c.in_ok-write_response_head.ensures.ok c.push_piece.ensures.front
+pub returns-in-Ok-clause-ok : goal.returns-in-Ok-clause-ok
+returns-in-Ok-clause-ok c =
+    pushed_final c.push_framed.result (framing_of c.args.request.now c.args.head) c.in-Ok.framing
+    (shown c.args.request.now c.args.head) c.frame.new.head c.args.ends c.args.out.now.items
+    c.push_framed.new.out.items c.in-Ok.ensures.framing c.in-Ok.ensures.head
+    c.push_framed.ensures.ok

@@ -4,6 +4,7 @@ use Rattle.relay_core.proofs.CauseLemmas.{step_cause, step_keeps}
 use Rattle.relay_core.proofs.DoneLemmas.{step_ends_request, step_ends_response, response_full}
 use Rattle.relay_core.proofs.EndLemmas.{step_tells}
 use Rattle.relay_core.proofs.SoundLemmas.{step_sound}
+use Rattle.relay_core.proofs.StillLemmas.{wait_enabled}
 use Rattle.relay_core.proofs.duplex.Duplex.step.Goals as goal
 
 pub returns-clause-cause : goal.returns-clause-cause
@@ -98,3 +99,17 @@ returns-clause-sound g c =
       up = g.U.Up.state c.step_by.new.up;
     } in
     step_sound c.args.branch old new c.step_by.result c.requires c.step_by.ensures.exact
+
+pub returns-clause-rests : goal.returns-clause-rests
+returns-clause-rests g c =
+    let old : State = record {
+      duplex = c.args.self.now;
+      down = g.D.Down.state c.args.down.now;
+      up = g.U.Up.state c.args.up.now;
+    } in
+    let new : State = record {
+      duplex = c.step_by.new.self;
+      down = g.D.Down.state c.step_by.new.down;
+      up = g.U.Up.state c.step_by.new.up;
+    } in
+    wait_enabled c.args.branch old new c.step_by.result c.step_by.ensures.exact

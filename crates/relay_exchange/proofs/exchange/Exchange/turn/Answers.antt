@@ -1,5 +1,5 @@
 -- A turn by the stage: the head is being sent, or both bodies flow.
-use Rattle.std.proofs.Common.{subst}
+use Rattle.std.proofs.Common.{refl, subst}
 use Rattle.relay_exchange.specs.Exchange.{StageHolds}
 use Rattle.relay_exchange.specs.declared.exchange.Stage.{Stage}
 use Rattle.relay_exchange.proofs.exchange.Exchange.turn.Goals as goal
@@ -22,3 +22,8 @@ returns-in-Bodies-clause-goes g c =
     (g.F.Front.state c.args.client.now) (g.F.Front.ahead c.args.client.now) c.args.self.now.client
     c.args.self.now.peer at in
     c.move_bodies.ensures.goes s u.down u.up (subst At c.in-Bodies.is u.holds)
+
+pub returns-in-Head-clause-quiet : goal.returns-in-Head-clause-quiet
+returns-in-Head-clause-quiet g c = λ is.
+    let quiet = c.send_head.ensures.quiet is (g.F.Front.state c.args.client.now) in
+    record { silent = quiet.0; client_same = refl; peer_same = quiet.1 }

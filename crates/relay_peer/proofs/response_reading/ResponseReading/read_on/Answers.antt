@@ -18,6 +18,7 @@ returns-in-Ok-Bytes-clause-reads g c =
     link_gives c.args.method.now (g.L.ByteLink.state c.args.link.now)
     (g.L.ByteLink.state c.read_from.new.link) c.args.self.now c.find_again.new.self
     c.read_from.new.self c.in-Ok-Bytes.field-0-0 c.find_again.result more c.find_again.ensures.finds
+    c.find_again.ensures.cuts
 
 pub returns-in-Ok-NotReady-clause-reads : goal.returns-in-Ok-NotReady-clause-reads
 returns-in-Ok-NotReady-clause-reads g c =
@@ -39,6 +40,7 @@ returns-in-Ok-End-clause-reads g c =
     link_ends c.args.method.now (g.L.ByteLink.state c.args.link.now)
     (g.L.ByteLink.state c.read_from.new.link) c.args.self.now c.end.new.self c.read_from.new.self
     c.end.result (more.0, refl) more.0.ended more.1 c.end.ensures.ends
+    c.end.ensures.cuts
 
 pub returns-in-Ok-Failed-clause-reads : goal.returns-in-Ok-Failed-clause-reads
 returns-in-Ok-Failed-clause-reads g c =

@@ -12,4 +12,4 @@ loop-task-preserved c =
     c.take_first.new.self c.in-Some.task
     (subst (λ (l : List HttpTask). HasQueued c.args.self.now c.loop-task.self c.args.tasks l)
     c.in-Some.ensures c.loop-task.invariant)
-    c.in_ok-queue_task.ensures.ok c.in_ok-queue_task.ensures.keeps
+    c.in_ok-queue_task.ensures.ok

@@ -14,7 +14,6 @@ returns-in-Ok-clause-goes g c = λ client s p h.
     ends_on s p _ _ c.args.self.now.session c.finish_body.new.self c.args.self.now.done
     c.args.self.now.finished c.args.self.now.broken c.if-self.false h
     (ap (λ (x : HttpSession). x.reading) c.finish_body.ensures.reading) c.in-Ok.ensures.ok
-    c.in-Ok.ensures.keeps
 
 pub returns-in-Err-clause-goes : goal.returns-in-Err-clause-goes
 returns-in-Err-clause-goes g c = λ client s p h.

@@ -4,7 +4,7 @@ use Rattle.std.specs.Prelude.{◌&&◌}
 use Rattle.relay_session.specs.Reading.{is_body_done}
 use Rattle.relay_session.specs.declared.session.HttpSession.{HttpSession}
 use Rattle.relay_sides.proofs.ClientPast.{no_head}
-use Rattle.relay_sides.proofs.ClientRead.{Left, twice, open_behind, reads_state, reads_silent, reads_on}
+use Rattle.relay_sides.proofs.ClientRead.{Left, twice, open_behind, reads_state, reads_silent, reads_waits, reads_on}
 use Rattle.relay_sides.proofs.client_side.ClientSideDown.read_piece.Given.{Over}
 use Rattle.relay_sides.proofs.client_side.ClientSideDown.read_piece.Goals as goal
 
@@ -47,6 +47,13 @@ returns-clause-silent g c =
     rw c.piece_answer-piece.ensures
     (λ is.
     reads_silent _ _ c.read_body_or_idle-took.result c.is_body_done.result
+    c.read_body_or_idle-took.ensures.link is)
+
+pub returns-clause-waits : goal.returns-clause-waits
+returns-clause-waits g c =
+    rw c.piece_answer-piece.ensures
+    (λ is.
+    reads_waits _ _ c.read_body_or_idle-took.result c.is_body_done.result
     c.read_body_or_idle-took.ensures.link is)
 
 pub returns-then-not-has_head-clause-goes : goal.returns-then-not-has_head-clause-goes

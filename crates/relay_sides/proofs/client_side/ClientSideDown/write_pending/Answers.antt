@@ -2,7 +2,7 @@
 use Rattle.std.proofs.Common.{refl, ap}
 use Rattle.relay_session.specs.declared.session.HttpSession.{HttpSession}
 use Rattle.relay_sides.specs.Client as client
-use Rattle.relay_sides.proofs.ClientWrite.{may_write, waits_open, fails_again, writes_on, writes_state, writes_silent}
+use Rattle.relay_sides.proofs.ClientWrite.{may_write, waits_open, fails_again, writes_on, writes_state, writes_silent, writes_waits, writes_some}
 use Rattle.relay_sides.proofs.client_side.ClientSideDown.write_pending.Goals as goal
 
 pub write_pending-put-requires : goal.write_pending-put-requires
@@ -44,3 +44,18 @@ returns-in-None-clause-silent g c =
     c.write_pending-put.new.self.writing.output c.write_pending-put.result
     (waits_open _ c.args.self.now.broken c.in-None.is c.requires)
     c.write_pending-put.ensures.answer
+
+pub returns-in-None-clause-waits : goal.returns-in-None-clause-waits
+returns-in-None-clause-waits g c =
+    writes_waits _ _ c.args.self.now.session.writing.output
+    c.write_pending-put.new.self.writing.output c.write_pending-put.result
+    (waits_open _ c.args.self.now.broken c.in-None.is c.requires)
+    c.write_pending-put.ensures.answer
+
+pub returns-in-None-clause-some : goal.returns-in-None-clause-some
+returns-in-None-clause-some g c =
+    λ n is.
+    writes_some _ _ c.args.self.now.session.writing.output
+    c.write_pending-put.new.self.writing.output c.write_pending-put.result n
+    (waits_open _ c.args.self.now.broken c.in-None.is c.requires)
+    c.write_pending-put.ensures.answer is

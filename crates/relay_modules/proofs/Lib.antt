@@ -1,0 +1,2 @@
+mod FilteringLemmas
+mod NoteLemmas

@@ -1,0 +1,11 @@
+use Rattle.std.proofs.Common.{[], ◌∷◌}
+use Rattle.std.proofs.lemmas.Result.{err_from_is_err_and}
+use Rattle.relay_modules.proofs.NoteLemmas.{FailsToWrite-memory}
+use Rattle.relay_modules.proofs.session.Session.write_one.Goals as goal
+
+pub returns-in_err-push-clause-err : goal.returns-in_err-push-clause-err
+returns-in_err-push-clause-err g c =
+    let failure = err_from_is_err_and c.from_residual.result c.from_residual.ensures.1 in
+    rw (failure.1, failure.2)
+    (FailsToWrite-memory (g.M.HttpModule.allows c.args.self.now.modules) (c.args.task ∷ [])
+    c.args.self.now.seen _ c.in_err-push.ensures.memory)

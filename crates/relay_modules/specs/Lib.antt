@@ -1,0 +1,4 @@
+pub mod Filtering
+pub mod Lent
+pub mod Module
+pub mod Seen
