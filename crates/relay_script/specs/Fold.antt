@@ -1,5 +1,5 @@
 -- The rules of a hook, one after the other.
-use Rattle.std.specs.Prelude.{◌≡◌, if◌then◌else◌, List, [], ◌∷◌, Option, Some, None, Result, Ok, Err}
+use Rattle.std.specs.Prelude.{◌≡◌, Bool, true, if◌then◌else◌, List, [], ◌∷◌, Option, Some, None, Result, Ok, Err}
 use Rattle.relay_tasks.specs.declared.error.Error.{Error}
 use Rattle.relay_tasks.specs.declared.error.Fail.{Fail}
 use Rattle.relay_tasks.specs.declared.error.Fail.TheVariants as fail
@@ -41,6 +41,11 @@ apply_rules act hook (rule ∷ rules) x =
     if same_hook rule.hook hook
     then apply_rules act hook rules (act rule.action x)
     else apply_rules act hook rules x
+
+-- an action that may stand leaves what the test tells
+abbrev pub Keeps : {X : Type 0} → (Action → X → Outcome X) → (Action → Bool) → (X → Bool) → Type 0
+Keeps {X} act may test =
+    (action : Action) (x : X) → may action ≡ true → test (act action x).left ≡ test x
 
 -- a call answered so and left that, want of memory aside
 abbrev pub Answers : {X : Type 0} → Result Unit Fail → X → Outcome X → Type 0

@@ -1,6 +1,8 @@
 //! What the rules of a filter change: heads, pieces of a body, messages (RFC 9110, section 6).
-ghost use Rattle.std.specs.Prelude.{◌≡◌, ◌++◌, OnOk, IsOkUnless};
-ghost use Rattle.relay_script.specs.Fold.{Answers, Outcome, run_rules};
+ghost use Rattle.std.specs.Prelude.{◌≡◌, ◌++◌, Bool, true, IfOk, OnErr, IsOkUnless};
+ghost use Rattle.std.specs.List.{list_all};
+ghost use Rattle.relay_script.specs.Fold.{Answers, Keeps, Outcome, run_rules};
+ghost use Rattle.relay_script.specs.declared.rule.Action.{Action};
 
 use crate::rule::{Action, Rule};
 use bytes::Bytes;
@@ -10,19 +12,23 @@ use relay_tasks::{
 
 /// A value that rules change, and at which a rule may fail.
 pub trait Filtered {
-    ghost use Rattle.relay_script.specs.declared.rule.Action.{Action};
-
     /// What an action makes of the value.
     ghost changed: { Action → Self → Outcome Self };
 
-    /// Does what the action says. Want of memory leaves any value.
+    /// Does what the action says. Where it fails the value stays as it was.
     fn change(&mut self, action: &Action) -> Result<()>
-        ensures { Answers result self.new (changed action.now self.old) };
+        ensures answers { Answers result self.new (changed action.now self.old) }
+        ensures err { OnErr result (self.new ≡ self.old) };
 }
 
 /// Runs the rules of the hook in order, up to the first that fails.
+///
+/// Where memory is wanted, some of the rules may have changed the value. Whatever it answers, what
+/// no rule changes stays.
 pub fn run_rules<T: Filtered>(rules: &[Rule], hook: Hook, value: &mut T) -> Result<()>
-    ensures { Answers result value.new (run_rules T.changed hook rules.now value.old) }
+    ensures answers { Answers result value.new (run_rules T.changed hook rules.now value.old) }
+    ensures keeps { (may : Action → Bool) (test : T → Bool) → Keeps T.changed may test
+        → list_all (λ rule. may rule.action) rules.now ≡ true → test value.new ≡ test value.old }
 {
     for rule in rules {
         if rule.is_on(hook) {
@@ -110,8 +116,13 @@ impl Filtered for Injected {
     fn change(&mut self, action: &Action) -> Result<()> {
         match action {
             Action::Inject { up, down } => {
-                append(&mut self.to_upstream, up)?;
-                append(&mut self.to_downstream, down)
+                let to_upstream = joined(&self.to_upstream, up)?;
+                let to_downstream = joined(&self.to_downstream, down)?;
+                *self = Injected {
+                    to_upstream,
+                    to_downstream,
+                };
+                Ok(())
             }
             Action::Error(etype) => Err(Fail::Error(Error::new(*etype))),
             _ => Ok(()),
@@ -119,14 +130,15 @@ impl Filtered for Injected {
     }
 }
 
-/// Adds the messages at the end.
-fn append(list: &mut MessageList, more: &MessageList) -> Result<()>
-    ensures ok { OnOk result (list.new ≡ list.old ++ more.now) }
+/// The messages of both lists in order.
+fn joined(list: &MessageList, more: &MessageList) -> Result<MessageList>
+    ensures ok { IfOk result (λ joined. joined ≡ list.now ++ more.now) }
     ensures memory { IsOkUnless result Fail.OutOfMemory }
 {
+    let mut joined = list.copy()?;
     let mut rest = more.copy()?;
     while let Some(message) = rest.take_first() {
-        list.push(message)?;
+        joined.push(message)?;
     }
-    Ok(())
+    Ok(joined)
 }

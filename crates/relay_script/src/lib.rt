@@ -3,10 +3,12 @@
 
 mod answered;
 mod check;
+mod checked;
 mod filtered;
 mod rule;
 
 pub use answered::{Answered, apply_rules};
 pub use check::{RuleError, RuleFault, check_rules, may_stand};
+pub use checked::CheckedRules;
 pub use filtered::{Filtered, run_rules};
 pub use rule::{Action, Rule};

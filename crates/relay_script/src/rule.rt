@@ -1,10 +1,10 @@
 //! Rules: what a script does at a hook.
-ghost use Rattle.std.specs.Prelude.{◌≡◌};
+ghost use Rattle.std.specs.Prelude.{◌≡◌, IfOk, IsOkUnless};
 ghost use Rattle.relay_script.specs.Hooks.{same_hook};
 
 use bytes::Bytes;
 use http_header::{HeaderName, HeaderValue};
-use relay_tasks::{ErrorType, Hook, MessageList, RetryType};
+use relay_tasks::{ErrorType, Fail, Hook, MessageList, Result, RetryType};
 
 /// What a rule does.
 #[derive(Drop)]
@@ -44,6 +44,39 @@ pub enum Action {
     },
 }
 
+impl Action {
+    /// An equal action.
+    pub fn copy(&self) -> Result<Action>
+        ensures ok { IfOk result (λ copy. copy ≡ self.now) }
+        ensures memory { IsOkUnless result Fail.OutOfMemory }
+    {
+        match self {
+            Action::Set { name, value } => Ok(Action::Set {
+                name: name.clone()?,
+                value: value.clone()?,
+            }),
+            Action::Remove { name } => Ok(Action::Remove {
+                name: name.clone()?,
+            }),
+            Action::Status(code) => Ok(Action::Status(*code)),
+            Action::Drop => Ok(Action::Drop),
+            Action::Text(text) => Ok(Action::Text(text.clone()?)),
+            Action::Answer { code, say } => Ok(Action::Answer {
+                code: *code,
+                say: *say,
+            }),
+            Action::Error(etype) => Ok(Action::Error(*etype)),
+            Action::Retry(mark) => Ok(Action::Retry(*mark)),
+            Action::Say(say) => Ok(Action::Say(*say)),
+            Action::Keep(value) => Ok(Action::Keep(*value)),
+            Action::Inject { up, down } => Ok(Action::Inject {
+                up: up.copy()?,
+                down: down.copy()?,
+            }),
+        }
+    }
+}
+
 /// An action at a hook.
 #[derive(Drop)]
 pub struct Rule {
@@ -57,5 +90,17 @@ impl Rule {
         ensures { result ≡ same_hook self.now.hook hook }
     {
         self.hook == hook
+    }
+
+    /// An equal rule.
+    pub fn copy(&self) -> Result<Rule>
+        ensures ok { IfOk result (λ copy. copy ≡ self.now) }
+        ensures memory { IsOkUnless result Fail.OutOfMemory }
+    {
+        let action = self.action.copy()?;
+        Ok(Rule {
+            hook: self.hook,
+            action,
+        })
     }
 }
