@@ -67,7 +67,7 @@ impl Filtered for ResponseHeader {
         match action {
             Action::Set { name, value } => self.insert_header(name.clone()?, value.clone()?),
             Action::Remove { name } => {
-                let _removed = self.remove_header(name);
+                let _first = self.remove_header(name);
                 Ok(())
             }
             Action::Status(code) => {
