@@ -1,20 +1,16 @@
 -- What checked rules keep of a head that they change.
-use Rattle.std.proofs.Common.{◌≡◌, ℕ, ◌+◌, ◌<◌, ◌≤◌, true, false, List, [], ◌∷◌, refl, inl, inr, arith}
+use Rattle.std.proofs.Common.{◌≡◌, ℕ, ◌+◌, true, false, List, [], ◌∷◌, refl, inl, inr, arith}
 use Rattle.std.proofs.lemmas.Bool.{cases_Bool}
 use Rattle.std.proofs.lemmas.Bool.Decides.{nat_tests}
 use Rattle.std.specs.List.{list_all}
-use Rattle.std.specs.Prelude.{Bool, not, ◌&&◌, ◌||◌, ◌==◌, nat_le, nat_lt, if◌then◌else◌, Option, Some, None, Result, Ok, Err, is_none, is_ok, ◌⊎◌}
-use Rattle.relay_tasks.specs.Head.{ResponseHead}
-use Rattle.relay_tasks.specs.declared.hook.Hook.{Hook}
+use Rattle.std.specs.Prelude.{Bool, not, ◌&&◌, ◌||◌, ◌==◌, nat_le, nat_lt, if◌then◌else◌, Option, Some, None, Result, is_none, is_ok}
 use Rattle.relay_script.proofs.FoldLemmas.{both_true}
 use Rattle.relay_script.specs.Actions.{has_room, informs, is_status, on_response}
-use Rattle.relay_script.specs.Fold.{Keeps, Outcome, goes_on, run_rules, followed}
-use Rattle.relay_script.specs.Hooks.{same_hook}
+use Rattle.relay_script.specs.Fold.{Keeps}
 use Rattle.relay_script.specs.Lawful.{are_lawful, fault_of, found, has_code, is_crowded, is_final_code, keeps_framing, says_end, verdict_from}
 use Rattle.relay_script.specs.Table.{may_stand}
 use Rattle.relay_script.specs.declared.check.RuleError.{RuleError}
 use Rattle.relay_script.specs.declared.check.RuleFault.{RuleFault}
-use Rattle.relay_script.specs.declared.rule.Action.{Action}
 use Rattle.relay_script.specs.declared.rule.Action.TheVariants as action
 use Rattle.relay_script.specs.declared.rule.Rule.{Rule}
 
@@ -116,7 +112,7 @@ keeps_kind (action.Status code) head ok =
       | inr final ↦ elim (cases_Bool (is_status code)) [
         | inl digits ↦ rw (final, digits) (code_is_final code ok)
         | inr none ↦ rw (final, none) final
-        ]
+      ]
     ]
 keeps_kind action.Drop head ok = refl
 keeps_kind (action.Text text) head ok = refl

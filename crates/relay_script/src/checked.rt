@@ -1,10 +1,13 @@
 //! Rules that keep all conditions.
 ghost use Rattle.std.specs.Prelude.{◌≡◌, IfOk, IfErr, Err, IsTrue, IsOkUnless};
+ghost use Rattle.relay_script.specs.Actions.{informs, on_response};
+ghost use Rattle.relay_script.specs.Fold.{Answers, run_rules};
 ghost use Rattle.relay_script.specs.Lawful.{verdict_of, are_lawful};
 
 use crate::check::{RuleError, check_rules};
+use crate::filtered::run_rules;
 use crate::rule::Rule;
-use relay_tasks::Fail;
+use relay_tasks::{Fail, Hook, ResponseHeader};
 use std::alloc::{AllocError, Global};
 use std::marker::Model;
 
@@ -52,6 +55,19 @@ impl CheckedRules {
         let rules = copy_rules(*self.rules.allocator(), self.rules.as_slice())?;
         Ok(CheckedRules { rules })
     }
+}
+
+/// Runs the rules of the hook on a response's head, up to the first that fails. Whatever it answers,
+/// a head that only informs stays one, and a final head stays one (RFC 9110, section 15.2).
+pub fn filter_response(
+    rules: &CheckedRules,
+    hook: Hook,
+    head: &mut ResponseHeader,
+) -> relay_tasks::Result<()>
+    ensures answers { Answers result head.new (run_rules on_response hook rules.now head.old) }
+    ensures kind { informs head.new.status ≡ informs head.old.status }
+{
+    run_rules(rules.as_slice(), hook, head)
 }
 
 fn copy_rules(alloc: Global, rules: &[Rule]) -> relay_tasks::Result<Vec<Rule>>

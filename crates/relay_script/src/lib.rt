@@ -11,6 +11,6 @@ mod tests;
 
 pub use answered::{Answered, apply_rules};
 pub use check::{RuleError, RuleFault, check_rules, may_stand};
-pub use checked::CheckedRules;
+pub use checked::{CheckedRules, filter_response};
 pub use filtered::{Filtered, run_rules};
 pub use rule::{Action, Rule};
