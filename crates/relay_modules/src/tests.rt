@@ -50,7 +50,7 @@ impl HttpModule for Rewrites {
 
     fn response_body_filter(&mut self, body: &mut Option<Bytes>, _end: bool) -> Result<()> {
         if let Some(piece) = body {
-            if piece.as_slice() == b"no" {
+            if piece.as_slice() == b"no".as_slice() {
                 return Err(refused());
             }
             *body = Some(Bytes::from_static(b"ho"));
@@ -103,7 +103,10 @@ fn expect_written<M>(
     let link = ScriptLink::new(alloc, Vec::new(alloc), write);
     let mut client: Connection<ScriptLink, u8> = Connection::new(alloc, link);
     if session.seen.downstream.has_pending() {
-        assert_eq!(rt; session.seen.downstream.write_pending(&mut client), Put::Took(want.len()));
+        assert_eq!(rt;
+            session.seen.downstream.write_pending(&mut client),
+            Put::Took(want.len())
+        );
     }
     assert_eq!(rt; str::from_utf8(client.link().taken()), Ok(want));
     Ok(())
@@ -141,7 +144,10 @@ fn refuses_what_speaks_of_an_upgrade(rt: HostRuntime) -> Checked {
     session.set_proxy_tasks_enabled(true);
     let error = Error::explain(ErrorType::InvalidHTTPHeader, Context::BeforeUpgrade).into_in();
     let piece = HttpTask::UpgradedBody(None, true);
-    assert_eq!(rt; session.send_downstream_proxy_task(piece), Err(Fail::Error(error)));
+    assert_eq!(rt;
+        session.send_downstream_proxy_task(piece),
+        Err(Fail::Error(error))
+    );
     assert!(rt; !session.has_pending_downstream_tasks());
     expect_written(&rt, rt.alloc(), &mut session, "")
 }
@@ -158,7 +164,8 @@ fn writes_call_by_call(rt: HostRuntime) -> Checked {
     let mut tasks = TaskList::new(rt.alloc());
     tasks.push(HttpTask::Trailer(None))?;
     assert_eq!(rt; session.write_response_tasks(tasks), Ok(true));
-    let want = "HTTP/1.1 200 OK\r\ntransfer-encoding: chunked\r\n\r\n2\r\nho\r\n3\r\nend\r\n0\r\n\r\n";
+    let want =
+        "HTTP/1.1 200 OK\r\ntransfer-encoding: chunked\r\n\r\n2\r\nho\r\n3\r\nend\r\n0\r\n\r\n";
     expect_written(&rt, rt.alloc(), &mut session, want)
 }
 
@@ -219,6 +226,7 @@ fn answers_without_the_modules(rt: HostRuntime) -> Checked {
     assert_eq!(rt; session.respond_error(500), Ok(()));
     assert_eq!(rt; session.as_downstream_mut().finish_body(), Ok(()));
     assert_eq!(rt; session.seen.wrote.len(), 2);
-    let want = "HTTP/1.1 403 Forbidden\r\nserver: Pingora\r\ncontent-length: 2\r\ncache-control: private, no-store\r\n\r\nno";
+    let want =
+        "HTTP/1.1 403 Forbidden\r\nserver: Pingora\r\ncontent-length: 2\r\ncache-control: private, no-store\r\n\r\nno";
     expect_written(&rt, rt.alloc(), &mut session, want)
 }
