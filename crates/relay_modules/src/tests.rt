@@ -50,7 +50,7 @@ impl HttpModule for Rewrites {
 
     fn response_body_filter(&mut self, body: &mut Option<Bytes>, _end: bool) -> Result<()> {
         if let Some(piece) = body {
-            if piece.as_slice() == b"no" {
+            if piece.as_slice() == b"no".as_slice() {
                 return Err(refused());
             }
             *body = Some(Bytes::from_static(b"ho"));
