@@ -1,4 +1,4 @@
-ghost use Rattle.std.specs.Prelude.{◌≡◌, ◌++◌, ◌∷◌, [], false, None, Some, OnOk, OnErr, IsTrue};
+ghost use Rattle.std.specs.Prelude.{◌≡◌, ◌++◌, ◌∷◌, [], true, false, None, Some, OnOk, OnErr, IsTrue};
 ghost use Rattle.std.specs.List.{flat_map, list_any};
 ghost use Rattle.relay_core.specs.declared.step.UpKind.TheVariants.{H1};
 ghost use Rattle.relay_core.specs.Piece.{put_of};
