@@ -37,84 +37,133 @@ fn sends_each_request_to_its_peer(rt: HostRuntime) -> Checked {
 }
 
 #[test]
-fn lets_each_request_go_on(rt: HostRuntime) -> Checked {
+fn asks_for_nothing(rt: HostRuntime) -> Checked {
     let app = Defaults::new(peer());
-    let mut session = session_of(rt.alloc(), &Method::GET)?;
+    let session = session_of(rt.alloc(), &Method::GET)?;
     assert!(rt; !app.allow_spawning_subrequest(&session, &()));
     assert!(rt; !app.is_purge(&session, &()));
     assert_eq!(rt; app.purge_action(&session, &()), PurgeAction::Delete);
     assert!(rt; app.persist_connection_context(&session, &()).is_none());
-    assert_eq!(rt;
-        app.early_request_filter(rt.alloc(), &mut session, &mut ()),
-        Ok(())
-    );
-    session.seen.begin_call();
-    assert!(rt; !session.seen.downstream.response_written());
-    assert_eq!(rt;
-        app.request_filter(rt.alloc(), &mut session, &mut ()),
-        Ok(false)
-    );
-    session.seen.begin_call();
-    assert!(rt; !session.seen.downstream.response_written());
-    assert_eq!(rt;
-        app.proxy_upstream_filter(rt.alloc(), &mut session, &mut ()),
-        Ok(true)
-    );
-    session.seen.begin_call();
-    app.on_connection_reuse(&mut session, &mut (), ());
-    session.seen.begin_call();
-    app.logging(&mut session, None, &mut ());
     Ok(())
 }
 
 #[test]
-fn leaves_heads_and_pieces(rt: HostRuntime) -> Checked {
+fn lets_each_request_go_on(rt: HostRuntime) -> Checked {
+    let app = Defaults::new(peer());
+    let mut session = session_of(rt.alloc(), &Method::GET)?;
+    let early = app.early_request_filter(rt.alloc(), &mut session, &mut ());
+    assert_eq!(rt; early, Ok(()));
+    session.seen.begin_call();
+    let answered = app.request_filter(rt.alloc(), &mut session, &mut ());
+    assert!(rt; !session.seen.downstream.response_written());
+    assert_eq!(rt; answered, Ok(false));
+    Ok(())
+}
+
+#[test]
+fn lets_each_request_go_to_its_peer(rt: HostRuntime) -> Checked {
+    let app = Defaults::new(peer());
+    let mut session = session_of(rt.alloc(), &Method::GET)?;
+    let goes = app.proxy_upstream_filter(rt.alloc(), &mut session, &mut ());
+    assert_eq!(rt; goes, Ok(true));
+    session.seen.begin_call();
+    let reached = app.connected_to_upstream(rt.alloc(), &mut session, true, &peer(), &mut ());
+    assert_eq!(rt; reached, Ok(()));
+    Ok(())
+}
+
+#[test]
+fn notes_nothing(rt: HostRuntime) -> Checked {
+    let app = Defaults::new(peer());
+    let mut session = session_of(rt.alloc(), &Method::GET)?;
+    app.on_connection_reuse(&mut session, &mut (), ());
+    session.seen.begin_call();
+    app.logging(&mut session, None, &mut ());
+    assert!(rt; session.seen.wrote.is_empty());
+    Ok(())
+}
+
+#[test]
+fn leaves_the_head_that_is_sent(rt: HostRuntime) -> Checked {
     let app = Defaults::new(peer());
     let mut session = session_of(rt.alloc(), &Method::GET)?;
     let mut asked = RequestHeader::build(rt.alloc(), &Method::GET, b"/b")?;
     let left = app.upstream_request_filter(rt.alloc(), &mut session, &mut asked, &mut ());
-    assert!(rt; left.is_ok() && asked.raw_path() == b"/b".as_slice());
-    session.seen.begin_call();
-    let mut head = ResponseHeader::build(rt.alloc(), 204)?;
-    let left = app.upstream_response_filter(rt.alloc(), &mut session, &mut head, &mut ());
-    assert!(rt; left.is_ok() && head.status() == 204);
-    session.seen.begin_call();
-    let left = app.response_filter(rt.alloc(), &mut session, &mut head, &mut ());
-    assert!(rt; left.is_ok() && head.status() == 204);
-    session.seen.begin_call();
-    let mut body = Some(Bytes::from_static(b"hi"));
-    let left = app.request_body_filter(rt.alloc(), &mut session, &mut body, true, &mut ());
-    assert!(rt; left.is_ok() && body.is_some());
-    session.seen.begin_call();
-    let delay = app.upstream_response_body_filter(
-        rt.alloc(),
-        &mut session,
-        &mut body,
-        true,
-        &mut (),
-    );
-    assert!(rt; delay == Ok(None) && body.is_some());
-    session.seen.begin_call();
-    let delay = app.response_body_filter(rt.alloc(), &mut session, &mut body, true, &mut ());
-    assert!(rt; delay == Ok(None) && body.is_some());
+    assert_eq!(rt; left, Ok(()));
+    assert_eq!(rt; asked.raw_path(), b"/b".as_slice());
     Ok(())
 }
 
 #[test]
-fn leaves_trailers_and_messages(rt: HostRuntime) -> Checked {
+fn leaves_heads(rt: HostRuntime) -> Checked {
+    let app = Defaults::new(peer());
+    let mut session = session_of(rt.alloc(), &Method::GET)?;
+    let mut head = ResponseHeader::build(rt.alloc(), 204)?;
+    let left = app.upstream_response_filter(rt.alloc(), &mut session, &mut head, &mut ());
+    assert_eq!(rt; left, Ok(()));
+    session.seen.begin_call();
+    let left = app.response_filter(rt.alloc(), &mut session, &mut head, &mut ());
+    assert_eq!(rt; left, Ok(()));
+    assert_eq!(rt; head.status(), 204);
+    Ok(())
+}
+
+#[test]
+fn leaves_pieces_of_a_request(rt: HostRuntime) -> Checked {
+    let app = Defaults::new(peer());
+    let mut session = session_of(rt.alloc(), &Method::GET)?;
+    let mut body = Some(Bytes::from_static(b"hi"));
+    let left = app.request_body_filter(rt.alloc(), &mut session, &mut body, true, &mut ());
+    assert_eq!(rt; left, Ok(()));
+    assert!(rt; body.is_some());
+    Ok(())
+}
+
+#[test]
+fn leaves_pieces_of_a_response(rt: HostRuntime) -> Checked {
+    let app = Defaults::new(peer());
+    let alloc = rt.alloc();
+    let mut session = session_of(alloc, &Method::GET)?;
+    let mut body = Some(Bytes::from_static(b"hi"));
+    let delay = app.upstream_response_body_filter(alloc, &mut session, &mut body, true, &mut ());
+    assert_eq!(rt; delay, Ok(None));
+    session.seen.begin_call();
+    let delay = app.response_body_filter(alloc, &mut session, &mut body, true, &mut ());
+    assert_eq!(rt; delay, Ok(None));
+    assert!(rt; body.is_some());
+    Ok(())
+}
+
+#[test]
+fn leaves_trailers(rt: HostRuntime) -> Checked {
     let app = Defaults::new(peer());
     let alloc = rt.alloc();
     let mut session = session_of(alloc, &Method::GET)?;
     let mut trailers = HeaderMap::new(alloc);
     let left = app.upstream_response_trailer_filter(alloc, &mut session, &mut trailers, &mut ());
-    assert!(rt; left.is_ok());
+    assert_eq!(rt; left, Ok(()));
     session.seen.begin_call();
     let left = app.response_trailer_filter(alloc, &mut session, &mut trailers, &mut ())?;
-    assert!(rt; left.is_none() && trailers.is_empty());
-    session.seen.begin_call();
-    let injected = app.custom_forwarding(alloc, &mut session, &mut ())?;
-    assert!(rt; injected.to_upstream.is_empty() && injected.to_downstream.is_empty());
-    session.seen.begin_call();
+    assert!(rt; left.is_none());
+    assert!(rt; trailers.is_empty());
+    Ok(())
+}
+
+#[test]
+fn injects_nothing(rt: HostRuntime) -> Checked {
+    let app = Defaults::new(peer());
+    let mut session = session_of(rt.alloc(), &Method::GET)?;
+    let injected = app.custom_forwarding(rt.alloc(), &mut session, &mut ())?;
+    assert!(rt; injected.to_upstream.is_empty());
+    assert!(rt; injected.to_downstream.is_empty());
+    Ok(())
+}
+
+#[test]
+fn leaves_messages(rt: HostRuntime) -> Checked {
+    let app = Defaults::new(peer());
+    let alloc = rt.alloc();
+    let mut session = session_of(alloc, &Method::GET)?;
     let m = Bytes::from_static(b"m");
     let down = app.downstream_custom_message_proxy_filter(alloc, &mut session, m, &mut (), true)?;
     assert!(rt; down.is_some());
@@ -126,19 +175,24 @@ fn leaves_trailers_and_messages(rt: HostRuntime) -> Checked {
 }
 
 #[test]
-fn treats_errors(rt: HostRuntime) -> Checked {
+fn tells_of_each_error(rt: HostRuntime) -> Checked {
     let app = Defaults::new(peer());
-    let mut session = session_of(rt.alloc(), &Method::POST)?;
-    let mut error = Error::new_up(ErrorType::ConnectError);
-    error.set_retry(true);
+    let session = session_of(rt.alloc(), &Method::POST)?;
+    let error = Error::new_up(ErrorType::ConnectError);
     assert!(rt; !app.suppress_error_log(&session, &(), &error));
     let context = ProxyWarnLogContext::UpstreamRetry;
     assert!(rt; !app.suppress_proxy_warn_log(&session, &(), &error, context));
     let summary = app.request_summary(rt.alloc(), &session, &())?;
     assert_eq!(rt; summary.as_slice(), b"POST /a, Host: ".as_slice());
-    let reached = app.connected_to_upstream(rt.alloc(), &mut session, true, &peer(), &mut ());
-    assert_eq!(rt; reached, Ok(()));
-    session.seen.begin_call();
+    Ok(())
+}
+
+#[test]
+fn marks_errors(rt: HostRuntime) -> Checked {
+    let app = Defaults::new(peer());
+    let mut session = session_of(rt.alloc(), &Method::POST)?;
+    let mut error = Error::new_up(ErrorType::ConnectError);
+    error.set_retry(true);
     let kept = app.fail_to_connect(&mut session, &peer(), &mut (), error);
     assert!(rt; kept.retry());
     session.seen.begin_call();
