@@ -193,7 +193,7 @@ fn keeps_tasks_for_later(rt: HostRuntime) -> Checked {
 #[test]
 fn filters_the_head_of_the_request(rt: HostRuntime) -> Checked {
     let mut session = session(rt.alloc())?;
-    assert!(rt; !session.seen.touched);
+    assert!(rt; session.seen.downstream.has_head() && !session.seen.touched);
     assert_eq!(rt; session.filter_request_header(), Ok(()));
     assert!(rt; session.seen.touched && session.req_header().headers().contains_key(&VIA));
     session.seen.begin_call();
