@@ -374,7 +374,7 @@ pub peer_blameless : (s : Origin) (p : Passed) (client link : LinkState) (start 
     → IsValid s p client link start → (order : IsInOrder s p link.ended) (lost : Bool) → (e : Error)
     → PeerBlames start link s.head (up_past order lost) e → ⊥
 peer_blameless s p client link start valid order lost e
-    (peer_side.PeerBlames.link_failed fault is rose) = valid.link_faultless rose
+    (peer_side.PeerBlames.link_failed fault is rose answered) = valid.link_faultless rose
 peer_blameless s p client link start valid order lost e
     (peer_side.PeerBlames.is_cut_off told gone is reads) =
     response_uncut s.head.method valid.answers.response told valid.answers.is_response

@@ -1,5 +1,5 @@
 -- A read of the client: what the piece says of its state, and how what passed goes on with it.
-use Rattle.std.proofs.Common.{◌≡◌, ℕ, ◌<◌, ◌≤◌, Bool, true, false, List, [], ◌∷◌, ◌++◌, length, Option, Some, Result, Ok, refl, sym, ◌∙◌, ap, subst, append-nil, append_assoc, length-append, inl, inr, arith}
+use Rattle.std.proofs.Common.{◌≡◌, ℕ, ◌<◌, ◌≤◌, Bool, true, false, List, [], ◌∷◌, ◌++◌, length, Option, Some, None, Result, Ok, refl, sym, ◌∙◌, ap, subst, append-nil, append_assoc, length-append, inl, inr, arith}
 use Rattle.std.specs.Prelude.{◌||◌, ◌&&◌, ◌⊎◌, ◌==◌}
 use Rattle.std.specs.List.{list_any}
 use Rattle.std.proofs.lemmas.Bool.{cases_Bool}
@@ -15,6 +15,7 @@ use Rattle.relay_tasks.specs.declared.task.HttpTask.{HttpTask}
 use Rattle.relay_tasks.specs.Task.{is_end}
 use Rattle.relay_links.specs.Count.{up}
 use Rattle.relay_links.specs.Link.{LinkState}
+use Rattle.relay_links.specs.Told.{more}
 use Rattle.relay_links.proofs.SinceLemmas.{Since-kept, Since-grows}
 use Rattle.relay_h1.proofs.VerdictLemmas.{HasRequest-append}
 use Rattle.relay_h1.specs.Verdict.{HasRequest}
@@ -36,7 +37,7 @@ use Rattle.relay_core.specs.Down.{ReadsPiece}
 use Rattle.relay_core.specs.Past.{Origin, DownPast, DownGoes, put_in, error_of_took}
 use Rattle.relay_core.specs.Piece.{put_of}
 use Rattle.relay_sides.specs.Body.{body_of}
-use Rattle.relay_sides.specs.Client.{IsClient, HasPassed, IsUnanswered, ClientBlames, state_of, piece_answer, told_read, given_to}
+use Rattle.relay_sides.specs.Client.{IsClient, HasPassed, IsUnanswered, IsLast, ClientBlames, state_of, piece_answer, told_read, given_to}
 use Rattle.relay_sides.specs.Client as client
 use Rattle.relay_sides.proofs.ClientPast.{reading_whole, body_of-append, rose_from, rose_on}
 
@@ -324,6 +325,12 @@ gave_some : (before after : LinkState) (came : List ℕ) → front.Gave before a
 gave_some before after came gave =
     rw gave.are (omega (arith, gave.gives.some, gave.gives.fits, length-take gave.n gave.room))
 
+-- the fault that was added is the last
+is_last : (before after : Option (List Fault)) (fault : Fault) → after ≡ more before (fault ∷ [])
+    → IsLast after fault
+is_last None after fault grown = rw grown tt
+is_last (Some told) after fault grown = rw grown (told, refl)
+
 -- why a read of a body that goes on was refused
 refused_rest : (s : Origin) (q : DownPast) (before after : LinkState) (body : List ℕ) (e : Error)
     → s.faults ≤ before.faults → RefusesRest before after (given_to s q) body e
@@ -336,7 +343,11 @@ refused_rest s q before after body e earlier
     (says.RefusesRest.link_failed fault open_still fails is) =
     client.ClientBlames.link_failed fault is
     (rose_from s.faults before.faults after.faults earlier fails.faults)
-    (inr (inl (body, open_still)))
+    (inr (record {
+      kind = fails.kind;
+      last = is_last before.read_faults after.read_faults fault fails.read_faults;
+      matters = inl (body, open_still);
+    }))
 
 -- the tasks that were queued leave the response where the session stands
 stands_at : (now : Writing) (output : Outgoing) (tasks : List HttpTask) (taken : List ℕ)
@@ -370,7 +381,12 @@ stirred s q before after ahead left body e earlier whole unanswered (front.Stirs
 stirred s q before after ahead left body e earlier whole unanswered
     (front.Stirs.link_failed fault none fails kept is) =
     client.ClientBlames.link_failed fault is
-    (rose_from s.faults before.faults after.faults earlier fails.faults) (inr (inr unanswered))
+    (rose_from s.faults before.faults after.faults earlier fails.faults)
+    (inr (record {
+      kind = fails.kind;
+      last = is_last before.read_faults after.read_faults fault fails.read_faults;
+      matters = inr unanswered;
+    }))
 
 -- what is an error is that one
 same_error : (a e : Error) → Some a ≡ Some e → a ≡ e

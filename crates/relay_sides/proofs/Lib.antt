@@ -2,6 +2,7 @@ pub mod ClientPast
 pub mod ClientRead
 pub mod ClientTasks
 pub mod ClientWrite
+pub mod FaultLemmas
 pub mod FrontLemmas
 pub mod TaskLemmas
 pub mod MoveLemmas

@@ -41,6 +41,7 @@ use Rattle.relay_core.specs.Past.{Origin, UpPast, UpGoes, error_of_fail, error_o
 use Rattle.relay_sides.specs.declared.peer_side.PeerSide.{PeerSide}
 use Rattle.relay_sides.specs.Peer.{IsPeer, IsPeerSide, IsQueued, PeerBlames, AreTasks, HasRoom, Withholds, asks_to_close, is_switch, Queues, Loses, IsNew, handed, told_of, none_passed}
 use Rattle.relay_sides.specs.Peer as peer
+use Rattle.relay_sides.proofs.FaultLemmas.{grew_same, tells_on}
 use Rattle.relay_sides.proofs.FrontLemmas.{own_front}
 use Rattle.relay_sides.proofs.TaskLemmas.{tasks_push, tasks_kept, final_in, lacking_final}
 use Rattle.relay_sides.proofs.MoveLemmas.{GoesOn, blames_keep, ReadMoves, read_moves}
@@ -119,6 +120,7 @@ read_on start before after q came read asked moves = record {
   still = moves.still;
   taken = own_front q.taken;
   rises = moves.rises;
+  grew = moves.grew;
 }
 
 -- no error was answered, and none before
@@ -159,6 +161,7 @@ peer_read {L} o start before after old new stopped_before stopped lost q came re
       got = moves.given;
       sent = Since-kept [] start.taken before.taken after.taken q.sent moves.taken stands.sent;
       faults = moves.faults;
+      tells = tells_on start before after moves.grew stands.tells;
       calm = calm;
       sound = moves.sound;
       head = stands.head;
@@ -208,7 +211,7 @@ refusal_blamed start before after head q came read told asked error moves
     said
 refusal_blamed start before after head q came read told asked error moves
     (reading.Refuses.has_failed fault was is said) =
-    peer.PeerBlames.link_failed fault is (moves.failed fault was)
+    peer.PeerBlames.link_failed fault is (moves.failed fault was).0 (moves.failed fault was).1
 refusal_blamed start before after head q came read told asked error moves
     (reading.Refuses.is_cut_off was is said) =
     peer.PeerBlames.is_cut_off told (moves.over was) is said
@@ -250,7 +253,7 @@ read_none {L} o start started before after old new stopped lost q answer same ke
     let at = subst (λ (m : List ℕ). ReadsTask m before after old.response new.response answer)
     (method_is old.request.request stands.head stands.is_head) reads in
     let moves = read_moves start before after q.got at.came at.asked at.asks stands.got
-    stands.faults stands.sound in
+    stands.faults stands.tells stands.sound in
     let tasks = stands.given ++ stands.withheld in
     let answers = at.answers q.got (told_of tasks) stands.tasks.so_far in
     goes o start started before after old new stopped lost q (after_read q at.came q.read)
@@ -287,6 +290,7 @@ stopped_still {L} o start link client stopped lost why q is stands =
       still = λ over. (over, refl);
       taken = own_front q.taken;
       rises = λ rose. rose;
+      grew = grew_same link link refl;
     })
     stands (sym (append-nil q.read)) refl refl
     (λ e told. stands.why e (is ∙ ap Some (fail_is why e told)))
@@ -336,7 +340,7 @@ brings {L} o start before after old new lost q item reads stands =
       came = at.came;
       asked = at.asked;
       moves = read_moves start before after q.got at.came at.asked at.asks stands.got
-          stands.faults stands.sound;
+          stands.faults stands.tells stands.sound;
       fails = at.fails;
       told = told_of stands.given;
       is = answers.0;

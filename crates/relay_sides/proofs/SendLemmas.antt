@@ -32,6 +32,7 @@ use Rattle.relay_sides.specs.Body.{IsFrontOf, bytes_of, body_of, sent_with, sent
 use Rattle.relay_sides.specs.declared.peer_side.PeerSide.{PeerSide}
 use Rattle.relay_sides.specs.Peer.{IsPeer, IsPeerSide, IsQueued, PeerBlames, AreTasks, HasRoom, Queues, Loses, IsNew, none_passed}
 use Rattle.relay_sides.specs.Peer as peer
+use Rattle.relay_sides.proofs.FaultLemmas.{grew_same, tells_on, tells_none}
 use Rattle.relay_sides.proofs.FrontLemmas.{own_front, same_front, front_more, front_then, bytes_front, task_front, sent_behind-push, head_of, stands_head, piece_head, task_head, begun_body, body_push}
 use Rattle.relay_sides.proofs.TaskLemmas.{no_tasks}
 use Rattle.relay_sides.proofs.MoveLemmas.{GoesOn, blames_keep, write_moves}
@@ -51,6 +52,7 @@ take_on start link q piece gone = record {
   still = λ over. (over, refl);
   taken = front_more q.taken (piece ∷ []);
   rises = λ rose. rose;
+  grew = grew_same link link refl;
 }
 
 -- the wire of a request with one piece more
@@ -76,6 +78,7 @@ peer_take {L} o start link old new stopped lost_before lost q piece gone sending
       got = stands.got;
       sent = stands.sent;
       faults = stands.faults;
+      tells = stands.tells;
       calm = λ none. stands.calm (sym calm ∙ none);
       sound = stands.sound;
       head = stands.head;
@@ -360,7 +363,7 @@ pub write_goes : {L : Type 0} (o : Origin) (start started : LinkStart) (before a
 write_goes {L} o start started before after old new stopped lost q answer same kept failed writes keeps
     stands =
     let moves = write_moves start before after q.sent old.request.unsent answer writes.writes
-    stands.sent stands.faults stands.sound in
+    stands.sent stands.faults stands.tells stands.sound in
     let out = take (taken answer) old.request.unsent in
     let p : UpPast = record q { sent = q.sent ++ out } in
     let so_far = keeps stands.sending q.sent stands.so_far in
@@ -370,6 +373,7 @@ write_goes {L} o start started before after old new stopped lost q answer same k
       still = λ over. (moves.ended ∙ over, refl);
       taken = own_front q.taken;
       rises = moves.rises;
+      grew = moves.grew;
     } in
     let is_head = stands_head stands.sending new.request.request so_far.stands
     ∙ sending_head o start before old stopped lost q stands in
@@ -379,6 +383,7 @@ write_goes {L} o start started before after old new stopped lost q answer same k
       got = Since-kept [] start.given before.given after.given q.got moves.given stands.got;
       sent = moves.sent;
       faults = moves.faults;
+      tells = tells_on start before after moves.grew stands.tells;
       calm = λ none.
           let both = neither_failed old.failed (is_fault answer) (sym failed ∙ none) in
           moves.calm both.1 ∙ stands.calm both.0;
@@ -407,7 +412,7 @@ write_goes {L} o start started before after old new stopped lost q answer same k
     })
     refl refl refl
     (λ e is.
-    peer.PeerBlames.link_failed (moves.failed e is).0 (moves.failed e is).1 (moves.failed e is).2)
+    let f = moves.failed e is in peer.PeerBlames.link_failed f.0 f.1 f.2 f.3)
 
 -- ---- the head of the request
 
@@ -421,6 +426,7 @@ begins {L} o start link reused old new head own fresh out same so_far = record {
   got = subst (λ (n : ℕ). Since [] n link.given []) (sym out.given) (Since-start [] link.given);
   sent = subst (λ (n : ℕ). Since [] n link.taken []) (sym out.taken) (Since-start [] link.taken);
   faults = omega (arith, out.faults);
+  tells = tells_none start link reused out;
   calm = λ none. sym out.faults;
   sound = out.sound;
   head = head;

@@ -13,7 +13,7 @@ use Rattle.relay_tasks.specs.declared.task.HttpTask.TheVariants as task
 use Rattle.relay_tasks.specs.Head.{RequestHead}
 use Rattle.relay_tasks.specs.Task.{is_end}
 use Rattle.relay_links.specs.Count.{Rose}
-use Rattle.relay_links.specs.Link.{LinkState, IsWriteFault}
+use Rattle.relay_links.specs.Link.{LinkState, IsReadFault, IsWriteFault}
 use Rattle.relay_links.specs.Told.{Since}
 use Rattle.relay_links.specs.declared.link.Put.{Put}
 use Rattle.relay_links.specs.declared.link.Put.TheVariants as put
@@ -149,19 +149,28 @@ abbrev pub IsUnanswered : Origin → DownPast → Type 0
 IsUnanswered s p =
     is_over (wire (request_of s.head) place.NoHead (queued p)).place ≡ false
 
--- a fault of the client's link counts: it is that of a write, the body of the request is open, or
+-- the fault is the last of those that the link tells, where it tells them
+abbrev pub IsLast : Option (List Fault) → Fault → Type 0
+IsLast None fault = Unit {0}
+IsLast (Some told) fault = (before : List Fault) × (told ≡ before ++ fault ∷ [])
+
+-- a read of the client's link failed so, and its fault counts: the body of the request is open, or
 -- the response is not over
-abbrev pub Counts : Origin → DownPast → Fault → Type 0
-Counts s p fault =
-    IsWriteFault fault
-    ⊎ (((body : List ℕ) × SaysBody (given_to s p) (open_text body)) ⊎ IsUnanswered s p)
+pub record CountsRead (s : Origin) (p : DownPast) (link : LinkState) (fault : Fault) : Type 0 where
+  pub kind : IsReadFault fault
+  pub last : IsLast link.read_faults fault
+  pub matters : ((body : List ℕ) × SaysBody (given_to s p) (open_text body)) ⊎ IsUnanswered s p
+
+-- a fault of the client's link counts: it is that of a write, or that of such a read
+abbrev pub Counts : Origin → DownPast → LinkState → Fault → Type 0
+Counts s p link fault = IsWriteFault fault ⊎ CountsRead s p link fault
 
 -- why the side answers with that error: the client's link failed, its body is broken, it ended
 -- inside its body or behind its request, or it sent more than its request. Behind its request it is
 -- blamed only while the response is not over
 pub data ClientBlames (s : Origin) (p : DownPast) (link : LinkState) (e : Error) : Type 0 where
   link_failed : (fault : Fault) → e ≡ link_fault fault → Rose s.faults link.faults
-      → Counts s p fault → ClientBlames s p link e
+      → Counts s p link fault → ClientBlames s p link e
   body_is_broken : (body : List ℕ)
       → SaysBody (given_to s p) (record { bytes = body; mark = broken })
       → e ≡ body_broken → ClientBlames s p link e

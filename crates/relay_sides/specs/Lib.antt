@@ -1,3 +1,4 @@
 pub mod Body
 pub mod Client
+pub mod Faults
 pub mod Peer

@@ -37,6 +37,7 @@ use Rattle.relay_core.specs.Up.{UpState}
 use Rattle.relay_core.specs.declared.step.UpKind.TheVariants.{H1}
 use Rattle.relay_core.specs.declared.told.Told.{Told}
 use Rattle.relay_sides.specs.declared.peer_side.PeerSide.{PeerSide}
+use Rattle.relay_sides.specs.Faults.{HasAnswered, TellsFaults}
 use Rattle.relay_sides.specs.Body.{IsFrontOf, bytes_of, body_of, sent_with, sent_as}
 
 -- ---- the response as it is handed on
@@ -170,7 +171,7 @@ Queues sent taken task writing (Err why) = Loses sent taken task writing why
 pub data PeerBlames (start : LinkStart) (link : LinkState) (head : RequestHead) (q : UpPast)
     (e : Error) : Type 0 where
   link_failed : (fault : Fault) → e ≡ fault_error fault → Rose start.faults link.faults
-      → PeerBlames start link head q e
+      → HasAnswered start link fault → PeerBlames start link head q e
   is_cut_off : (told : reading.ToldResponse) → link.ended ≡ true → e ≡ cut_off_error q.got
       → Tasks head.method false q.got true (says told cut_off) → PeerBlames start link head q e
   is_broken : (why : Context) (closed : Bool) (came : List ℕ) (told : reading.ToldResponse)
@@ -199,6 +200,7 @@ pub record IsPeer {L : Type 0}
   pub got : Since [] start.given link.given q.got
   pub sent : Since [] start.taken link.taken q.sent
   pub faults : start.faults ≤ link.faults
+  pub tells : TellsFaults start link
   -- where no call answered a fault, none came
   pub calm : client.failed ≡ false → link.faults ≡ start.faults
   pub sound : IsSound link

@@ -1,0 +1,22 @@
+-- Which faults a peer's link answered since it was handed out.
+use Rattle.std.specs.Prelude.{List, [], ◌∷◌, ◌++◌}
+use Rattle.relay_tasks.specs.declared.fault.Fault.{Fault}
+use Rattle.relay_links.specs.Link.{LinkState, LinkStart, IsReadFault, IsWriteFault}
+use Rattle.relay_links.specs.Told.{Since}
+
+-- the link answered that fault on a read or on a write: it is of a kind that such a call answers,
+-- and where the link tells the faults of those calls, it is among them
+pub data HasAnswered (start : LinkStart) (link : LinkState) (fault : Fault) : Type 0 where
+  on_read : IsReadFault fault → (before behind : List Fault)
+      → Since [] start.read_faults link.read_faults (before ++ fault ∷ behind)
+      → HasAnswered start link fault
+  on_write : IsWriteFault fault → (before behind : List Fault)
+      → Since [] start.write_faults link.write_faults (before ++ fault ∷ behind)
+      → HasAnswered start link fault
+
+-- the faults of reads and of writes, in order, where the link tells them
+pub record TellsFaults (start : LinkStart) (link : LinkState) : Type 0 where
+  pub reads : List Fault
+  pub read : Since [] start.read_faults link.read_faults reads
+  pub writes : List Fault
+  pub written : Since [] start.write_faults link.write_faults writes
