@@ -1,6 +1,7 @@
 -- The exchange so far goes on by each branch.
 use Rattle.std.proofs.Common.{◌≡◌, ℕ, Bool, true, false, ◌&&◌, ◌||◌, not, List, [], ◌∷◌, ◌++◌, ◌==◌, length, Option, Some, None, is_some, is_none, Result, Ok, Err, refl, sym, ap, ◌∙◌, subst, inl, inr, ◌⊎◌, append-nil, append_assoc, arith}
 use Rattle.std.specs.List.{list_any}
+use Rattle.std.proofs.lemmas.List.Folds.{list_any-append}
 use Rattle.relay_tasks.specs.declared.error.Error.{Error}
 use Rattle.relay_tasks.specs.declared.error.ErrorSource.TheVariants.{Upstream, Downstream}
 use Rattle.relay_tasks.specs.declared.error.Fail.{Fail}
@@ -10,6 +11,7 @@ use Rattle.relay_tasks.specs.declared.task.HttpTask.TheVariants as task
 use Rattle.relay_tasks.specs.declared.took.Took.{Took}
 use Rattle.relay_tasks.specs.declared.took.Took.TheVariants as took
 use Rattle.relay_tasks.specs.Error.{IsMemoryOr}
+use Rattle.relay_tasks.specs.Task.{is_end}
 use Rattle.relay_links.specs.declared.branch.Branch.{Branch}
 use Rattle.relay_links.specs.declared.branch.Branch.TheVariants as branch
 use Rattle.relay_links.specs.declared.link.Put.{Put}
@@ -50,6 +52,13 @@ up_open d runs = not_true d.upstream_finished (and_left (not d.upstream_finished
 
 down_open : (d : Duplex) → down_runs d ≡ true → d.client_finished ≡ false
 down_open d runs = not_true d.client_finished (and_left (not d.client_finished) _ runs)
+
+-- a read of the upstream is taken only before its response ends
+pub unread : (s : State) → enabled s branch.UpRead ≡ true
+    → s.duplex.upstream_response_done ≡ false
+unread s on =
+    not_true s.duplex.upstream_response_done
+    (and_left (not s.duplex.upstream_response_done) _ (and_right (up_runs s.duplex) _ on))
 
 -- where no half failed, no failure was refused
 held_so_far : (dp : DownPast → Type 0) (up : UpPast → Type 0) (ub : UpPast → Error → Type 0)
@@ -306,6 +315,20 @@ response_read d tunnel (took.Failed fail.OutOfMemory) read batched m =
     (is_over (failed d)) false d.upstream_response_done (append-nil read) refl refl
     (λ h. clash true refl (or_right (is_response_done d.client_response) true h)) (λ h. refl) m
 
+-- a read that leaves the upstream's response open brought no end
+unended_read : (d : Duplex) (tunnel : Bool) (answer : Took HttpTask) (read : List HttpTask)
+    → list_any is_end read ≡ false
+    → (after_up_read d tunnel answer).upstream_response_done ≡ false
+    → list_any is_end (read ++ task_in answer) ≡ false
+unended_read d tunnel (took.Item new) read none h =
+    list_any-append is_end read (new ∷ [])
+    ∙ or_false (list_any is_end read) _ none
+    (or_false (is_end new) false (or_right d.upstream_response_done (is_end new) h) refl)
+unended_read d tunnel took.More read none h = ap (list_any is_end) (append-nil read) ∙ none
+unended_read d tunnel (took.Waited why) read none h = ap (list_any is_end) (append-nil read) ∙ none
+unended_read d tunnel took.End read none h = ap (list_any is_end) (append-nil read) ∙ none
+unended_read d tunnel (took.Failed why) read none h = ap (list_any is_end) (append-nil read) ∙ none
+
 -- ---- a step that finished
 
 -- both halves have finished, without a failure and without a tunnel: both directions were relayed
@@ -554,6 +577,7 @@ module _
             old.duplex.upstream_response_done new.duplex.upstream_response_done read batched
             leaves.responses leaves.over leaves.ended
             (held_so_far dp up ub old p q f (enabled_sound b old on)));
+        unended = λ h. ap (list_any is_end) read ∙ f.unended (leaves.ended h);
         send_error = kept;
         failures = λ front behind e is. keeps e
             (f.failures front behind e (sym leaves.responses ∙ is));
@@ -653,6 +677,7 @@ module _
             new.duplex.responses.tasks (is_over d) (is_over new.duplex) d.upstream_response_done
             new.duplex.upstream_response_done g.is_read refl leaves.responses leaves.over
             leaves.ended (held_so_far holds up ub old p q f alive));
+        unended = λ h. ap (list_any is_end) g.is_read ∙ f.unended (leaves.ended h);
         send_error = λ e h. kept_piece (up_blames g.past) sent w.answer
             (λ e h. g.keeps e (f.send_error e h)) g.blamed e
             (sym (ap (λ (d : Duplex). d.send_error) w.duplex) ∙ h);
@@ -699,6 +724,7 @@ module _
             (is_over d) d.upstream_response_done (sym w.held)
             (or_inl (is_response_done d.client_response) (is_failed d.word) done)
             (held_so_far holds up_holds up_blames old p q f alive)));
+        unended = λ h. f.unended (leaves.ended h);
         send_error = λ e h. f.send_error e (sym (ap (λ (d : Duplex). d.send_error) w.duplex) ∙ h);
         failures = λ front behind e is. held_behind (up_blames q) d.responses.tasks (w.task ∷ [])
             w.rest (sym w.held) f.failures front behind e (sym leaves.responses ∙ is);
@@ -766,8 +792,6 @@ module _
       let tunnel = old.down.upgraded in
       let alive = enabled_sound branch.UpRead old on in
       let after = after_up_read d tunnel w.answer in
-      let unread = not_true d.upstream_response_done
-      (and_left (not d.upstream_response_done) _ (and_right (up_runs d) _ on)) in
       let R : Duplex → Type 0 = λ x. ResponseHeld g.past.read p.batched x.responses.tasks
       (is_failed x.word) (is_over x) x.upstream_response_done in
       let N : Duplex → Type 0 = λ x. x.requests.tasks ≡ d.requests.tasks in
@@ -790,7 +814,10 @@ module _
             (λ h. h)
             (response_read d tunnel w.answer q.read p.batched
             (unended_held q.read p.batched d.responses.tasks (is_over d) d.upstream_response_done
-            unread (held_so_far holds up ub old p q f alive)))));
+            (unread old on) (held_so_far holds up ub old p q f alive)))));
+        unended = λ h. ap (list_any is_end) g.is_read
+            ∙ unended_read d tunnel w.answer q.read (f.unended (unread old on))
+            (sym (ap (λ (x : Duplex). x.upstream_response_done) w.duplex) ∙ h);
         send_error = λ e h. g.keeps e (f.send_error e (sym (kept_up_read d tunnel w.answer)
             ∙ sym (ap (λ (d : Duplex). d.send_error) w.duplex) ∙ h));
         failures = λ front behind e is. held_read (up_blames g.past) d tunnel old.up new.up w.answer
@@ -849,6 +876,7 @@ module _
             new.duplex.responses.tasks (is_over d) (is_over new.duplex) d.upstream_response_done
             new.duplex.upstream_response_done refl g.is_batched leaves.responses leaves.over
             leaves.ended (held_so_far dp up_holds up_blames old p q f alive));
+        unended = λ h. f.unended (leaves.ended h);
         send_error = λ e h. f.send_error e (sym (kept_down_read d upgraded w.answer)
             ∙ sym (ap (λ (d : Duplex). d.send_error) w.duplex) ∙ h);
         failures = λ front behind e is. f.failures front behind e (sym leaves.responses ∙ is);
@@ -978,6 +1006,7 @@ module _
             (open_held q.read p.batched held (is_over d) d.upstream_response_done
             (or_false (is_response_done d.client_response) (is_failed d.word) open_yet alive)
             (held_so_far dp up_holds up_blames old p q f alive))));
+        unended = λ h. f.unended (leaves.ended h);
         send_error = λ e h. f.send_error e
             (sym (kept_batch mid old.down new.down (batch_of held) (Ok done))
             ∙ sym (ap (λ (d : Duplex). d.send_error) is) ∙ h);
@@ -1020,6 +1049,7 @@ module _
         requests = b.is_put ∙ f.requests
             ∙ ap (λ (xs : List HttpTask). q.taken ++ xs) (sym leaves.requests);
         responses = r;
+        unended = λ h. f.unended (leaves.ended h);
         send_error = λ e h. f.send_error e (sym (ap (λ (d : Duplex). d.send_error) is) ∙ h);
         failures = λ front behind e h. held_behind (up_blames q) held (batch_of held)
             (rest_of held) (batch-rest held) f.failures front behind e (sym leaves.responses ∙ h);
@@ -1106,6 +1136,7 @@ module _
             d.upstream_response_done (sym l.parts)
             (or_inr (is_response_done d.client_response) true refl)
             (held_so_far dp up_holds up_blames old p q f alive)));
+        unended = λ h. f.unended (leaves.ended h);
         send_error = λ e h. f.send_error e (sym (ap (λ (d : Duplex). d.send_error) l.duplex) ∙ h);
         failures = λ front behind e h. held_behind (up_blames q) held l.lost l.left (sym l.parts)
             f.failures front behind e (sym leaves.responses ∙ h);

@@ -7,7 +7,7 @@ use Rattle.relay_links.specs.Branch.{has, is_same_branch}
 use Rattle.relay_links.specs.declared.branch.Branch.{Branch}
 use Rattle.relay_links.specs.declared.branch.Branch.TheVariants as branch
 use Rattle.relay_links.specs.declared.branch.TheConstants.{BRANCHES}
-use Rattle.relay_core.specs.Down.{may_read}
+use Rattle.relay_core.specs.Down.{may_read, is_answered}
 use Rattle.relay_core.specs.Pipe.{is_empty, has_room}
 use Rattle.relay_core.specs.Sound.{Runs, IsSound, ends_with}
 use Rattle.relay_core.specs.State.{is_reading, is_done, is_response_done}
@@ -148,9 +148,9 @@ down_goes s stuck runs r finished =
     response) w.not_done
 
 -- a client whose request is read may be read
-open_reads : (body awaits : Bool) → body ≡ false → not (body && awaits) ≡ true
-open_reads true awaits h = clash true refl h
-open_reads false awaits h = refl
+open_reads : (body other : Bool) → body ≡ false → not (body && other) ≡ true
+open_reads true other h = clash true refl h
+open_reads false other h = refl
 
 -- where the response is done but not both are, the request is not
 still : (request response : Bool) → response ≡ true → (request && response) ≡ false
@@ -174,7 +174,8 @@ request_full s stuck runs r done =
       | inl room ↦ clash (not (is_done d.client_request && is_response_done d.client_response))
           (not_false _ w.not_done)
           (off (may_read s.down) _
-          (open_reads s.down.body_done s.down.awaits_upgrade (r.reading reading))
+          (open_reads s.down.body_done (s.down.awaits_upgrade || is_answered s.down)
+          (r.reading reading))
           (off (has_room d.requests) _ room
           (off (down_runs d) _ runs (stuck.none branch.DownRead))))
     ]

@@ -1,9 +1,12 @@
--- What a step that waits says of the links: the link that its branch asks is what it waits for.
-use Rattle.std.specs.Prelude.{◌≡◌, ◌⊎◌, Bool, true, false}
+-- What a step says of the links: the link that its branch asks is what it waits for, or what moved.
+use Rattle.std.specs.Prelude.{◌≡◌, ◌⊎◌, Bool, true, false, [], ◌∷◌, ◌++◌}
+use Rattle.relay_tasks.specs.declared.task.HttpTask.{HttpTask}
 use Rattle.relay_links.specs.Count.{up}
 use Rattle.relay_links.specs.Link.{LinkState}
 use Rattle.relay_links.specs.declared.branch.Branch.{Branch}
 use Rattle.relay_links.specs.declared.branch.Branch.TheVariants as branch
+use Rattle.relay_core.specs.declared.duplex.Duplex.{Duplex}
+use Rattle.relay_core.specs.Past.{GaveBytes}
 use Rattle.relay_core.specs.Table.{State, enabled}
 
 -- the link that the branch asks is silent on what the branch asks of it; a branch that asks none
@@ -33,6 +36,12 @@ pub record MeetsSilence (b : Branch) (client client' upstream upstream' : LinkSt
 abbrev pub WaitRose : LinkState → LinkState → LinkState → LinkState → Type 0
 WaitRose client client' upstream upstream' =
     (client'.waits ≡ up client.waits) ⊎ (upstream'.waits ≡ up upstream.waits)
+
+-- a read of the upstream brought a task, or its link gave bytes
+abbrev pub Brings : Duplex → Duplex → LinkState → LinkState → Type 0
+Brings before after upstream upstream' =
+    ((task : HttpTask) × (after.responses.tasks ≡ before.responses.tasks ++ task ∷ []))
+    ⊎ GaveBytes upstream upstream'
 
 -- each branch that can be taken asks a link that is silent on it
 abbrev pub IsQuiet : State → LinkState → LinkState → Type 0

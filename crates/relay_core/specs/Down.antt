@@ -31,9 +31,14 @@ pub record DownState : Type 0 where
   pub pending : Bool
   pub told : Told
 
--- the client may be read: no request that has ended waits for the answer to an upgrade
+-- nothing more of the response comes: it is done, or its body was finished
+abbrev pub is_answered : DownState → Bool
+is_answered side = side.response_done || side.body_finished
+
+-- the client may be read: where its request has ended, it does not wait for the answer to an
+-- upgrade, nor has it its whole response
 abbrev pub may_read : DownState → Bool
-may_read side = not (side.body_done && side.awaits_upgrade)
+may_read side = not (side.body_done && (side.awaits_upgrade || is_answered side))
 
 -- a piece came. The client's end ends the request, and nothing is put behind the request's end
 pub record GivesPiece (before after : DownState) (piece : Piece) : Type 0 where

@@ -98,6 +98,8 @@ pub record SoFar
   pub requests : p.put ≡ q.taken ++ s.duplex.requests.tasks
   pub responses : ResponseHeld q.read p.batched s.duplex.responses.tasks
       (is_failed s.duplex.word) (is_over s.duplex) s.duplex.upstream_response_done
+  -- an end among the tasks that the upstream gave makes its response done
+  pub unended : s.duplex.upstream_response_done ≡ false → list_any is_end q.read ≡ false
   -- the upstream answers for the errors that are kept and held
   pub send_error : (e : Error) → s.duplex.send_error ≡ Some e → up_blames q e
   pub failures : (front behind : List HttpTask) (e : Error)

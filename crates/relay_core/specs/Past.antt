@@ -10,6 +10,7 @@ use Rattle.relay_tasks.specs.declared.task.HttpTask.TheVariants as task
 use Rattle.relay_tasks.specs.Head.{RequestHead}
 use Rattle.relay_tasks.specs.declared.took.Took.{Took}
 use Rattle.relay_tasks.specs.declared.took.Took.TheVariants as took
+use Rattle.relay_links.specs.Link.{LinkState, GivesBytes}
 use Rattle.relay_links.specs.declared.link.Put.{Put}
 use Rattle.relay_links.specs.declared.link.Put.TheVariants as put
 use Rattle.relay_core.specs.declared.piece.Piece.{Piece}
@@ -103,6 +104,12 @@ closing_in (Err why) = []
 abbrev pub loses : Result Unit Fail → Bool
 loses (Ok done) = false
 loses (Err why) = true
+
+-- a read of the link gave bytes
+pub record GaveBytes (before after : LinkState) : Type 0 where
+  pub room : List ℕ
+  pub n : ℕ
+  pub gives : GivesBytes before room n after
 
 -- ---- how a call goes on
 

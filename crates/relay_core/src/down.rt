@@ -6,7 +6,7 @@ ghost use Rattle.relay_tasks.specs.declared.task.HttpTask.{HttpTask};
 ghost use Rattle.relay_links.specs.Count.{up};
 ghost use Rattle.relay_links.specs.Link.{LinkState, LinkStart};
 ghost use Rattle.relay_core.specs.Down.{DownState, may_read, ReadsPiece, TakesBatch, Writes, Finishes};
-ghost use Rattle.relay_core.specs.Past.{Origin, DownPast, DownGoes, BatchGoes, put_in, closing_in, error_of_took, error_of_put, error_of_result};
+ghost use Rattle.relay_core.specs.Past.{Origin, DownPast, GaveBytes, DownGoes, BatchGoes, put_in, closing_in, error_of_took, error_of_put, error_of_result};
 
 use crate::piece::Piece;
 use crate::step::UpKind;
@@ -41,8 +41,8 @@ pub trait Down {
 
     ghost start: { Self.Client → LinkStart };
 
-    /// Whether the client may be read: not where its request has ended and it waits for the answer
-    /// to an upgrade.
+    /// Whether the client may be read: not where its request has ended, and it waits for the answer
+    /// to an upgrade or has its whole response.
     fn may_read(&self) -> bool
         ensures { result ≡ may_read (state self.now) };
 
@@ -55,14 +55,18 @@ pub trait Down {
         ensures { result ≡ (state self.now).upgraded };
 
     /// Reads a piece of the request and filters it. `idle` says that the request has ended: the
-    /// client is then only watched. The end comes with a piece, and `End` is never answered.
+    /// client is then only watched. The end comes with a piece, and `End` is never answered. `More`
+    /// says that the link gave bytes in this call.
     fn read_piece(&mut self, client: &mut Self::Client, idle: bool) -> Took<Piece>
+        requires { IsTrue (may_read (state self.old)) }
         ensures reads { ReadsPiece (state self.old) (state self.new) result }
         ensures start { start client.new ≡ start client.old }
         ensures goes { (s : Origin) (p : DownPast) → past self.old client.old s p
             → DownGoes (past self.new client.new s) (blames self.new client.new s)
             (p.put ++ put_in (state self.old).upgraded result) p.batched p.closing
             (error_of_took result) }
+        ensures gives { (s : Origin) (p : DownPast) → past self.old client.old s p
+            → result ≡ Took.More → GaveBytes (link client.old) (link client.new) }
         ensures waits { result ≡ Took.Waited Pause.NotReady
             → (link client.new).waits ≡ up (link client.old).waits }
         ensures silent { result ≡ Took.Waited Pause.Silent

@@ -2,6 +2,7 @@
 ghost use Rattle.std.specs.Prelude.{◌≡◌, ◌<◌, length, IsTrue, true, false};
 ghost use Rattle.relay_links.specs.Count.{up};
 ghost use Rattle.relay_core.specs.Causes.{says_failed};
+ghost use Rattle.relay_core.specs.Down.{may_read};
 ghost use Rattle.relay_core.specs.Pipe.{has_room};
 ghost use Rattle.relay_core.specs.Past.{Origin, DownPast};
 ghost use Rattle.relay_core.specs.Steps.{DownWrites, DownWritesOn, DownTakes, DownTakesOn, GivesBatch, GivesBatchOn, DownDrops, DownReads, DownReadsOn, DownEnds, DownEndsOn, Becomes};
@@ -125,7 +126,8 @@ impl Duplex {
 
     /// Reads a piece of the request and puts it.
     pub(crate) fn down_read<D: Down>(&mut self, client: &mut D::Client, down: &mut D) -> Step
-        requires { IsTrue (has_room self.old.requests) }
+        requires room { IsTrue (has_room self.old.requests) }
+        requires readable { IsTrue (may_read (D.state down.old)) }
         ensures start { D.start client.new ≡ D.start client.old }
         ensures exact { DownReads self.old (D.state down.old) self.new (D.state down.new) result }
         ensures goes { (s : Origin) (p : DownPast) → D.past down.old client.old s p

@@ -10,7 +10,7 @@ ghost use Rattle.relay_core.specs.Down.{DownState};
 ghost use Rattle.relay_core.specs.State.{is_reading, is_response_done};
 ghost use Rattle.relay_core.specs.Up.{UpState};
 ghost use Rattle.relay_core.specs.Piece.{task_put_of};
-ghost use Rattle.relay_core.specs.Asked.{MeetsSilence, WaitRose};
+ghost use Rattle.relay_core.specs.Asked.{Brings, MeetsSilence, WaitRose};
 ghost use Rattle.relay_core.specs.Causes.{HasCause, KeepsSendError, Tells, told_of, says_failed};
 ghost use Rattle.relay_core.specs.Past.{Origin, DownPast, UpPast};
 ghost use Rattle.relay_core.specs.Moves.{SoFar, Goes};
@@ -270,6 +270,11 @@ impl Duplex {
         ensures silent { result ≡ Step.Waited Pause.Silent
             → MeetsSilence branch (D.link client.old) (D.link client.new) (U.link up.old)
             (U.link up.new) }
+        ensures brings { (s : Origin) (p : DownPast) (q : UpPast)
+            → SoFar (D.past down.old client.old s) (U.past up.old s) (U.blames up.old s)
+            (core self.old (D.state down.old) (U.state up.old)) p q
+            → branch ≡ Branch.UpRead → result ≡ Step.Moved
+            → Brings self.old self.new (U.link up.old) (U.link up.new) }
 
         // A step that does not fail leaves the count of the client's faults.
         ensures calm { says_failed result ≡ false
@@ -346,6 +351,13 @@ impl Duplex {
         ensures silent { result ≡ Step.Waited Pause.Silent
             → MeetsSilence branch (D.link client.old) (D.link client.new) (U.link up.old)
             (U.link up.new) }
+
+        // A read of the upstream that moved brought a task, or the link gave bytes.
+        ensures brings { (s : Origin) (p : DownPast) (q : UpPast)
+            → SoFar (D.past down.old client.old s) (U.past up.old s) (U.blames up.old s)
+            (core self.old (D.state down.old) (U.state up.old)) p q
+            → branch ≡ Branch.UpRead → result ≡ Step.Moved
+            → Brings self.old self.new (U.link up.old) (U.link up.new) }
 
         // A step that does not fail leaves the count of the client's faults.
         ensures calm { says_failed result ≡ false

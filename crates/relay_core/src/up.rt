@@ -1,10 +1,12 @@
 //! The upstream's side of a duplex: what it means, and what each of its answers does.
-ghost use Rattle.std.specs.Prelude.{◌≡◌, ◌++◌, ◌∷◌, ◌||◌, ◌<◌, ℕ, [], IsTrue, true};
+ghost use Rattle.std.specs.Prelude.{◌≡◌, ◌++◌, ◌∷◌, ◌||◌, ◌<◌, ℕ, [], IsTrue, true, false};
+ghost use Rattle.std.specs.List.{list_any};
 ghost use Rattle.relay_tasks.specs.declared.error.Error.{Error};
 ghost use Rattle.relay_tasks.specs.declared.error.ErrorSource.TheVariants.{Upstream};
+ghost use Rattle.relay_tasks.specs.Task.{is_end};
 ghost use Rattle.relay_links.specs.Count.{up};
 ghost use Rattle.relay_links.specs.Link.{LinkState, LinkStart};
-ghost use Rattle.relay_core.specs.Past.{Origin, UpPast, UpGoes, task_in, loses, error_of_took, error_of_put, error_of_result};
+ghost use Rattle.relay_core.specs.Past.{Origin, UpPast, GaveBytes, UpGoes, task_in, loses, error_of_took, error_of_put, error_of_result};
 ghost use Rattle.relay_core.specs.Up.{UpState, ReadsTask, TakesPiece, Writes};
 
 use crate::step::UpKind;
@@ -39,13 +41,16 @@ pub trait Up {
         ensures { result ≡ (state self.now).upgraded };
 
     /// Reads a task of the response. Its end comes with a task, and `End` is never answered; no
-    /// item is `Failed`.
+    /// item is `Failed`. Before the end, `More` says that the link gave bytes in this call.
     fn read_task(&mut self) -> Took<HttpTask>
         ensures reads { ReadsTask (state self.old) (state self.new) result }
         ensures start { start self.new ≡ start self.old }
         ensures goes { (s : Origin) (q : UpPast) → past self.old s q
             → UpGoes (past self.new s) (blames self.old s) (blames self.new s) q
             (q.read ++ task_in result) q.taken q.lost (error_of_took result) }
+        ensures gives { (s : Origin) (q : UpPast) → past self.old s q
+            → list_any is_end q.read ≡ false → result ≡ Took.More
+            → GaveBytes (link self.old) (link self.new) }
         ensures waits { result ≡ Took.Waited Pause.NotReady
             → (link self.new).waits ≡ up (link self.old).waits }
         ensures silent { result ≡ Took.Waited Pause.Silent

@@ -1,6 +1,9 @@
 //! The upstream half of a duplex: one function for each of its branches.
 ghost use Rattle.std.specs.Prelude.{◌≡◌, ◌<◌, length, IsTrue, true, false};
+ghost use Rattle.std.specs.List.{list_any};
+ghost use Rattle.relay_tasks.specs.Task.{is_end};
 ghost use Rattle.relay_links.specs.Count as count;
+ghost use Rattle.relay_core.specs.Asked.{Brings};
 ghost use Rattle.relay_core.specs.Pipe.{has_room};
 ghost use Rattle.relay_core.specs.Past.{Origin, UpPast};
 ghost use Rattle.relay_core.specs.Steps.{UpWrites, UpWritesOn, UpTakes, UpTakesOn, UpReads, UpReadsOn, UpEnds};
@@ -112,6 +115,9 @@ impl Duplex {
             → (U.link up.new).waits ≡ count.up (U.link up.old).waits }
         ensures silent { result ≡ Step.Waited Pause.Silent
             → (U.link up.new ≡ U.link up.old) × ((U.link up.new).silent_on_read ≡ true) }
+        ensures brings { (s : Origin) (q : UpPast) → U.past up.old s q
+            → list_any is_end q.read ≡ false → result ≡ Step.Moved
+            → Brings self.old self.new (U.link up.old) (U.link up.new) }
     {
         match up.read_task() {
             Took::Item(task) => self.put_response(task, tunnel),

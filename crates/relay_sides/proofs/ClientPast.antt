@@ -8,6 +8,10 @@ use Rattle.relay_session.specs.Reading.{RequestSoFar, IsWhole, head_of, is_body_
 use Rattle.relay_session.specs.declared.reading.Reading.{Reading}
 use Rattle.relay_session.specs.declared.reading.Reading.TheVariants as reading
 use Rattle.relay_session.specs.declared.session.HttpSession.{HttpSession}
+use Rattle.relay_session.specs.Response.{HoldsOn, is_over}
+use Rattle.relay_session.specs.TaskWire.{Sent, wire}
+use Rattle.relay_session.specs.declared.task_text.Place.TheVariants as place
+use Rattle.relay_session.specs.declared.writing.Writing.{Writing}
 use Rattle.relay_session.specs.declared.writing.Outgoing.{Outgoing}
 use Rattle.relay_session.specs.declared.writing.Outgoing.TheVariants as outgoing
 use Rattle.relay_session.proofs.ReadingLemmas.{body_whole}
@@ -20,6 +24,14 @@ use Rattle.relay_sides.specs.Client.{HasPassed, BeginsBehind, begun_past}
 pub open_is_whole : (output : Outgoing) (queue : List ℕ) (fault : Fault)
     → output ≡ outgoing.Open queue → ¬ (output ≡ outgoing.Broken fault)
 open_is_whole output queue fault is broken = let both = sym is ∙ broken in cc
+
+-- the tasks that were queued leave the response where the session stands
+pub stands_at : (now : Writing) (output : Outgoing) (tasks : List HttpTask) (taken : List ℕ)
+    → HoldsOn now output tasks taken → (wire now.request place.NoHead tasks).place ≡ now.place
+stands_at now (outgoing.Open queue) tasks taken holds =
+    ap (λ (t : Sent). t.place) holds.wire.is
+stands_at now (outgoing.Broken fault) tasks taken holds =
+    ap (λ (t : Sent). t.place) holds.1.wire.is
 
 -- a side that begins behind the bytes that came
 pub begins : (s : Origin) (came : List ℕ) (link : LinkState) (ahead : List ℕ)
@@ -52,6 +64,10 @@ begins s came link ahead session b = record {
   plain = refl;
   plain_end = refl;
   place_over = λ done. absurd (cc);
+  said = λ over.
+      let at = stands_at session.writing session.writing.output [] [] b.response in
+      let wrong : false ≡ true = ap is_over at ∙ over in
+      absurd (cc);
   unasked = λ is. refl;
   asked = λ finished. absurd (cc);
   closed = λ finished. absurd (cc);

@@ -1,6 +1,6 @@
 -- A read of the client: what the piece says of its state, and how what passed goes on with it.
 use Rattle.std.proofs.Common.{◌≡◌, ℕ, ◌<◌, ◌≤◌, Bool, true, false, List, [], ◌∷◌, ◌++◌, length, Option, Some, None, Result, Ok, refl, sym, ◌∙◌, ap, subst, append-nil, append_assoc, length-append, inl, inr, arith}
-use Rattle.std.specs.Prelude.{◌||◌, ◌&&◌, ◌⊎◌, ◌==◌}
+use Rattle.std.specs.Prelude.{◌||◌, ◌&&◌, ◌⊎◌, ◌==◌, not}
 use Rattle.std.specs.List.{list_any}
 use Rattle.std.proofs.lemmas.Bool.{cases_Bool}
 use Rattle.std.proofs.lemmas.List.{length-take}
@@ -23,23 +23,21 @@ use Rattle.relay_session.specs.Front as front
 use Rattle.relay_session.specs.Front.{Watches, ends_with_head}
 use Rattle.relay_session.specs.Reading as says
 use Rattle.relay_session.specs.Reading.{RequestSoFar, SaysBody, IsWhole, ReadsRest, ReadsLink, EndsBy, RefusesRest, piece_of, head_of, is_body_done}
-use Rattle.relay_session.specs.Response.{Holds, HoldsOn, is_over}
+use Rattle.relay_session.specs.Response.{Holds, is_over}
 use Rattle.relay_session.specs.Asked.{request_of}
-use Rattle.relay_session.specs.TaskWire.{Sent, wire}
+use Rattle.relay_session.specs.TaskWire.{wire}
 use Rattle.relay_session.specs.declared.task_text.Request.{Request}
 use Rattle.relay_session.specs.declared.task_text.Place.TheVariants as place
-use Rattle.relay_session.specs.declared.writing.Outgoing.{Outgoing}
-use Rattle.relay_session.specs.declared.writing.Outgoing.TheVariants as outgoing
 use Rattle.relay_session.specs.declared.session.HttpSession.{HttpSession}
 use Rattle.relay_session.specs.declared.writing.Writing.{Writing}
 use Rattle.relay_core.specs.declared.told.Told.{Told}
 use Rattle.relay_core.specs.Down.{ReadsPiece}
-use Rattle.relay_core.specs.Past.{Origin, DownPast, DownGoes, put_in, error_of_took}
+use Rattle.relay_core.specs.Past.{Origin, DownPast, GaveBytes, DownGoes, put_in, error_of_took}
 use Rattle.relay_core.specs.Piece.{put_of}
 use Rattle.relay_sides.specs.Body.{body_of}
 use Rattle.relay_sides.specs.Client.{IsClient, HasPassed, IsUnanswered, IsLast, ClientBlames, state_of, piece_answer, told_read, given_to}
 use Rattle.relay_sides.specs.Client as client
-use Rattle.relay_sides.proofs.ClientPast.{reading_whole, body_of-append, rose_from, rose_on}
+use Rattle.relay_sides.proofs.ClientPast.{stands_at, reading_whole, body_of-append, rose_from, rose_on}
 
 -- what a read of the session left, by its answer; `still` says that the body had ended, so that the
 -- client was only watched
@@ -55,7 +53,6 @@ pub record Left
   pub watches : still ≡ true → Watches before after ahead left answer
   pub head : head_of new.reading ≡ head_of old.reading
   pub stays : still ≡ true → new ≡ old
-  pub unanswered : still ≡ true → is_over old.writing.place ≡ false
   pub response : new.writing ≡ old.writing
 
 -- a session that was asked whether its body has ended, twice
@@ -63,13 +60,17 @@ pub twice : (done : Bool) → done && done ≡ done
 twice true = refl
 twice false = refl
 
--- behind a request that is done the response is not over, where not both are
-pub open_behind : (done over was both : Bool) → both ≡ (done && over) → both ≡ false
-    → was && done ≡ true → over ≡ false
-open_behind true true was both is none on = absurd (cc)
-open_behind true false was both is none on = refl
-open_behind false over true both is none on = absurd (cc)
-open_behind false over false both is none on = absurd (cc)
+-- a client that may be read behind its request has not its whole response
+open_behind : (body done finished over : Bool) → not (body && (done || finished)) ≡ true
+    → body ≡ true → (over ≡ true → (done ≡ true) ⊎ (finished ≡ true)) → over ≡ false
+open_behind false done finished over may is said = absurd (cc)
+open_behind true true finished over may is said = absurd (cc)
+open_behind true false true over may is said = absurd (cc)
+open_behind true false false false may is said = refl
+open_behind true false false true may is said = elim (said refl) [
+  | inl done ↦ absurd (cc)
+  | inr asked ↦ absurd (cc)
+]
 
 -- a list of some items has a length
 some_items : (x : ℕ) (xs : List ℕ) → length (x ∷ xs) == 0 ≡ false
@@ -186,6 +187,22 @@ reads_waits before after (took.Waited NotReady) done link is = link.waits refl
 reads_waits before after (took.Waited Silent) done link is = cc
 reads_waits before after took.End done link is = cc
 reads_waits before after (took.Failed why) done link is = cc
+
+-- where the side has to be asked again the link gave bytes
+pub reads_more : (s : Origin) (p : DownPast) (before after : LinkState) (ahead left : List ℕ)
+    (old new : HttpSession) (answer : Took (List ℕ)) (done : Bool) → IsClient s p before ahead old
+    → Left before after ahead left old new answer → piece_answer answer done ≡ took.More
+    → GaveBytes before after
+reads_more s p before after ahead left old new (took.Item bytes) done h l is = absurd (cc)
+reads_more s p before after ahead left old new took.More done h l is =
+    elim (cases_Bool l.still) [
+      | inl on ↦ absurd (l.watches on)
+      | inr off ↦ let gave = ((l.goes (given_to s p) h.body h.request).tells off).1 in
+          record { room = gave.room; n = gave.n; gives = gave.gives }
+    ]
+reads_more s p before after ahead left old new (took.Waited pause) done h l is = absurd (cc)
+reads_more s p before after ahead left old new took.End done h l is = absurd (cc)
+reads_more s p before after ahead left old new (took.Failed why) done h l is = absurd (cc)
 
 -- what a read puts, by the body before and behind it
 record Puts (old_done new_done : Bool) (answer : Took (List ℕ)) (put : List HttpTask) : Type 0 where
@@ -349,14 +366,6 @@ refused_rest s q before after body e earlier
       matters = inl (body, open_still);
     }))
 
--- the tasks that were queued leave the response where the session stands
-stands_at : (now : Writing) (output : Outgoing) (tasks : List HttpTask) (taken : List ℕ)
-    → HoldsOn now output tasks taken → (wire now.request place.NoHead tasks).place ≡ now.place
-stands_at now (outgoing.Open queue) tasks taken holds =
-    ap (λ (t : Sent). t.place) holds.wire.is
-stands_at now (outgoing.Broken fault) tasks taken holds =
-    ap (λ (t : Sent). t.place) holds.1.wire.is
-
 -- where the session stands open, the response is not over
 not_over : (s : Origin) (q : DownPast) (now : Writing) → Holds now (client.queued q) q.written
     → now.request ≡ request_of s.head → is_over now.place ≡ false → IsUnanswered s q
@@ -424,13 +433,14 @@ blamed s q before after given ahead left body still new (took.Failed (fail.Error
 -- a read of the client
 pub reads_on : (s : Origin) (p : DownPast) (before after : LinkState) (ahead left : List ℕ)
     (old new : HttpSession) (done finished : Bool) (broken : Option Fault) (answer : Took (List ℕ))
+    → not (is_body_done old.reading && (done || finished)) ≡ true
     → HasPassed s p before ahead old done finished broken
     → Left before after ahead left old new answer
     → DownGoes (λ q. HasPassed s q after left new done finished broken)
     (λ q e. ClientBlames s q after e)
     (p.put ++ put_in false (piece_answer answer (is_body_done new.reading))) p.batched p.closing
     (error_of_took (piece_answer answer (is_body_done new.reading)))
-reads_on s p before after ahead left old new done finished broken answer h l =
+reads_on s p before after ahead left old new done finished broken answer may h l =
     let r = l.goes (given_to s p) h.client.body h.client.request in
     let put = put_in false (piece_answer answer (is_body_done new.reading)) in
     let given = puts before after ahead left old new answer l in
@@ -442,6 +452,7 @@ reads_on s p before after ahead left old new done finished broken answer h l =
         plain = h.plain;
         plain_end = h.plain_end;
         place_over = rw l.response h.place_over;
+        said = rw l.response h.said;
         unasked = h.unasked;
         asked = h.asked;
         closed = rw l.response h.closed;
@@ -458,6 +469,8 @@ reads_on s p before after ahead left old new done finished broken answer h l =
           blamed s (past_read p r.came put) before after (given_to s p) ahead left h.client.body
           l.still new answer e h.client.faults
           (λ on. not_over s (past_read p r.came put) old.writing h.client.response
-          (h.client.answers ∙ ap request_of h.client.own) (l.unanswered on)) r
+          (h.client.answers ∙ ap request_of h.client.own)
+          (open_behind (is_body_done old.reading) done finished (is_over old.writing.place) may
+          (sym l.is_still ∙ on) h.said)) r
           (all_given s p before after ahead left old new answer put h.client l given r) is;
     }

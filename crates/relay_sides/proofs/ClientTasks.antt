@@ -1,6 +1,6 @@
 -- Tasks for the client: what queueing them says of the state, and how what passed goes on.
 use Rattle.std.proofs.Common.{◌≡◌, ℕ, ◌<◌, Bool, true, false, List, [], ◌∷◌, ◌++◌, length, Option, Some, None, Result, Ok, Err, refl, sym, ◌∙◌, ap, subst, append-nil, append_assoc, length-append, add-zero, inl, inr, arith}
-use Rattle.std.specs.Prelude.{◌||◌, ◌⊎◌}
+use Rattle.std.specs.Prelude.{◌||◌, ◌&&◌, ◌⊎◌, not}
 use Rattle.std.specs.List.{list_any}
 use Rattle.std.proofs.lemmas.Bool.{cases_Bool}
 use Rattle.std.proofs.lemmas.List.Folds.{list_any-append}
@@ -203,6 +203,40 @@ either_stands : (a b : Bool) → a ≡ true → a || b ≡ true
 either_stands true b is = refl
 either_stands false b is = absurd (cc)
 
+either_right : (a b : Bool) → b ≡ true → a || b ≡ true
+either_right true b is = refl
+either_right false b is = is
+
+-- whether the response is done behind a batch that was refused
+abbrev pub left_done : Bool → Bool → Place → Bool
+left_done done finished at = done || (not finished && is_over at)
+
+-- it is then over
+left_over : (done finished : Bool) (old new : Place) → (done ≡ true → is_over old ≡ true)
+    → (is_over old ≡ true → is_over new ≡ true) → left_done done finished new ≡ true
+    → is_over new ≡ true
+left_over true finished old new was stays is = stays (was refl)
+left_over false true old new was stays is = absurd (cc)
+left_over false false old new was stays is = is
+
+-- and where it is over, it is done
+left_said : (done finished over : Bool) → finished ≡ false → over ≡ true
+    → done || (not finished && over) ≡ true
+left_said true finished over unasked is = refl
+left_said false true over unasked is = absurd (cc)
+left_said false false over unasked is = is
+
+-- where nothing was queued it is as it was
+left_same : (done finished over : Bool) → (over ≡ true → (done ≡ true) ⊎ (finished ≡ true))
+    → done || (not finished && over) ≡ done
+left_same true finished over said = refl
+left_same false true over said = refl
+left_same false false false said = refl
+left_same false false true said = elim (said refl) [
+  | inl done ↦ absurd (cc)
+  | inr asked ↦ absurd (cc)
+]
+
 -- all tasks were queued: the state
 pub queues_state : (old new : HttpSession) (tasks : List HttpTask) (told : Told)
     (done finished : Bool) (broken : Option Fault) (over : Bool)
@@ -230,25 +264,25 @@ no_front_error tasks error alone is =
 
 -- not all were: the state
 pub refuses_state : (old new : HttpSession) (tasks : List HttpTask) (told : Told)
-    (done finished : Bool) (broken : Option Fault) (why : Fail)
+    (done finished now : Bool) (broken : Option Fault) (why : Fail)
     → QueuesFront old new tasks finished why
     → RefusesBatch (state_of old told done finished broken) tasks
-    (state_of new (failed why told) done finished broken) why
-refuses_state old new tasks told done finished broken why
+    (state_of new (failed why told) now finished broken) why
+refuses_state old new tasks told done finished now broken why
     (client.QueuesFront.fails found front is same) =
     record {
       exact = rw same refl;
       upgraded_stays = λ was. absurd (cc);
       by_failure = λ error alone. rw is (front_error tasks error found alone front);
     }
-refuses_state old new tasks told done finished broken why
+refuses_state old new tasks told done finished now broken why
     (client.QueuesFront.is_late none late is same) =
     record {
       exact = rw same refl;
       upgraded_stays = λ was. absurd (cc);
       by_failure = λ error alone. absurd (no_front_error tasks error alone none);
     }
-refuses_state old new tasks told done finished broken why
+refuses_state old new tasks told done finished now broken why
     (client.QueuesFront.stops none unasked same fails) =
     record {
       exact = rw same refl;
@@ -301,6 +335,7 @@ queues_on s p link ahead old new tasks done finished broken over h q =
         plain_end = h.plain_end;
         place_over = over_by done over old.writing.place new.writing.place h.place_over
             (queued_over old.writing new.writing tasks q.queued) q.is_over;
+        said = λ is. inl (either_right done over (q.is_over ∙ is));
         unasked = h.unasked;
         asked = h.asked;
         closed = λ is. let wrong = sym q.unasked ∙ is in absurd (cc);
@@ -335,14 +370,17 @@ none_queued : (s : Origin) (p : DownPast) (link : LinkState) (ahead : List ℕ)
     → HasPassed s p link ahead old done finished broken → new ≡ old
     → ((e : Error) → list_any is_failure tasks ≡ false → why ≡ fail.Error e
     → ClientRefuses s p link tasks e)
-    → BatchRefused (λ q. HasPassed s q link ahead new done finished broken)
+    → BatchRefused
+    (λ q. HasPassed s q link ahead new (left_done done finished new.writing.place) finished broken)
     (λ q left e. ClientRefuses s q link left e) p tasks why
 none_queued s p link ahead old new tasks done finished broken why h same refused = record {
   filtered = [];
   left = tasks;
   parts = refl;
   past = p;
-  stands = rw same h;
+  stands = rw same
+      (subst (λ (d : Bool). HasPassed s p link ahead old d finished broken)
+      (sym (left_same done finished (is_over old.writing.place) h.said)) h);
   is_put = refl;
   is_batched = sym (append-nil p.batched);
   is_closing = refl;
@@ -384,7 +422,8 @@ module _
       → list_any is_failure front ≡ false
       → ((e : Error) → why ≡ fail.Error e
       → ClientRefuses s (past_queued p (p.batched ++ front) p.closing) link left e)
-      → BatchRefused (λ q. HasPassed s q link ahead new done finished broken)
+      → BatchRefused
+      (λ q. HasPassed s q link ahead new (left_done done finished new.writing.place) finished broken)
       (λ q left e. ClientRefuses s q link left e) p tasks why
   stopped front left parts request queue is_open goes stays plain refused =
       let holds = follow new.writing p.batched p.closing front p.written (h.unasked unasked)
@@ -400,10 +439,14 @@ module _
               (λ fault is. absurd (open_is_whole new.writing.output queue fault is_open is));
           over = λ is.
               over_batched new.writing (p.batched ++ front) p.closing p.written
-              (h.unasked unasked) holds (stays (h.place_over is));
+              (h.unasked unasked) holds
+              (left_over done finished old.writing.place new.writing.place h.place_over stays is);
           plain = plain-append p.batched front h.plain plain;
           plain_end = h.plain_end;
-          place_over = λ is. stays (h.place_over is);
+          place_over =
+              left_over done finished old.writing.place new.writing.place h.place_over stays;
+          said = λ is.
+              inl (left_said done finished (is_over new.writing.place) unasked is);
           unasked = h.unasked;
           asked = h.asked;
           closed = λ is. let wrong = sym unasked ∙ is in absurd (cc);
@@ -441,7 +484,8 @@ module _
   -- the session stopped at a task, when out of memory or since it is refused
   stops_on : (stops : StopsAt old.writing tasks new.writing why) (given : Fail) → why ≡ given
       → StopsOn stops.mid stops.at new.writing given
-      → BatchRefused (λ q. HasPassed s q link ahead new done finished broken)
+      → BatchRefused
+      (λ q. HasPassed s q link ahead new (left_done done finished new.writing.place) finished broken)
       (λ q left e. ClientRefuses s q link left e) p tasks why
   stops_on stops fail.OutOfMemory is same =
       let grown = stops.queued.grows.grown in
@@ -493,7 +537,8 @@ module _
       → batch_refusal old.writing.request old.writing.place tasks ≡ checked
       → StopsBatch checked old.writing tasks new.writing why
       → (new.writing ≡ old.writing → new ≡ old)
-      → BatchRefused (λ q. HasPassed s q link ahead new done finished broken)
+      → BatchRefused
+      (λ q. HasPassed s q link ahead new (left_done done finished new.writing.place) finished broken)
       (λ q left e. ClientRefuses s q link left e) p tasks why
   stops_batch None is stops same = stops_on stops why refl stops.stops
   stops_batch (Some error) is stops same =
@@ -511,7 +556,8 @@ module _
   stops_by : (output : Outgoing) → old.writing.output ≡ output
       → FailsBatch output old.writing tasks new.writing why
       → (new.writing ≡ old.writing → new ≡ old)
-      → BatchRefused (λ q. HasPassed s q link ahead new done finished broken)
+      → BatchRefused
+      (λ q. HasPassed s q link ahead new (left_done done finished new.writing.place) finished broken)
       (λ q left e. ClientRefuses s q link left e) p tasks why
   stops_by (outgoing.Open queue) is fails same =
       stops_batch (batch_refusal old.writing.request old.writing.place tasks) refl fails same
@@ -533,7 +579,8 @@ pub refuses_on : (s : Origin) (p : DownPast) (link : LinkState) (ahead : List �
     (old new : HttpSession) (tasks : List HttpTask) (done finished : Bool) (broken : Option Fault)
     (why : Fail)
     → HasPassed s p link ahead old done finished broken → QueuesFront old new tasks finished why
-    → BatchRefused (λ q. HasPassed s q link ahead new done finished broken)
+    → BatchRefused
+    (λ q. HasPassed s q link ahead new (left_done done finished new.writing.place) finished broken)
     (λ q left e. ClientRefuses s q link left e) p tasks why
 refuses_on s p link ahead old new tasks done finished broken why h
     (client.QueuesFront.fails found front is same) =
@@ -618,6 +665,7 @@ ends_again s p link ahead session done finished broken asked h = record {
     plain = h.plain;
     plain_end = plain-append p.closing (task.Done ∷ []) h.plain_end refl;
     place_over = h.place_over;
+    said = h.said;
     unasked = λ is. let wrong = sym asked ∙ is in absurd (cc);
     asked = λ is. some_closing p.closing;
     closed = h.closed;
@@ -655,6 +703,7 @@ ends_on s p link ahead old new done finished broken unasked h reading one = reco
     plain_end = plain-append p.closing (task.Done ∷ []) h.plain_end refl;
     place_over = λ is. rw (ap (λ (w : Writing). w.place) one.grows.grown)
         (piece_over old.writing.place [] true (h.place_over is));
+    said = λ is. inr refl;
     unasked = λ is. absurd (cc);
     asked = λ is. some_closing p.closing;
     closed = λ is. rw (ap (λ (w : Writing). w.place) one.grows.grown)

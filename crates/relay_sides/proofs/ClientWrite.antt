@@ -209,6 +209,7 @@ writes_on s p before after ahead left old new done finished broken answer (outgo
         plain = h.plain;
         plain_end = h.plain_end;
         place_over = rw (ap (λ (r : Writing). r.place) rest) h.place_over;
+        said = rw (ap (λ (r : Writing). r.place) rest) h.said;
         unasked = h.unasked;
         asked = h.asked;
         closed = rw (ap (λ (r : Writing). r.place) rest) h.closed;

@@ -8,7 +8,9 @@ use Rattle.relay_tasks.specs.Head.{RequestHead}
 use Rattle.relay_tasks.specs.declared.error.Error.{Error}
 use Rattle.relay_tasks.specs.declared.error.Fail.{Fail}
 use Rattle.relay_tasks.specs.declared.error.Fail.TheVariants as fail
+use Rattle.relay_tasks.specs.Task.{is_end}
 use Rattle.relay_tasks.specs.declared.task.HttpTask.{HttpTask}
+use Rattle.relay_tasks.specs.declared.task.HttpTask.TheVariants as task
 use Rattle.relay_tasks.specs.declared.took.Took.{Took}
 use Rattle.relay_tasks.specs.declared.took.Took.TheVariants as took
 use Rattle.relay_links.specs.Link.{LinkState, LinkStart}
@@ -37,7 +39,7 @@ use Rattle.relay_peer.specs.declared.response_reading.ResponseReading.{ResponseR
 use Rattle.relay_peer.specs.RequestWriting.{SentSoFar, head_in, method_of}
 use Rattle.relay_peer.specs.ResponseReading.{ToldResponse, ReadSoFar, ReadsTask, Answers, Asks, Refuses, IsResponseTask, untold, with_task, with_head, is_over, is_item, is_error, fault_error}
 use Rattle.relay_peer.specs.ResponseReading as reading
-use Rattle.relay_core.specs.Past.{Origin, UpPast, UpGoes, error_of_fail, error_of_took}
+use Rattle.relay_core.specs.Past.{Origin, UpPast, GaveBytes, UpGoes, error_of_fail, error_of_took}
 use Rattle.relay_sides.specs.declared.peer_side.PeerSide.{PeerSide}
 use Rattle.relay_sides.specs.Peer.{IsPeer, IsPeerSide, IsQueued, PeerBlames, AreTasks, HasRoom, Withholds, asks_to_close, is_switch, Queues, Loses, IsNew, handed, told_of, none_passed}
 use Rattle.relay_sides.specs.Peer as peer
@@ -294,6 +296,50 @@ stopped_still {L} o start link client stopped lost why q is stands =
     })
     stands (sym (append-nil q.read)) refl refl
     (λ e told. stands.why e (is ∙ ap Some (fail_is why e told)))
+
+-- where the side has to be asked again the link gave bytes
+pub more_gave : {L : Type 0} (o : Origin) (start : LinkStart) (before after : LinkState)
+    (old new : H1Client L) (stopped lost : Option Fail) (q : UpPast)
+    → ReadsTask (method_of old.request.request) before after old.response new.response took.More
+    → IsPeer o start before old stopped lost q → GaveBytes before after
+more_gave {L} o start before after old new stopped lost q reads stands =
+    let at = subst (λ (m : List ℕ).
+    ReadsTask m before after old.response new.response took.More)
+    (method_is old.request.request stands.head stands.is_head) reads in
+    let gave = (at.answers q.got (told_of (stands.given ++ stands.withheld)) stands.tasks.so_far).0
+    in
+    let grew = subst (λ (asked : Option Got). Asks before after at.came asked) gave.1 at.asks in
+    record { room = grew.room; n = gave.0; gives = grew.gives }
+
+-- a task that is handed on ends the response where it did
+handed_end : (method : List ℕ) (one : HttpTask) → is_end (handed method one) ≡ is_end one
+handed_end method (task.Header head end) = refl
+handed_end method (task.Body piece end) = refl
+handed_end method (task.UpgradedBody piece end) = refl
+handed_end method (task.Trailer fields) = refl
+handed_end method task.Done = refl
+handed_end method (task.Failed error) = refl
+
+handed_ends : (method : List ℕ) (tasks : List HttpTask)
+    → list_any is_end (map (handed method) tasks) ≡ list_any is_end tasks
+handed_ends method [] = refl
+handed_ends method (one ∷ tasks) = rw (handed_end method one, handed_ends method tasks) refl
+
+-- where the response had ended, its end was handed on
+pub end_read : {L : Type 0} (o : Origin) (start : LinkStart) (before after : LinkState)
+    (old new : H1Client L) (stopped lost : Option Fail) (q : UpPast) → stopped ≡ None
+    → ReadsTask (method_of old.request.request) before after old.response new.response took.End
+    → IsPeer o start before old stopped lost q → list_any is_end q.read ≡ true
+end_read {L} o start before after old new stopped lost q open_yet reads stands =
+    let at = subst (λ (m : List ℕ).
+    ReadsTask m before after old.response new.response took.End)
+    (method_is old.request.request stands.head stands.is_head) reads in
+    let tasks = stands.given ++ stands.withheld in
+    let over = (at.answers q.got (told_of tasks) stands.tasks.so_far).1 in
+    let all = ap (λ (w : List HttpTask). stands.given ++ w) (stands.goes_on open_yet)
+    ∙ append-nil stands.given in
+    ap (list_any is_end) stands.is_read ∙ handed_ends stands.head.method stands.given
+    ∙ ap (list_any is_end) (sym all) ∙ stands.tasks.ended ∙ over
 
 -- ---- tasks
 

@@ -101,8 +101,8 @@ IsClosed (place.Body rest) = ⊥
 IsClosed place.Done = Unit {0}
 
 -- what passed, and how the flags of the side tell of it: a response that is done was over behind
--- its batches, and is over; once its end was asked for no body of it is open; and no write failed
--- where no fault is kept
+-- its batches, and is over; one that is over is done, or its end was asked for; once that was so no
+-- body of it is open; and no write failed where no fault is kept
 pub record HasPassed
     (s : Origin) (p : DownPast) (link : LinkState) (ahead : List ℕ) (session : HttpSession)
     (done finished : Bool) (kept : Option Fault) : Type 0 where
@@ -113,6 +113,7 @@ pub record HasPassed
   pub plain : list_any is_failure p.batched ≡ false
   pub plain_end : list_any is_failure p.closing ≡ false
   pub place_over : done ≡ true → is_over session.writing.place ≡ true
+  pub said : is_over session.writing.place ≡ true → (done ≡ true) ⊎ (finished ≡ true)
   pub unasked : finished ≡ false → p.closing ≡ []
   pub asked : finished ≡ true → 0 < length p.closing
   pub closed : finished ≡ true → IsClosed session.writing.place

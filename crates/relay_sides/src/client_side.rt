@@ -1,9 +1,8 @@
 //! The client's side of a duplex over its session: pieces of the request are read from the client,
 //! and the tasks of the response are queued for it (RFC 9112, sections 6, 7 and 9).
-ghost use Rattle.std.specs.Prelude.{◌≡◌, ◌&&◌, ◌||◌, ◌⊎◌, List, ℕ};
+ghost use Rattle.std.specs.Prelude.{◌≡◌, ◌&&◌, ◌||◌, ◌⊎◌, not, List, ℕ};
 ghost use Rattle.relay_links.specs.Link.{LinkState};
 ghost use Rattle.relay_core.specs.Past.{Origin};
-ghost use Rattle.relay_session.specs.Reading.{is_body_done};
 ghost use Rattle.relay_session.specs.Response.{is_over};
 ghost use Rattle.relay_session.specs.TaskWire.{ends_short};
 ghost use Rattle.relay_sides.specs.Client.{HasPassed, BeginsBehind, begun_past, ClientBlames, ClientRefuses, CannotEnd, Queues, state_of, fault_in, piece_answer, told_read, failure_in_front};
@@ -21,7 +20,7 @@ use std::marker::PhantomData;
 /// The client's side over the session of one request whose head was read. The session has no link:
 /// the client, which has it, is handed to each call that reads or writes.
 ///
-/// `done` says that a batch left the response over, `finished` that the response's end was asked
+/// `done` says that batches left the response over, `finished` that the response's end was asked
 /// for: no batch is queued behind it. `broken` is the fault of the first write that failed: it
 /// stays pending, and each later write answers it without the client.
 #[derive(Drop)]
@@ -156,6 +155,13 @@ impl<F: Front> ClientSide<F> {
         }
         self.session.response_duplex_vec(tasks)
     }
+
+    /// Whether the response is over, without its end having been asked for.
+    fn is_over(&self) -> bool
+        ensures { result ≡ (not self.now.finished && is_over self.now.session.writing.place) }
+    {
+        !self.finished && self.session.response_done()
+    }
 }
 
 /// The piece that an answer of the session is: the end comes with the last bytes, or alone.
@@ -177,13 +183,6 @@ fn piece_answer(took: Took<Bytes>, done: bool) -> Took<Piece>
         }),
         Took::Failed(why) => Took::Failed(why),
     }
-}
-
-/// Whether request and response are both over.
-fn is_through(session: &HttpSession) -> bool
-    ensures { result ≡ is_body_done session.now.reading && is_over session.now.writing.place }
-{
-    session.is_body_done() && session.response_done()
 }
 
 /// One more answer of a read.
@@ -252,7 +251,7 @@ impl<F: Front> Down for ClientSide<F> {
     ghost start = { F.start };
 
     fn may_read(&self) -> bool {
-        true
+        !(self.session.is_body_done() && either(self.done, self.finished))
     }
 
     fn body_done(&self) -> bool {
@@ -265,10 +264,6 @@ impl<F: Front> Down for ClientSide<F> {
 
     fn read_piece(&mut self, client: &mut F, _idle: bool) -> Took<Piece> {
         if !self.session.has_head() {
-            return Took::More;
-        }
-        // Behind a whole request and its whole response the client may do as it likes.
-        if is_through(&self.session) {
             return Took::More;
         }
         let was_done = self.session.is_body_done();
@@ -285,6 +280,8 @@ impl<F: Front> Down for ClientSide<F> {
                 Ok(self.done)
             }
             Err(why) => {
+                // What stood in front of a task that was refused may have ended the response.
+                self.done = either(self.done, self.is_over());
                 self.told = self.told.failed(why);
                 Err(why)
             }

@@ -9,7 +9,7 @@ use crate::pipe::is_failure;
 use crate::*;
 use bytes::Bytes;
 use relay_links::{Put, RoundRobin, Schedule};
-use relay_tasks::{Error, ErrorType, Fail, HttpTask, Result, TaskList, Took};
+use relay_tasks::{Error, ErrorType, Fail, HttpTask, Pause, Result, TaskList, Took};
 use std::alloc::Global;
 use std::test::Fail as TestFail;
 
@@ -254,7 +254,7 @@ impl Down for Client {
     } };
 
     fn may_read(&self) -> bool {
-        true
+        !(self.ended && self.finished)
     }
 
     fn body_done(&self) -> bool {
@@ -267,7 +267,8 @@ impl Down for Client {
 
     fn read_piece(&mut self, _client: &mut (), _idle: bool) -> Took<Piece> {
         if self.ended {
-            return Took::More;
+            self.told = self.told.paused(Pause::Silent);
+            return Took::Waited(Pause::Silent);
         }
         if let (true, Some(error)) = (self.pieces.is_empty(), self.breaks_off) {
             self.told = tell(self.told, error);

@@ -3,7 +3,7 @@ use Rattle.std.proofs.Common.{◌≡◌, Bool, true, refl, subst}
 use Rattle.relay_links.specs.declared.branch.Branch.{Branch}
 use Rattle.relay_core.specs.Steps.{UpTakes, UpTakesOn, UpReads, UpReadsOn}
 use Rattle.relay_core.specs.Table.{State, enabled}
-use Rattle.relay_core.proofs.KeepLemmas.{goes_up_write, goes_down_write, goes_up_take, goes_down_take, goes_down_drop, goes_down_end, goes_down_closed, goes_up_read, goes_down_read, goes_up_finish, goes_down_finish}
+use Rattle.relay_core.proofs.KeepLemmas.{unread, goes_up_write, goes_down_write, goes_up_take, goes_down_take, goes_down_drop, goes_down_end, goes_down_closed, goes_up_read, goes_down_read, goes_up_finish, goes_down_finish}
 use Rattle.relay_core.proofs.duplex.Duplex.step_by.Goals as goal
 
 pub returns-in-UpWrite-clause-goes : goal.returns-in-UpWrite-clause-goes
@@ -259,3 +259,15 @@ returns-in-DownFinish-clause-goes g c =
     (g.U.Up.past c.args.up.now s) (g.U.Up.blames c.args.up.now s)
     (g.D.Down.past c.args.down.now c.args.client.now s) old new c.down_finish.result p q (subst On c.in-DownFinish.is c.requires)
     (record { does = c.down_finish.ensures.exact; up = refl }) (c.down_finish.ensures.goes c.args.client.now s p f.down) f
+
+pub returns-in-UpRead-clause-brings : goal.returns-in-UpRead-clause-brings
+returns-in-UpRead-clause-brings g c =
+    let old : State = record {
+      duplex = c.args.self.now;
+      down = g.D.Down.state c.args.down.now;
+      up = g.U.Up.state c.args.up.now;
+    } in
+    let On : Branch → Type 0 = λ b. enabled old b ≡ true in
+    λ s p q f is.
+    c.up_read.ensures.brings s q f.up
+    (f.unended (unread old (subst On c.in-UpRead.is c.requires)))

@@ -4,7 +4,7 @@ use Rattle.std.specs.Prelude.{◌&&◌}
 use Rattle.relay_session.specs.Reading.{is_body_done}
 use Rattle.relay_session.specs.declared.session.HttpSession.{HttpSession}
 use Rattle.relay_sides.proofs.ClientPast.{no_head}
-use Rattle.relay_sides.proofs.ClientRead.{Left, twice, open_behind, reads_state, reads_silent, reads_waits, reads_on}
+use Rattle.relay_sides.proofs.ClientRead.{Left, twice, reads_state, reads_silent, reads_waits, reads_more, reads_on}
 use Rattle.relay_sides.proofs.client_side.ClientSideDown.read_piece.Given.{Over}
 use Rattle.relay_sides.proofs.client_side.ClientSideDown.read_piece.Goals as goal
 
@@ -23,8 +23,6 @@ left g c = record {
   head = c.read_body_or_idle-took.ensures.head;
   stays = c.read_body_or_idle-took.ensures.still;
   response = ap (λ (x : HttpSession). x.writing) c.read_body_or_idle-took.ensures.response;
-  unanswered = open_behind (is_body_done c.args.self.now.session.reading) _
-      c.is_body_done-was_done.result c.is_through.result c.is_through.ensures c.if-is_through.false;
 }
 
 pub returns-clause-reads : goal.returns-clause-reads
@@ -40,7 +38,14 @@ returns-clause-goes g c =
     (λ s p h.
     reads_on s p _ _ _ _ c.args.self.now.session c.read_body_or_idle-took.new.self
     c.args.self.now.done c.args.self.now.finished c.args.self.now.broken
-    c.read_body_or_idle-took.result h (left g c))
+    c.read_body_or_idle-took.result c.requires h (left g c))
+
+pub returns-clause-gives : goal.returns-clause-gives
+returns-clause-gives g c =
+    rw c.piece_answer-piece.ensures
+    (λ s p h is.
+    reads_more s p _ _ _ _ c.args.self.now.session c.read_body_or_idle-took.new.self
+    c.read_body_or_idle-took.result c.is_body_done.result h.client (left g c) is)
 
 pub returns-clause-silent : goal.returns-clause-silent
 returns-clause-silent g c =
@@ -55,6 +60,11 @@ returns-clause-waits g c =
     (λ is.
     reads_waits _ _ c.read_body_or_idle-took.result c.is_body_done.result
     c.read_body_or_idle-took.ensures.link is)
+
+pub returns-then-not-has_head-clause-gives : goal.returns-then-not-has_head-clause-gives
+returns-then-not-has_head-clause-gives g c = λ s p h is.
+    absurd (no_head s p _ _ c.args.self.now.session _ _ _ c.has_head.result c.if-not-has_head.true
+    c.has_head.ensures.1 h)
 
 pub returns-then-not-has_head-clause-goes : goal.returns-then-not-has_head-clause-goes
 returns-then-not-has_head-clause-goes g c = λ s p h.

@@ -33,18 +33,22 @@ pub returns-in-Err-clause-takes : goal.returns-in-Err-clause-takes
 returns-in-Err-clause-takes g c =
     rw (
       c.failed-self.ensures,
+      c.either-self-in-Err.ensures,
+      c.is_over.ensures,
       ap (λ x. x.told) c.queue.ensures.rest,
       ap (λ x. x.done) c.queue.ensures.rest,
       ap (λ x. x.finished) c.queue.ensures.rest,
       ap (λ x. x.broken) c.queue.ensures.rest,
     )
     (refuses_state c.args.self.now.session c.queue.new.self.session c.args.tasks
-    c.args.self.now.told c.args.self.now.done c.args.self.now.finished c.args.self.now.broken
+    c.args.self.now.told c.args.self.now.done c.args.self.now.finished _ c.args.self.now.broken
     c.in-Err.why c.in-Err.ensures.queues)
 
 pub returns-in-Err-clause-goes : goal.returns-in-Err-clause-goes
 returns-in-Err-clause-goes g c =
     rw (
+      c.either-self-in-Err.ensures,
+      c.is_over.ensures,
       ap (λ x. x.done) c.queue.ensures.rest,
       ap (λ x. x.finished) c.queue.ensures.rest,
       ap (λ x. x.broken) c.queue.ensures.rest,

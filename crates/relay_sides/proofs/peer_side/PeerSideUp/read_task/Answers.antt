@@ -2,7 +2,7 @@
 use Rattle.std.proofs.Common.{Bool, ◌||◌, refl, sym, ap, ◌∙◌, append-nil}
 use Rattle.relay_peer.specs.declared.h1_client.H1Client.{H1Client}
 use Rattle.relay_tasks.specs.declared.took.Took.TheVariants as took
-use Rattle.relay_sides.proofs.PeerLemmas.{stopped_still, read_none, read_hands, read_stops, side_stays, side_hands, calm_same, calm_failed, calm_withheld, calm_paused, or_none}
+use Rattle.relay_sides.proofs.PeerLemmas.{more_gave, end_read, stopped_still, read_none, read_hands, read_stops, side_stays, side_hands, calm_same, calm_failed, calm_withheld, calm_paused, or_none}
 use Rattle.relay_sides.proofs.peer_side.PeerSideUp.read_task.Goals as goal
 
 pub returns-in-Some-clause-goes : goal.returns-in-Some-clause-goes
@@ -62,6 +62,24 @@ returns-in-More-clause-goes g c = λ s q stands.
     (ap (λ (k : H1Client _). k.request) c.read_response_task.ensures.same)
     c.in-More.ensures.reads refl (c.in-More.ensures.ends refl)
     c.in-More.ensures.failed stands.peer)
+
+pub returns-in-More-clause-gives : goal.returns-in-More-clause-gives
+returns-in-More-clause-gives g c = λ s q stands unended is.
+    more_gave s (g.L.ByteLink.start c.args.self.now.client.link)
+    (g.L.ByteLink.state c.args.self.now.client.link)
+    (g.L.ByteLink.state c.read_response_task.new.self.link) c.args.self.now.client
+    c.read_response_task.new.self c.args.self.now.stopped c.args.self.now.lost q
+    c.in-More.ensures.reads stands.peer
+
+pub returns-in-End-clause-gives : goal.returns-in-End-clause-gives
+returns-in-End-clause-gives g c = λ s q stands unended is.
+    let ends = end_read s (g.L.ByteLink.start c.args.self.now.client.link)
+    (g.L.ByteLink.state c.args.self.now.client.link)
+    (g.L.ByteLink.state c.read_response_task.new.self.link) c.args.self.now.client
+    c.read_response_task.new.self c.args.self.now.stopped c.args.self.now.lost q c.in-None.is
+    c.in-End.ensures.reads stands.peer in
+    let wrong = sym unended ∙ ends in
+    absurd (cc)
 
 pub returns-in-End-clause-goes : goal.returns-in-End-clause-goes
 returns-in-End-clause-goes g c = λ s q stands.
