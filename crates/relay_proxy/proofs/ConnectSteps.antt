@@ -30,7 +30,7 @@ use Rattle.relay_exchange.specs.declared.exchange.Exchange.{Exchange}
 use Rattle.relay_exchange.specs.declared.exchange.Stage.{Stage}
 use Rattle.relay_exchange.specs.declared.exchange.Stage.TheVariants as stage
 use Rattle.relay_exchange.specs.Order as exchange
-use Rattle.relay_proxy.specs.Built.{IsBuiltRequest}
+use Rattle.relay_proxy.specs.Relayable.{IsRelayable}
 use Rattle.relay_proxy.specs.Endings.{IsInOrder, IsAskedPeer, IsPartRelayed, EndsLinked, fault_error, outcome_of}
 use Rattle.relay_proxy.specs.Passed.{World, Start, origin_of, TellsClient, IsUnsent}
 use Rattle.relay_proxy.specs.Phases.{IsConnecting, IsLeased, IsRelaying, RunSoFar}
@@ -84,11 +84,11 @@ memory_alone error (fail.Error e) found framing causes refused framed =
 
 -- what passed of an exchange under way, by the mark of its link
 pub part_relayed : (s : Start) (p : Passed) (head : RequestHead) (reused : Bool)
-    (link : LinkState) (start : LinkStart) → IsBuiltRequest head → start.reused ≡ reused
+    (link : LinkState) (start : LinkStart) → IsRelayable head → start.reused ≡ reused
     → exchange.IsInOrder (origin_of s head reused) p link.ended → IsPartRelayed s p link start
-part_relayed s p head reused link start built same order = record {
+part_relayed s p head reused link start relayable same order = record {
   head = head;
-  built = built;
+  relayable = relayable;
   order = subst (λ (r : Bool). exchange.IsInOrder (origin_of s head r) p link.ended) (sym same)
       order;
 }
@@ -137,7 +137,7 @@ module _ {L C : Type 0} (state : L → LinkState) (start_at : L → LinkStart) w
         leased = leased_under_way state start_at origin p w.client w.ahead a.exchange a.lease refl
             peer under;
         head = connecting.head;
-        built = connecting.accepted.built;
+        relayable = connecting.accepted.relayable;
         under_way = under;
       }
     where
@@ -183,7 +183,7 @@ module _ {L C : Type 0} (state : L → LinkState) (start_at : L → LinkStart) w
       holds = (
         relaying.leased,
         (
-          inl (part_relayed s p relaying.head a.lease.reused _ _ relaying.built
+          inl (part_relayed s p relaying.head a.lease.reused _ _ relaying.relayable
               relaying.leased.reused relaying.under_way.order),
           refl,
         ),

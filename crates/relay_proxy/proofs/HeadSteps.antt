@@ -21,7 +21,7 @@ use Rattle.relay_session.specs.declared.session.HttpSession.{HttpSession}
 use Rattle.relay_session.specs.declared.writing.Outgoing.TheVariants.{Open}
 use Rattle.relay_sides.specs.Client.{BeginsBehind}
 use Rattle.relay_exchange.specs.Passed.{Passed}
-use Rattle.relay_proxy.specs.Built.{IsBuiltRequest}
+use Rattle.relay_proxy.specs.Relayable.{IsRelayable}
 use Rattle.relay_proxy.specs.Passed.{World, Start, origin_of, asked, TellsClient}
 use Rattle.relay_proxy.specs.Endings.{IsInOrder, IsTurnedDown, fault_error}
 use Rattle.relay_proxy.specs.Phases.{IsRefusing, RunSoFar}
@@ -108,11 +108,11 @@ module _ {L C : Type 0} (state : L → LinkState) (start_at : L → LinkStart) w
       (framing : Framing) (len : ℕ) (context : C)
       (session : Box HttpSession) → x.client ≡ w.client → x.ahead ≡ drop len w.ahead
       → x.connect_faults ≡ w.connect_faults
-      → HasRequest w.ahead head framing len → IsBuiltRequest head
+      → HasRequest w.ahead head framing len → IsRelayable head
       → StandsBehind head framing session.value
       → RunSoFar {C = C} state start_at s p w [] ReadHead
       → Advances {C = C} state start_at s x (Connect context session) step.Moved
-  head_accepted s p w x head framing len context session client ahead same has built stands run =
+  head_accepted s p w x head framing len context session client ahead same has relayable stands run =
       record {
         passed = p;
         run = record {
@@ -122,7 +122,7 @@ module _ {L C : Type 0} (state : L → LinkState) (start_at : L → LinkStart) w
           calm = ap (λ (l : LinkState). l.faults) client ∙ run.calm;
           holds = record {
             head = head;
-            accepted = record { framing = framing; len = len; has = asks; built = built };
+            accepted = record { framing = framing; len = len; has = asks; relayable = relayable };
             is_head = stands.is_head;
             begins = λ reused. begins_behind s p x head framing len session.value reused tells
                 run.holds.written asks

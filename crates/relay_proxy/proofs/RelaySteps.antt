@@ -27,7 +27,7 @@ use Rattle.relay_exchange.specs.Order as exchange
 use Rattle.relay_exchange.specs.Order.{Leaves, FailsFor}
 use Rattle.relay_exchange.specs.Passed.{Passed}
 use Rattle.relay_exchange.specs.declared.exchange.Exchange.{Exchange}
-use Rattle.relay_proxy.specs.Built.{IsBuiltRequest}
+use Rattle.relay_proxy.specs.Relayable.{IsRelayable}
 use Rattle.relay_proxy.specs.Endings.{IsClientReusable, IsRelayedWhole, IsInOrder, EndsLinked, outcome_of}
 use Rattle.relay_proxy.specs.Passed.{World, Start, origin_of, TellsClient}
 use Rattle.relay_proxy.specs.Phases.{IsLeased, RunSoFar}
@@ -168,14 +168,14 @@ order_of o p client link start e (FailsFor.by_peer order lost blames) = order
 module _ {L : Type 0} (state : L → LinkState) (start_at : L → LinkStart) where
   -- a finished exchange relayed its request whole
   relayed_whole : (s : Start) (p : Passed) (w : World) (head : RequestHead) (x : Exchange L)
-      → IsBuiltRequest head → w.client.faults ≡ s.faults
+      → IsRelayable head → w.client.faults ≡ s.faults
       → IsFinished state start_at (origin_of s head (start_at x.peer.client.link).reused) p w.ahead
       x
       → IsRelayedWhole s p w (state x.peer.client.link) (start_at x.peer.client.link) (may_keep x)
       (client_reusable x w.ahead)
-  relayed_whole s p w head x built calm finished = record {
+  relayed_whole s p w head x relayable calm finished = record {
     head = head;
-    built = built;
+    relayable = relayable;
     relayed = finished.relayed;
     calm = calm;
     kept = finished.leaves.serves;
@@ -211,14 +211,14 @@ module _ {L C : Type 0} (state : L → LinkState) (start_at : L → LinkStart) w
   going_on s p q v client ahead a x run told under calm = record {
     tells = tells_client state start_at s run.holds.head a.value.lease.reused p q v client _ _ ahead
         run.tells told;
-    order = IsInOrder.is_exchange run.holds.head a.value.lease.reused _ run.holds.built under.order;
+    order = IsInOrder.is_exchange run.holds.head a.value.lease.reused _ run.holds.relayable under.order;
     going = tt;
     calm = calm;
     holds = record {
       leased = leased state start_at s run.holds.head p q client _ _ _ _ a.value.lease
           run.holds.leased told;
       head = run.holds.head;
-      built = run.holds.built;
+      relayable = run.holds.relayable;
       under_way = under;
     };
   }
@@ -286,7 +286,7 @@ module _ {L C : Type 0} (state : L → LinkState) (start_at : L → LinkStart) w
       did.Ended
   finishes s p v client ahead a x run turns calm =
       let head = run.holds.head in
-      let built = run.holds.built in
+      let relayable = run.holds.relayable in
       let told = turns.told in
       let w = world_with client ahead v.connect_faults in
       let finished = subst
@@ -296,8 +296,8 @@ module _ {L C : Type 0} (state : L → LinkState) (start_at : L → LinkStart) w
       record {
         passed = turns.passed;
         run = closing s p turns.passed v client ahead a x _ _ run told
-            (IsInOrder.is_exchange head _ _ built finished.relayed.order) (λ same. cc)
-            (relayed_whole state start_at s turns.passed w head x built (calm ∙ run.calm) finished);
+            (IsInOrder.is_exchange head _ _ relayable finished.relayed.order) (λ same. cc)
+            (relayed_whole state start_at s turns.passed w head x relayable (calm ∙ run.calm) finished);
         stalled = λ silent. cc;
       }
 
@@ -312,8 +312,8 @@ module _ {L C : Type 0} (state : L → LinkState) (start_at : L → LinkStart) w
   fails s p v client ahead a x fail.OutOfMemory run turns = record {
     passed = turns.passed;
     run = closing s p turns.passed v client ahead a x _ _ run turns.told
-        (IsInOrder.is_exchange run.holds.head _ _ run.holds.built turns.comes_to) (λ same. cc) (
-          inl (part_relayed s turns.passed run.holds.head a.value.lease.reused _ _ run.holds.built
+        (IsInOrder.is_exchange run.holds.head _ _ run.holds.relayable turns.comes_to) (λ same. cc) (
+          inl (part_relayed s turns.passed run.holds.head a.value.lease.reused _ _ run.holds.relayable
               turns.told.reused turns.comes_to),
           refl,
         );
@@ -330,12 +330,12 @@ module _ {L C : Type 0} (state : L → LinkState) (start_at : L → LinkStart) w
       record {
         passed = turns.passed;
         run = closing s p turns.passed v client ahead a x _ _ run told
-            (IsInOrder.is_exchange head _ _ run.holds.built
+            (IsInOrder.is_exchange head _ _ run.holds.relayable
             (order_of (origin_of s head start.reused) turns.passed client _ start e failed.why))
             (λ same. cc)
             (record {
               head = head;
-              built = run.holds.built;
+              relayable = run.holds.relayable;
               why = failed.why;
               invalid = failed.invalid;
               not_kept = refl;

@@ -293,7 +293,7 @@ module _ {L C : Type 0} (state : L → LinkState) (start_at : L → LinkStart) w
   end_of s p [] w (Relay a) before after ending does run =
       linked_end s p w (Relay a) a.value.exchange.peer.client.link a.value.lease false before after
       ending TurnLimit does.limit does.back run run.holds.leased (
-        part_relayed s p run.holds.head a.value.lease.reused _ _ run.holds.built
+        part_relayed s p run.holds.head a.value.lease.reused _ _ run.holds.relayable
             run.holds.leased.reused run.holds.under_way.order,
         refl,
       )

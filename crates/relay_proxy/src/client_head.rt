@@ -3,7 +3,7 @@ ghost use Rattle.std.specs.Prelude.{◌≡◌, ◌≤◌, ℕ, [], length};
 ghost use Rattle.relay_tasks.specs.Head.{IsStatus};
 ghost use Rattle.relay_h1.specs.Verdict.{IsOpen, HasRequest};
 ghost use Rattle.relay_h1.specs.Wire.{generated};
-ghost use Rattle.relay_proxy.specs.Built.{IsConnect};
+ghost use Rattle.relay_proxy.specs.Relayable.{IsConnect};
 ghost use Rattle.relay_proxy.specs.Endings.{IsTurnedDown, ended_outcome};
 ghost use Rattle.relay_exchange.specs.Passed.{Passed};
 ghost use Rattle.relay_proxy.specs.Passed.{World, Start};
@@ -11,7 +11,7 @@ ghost use Rattle.relay_proxy.specs.Phases.{RunSoFar};
 ghost use Rattle.relay_proxy.specs.Stock.{items_held};
 ghost use Rattle.relay_proxy.specs.Turn.{world_of, DoesWork, is_over, is_end, links_held, Advances};
 
-use crate::built::{is_built_request, is_connect};
+use crate::relayable::{is_relayable, is_connect};
 use crate::hooks::ProxyHttp;
 use crate::machine::{Next, Phase, RunStep};
 use crate::outcome::Outcome;
@@ -172,7 +172,7 @@ fn accept_head<SV: ProxyHttp, D: ByteLink, U, L: ByteLink>(
     ensures kept { client.new.kept ≡ client.old.kept }
     ensures client_start { D.start client.new.link ≡ D.start client.old.link }
 {
-    if !is_built_request(&read.head) {
+    if !is_relayable(&read.head) {
         let error = Error::new_down(ErrorType::Custom(1));
         return Next {
             phase: Phase::Ended(

@@ -59,7 +59,7 @@ module _ {L C : Type 0} (state : L → LinkState) (start_at : L → LinkStart) w
   at_later s p link ahead f g (Relay a) going at = record {
     leased = at.leased;
     head = at.head;
-    built = at.built;
+    relayable = at.relayable;
     under_way = at.under_way;
   }
   at_later s p link ahead f g (Close l lease keep outcome) going at = absurd (true≢false going)
