@@ -32,6 +32,7 @@ use Rattle.relay_proxy.specs.Exact.{IsUnfinished, IsRefusal, IsLeft, IsMissed, I
 use Rattle.relay_proxy.specs.declared.outcome.Outcome.{Outcome}
 use Rattle.relay_proxy.specs.declared.outcome.Outcome.TheVariants.{NoRequest, Refused, Served, TurnLimit, OutOfMemory}
 use Rattle.relay_proxy.specs.declared.record.AttemptRecord.{AttemptRecord}
+use Rattle.relay_proxy.proofs.OpenHead.{turns_down_open}
 
 -- no bytes are an open head
 open_nothing : IsOpen []
@@ -50,14 +51,6 @@ turns_down_nothing (endings.IsTurnedDown.has_bad_head why refused is told) none 
     IsRefusedRequest-IsOpen [] why (subst (λ (xs : List ℕ). IsRefusedRequest xs why) none refused) open_nothing
 turns_down_nothing (endings.IsTurnedDown.asks_to_connect head framing len has connect is told) none =
     has_nothing has none
-
--- a generated answer to an open head
-turns_down_open : {bytes answer : List ℕ} {error : Option Error}
-    → IsTurnedDown bytes answer error → IsOpen bytes → ⊥
-turns_down_open {bytes} (endings.IsTurnedDown.has_bad_head why refused is told) open_head =
-    IsRefusedRequest-IsOpen bytes why refused open_head
-turns_down_open {bytes} (endings.IsTurnedDown.asks_to_connect head framing len has connect is told) open_head =
-    HasRequest-IsOpen bytes head framing len has open_head
 
 -- a generated answer to a head that is valid and asks for no tunnel
 turns_down_other : {bytes answer : List ℕ} {error : Option Error} (head : RequestHead) (framing : Framing) (len : ℕ)
@@ -92,7 +85,7 @@ exact_no_request s p w (Refused error) ends none ended =
         | inl alone ↦ left_nothing alone.why
         | inr fault ↦ elim fault.place as (λ _. ⊥) [
           | inl inside ↦ not_both ended inside.ended
-          | inr refusing ↦ turns_down_nothing refusing.turned_down none
+          | inr refusing ↦ turns_down_nothing refusing.unfinished.turned_down none
         ]
       ]
     ])
@@ -141,7 +134,7 @@ exact_refused s p w (Refused told) ends answer error down whole =
         | inl alone ↦ turned_down_or_left down alone.why
         | inr fault ↦ elim fault.place as (λ _. ⊥) [
           | inl inside ↦ turns_down_open down inside.open_head
-          | inr refusing ↦ refusing.left (whole ∙ one_answer down refusing.turned_down)
+          | inr refusing ↦ refusing.unfinished.left (whole ∙ one_answer down refusing.unfinished.turned_down)
         ]
       ])
     ]
@@ -172,7 +165,7 @@ exact_unrelayed s p w (Refused told) ends e cause =
         | inl alone ↦ inr (record { e = alone.e; why = alone.why; is = ap (λ (x : Option Error). Refused x) alone.is })
         | inr fault ↦ absurd (elim fault.place as (λ _. ⊥) [
           | inl inside ↦ fails_or_left inside.ended inside.open_head cause
-          | inr refusing ↦ turned_down_or_left refusing.turned_down cause
+          | inr refusing ↦ turned_down_or_left refusing.unfinished.turned_down cause
         ])
       ]
     ]

@@ -31,7 +31,7 @@ use Rattle.relay_exchange.specs.Order.{FailsFor, IsRelayed, HasEnded, MayServe}
 use Rattle.relay_exchange.specs.Passed.{Passed}
 use Rattle.relay_exchange.specs.Valid.{IsValid}
 use Rattle.relay_proxy.specs.Relayable.{IsConnect, IsRelayable}
-use Rattle.relay_proxy.specs.Passed.{World, Start, origin_of, asked, TellsClient, TellsLink, IsUnsent}
+use Rattle.relay_proxy.specs.Passed.{World, Start, origin_of, asked, TellsClient, TellsLink, IsUnsent, IsUntouched}
 use Rattle.relay_proxy.specs.declared.outcome.Outcome.{Outcome}
 use Rattle.relay_proxy.specs.declared.outcome.Outcome.TheVariants.{NoRequest, Refused, Served, TurnLimit, OutOfMemory}
 use Rattle.relay_proxy.specs.declared.record.AttemptRecord.{AttemptRecord}
@@ -123,14 +123,18 @@ pub record FailsInHead (s : Start) (p : Passed) (w : World) (fault : Fault) : Ty
   pub ended : w.client.ended ≡ false
   pub written : p.written ≡ []
 
--- a write of the generated answer failed
-pub record FailsInRefusal (s : Start) (p : Passed) (fault : Fault) : Type 0 where
-  pub kind : IsWriteFault fault
+-- the client is given a generated answer, of which some is left
+pub record IsHalfAnswered (s : Start) (p : Passed) : Type 0 where
   pub answer : List ℕ
   pub error : Option Error
   pub turned_down : IsTurnedDown (asked s p) answer error
   pub part : IsFrontOf p.written answer
   pub left : p.written ≢ answer
+
+-- a write of the generated answer failed
+pub record FailsInRefusal (s : Start) (p : Passed) (fault : Fault) : Type 0 where
+  pub kind : IsWriteFault fault
+  pub unfinished : IsHalfAnswered s p
 
 -- the client's link failed before a link was asked for
 pub record IsClientFault (s : Start) (p : Passed) (w : World) (error : Option Error) : Type 0 where
@@ -299,4 +303,5 @@ module _ {L : Type 0} (state : L → LinkState) (start_at : L → LinkStart) whe
       (attempts : List AttemptRecord) (outcome : Outcome) : Type 0 where
     pub tells : TellsClient s p w
     pub order : IsInOrder s p
+    pub untouched : IsUntouched s p w
     pub ends : EndsWith s p w own attempts outcome
