@@ -30,7 +30,7 @@ use Rattle.relay_exchange.specs.declared.exchange.Exchange.{Exchange}
 use Rattle.relay_exchange.specs.declared.exchange.Stage.{Stage}
 use Rattle.relay_exchange.specs.declared.exchange.Stage.TheVariants as stage
 use Rattle.relay_exchange.specs.Order as exchange
-use Rattle.relay_proxy.specs.Built.{IsBuiltRequest}
+use Rattle.relay_proxy.specs.Relayable.{IsRelayable}
 use Rattle.relay_proxy.specs.Endings.{IsInOrder, IsAskedPeer, IsPartRelayed, EndsLinked, fault_error, outcome_of}
 use Rattle.relay_proxy.specs.Passed.{World, Start, origin_of, TellsClient, IsUnsent}
 use Rattle.relay_proxy.specs.Phases.{IsConnecting, IsLeased, IsRelaying, RunSoFar}
@@ -38,9 +38,9 @@ use Rattle.relay_proxy.specs.Turn.{Advances, world_with}
 use Rattle.relay_proxy.specs.declared.machine.Attempt.{Attempt}
 use Rattle.relay_proxy.specs.declared.machine.Lease.{Lease}
 use Rattle.relay_proxy.specs.declared.machine.Phase.TheVariants.{Connect, Relay, Close, Ended}
-use Rattle.relay_proxy.specs.declared.machine.RunStep.TheVariants as step
 use Rattle.relay_proxy.specs.declared.outcome.Outcome.{Outcome}
 use Rattle.relay_proxy.specs.declared.outcome.Outcome.TheVariants as outcome
+use Rattle.relay_proxy.proofs.OpenHead.{exchange_open}
 use Rattle.relay_proxy.proofs.Tells.{Rose-le, client_still}
 
 -- a link that was just handed out gave and took nothing since
@@ -84,11 +84,11 @@ memory_alone error (fail.Error e) found framing causes refused framed =
 
 -- what passed of an exchange under way, by the mark of its link
 pub part_relayed : (s : Start) (p : Passed) (head : RequestHead) (reused : Bool)
-    (link : LinkState) (start : LinkStart) → IsBuiltRequest head → start.reused ≡ reused
+    (link : LinkState) (start : LinkStart) → IsRelayable head → start.reused ≡ reused
     → exchange.IsInOrder (origin_of s head reused) p link.ended → IsPartRelayed s p link start
-part_relayed s p head reused link start built same order = record {
+part_relayed s p head reused link start relayable same order = record {
   head = head;
-  built = built;
+  relayable = relayable;
   order = subst (λ (r : Bool). exchange.IsInOrder (origin_of s head r) p link.ended) (sym same)
       order;
 }
@@ -137,7 +137,7 @@ module _ {L C : Type 0} (state : L → LinkState) (start_at : L → LinkStart) w
         leased = leased_under_way state start_at origin p w.client w.ahead a.exchange a.lease refl
             peer under;
         head = connecting.head;
-        built = connecting.accepted.built;
+        relayable = connecting.accepted.relayable;
         under_way = under;
       }
     where
@@ -155,41 +155,45 @@ module _ {L C : Type 0} (state : L → LinkState) (start_at : L → LinkStart) w
   pub held : (s : Start) (p : Passed) (w : World) (a : Attempt L C) (b : Box (Attempt L C))
       → b.value ≡ a → TellsClient s p w → IsInOrder s p → w.client.faults ≡ s.faults
       → IsRelaying state start_at s p w a
-      → Advances {C = C} state start_at s w (Relay b) step.Moved
+      → Advances {C = C} state start_at s w (Relay b)
   held s p w a b same tells order calm relaying = record {
     passed = p;
     run = record {
       tells = tells;
       order = order;
+      untouched = λ open_head.
+          absurd (exchange_open s p relaying.head a.lease.reused _ relaying.under_way.order
+          open_head);
       going = tt;
       calm = calm;
       holds = subst (λ (x : Attempt L C). IsRelaying state start_at s p w x) (sym same) relaying;
     };
-    stalled = λ silent. cc;
   }
 
   -- the attempt is not held, when out of memory
   pub not_held : (s : Start) (p : Passed) (w : World) (a : Attempt L C) → TellsClient s p w
       → IsInOrder s p → IsRelaying state start_at s p w a
       → Advances {C = C} state start_at s w
-      (Close a.exchange.peer.client.link a.lease false outcome.OutOfMemory) step.Ended
+      (Close a.exchange.peer.client.link a.lease false outcome.OutOfMemory)
   not_held s p w a tells order relaying = record {
     passed = p;
     run = record {
       tells = tells;
       order = order;
+      untouched = λ open_head.
+          absurd (exchange_open s p relaying.head a.lease.reused _ relaying.under_way.order
+          open_head);
       going = no_limit;
       calm = tt;
       holds = (
         relaying.leased,
         (
-          inl (part_relayed s p relaying.head a.lease.reused _ _ relaying.built
+          inl (part_relayed s p relaying.head a.lease.reused _ _ relaying.relayable
               relaying.leased.reused relaying.under_way.order),
           refl,
         ),
       );
     };
-    stalled = λ silent. cc;
   }
 
   -- the exchange was not begun, when out of memory
@@ -201,7 +205,7 @@ module _ {L C : Type 0} (state : L → LinkState) (start_at : L → LinkStart) w
       → IsMemoryOr (refused_from Internal BadFraming) why
       → (why ≡ fail.Error (refused_from Internal BadFraming) → request_framing given ≡ None)
       → RunSoFar {C = C} state start_at s p w [] (Connect context session)
-      → Advances {C = C} state start_at s w (Close back lease false end) step.Ended
+      → Advances {C = C} state start_at s w (Close back lease false end)
   not_begun s p w context session given link back lease why end is handed peer same ends causes
       refused run =
       record {
@@ -209,6 +213,7 @@ module _ {L C : Type 0} (state : L → LinkState) (start_at : L → LinkStart) w
         run = record {
           tells = run.tells;
           order = run.order;
+          untouched = run.untouched;
           going = λ limit. no_limit (sym is_memory ∙ limit);
           calm = tt;
           holds = (
@@ -218,7 +223,6 @@ module _ {L C : Type 0} (state : L → LinkState) (start_at : L → LinkStart) w
                 (sym is_memory) (inr (run.holds.written, run.holds.unsent), refl),
           );
         };
-        stalled = λ silent. cc;
       }
     where
       framed : request_framing given ≡ Some run.holds.accepted.framing
@@ -243,13 +247,13 @@ module _ {L C : Type 0} (state : L → LinkState) (start_at : L → LinkStart) w
         kept = false;
         error = Some (fault_error Upstream fault);
       } ∷ []))
-      step.Ended
   not_connected s p w failed context session peer fault fits rose kind asked run = record {
     passed = p;
     run = record {
       tells = client_still s p w (world_with w.client w.ahead failed)
           (Rose-le w.connect_faults failed fits rose) refl refl (omega arith) run.tells;
       order = run.order;
+      untouched = run.untouched;
       going = λ limit. cc;
       calm = tt;
       holds = (
@@ -269,5 +273,4 @@ module _ {L C : Type 0} (state : L → LinkState) (start_at : L → LinkStart) w
         (_, refl, record { peer = asked; reused = refl; kept = refl; error = refl }),
       );
     };
-    stalled = λ silent. cc;
   }

@@ -23,7 +23,7 @@ use Rattle.relay_exchange.specs.Order.{FailsFor, IsRelayed}
 use Rattle.relay_exchange.specs.Order as order
 use Rattle.relay_exchange.specs.Passed.{Passed}
 use Rattle.relay_exchange.specs.Valid.{AsksFor, AnswersWith, IsValid}
-use Rattle.relay_proxy.specs.Built.{IsConnect, IsBuiltRequest}
+use Rattle.relay_proxy.specs.Relayable.{IsConnect, IsRelayable}
 use Rattle.relay_proxy.specs.Passed.{World, Start, origin_of, asked}
 use Rattle.relay_proxy.specs.Endings as endings
 use Rattle.relay_proxy.specs.Endings.{IsAccepted, IsTurnedDown, IsLeftAlone, EndsUnlinked, EndsLinked, IsEnded}
@@ -32,6 +32,7 @@ use Rattle.relay_proxy.specs.Exact.{IsUnfinished, IsRefusal, IsLeft, IsMissed, I
 use Rattle.relay_proxy.specs.declared.outcome.Outcome.{Outcome}
 use Rattle.relay_proxy.specs.declared.outcome.Outcome.TheVariants.{NoRequest, Refused, Served, TurnLimit, OutOfMemory}
 use Rattle.relay_proxy.specs.declared.record.AttemptRecord.{AttemptRecord}
+use Rattle.relay_proxy.proofs.OpenHead.{turns_down_open}
 
 -- no bytes are an open head
 open_nothing : IsOpen []
@@ -51,14 +52,6 @@ turns_down_nothing (endings.IsTurnedDown.has_bad_head why refused is told) none 
 turns_down_nothing (endings.IsTurnedDown.asks_to_connect head framing len has connect is told) none =
     has_nothing has none
 
--- a generated answer to an open head
-turns_down_open : {bytes answer : List ℕ} {error : Option Error}
-    → IsTurnedDown bytes answer error → IsOpen bytes → ⊥
-turns_down_open {bytes} (endings.IsTurnedDown.has_bad_head why refused is told) open_head =
-    IsRefusedRequest-IsOpen bytes why refused open_head
-turns_down_open {bytes} (endings.IsTurnedDown.asks_to_connect head framing len has connect is told) open_head =
-    HasRequest-IsOpen bytes head framing len has open_head
-
 -- a generated answer to a head that is valid and asks for no tunnel
 turns_down_other : {bytes answer : List ℕ} {error : Option Error} (head : RequestHead) (framing : Framing) (len : ℕ)
     → IsTurnedDown bytes answer error → HasRequest bytes head framing len → ¬ (IsConnect head) → ⊥
@@ -68,11 +61,11 @@ turns_down_other {bytes} head framing len (endings.IsTurnedDown.asks_to_connect 
     no_connect (subst (λ (h : RequestHead). IsConnect h) (HasRequest-unique bytes a head f framing n len x has).0 connect)
 
 -- a head that is relayed and one that is not
-built_or_not : {bytes : List ℕ} {a b : RequestHead} {f g : Framing} {n m : ℕ}
-    → HasRequest bytes a g n → IsBuiltRequest a → HasRequest bytes b f m → ¬ (IsBuiltRequest b) → ⊥
-built_or_not {bytes} {a} {b} {f} {g} {n} {m} x built y unbuilt =
-    unbuilt (subst (λ (h : RequestHead). IsBuiltRequest h)
-    (HasRequest-unique bytes a b g f n m x y).0 built)
+relayable_or_not : {bytes : List ℕ} {a b : RequestHead} {f g : Framing} {n m : ℕ}
+    → HasRequest bytes a g n → IsRelayable a → HasRequest bytes b f m → ¬ (IsRelayable b) → ⊥
+relayable_or_not {bytes} {a} {b} {f} {g} {n} {m} x relayable y unrelayable =
+    unrelayable (subst (λ (h : RequestHead). IsRelayable h)
+    (HasRequest-unique bytes a b g f n m x y).0 relayable)
 
 -- a true flag is not false
 not_both : {b : Bool} → b ≡ true → b ≡ false → ⊥
@@ -92,14 +85,14 @@ exact_no_request s p w (Refused error) ends none ended =
         | inl alone ↦ left_nothing alone.why
         | inr fault ↦ elim fault.place as (λ _. ⊥) [
           | inl inside ↦ not_both ended inside.ended
-          | inr refusing ↦ turns_down_nothing refusing.turned_down none
+          | inr refusing ↦ turns_down_nothing refusing.unfinished.turned_down none
         ]
       ]
     ])
   where
     left_nothing : {e : Error} → IsLeftAlone s p w e → ⊥
     left_nothing (endings.IsLeftAlone.ends_in_head inside is) = inside.begun none
-    left_nothing (endings.IsLeftAlone.is_unbuilt unbuilt is) = has_nothing unbuilt.has none
+    left_nothing (endings.IsLeftAlone.is_unrelayable unrelayable is) = has_nothing unrelayable.has none
 exact_no_request s p w (Served None reuse) ends none ended = absurd ends
 exact_no_request s p w (Served (Some e) reuse) ends none ended = absurd (has_nothing ends.0.accepted.has none)
 exact_no_request s p w TurnLimit ends none ended = inl (inl refl)
@@ -109,8 +102,8 @@ exact_no_request s p w OutOfMemory ends none ended = inl (inr refl)
 turned_down_or_left : {s : Start} {p : Passed} {w : World} {answer : List ℕ} {error : Option Error} {e : Error}
     → IsTurnedDown (asked s p) answer error → IsLeftAlone s p w e → ⊥
 turned_down_or_left down (endings.IsLeftAlone.ends_in_head inside is) = turns_down_open down inside.open_head
-turned_down_or_left down (endings.IsLeftAlone.is_unbuilt unbuilt is) =
-    turns_down_other unbuilt.head unbuilt.framing unbuilt.len down unbuilt.has unbuilt.no_connect
+turned_down_or_left down (endings.IsLeftAlone.is_unrelayable unrelayable is) =
+    turns_down_other unrelayable.head unrelayable.framing unrelayable.len down unrelayable.has unrelayable.no_connect
 
 -- the generated answer is one
 one_answer : {bytes a b : List ℕ} {d e : Option Error} → IsTurnedDown bytes a d → IsTurnedDown bytes b e → a ≡ b
@@ -141,14 +134,14 @@ exact_refused s p w (Refused told) ends answer error down whole =
         | inl alone ↦ turned_down_or_left down alone.why
         | inr fault ↦ elim fault.place as (λ _. ⊥) [
           | inl inside ↦ turns_down_open down inside.open_head
-          | inr refusing ↦ refusing.left (whole ∙ one_answer down refusing.turned_down)
+          | inr refusing ↦ refusing.unfinished.left (whole ∙ one_answer down refusing.unfinished.turned_down)
         ]
       ])
     ]
 exact_refused s p w (Served None reuse) ends answer error down whole = absurd ends
 exact_refused s p w (Served (Some e) reuse) ends answer error down whole =
     absurd (turns_down_other ends.0.head ends.0.accepted.framing ends.0.accepted.len down
-    ends.0.accepted.has ends.0.accepted.built.method)
+    ends.0.accepted.has ends.0.accepted.relayable.method)
 exact_refused s p w TurnLimit ends answer error down whole = inl (inl refl)
 exact_refused s p w OutOfMemory ends answer error down whole = inl (inr refl)
 
@@ -157,14 +150,14 @@ relayed_or_not : {s : Start} {p : Passed} {w : World} {e : Error} (head : Reques
     → IsAccepted s p head → IsLeftAlone s p w e → ⊥
 relayed_or_not {s} {p} head accepted (endings.IsLeftAlone.ends_in_head inside is) =
     HasRequest-IsOpen (asked s p) head accepted.framing accepted.len accepted.has inside.open_head
-relayed_or_not head accepted (endings.IsLeftAlone.is_unbuilt unbuilt is) =
-    built_or_not accepted.has accepted.built unbuilt.has unbuilt.unbuilt
+relayed_or_not head accepted (endings.IsLeftAlone.is_unrelayable unrelayable is) =
+    relayable_or_not accepted.has accepted.relayable unrelayable.has unrelayable.unrelayable
 
 exact_unrelayed : (s : Start) (p : Passed) (w : World) (outcome : Outcome) → EndsUnlinked s p w outcome
     → (e : Error) → IsLeftAlone s p w e → IsUnfinished outcome ⊎ IsLeft s p w outcome
 exact_unrelayed s p w NoRequest ends e (endings.IsLeftAlone.ends_in_head inside is) = absurd (inside.begun ends.no_byte)
-exact_unrelayed s p w NoRequest ends e (endings.IsLeftAlone.is_unbuilt unbuilt is) =
-    absurd (has_nothing unbuilt.has ends.no_byte)
+exact_unrelayed s p w NoRequest ends e (endings.IsLeftAlone.is_unrelayable unrelayable is) =
+    absurd (has_nothing unrelayable.has ends.no_byte)
 exact_unrelayed s p w (Refused told) ends e cause =
     elim ends as (λ _. IsUnfinished (Refused told) ⊎ IsLeft s p w (Refused told)) [
       | inl answered ↦ absurd (turned_down_or_left answered.turned_down cause)
@@ -172,15 +165,15 @@ exact_unrelayed s p w (Refused told) ends e cause =
         | inl alone ↦ inr (record { e = alone.e; why = alone.why; is = ap (λ (x : Option Error). Refused x) alone.is })
         | inr fault ↦ absurd (elim fault.place as (λ _. ⊥) [
           | inl inside ↦ fails_or_left inside.ended inside.open_head cause
-          | inr refusing ↦ turned_down_or_left refusing.turned_down cause
+          | inr refusing ↦ turned_down_or_left refusing.unfinished.turned_down cause
         ])
       ]
     ]
   where
     fails_or_left : {e : Error} → w.client.ended ≡ false → IsOpen (asked s p) → IsLeftAlone s p w e → ⊥
     fails_or_left live open_head (endings.IsLeftAlone.ends_in_head inside is) = not_both inside.ended live
-    fails_or_left live open_head (endings.IsLeftAlone.is_unbuilt unbuilt is) =
-        HasRequest-IsOpen (asked s p) unbuilt.head unbuilt.framing unbuilt.len unbuilt.has open_head
+    fails_or_left live open_head (endings.IsLeftAlone.is_unrelayable unrelayable is) =
+        HasRequest-IsOpen (asked s p) unrelayable.head unrelayable.framing unrelayable.len unrelayable.has open_head
 exact_unrelayed s p w (Served None reuse) ends e cause = absurd ends
 exact_unrelayed s p w (Served (Some told) reuse) ends e cause =
     absurd (relayed_or_not ends.0.head ends.0.accepted cause)
@@ -256,10 +249,10 @@ linked_head s p w link start keep NoRequest ends = absurd ends
 linked_head s p w link start keep (Refused error) ends = absurd ends
 linked_head s p w link start keep (Served None reuse) ends =
     let asks = ends.relayed.order.asks in
-    inr (ends.head, record { framing = asks.framing; len = asks.len; has = asks.has; built = ends.built })
+    inr (ends.head, record { framing = asks.framing; len = asks.len; has = asks.has; relayable = ends.relayable })
 linked_head s p w link start keep (Served (Some e) reuse) ends =
     let own = failed_head s p ends.head start.reused ends.why in
-    inr (ends.head, record { framing = own.framing; len = own.len; has = own.has; built = ends.built })
+    inr (ends.head, record { framing = own.framing; len = own.len; has = own.has; relayable = ends.relayable })
 linked_head s p w link start keep TurnLimit ends = inl (inl refl)
 linked_head s p w link start keep OutOfMemory ends = inl (inr refl)
 
@@ -295,7 +288,7 @@ exact_unfit s p w link start keep (Refused error) ends head accepted unfit = abs
 exact_unfit s p w link start keep (Served None reuse) ends head accepted unfit =
     let asks = ends.relayed.order.asks in
     let own : IsAccepted s p ends.head =
-    record { framing = asks.framing; len = asks.len; has = asks.has; built = ends.built } in
+    record { framing = asks.framing; len = asks.len; has = asks.has; relayable = ends.relayable } in
     absurd (relayed_fit s p ends.head start.reused link ends.relayed
     (subst (λ (h : RequestHead). IsUnfit h.method p.got link.ended) (one_head accepted own) unfit))
 exact_unfit s p w link start keep (Served (Some e) reuse) ends head accepted unfit =
@@ -307,19 +300,19 @@ exact_unfit s p w link start keep OutOfMemory ends head accepted unfit = inl (in
 
 -- a request that is relayed is not turned down, as far as it has come
 asks_not_refused : (s : Start) (p : Passed) (w : World) {answer : List ℕ} {error : Option Error}
-    (head : RequestHead) → IsBuiltRequest head → AsksFor (origin_of s head false) p w.client
+    (head : RequestHead) → IsRelayable head → AsksFor (origin_of s head false) p w.client
     → IsTurnedDown (asked s p) answer error → ⊥
-asks_not_refused s p w head built asks (endings.IsTurnedDown.has_bad_head why refused is told) =
+asks_not_refused s p w head relayable asks (endings.IsTurnedDown.has_bad_head why refused is told) =
     let whole = asks.is_request in
     HasRequest-IsRefusedRequest asks.request head whole.framing whole.len why whole.has
     (subst (λ (xs : List ℕ). IsRefusedRequest xs why) asks.gives.joined
     (IsRefusedRequest-append (asked s p) asks.gives.rest why refused))
-asks_not_refused s p w head built asks
+asks_not_refused s p w head relayable asks
     (endings.IsTurnedDown.asks_to_connect other framing len has connect is told) =
     let whole = asks.is_request in
     let all = subst (λ (xs : List ℕ). HasRequest xs other framing len) asks.gives.joined
     (HasRequest-append (asked s p) asks.gives.rest other framing len has) in
-    built.method (subst (λ (h : RequestHead). IsConnect h)
+    relayable.method (subst (λ (h : RequestHead). IsConnect h)
     (HasRequest-unique asks.request other head framing whole.framing len whole.len all whole.has).0
     connect)
 
@@ -333,33 +326,33 @@ asks_that s p w head other asks own =
     (HasRequest-append (asked s p) asks.gives.rest other own.framing own.len own.has)) whole.has).0
 
 asks_not_left : (s : Start) (p : Passed) (w : World) {e : Error} (head : RequestHead)
-    → IsBuiltRequest head → AsksFor (origin_of s head false) p w.client → IsLeftAlone s p w e → ⊥
-asks_not_left s p w head built asks (endings.IsLeftAlone.ends_in_head inside is) =
+    → IsRelayable head → AsksFor (origin_of s head false) p w.client → IsLeftAlone s p w e → ⊥
+asks_not_left s p w head relayable asks (endings.IsLeftAlone.ends_in_head inside is) =
     not_both inside.ended asks.stays
-asks_not_left s p w head built asks (endings.IsLeftAlone.is_unbuilt unbuilt is) =
-    unbuilt.unbuilt (subst (λ (h : RequestHead). IsBuiltRequest h)
-    (sym (asks_that s p w head unbuilt.head asks
-    (record { framing = unbuilt.framing; len = unbuilt.len; has = unbuilt.has }))) built)
+asks_not_left s p w head relayable asks (endings.IsLeftAlone.is_unrelayable unrelayable is) =
+    unrelayable.unrelayable (subst (λ (h : RequestHead). IsRelayable h)
+    (sym (asks_that s p w head unrelayable.head asks
+    (record { framing = unrelayable.framing; len = unrelayable.len; has = unrelayable.has }))) relayable)
 
 whole_unlinked : (s : Start) (p : Passed) (w : World) (outcome : Outcome) → EndsUnlinked s p w outcome
-    → (head : RequestHead) → IsBuiltRequest head → AsksFor (origin_of s head false) p w.client
+    → (head : RequestHead) → IsRelayable head → AsksFor (origin_of s head false) p w.client
     → ¬ (Rose s.faults w.client.faults) → ¬ (Rose s.connect_faults w.connect_faults)
     → IsUnfinished outcome ⊎ ((reuse : Bool) × (outcome ≡ Served None reuse))
-whole_unlinked s p w NoRequest ends head built asks client connector =
+whole_unlinked s p w NoRequest ends head relayable asks client connector =
     absurd (not_both ends.ended asks.stays)
-whole_unlinked s p w (Refused error) ends head built asks client connector =
+whole_unlinked s p w (Refused error) ends head relayable asks client connector =
     absurd (elim ends as (λ _. ⊥) [
-      | inl answered ↦ asks_not_refused s p w head built asks answered.turned_down
+      | inl answered ↦ asks_not_refused s p w head relayable asks answered.turned_down
       | inr other ↦ elim other as (λ _. ⊥) [
-        | inl alone ↦ asks_not_left s p w head built asks alone.why
+        | inl alone ↦ asks_not_left s p w head relayable asks alone.why
         | inr fault ↦ client fault.rose
       ]
     ])
-whole_unlinked s p w (Served None reuse) ends head built asks client connector = absurd ends
-whole_unlinked s p w (Served (Some e) reuse) ends head built asks client connector =
+whole_unlinked s p w (Served None reuse) ends head relayable asks client connector = absurd ends
+whole_unlinked s p w (Served (Some e) reuse) ends head relayable asks client connector =
     absurd (connector ends.0.rose)
-whole_unlinked s p w TurnLimit ends head built asks client connector = inl (inl refl)
-whole_unlinked s p w OutOfMemory ends head built asks client connector = inl (inr refl)
+whole_unlinked s p w TurnLimit ends head relayable asks client connector = inl (inl refl)
+whole_unlinked s p w OutOfMemory ends head relayable asks client connector = inl (inr refl)
 
 -- a valid exchange, over a link that had been used before or not
 valid_over : (s : Start) (p : Passed) (client link : LinkState) (start : LinkStart)
@@ -412,8 +405,8 @@ module _ {L : Type 0} (state : L → LinkState) (start_at : L → LinkStart) whe
     refused = λ answer error down whole. exact_refused s p w outcome ends answer error down whole;
     not_relayed = λ e cause. exact_unrelayed s p w outcome ends e cause;
     unfit = λ r head one accepted unfit. absurd (one_not_none one);
-    whole = λ head built asks answers faultless.
-        whole_unlinked s p w outcome ends head built asks faultless.client faultless.connector;
+    whole = λ head relayable asks answers faultless.
+        whole_unlinked s p w outcome ends head relayable asks faultless.client faultless.connector;
   }
 
   -- a request that had this link
@@ -431,7 +424,7 @@ module _ {L : Type 0} (state : L → LinkState) (start_at : L → LinkStart) whe
             elim own as (λ _. IsUnfinished outcome ⊎ IsRefusal s p outcome) [
               | inl unfinished ↦ inl unfinished
               | inr one ↦ absurd (turns_down_other one.0 one.1.framing one.1.len down one.1.has
-                  one.1.built.method)
+                  one.1.relayable.method)
             ];
         not_relayed = λ e cause.
             elim own as (λ _. IsUnfinished outcome ⊎ IsLeft s p w outcome) [
@@ -442,7 +435,7 @@ module _ {L : Type 0} (state : L → LinkState) (start_at : L → LinkStart) whe
             exact_unfit s p w (state r.link) (start_at r.link) r.keep outcome ends head accepted
             (subst (λ (x : Returned L). IsUnfit head.method p.got (state x.link).ended)
             (sym (same_one one)) unfit);
-        whole = λ head built asks answers faultless.
+        whole = λ head relayable asks answers faultless.
             whole_linked s p w (state r.link) (start_at r.link) r.keep outcome ends head asks
             (answers r refl) faultless.client (faultless.link r refl);
       }

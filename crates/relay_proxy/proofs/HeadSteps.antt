@@ -4,8 +4,6 @@ use Rattle.std.specs.Global.{Box}
 use Rattle.relay_tasks.specs.declared.Error.{Error}
 use Rattle.relay_tasks.specs.declared.ErrorSource.TheVariants.{Downstream}
 use Rattle.relay_tasks.specs.declared.Fault.{Fault}
-use Rattle.relay_tasks.specs.declared.took.Pause.{Pause}
-use Rattle.relay_tasks.specs.declared.took.Pause.TheVariants.{Silent}
 use Rattle.relay_tasks.specs.Head.{RequestHead}
 use Rattle.relay_links.specs.Link.{LinkState, LinkStart, GivesBytes, FailsWrite, WantsMemory}
 use Rattle.relay_links.specs.Told.{Since}
@@ -21,17 +19,18 @@ use Rattle.relay_session.specs.declared.session.HttpSession.{HttpSession}
 use Rattle.relay_session.specs.declared.writing.Outgoing.TheVariants.{Open}
 use Rattle.relay_sides.specs.Client.{BeginsBehind}
 use Rattle.relay_exchange.specs.Passed.{Passed}
-use Rattle.relay_proxy.specs.Built.{IsBuiltRequest}
+use Rattle.relay_proxy.specs.Relayable.{IsRelayable}
 use Rattle.relay_proxy.specs.Passed.{World, Start, origin_of, asked, TellsClient}
-use Rattle.relay_proxy.specs.Endings.{IsInOrder, IsTurnedDown, fault_error}
+use Rattle.relay_proxy.specs.Endings.{IsInOrder, IsTurnedDown, IsHalfAnswered, fault_error}
 use Rattle.relay_proxy.specs.Phases.{IsRefusing, RunSoFar}
 use Rattle.relay_proxy.specs.Turn.{Advances}
 use Rattle.relay_proxy.specs.Offer.{TakesFront}
 use Rattle.relay_proxy.specs.declared.machine.Phase.TheVariants.{ReadHead, Refuse, Connect, Ended}
-use Rattle.relay_proxy.specs.declared.machine.RunStep.TheVariants as step
 use Rattle.relay_proxy.specs.declared.outcome.Outcome.TheVariants as outcome
 use Rattle.relay_proxy.specs.declared.pending.Pending.{Pending}
 use Rattle.relay_proxy.specs.declared.record.AttemptRecord.{AttemptRecord}
+use Rattle.relay_h1.proofs.VerdictLemmas.{HasRequest-IsOpen}
+use Rattle.relay_proxy.proofs.OpenHead.{turns_down_open}
 use Rattle.relay_proxy.proofs.Tells.{Rose-le, came_more, written_more, client_gave, client_took, client_still, take_whole, take_rest}
 
 -- a request whose body ends with its head is one whose body is done from the first on
@@ -79,50 +78,73 @@ begins_behind s p w head framing len session reused tells none has taken stands 
   output = stands.output;
 }
 
+-- where some of a generated answer waits, the client was not given all of it
+pub half_answered : (s : Start) (p : Passed) (left : Pending) (e : Option Error)
+    → IsRefusing s p left.output e → IsHalfAnswered s p
+half_answered s p left e refusing = record {
+  answer = refusing.answer;
+  error = e;
+  turned_down = refusing.turned_down;
+  part = record { rest = left.output; joined = refusing.joined };
+  left = λ whole. absurd (omega (
+    arith,
+    left.some,
+    length-append p.written left.output,
+    ap length refusing.joined,
+    ap length whole,
+  ));
+}
+
 module _ {L C : Type 0} (state : L → LinkState) (start_at : L → LinkStart) where
   -- more of the head came
   pub head_came : (s : Start) (p : Passed) (w x : World) (room : List ℕ) (n : ℕ)
       → x.ahead ≡ w.ahead ++ take n room → x.connect_faults ≡ w.connect_faults
       → GivesBytes w.client room n x.client
       → RunSoFar {C = C} state start_at s p w [] ReadHead
-      → Advances {C = C} state start_at s x ReadHead step.Moved
-  head_came s p w x room n grown same gives run = record {
-    passed = came_more p (take n room);
-    run = record {
-      tells = client_gave s p w x room n same gives run.tells;
-      order = IsInOrder.is_nothing run.holds.written run.holds.unsent.sent;
-      going = run.going;
-      calm = gives.faults ∙ run.calm;
-      holds = record {
-        whole = grown ∙ ap (λ (xs : List ℕ). xs ++ take n room) run.holds.whole
-            ∙ append_assoc s.ahead p.came (take n room);
-        written = run.holds.written;
-        unsent = record { got = run.holds.unsent.got; sent = run.holds.unsent.sent };
-      };
-    };
-    stalled = λ silent. cc;
-  }
+      → Advances {C = C} state start_at s x ReadHead
+  head_came s p w x room n grown same gives run =
+      record {
+        passed = came_more p (take n room);
+        run = record {
+          tells = client_gave s p w x room n same gives run.tells;
+          order = IsInOrder.is_nothing run.holds.written run.holds.unsent.sent;
+          untouched = λ open_head. all;
+          going = run.going;
+          calm = gives.faults ∙ run.calm;
+          holds = record {
+            whole = all;
+            written = run.holds.written;
+            unsent = record { got = run.holds.unsent.got; sent = run.holds.unsent.sent };
+          };
+        };
+      }
+    where
+      all : x.ahead ≡ asked s (came_more p (take n room))
+      all = grown ∙ ap (λ (xs : List ℕ). xs ++ take n room) run.holds.whole
+          ∙ append_assoc s.ahead p.came (take n room)
 
   -- the head was accepted and taken from what is ahead, and a session begins behind it
   pub head_accepted : (s : Start) (p : Passed) (w x : World) (head : RequestHead)
       (framing : Framing) (len : ℕ) (context : C)
       (session : Box HttpSession) → x.client ≡ w.client → x.ahead ≡ drop len w.ahead
       → x.connect_faults ≡ w.connect_faults
-      → HasRequest w.ahead head framing len → IsBuiltRequest head
+      → HasRequest w.ahead head framing len → IsRelayable head
       → StandsBehind head framing session.value
       → RunSoFar {C = C} state start_at s p w [] ReadHead
-      → Advances {C = C} state start_at s x (Connect context session) step.Moved
-  head_accepted s p w x head framing len context session client ahead same has built stands run =
+      → Advances {C = C} state start_at s x (Connect context session)
+  head_accepted s p w x head framing len context session client ahead same has relayable stands run =
       record {
         passed = p;
         run = record {
           tells = tells;
           order = run.order;
+          untouched = λ open_head.
+              absurd (HasRequest-IsOpen (asked s p) head framing len asks open_head);
           going = run.going;
           calm = ap (λ (l : LinkState). l.faults) client ∙ run.calm;
           holds = record {
             head = head;
-            accepted = record { framing = framing; len = len; has = asks; built = built };
+            accepted = record { framing = framing; len = len; has = asks; relayable = relayable };
             is_head = stands.is_head;
             begins = λ reused. begins_behind s p x head framing len session.value reused tells
                 run.holds.written asks
@@ -131,7 +153,6 @@ module _ {L C : Type 0} (state : L → LinkState) (start_at : L → LinkStart) w
             unsent = run.holds.unsent;
           };
         };
-        stalled = λ silent. cc;
       }
     where
       tells : TellsClient s p x
@@ -147,12 +168,13 @@ module _ {L C : Type 0} (state : L → LinkState) (start_at : L → LinkStart) w
       (answer : Pending)
       → IsTurnedDown w.ahead text e → answer.output ≡ text
       → RunSoFar {C = C} state start_at s p w [] ReadHead
-      → Advances {C = C} state start_at s w (Refuse answer e) step.Moved
+      → Advances {C = C} state start_at s w (Refuse answer e)
   turned_down s p w text e answer why whole run = record {
     passed = p;
     run = record {
       tells = run.tells;
       order = run.order;
+      untouched = run.untouched;
       going = run.going;
       calm = run.calm;
       holds = record {
@@ -162,7 +184,6 @@ module _ {L C : Type 0} (state : L → LinkState) (start_at : L → LinkStart) w
         unsent = run.holds.unsent;
       };
     };
-    stalled = λ silent. cc;
   }
 
   -- the generated answer was taken whole
@@ -171,7 +192,7 @@ module _ {L C : Type 0} (state : L → LinkState) (start_at : L → LinkStart) w
       → x.connect_faults ≡ w.connect_faults → TakesFront w.client x.client answer.output []
       → attempts ≡ []
       → RunSoFar {C = C} state start_at s p w [] (Refuse answer e)
-      → Advances {C = C} state start_at s x (Ended (outcome.Refused e) attempts) step.Ended
+      → Advances {C = C} state start_at s x (Ended (outcome.Refused e) attempts)
   refusal_whole s p w x answer e attempts same takes none run =
       record {
         passed = written_more p (take takes.n answer.output);
@@ -179,6 +200,7 @@ module _ {L C : Type 0} (state : L → LinkState) (start_at : L → LinkStart) w
           tells = client_took s p w x answer.output takes.n same takes.takes run.tells;
           order = IsInOrder.is_refusal run.holds.answer e run.holds.turned_down
               (record { rest = []; joined = append-nil _ ∙ all }) run.holds.unsent.sent;
+          untouched = λ open_head. absurd (turns_down_open run.holds.turned_down open_head);
           going = λ limit. cc;
           calm = tt;
           holds = (
@@ -191,7 +213,6 @@ module _ {L C : Type 0} (state : L → LinkState) (start_at : L → LinkStart) w
             none,
           );
         };
-        stalled = λ silent. cc;
       }
     where
       all : p.written ++ take takes.n answer.output ≡ run.holds.answer
@@ -203,7 +224,7 @@ module _ {L C : Type 0} (state : L → LinkState) (start_at : L → LinkStart) w
       (e : Option Error)
       → x.connect_faults ≡ w.connect_faults → TakesFront w.client x.client answer.output left.output
       → RunSoFar {C = C} state start_at s p w [] (Refuse answer e)
-      → Advances {C = C} state start_at s x (Refuse left e) step.Moved
+      → Advances {C = C} state start_at s x (Refuse left e)
   refusal_part s p w x answer left e same takes run =
       record {
         passed = written_more p (take takes.n answer.output);
@@ -211,6 +232,7 @@ module _ {L C : Type 0} (state : L → LinkState) (start_at : L → LinkStart) w
           tells = client_took s p w x answer.output takes.n same takes.takes run.tells;
           order = IsInOrder.is_refusal run.holds.answer e run.holds.turned_down
               (record { rest = left.output; joined = all }) run.holds.unsent.sent;
+          untouched = λ open_head. absurd (turns_down_open run.holds.turned_down open_head);
           going = run.going;
           calm = takes.takes.faults ∙ run.calm;
           holds = record {
@@ -220,31 +242,28 @@ module _ {L C : Type 0} (state : L → LinkState) (start_at : L → LinkStart) w
             unsent = record { got = run.holds.unsent.got; sent = run.holds.unsent.sent };
           };
         };
-        stalled = λ silent. cc;
       }
     where
       all : (p.written ++ take takes.n answer.output) ++ left.output ≡ run.holds.answer
       all = take_rest p.written answer.output left.output takes.n takes.left ∙ run.holds.joined
 
-  -- the client takes nothing of the generated answer now, and where it is silent its link says so
+  -- the client takes nothing of the generated answer now
   pub refusal_waits : (s : Start) (p : Passed) (w x : World) (answer left : Pending)
-      (e : Option Error) (pause : Pause)
-      → x.connect_faults ≡ w.connect_faults → x.client.given ≡ w.client.given
+      (e : Option Error) → x.connect_faults ≡ w.connect_faults → x.client.given ≡ w.client.given
       → x.client.taken ≡ w.client.taken → x.client.faults ≡ w.client.faults
-      → (step.Waited pause ≡ step.Waited Silent → x.client.silent_on_write ≡ true)
       → left.output ≡ answer.output
       → RunSoFar {C = C} state start_at s p w [] (Refuse answer e)
-      → Advances {C = C} state start_at s x (Refuse left e) (step.Waited pause)
-  refusal_waits s p w x answer left e pause same given taken faults stalled kept run = record {
+      → Advances {C = C} state start_at s x (Refuse left e)
+  refusal_waits s p w x answer left e same given taken faults kept run = record {
     passed = p;
     run = record {
       tells = client_still s p w x (omega arith) given taken (omega arith) run.tells;
       order = run.order;
+      untouched = λ open_head. absurd (turns_down_open run.holds.turned_down open_head);
       going = run.going;
       calm = faults ∙ run.calm;
       holds = subst (λ (xs : List ℕ). IsRefusing s p xs e) (sym kept) run.holds;
     };
-    stalled = stalled;
   }
 
   -- a write of the generated answer failed
@@ -253,7 +272,7 @@ module _ {L C : Type 0} (state : L → LinkState) (start_at : L → LinkStart) w
       → x.connect_faults ≡ w.connect_faults → FailsWrite w.client fault x.client
       → f ≡ fault_error Downstream fault → attempts ≡ []
       → RunSoFar {C = C} state start_at s p w [] (Refuse answer e)
-      → Advances {C = C} state start_at s x (Ended (outcome.Refused (Some f)) attempts) step.Ended
+      → Advances {C = C} state start_at s x (Ended (outcome.Refused (Some f)) attempts)
   refusal_fails s p w x answer e fault f attempts same fails is none run = record {
     passed = p;
     run = record {
@@ -261,6 +280,7 @@ module _ {L C : Type 0} (state : L → LinkState) (start_at : L → LinkStart) w
           (Rose-le w.client.faults x.client.faults fails.sound_before.faults_fit fails.faults)
           run.tells;
       order = run.order;
+      untouched = λ open_head. absurd (turns_down_open run.holds.turned_down open_head);
       going = λ limit. cc;
       calm = tt;
       holds = (
@@ -270,24 +290,13 @@ module _ {L C : Type 0} (state : L → LinkState) (start_at : L → LinkStart) w
           rose = λ below. omega (arith, run.tells.faults, fails.faults below);
           place = inr (record {
             kind = fails.kind;
-            answer = run.holds.answer;
-            error = e;
-            turned_down = run.holds.turned_down;
-            part = record { rest = answer.output; joined = run.holds.joined };
-            left = λ whole. absurd (omega (
-              arith,
-              answer.some,
-              length-append p.written answer.output,
-              ap length run.holds.joined,
-              ap length whole,
-            ));
+            unfinished = half_answered s p answer e run.holds;
           });
           unsent = run.holds.unsent;
         })),
         none,
       );
     };
-    stalled = λ silent. cc;
   }
 
   -- the client's link found no memory
@@ -295,7 +304,7 @@ module _ {L C : Type 0} (state : L → LinkState) (start_at : L → LinkStart) w
       (e : Option Error) (attempts : List AttemptRecord)
       → x.connect_faults ≡ w.connect_faults → WantsMemory w.client x.client → attempts ≡ []
       → RunSoFar {C = C} state start_at s p w [] (Refuse answer e)
-      → Advances {C = C} state start_at s x (Ended outcome.OutOfMemory attempts) step.Ended
+      → Advances {C = C} state start_at s x (Ended outcome.OutOfMemory attempts)
   refusal_memory s p w x answer e attempts same wants none run = record {
     passed = p;
     run = record {
@@ -303,9 +312,9 @@ module _ {L C : Type 0} (state : L → LinkState) (start_at : L → LinkStart) w
           (ap (λ (l : LinkState). l.taken) wants.same)
           (omega (arith, ap (λ (l : LinkState). l.faults) wants.same)) run.tells;
       order = run.order;
+      untouched = λ open_head. absurd (turns_down_open run.holds.turned_down open_head);
       going = λ limit. cc;
       calm = tt;
       holds = (run.holds.unsent, none);
     };
-    stalled = λ silent. cc;
   }

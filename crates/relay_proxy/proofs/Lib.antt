@@ -1,4 +1,5 @@
 pub mod Tells
+pub mod OpenHead
 pub mod HeadSteps
 pub mod ConnectSteps
 pub mod RelaySteps

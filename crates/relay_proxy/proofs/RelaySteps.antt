@@ -1,5 +1,5 @@
 -- What a turn of an attempt's exchange makes of the run so far.
-use Rattle.std.proofs.Common.{◌≡◌, ◌≢◌, ◌↔◌, ℕ, Bool, true, false, not, ◌&&◌, List, [], length, Option, None, Some, refl, sym, ap, subst, ◌∙◌, inl}
+use Rattle.std.proofs.Common.{◌≡◌, ◌≢◌, ◌↔◌, ℕ, Bool, true, false, not, ◌&&◌, List, [], length, Option, None, Some, refl, sym, ap, subst, ◌∙◌, inl, inr}
 use Rattle.std.specs.Prelude.{IsTrue, ◌==◌}
 use Rattle.std.specs.Box.{with_value}
 use Rattle.std.specs.Global.{Box}
@@ -14,30 +14,32 @@ use Rattle.relay_tasks.specs.declared.error.Error.{Error}
 use Rattle.relay_tasks.specs.declared.error.Fail.{Fail}
 use Rattle.relay_tasks.specs.declared.error.Fail.TheVariants as fail
 use Rattle.relay_tasks.specs.declared.took.Pause.{Pause}
-use Rattle.relay_tasks.specs.declared.took.Pause.TheVariants.{Silent}
 use Rattle.relay_links.specs.Link.{LinkState, LinkStart}
 use Rattle.relay_h1.specs.Options.{closes}
+use Rattle.relay_h1.specs.Verdict.{IsOpen}
 use Rattle.relay_peer.specs.ResponseReading.{is_http_11, is_version_11}
 use Rattle.relay_session.specs.Reading.{head_of, is_body_done}
+use Rattle.relay_core.specs.Asked.{WaitRose}
 use Rattle.relay_core.specs.Past.{Origin}
 use Rattle.relay_core.specs.declared.step.Step.TheVariants as step
-use Rattle.relay_exchange.specs.Exchange.{AreTold, IsUnderWay, IsFinished, IsFailed, IsSilent, Turns}
+use Rattle.relay_exchange.specs.Exchange as exchange_meets
+use Rattle.relay_exchange.specs.Exchange.{AreTold, IsUnderWay, IsFinished, IsFailed, Turns}
 use Rattle.relay_exchange.specs.Head.{may_keep}
 use Rattle.relay_exchange.specs.Order as exchange
 use Rattle.relay_exchange.specs.Order.{Leaves, FailsFor}
 use Rattle.relay_exchange.specs.Passed.{Passed}
 use Rattle.relay_exchange.specs.declared.exchange.Exchange.{Exchange}
-use Rattle.relay_proxy.specs.Built.{IsBuiltRequest}
+use Rattle.relay_proxy.specs.Relayable.{IsRelayable}
 use Rattle.relay_proxy.specs.Endings.{IsClientReusable, IsRelayedWhole, IsInOrder, EndsLinked, outcome_of}
-use Rattle.relay_proxy.specs.Passed.{World, Start, origin_of, TellsClient}
+use Rattle.relay_proxy.specs.Passed.{World, Start, origin_of, asked, TellsClient}
 use Rattle.relay_proxy.specs.Phases.{IsLeased, RunSoFar}
 use Rattle.relay_proxy.specs.Reuse.{lets_ask, client_reusable}
-use Rattle.relay_proxy.specs.Turn.{world_with, Advances}
+use Rattle.relay_proxy.specs.Turn.{world_with, Advances, HasWaited, MeetsSilence}
 use Rattle.relay_proxy.proofs.ConnectSteps.{part_relayed}
+use Rattle.relay_proxy.proofs.OpenHead.{exchange_open}
 use Rattle.relay_proxy.specs.declared.machine.Attempt.{Attempt}
 use Rattle.relay_proxy.specs.declared.machine.Lease.{Lease}
 use Rattle.relay_proxy.specs.declared.machine.Phase.TheVariants.{Relay, Close}
-use Rattle.relay_proxy.specs.declared.machine.RunStep.TheVariants as did
 use Rattle.relay_proxy.specs.declared.outcome.Outcome.{Outcome}
 use Rattle.relay_proxy.specs.declared.outcome.Outcome.TheVariants.{Served, TurnLimit}
 
@@ -168,14 +170,14 @@ order_of o p client link start e (FailsFor.by_peer order lost blames) = order
 module _ {L : Type 0} (state : L → LinkState) (start_at : L → LinkStart) where
   -- a finished exchange relayed its request whole
   relayed_whole : (s : Start) (p : Passed) (w : World) (head : RequestHead) (x : Exchange L)
-      → IsBuiltRequest head → w.client.faults ≡ s.faults
+      → IsRelayable head → w.client.faults ≡ s.faults
       → IsFinished state start_at (origin_of s head (start_at x.peer.client.link).reused) p w.ahead
       x
       → IsRelayedWhole s p w (state x.peer.client.link) (start_at x.peer.client.link) (may_keep x)
       (client_reusable x w.ahead)
-  relayed_whole s p w head x built calm finished = record {
+  relayed_whole s p w head x relayable calm finished = record {
     head = head;
-    built = built;
+    relayable = relayable;
     relayed = finished.relayed;
     calm = calm;
     kept = finished.leaves.serves;
@@ -211,14 +213,16 @@ module _ {L C : Type 0} (state : L → LinkState) (start_at : L → LinkStart) w
   going_on s p q v client ahead a x run told under calm = record {
     tells = tells_client state start_at s run.holds.head a.value.lease.reused p q v client _ _ ahead
         run.tells told;
-    order = IsInOrder.is_exchange run.holds.head a.value.lease.reused _ run.holds.built under.order;
+    order = IsInOrder.is_exchange run.holds.head a.value.lease.reused _ run.holds.relayable under.order;
+    untouched = λ open_head.
+        absurd (exchange_open s q run.holds.head a.value.lease.reused _ under.order open_head);
     going = tt;
     calm = calm;
     holds = record {
       leased = leased state start_at s run.holds.head p q client _ _ _ _ a.value.lease
           run.holds.leased told;
       head = run.holds.head;
-      built = run.holds.built;
+      relayable = run.holds.relayable;
       under_way = under;
     };
   }
@@ -229,12 +233,11 @@ module _ {L C : Type 0} (state : L → LinkState) (start_at : L → LinkStart) w
       → Turns state start_at (origin_of s run.holds.head a.value.lease.reused) client ahead x
       step.Moved
       → client.faults ≡ v.client.faults → Advances {C = C} state start_at s (world_with client ahead v.connect_faults)
-      (Relay (turned a x)) did.Moved
+      (Relay (turned a x))
   moves s p v client ahead a x run turns calm = record {
     passed = turns.passed;
     run = going_on s p turns.passed v client ahead a x run turns.told turns.comes_to
         (calm ∙ run.calm);
-    stalled = λ silent. cc;
   }
 
   -- a turn that waited
@@ -243,14 +246,34 @@ module _ {L C : Type 0} (state : L → LinkState) (start_at : L → LinkStart) w
       (run : RunSoFar state start_at s p v [] (Relay a))
       → Turns state start_at (origin_of s run.holds.head a.value.lease.reused) client ahead x
       (step.Waited pause)
-      → client.faults ≡ v.client.faults → (did.Waited pause ≡ did.Waited Silent → IsSilent state start_at client x)
+      → client.faults ≡ v.client.faults
       → Advances {C = C} state start_at s (world_with client ahead v.connect_faults)
-      (Relay (turned a x)) (did.Waited pause)
-  waits s p v client ahead a x pause run turns calm silent = record {
+      (Relay (turned a x))
+  waits s p v client ahead a x pause run turns calm = record {
     passed = turns.passed;
     run = going_on s p turns.passed v client ahead a x run turns.told turns.comes_to
         (calm ∙ run.calm);
-    stalled = silent;
+  }
+
+  -- a turn of the exchange waited, and so did that of the attempt, as its pointer lends it
+  pub has_waited : (w x : World) (a : Box (Attempt L C)) (given : Attempt L C) (y : Exchange L)
+      → given ≡ a.value
+      → WaitRose w.client x.client (state given.exchange.peer.client.link)
+      (state y.peer.client.link)
+      → HasWaited state start_at w x (Relay a) (Relay (turned (with_value a given) y))
+  has_waited w x a given y same (inl rose) = inl rose
+  has_waited w x a given y same (inr rose) = inr (rw same at rose)
+
+  -- a turn of the exchange met silence, and so did that of the attempt
+  pub has_stalled : (w x : World) (a : Box (Attempt L C)) (given : Attempt L C) (y : Exchange L)
+      → given ≡ a.value
+      → exchange_meets.MeetsSilence state start_at w.client x.client given.exchange y
+      → MeetsSilence state start_at w x (Relay a) (Relay (turned (with_value a given) y))
+  has_stalled w x a given y same meets = record {
+    stalled = meets.silent;
+    client_same = meets.client_same;
+    held_same = ap Some (meets.peer_same
+        ∙ ap (λ (b : Attempt L C). state b.exchange.peer.client.link) same);
   }
 
   -- the exchange is over, and its link is to be handed back
@@ -259,15 +282,16 @@ module _ {L C : Type 0} (state : L → LinkState) (start_at : L → LinkStart) w
       (run : RunSoFar state start_at s p v [] (Relay a))
       → AreTold state start_at (origin_of s run.holds.head a.value.lease.reused) q client
       (state x.peer.client.link) (start_at x.peer.client.link)
-      → IsInOrder s q → outcome ≢ TurnLimit
+      → IsInOrder s q → ¬ (IsOpen (asked s q)) → outcome ≢ TurnLimit
       → EndsLinked s q (world_with client ahead v.connect_faults) (state x.peer.client.link)
       (start_at x.peer.client.link) keep outcome
       → RunSoFar {C = C} state start_at s q (world_with client ahead v.connect_faults) []
       (Close x.peer.client.link a.value.lease keep outcome)
-  closing s p q v client ahead a x keep outcome run told order going ends = record {
+  closing s p q v client ahead a x keep outcome run told order ended_head going ends = record {
     tells = tells_client state start_at s run.holds.head a.value.lease.reused p q v client _ _ ahead
         run.tells told;
     order = order;
+    untouched = λ open_head. absurd (ended_head open_head);
     going = going;
     calm = tt;
     holds = (
@@ -283,10 +307,9 @@ module _ {L C : Type 0} (state : L → LinkState) (start_at : L → LinkStart) w
       step.Finished
       → client.faults ≡ v.client.faults → Advances {C = C} state start_at s (world_with client ahead v.connect_faults)
       (Close x.peer.client.link a.value.lease (may_keep x) (Served None (client_reusable x ahead)))
-      did.Ended
   finishes s p v client ahead a x run turns calm =
       let head = run.holds.head in
-      let built = run.holds.built in
+      let relayable = run.holds.relayable in
       let told = turns.told in
       let w = world_with client ahead v.connect_faults in
       let finished = subst
@@ -296,9 +319,10 @@ module _ {L C : Type 0} (state : L → LinkState) (start_at : L → LinkStart) w
       record {
         passed = turns.passed;
         run = closing s p turns.passed v client ahead a x _ _ run told
-            (IsInOrder.is_exchange head _ _ built finished.relayed.order) (λ same. cc)
-            (relayed_whole state start_at s turns.passed w head x built (calm ∙ run.calm) finished);
-        stalled = λ silent. cc;
+            (IsInOrder.is_exchange head _ _ relayable finished.relayed.order)
+            (λ open_head.
+            exchange_open s turns.passed head _ _ finished.relayed.order open_head) (λ same. cc)
+            (relayed_whole state start_at s turns.passed w head x relayable (calm ∙ run.calm) finished);
       }
 
   -- a turn that failed
@@ -308,16 +332,17 @@ module _ {L C : Type 0} (state : L → LinkState) (start_at : L → LinkStart) w
       → Turns state start_at (origin_of s run.holds.head a.value.lease.reused) client ahead x
       (step.Failed why)
       → Advances {C = C} state start_at s (world_with client ahead v.connect_faults)
-      (Close x.peer.client.link a.value.lease false (outcome_of why)) did.Ended
+      (Close x.peer.client.link a.value.lease false (outcome_of why))
   fails s p v client ahead a x fail.OutOfMemory run turns = record {
     passed = turns.passed;
     run = closing s p turns.passed v client ahead a x _ _ run turns.told
-        (IsInOrder.is_exchange run.holds.head _ _ run.holds.built turns.comes_to) (λ same. cc) (
-          inl (part_relayed s turns.passed run.holds.head a.value.lease.reused _ _ run.holds.built
+        (IsInOrder.is_exchange run.holds.head _ _ run.holds.relayable turns.comes_to)
+        (λ open_head. exchange_open s turns.passed run.holds.head _ _ turns.comes_to open_head)
+        (λ same. cc) (
+          inl (part_relayed s turns.passed run.holds.head a.value.lease.reused _ _ run.holds.relayable
               turns.told.reused turns.comes_to),
           refl,
         );
-    stalled = λ silent. cc;
   }
   fails s p v client ahead a x (fail.Error e) run turns =
       let head = run.holds.head in
@@ -327,19 +352,18 @@ module _ {L C : Type 0} (state : L → LinkState) (start_at : L → LinkStart) w
       (λ (reused : Bool). IsFailed state start_at (origin_of s head reused) turns.passed client
       x e)
       (sym told.reused) turns.comes_to in
+      let order = order_of (origin_of s head start.reused) turns.passed client _ start e failed.why in
       record {
         passed = turns.passed;
         run = closing s p turns.passed v client ahead a x _ _ run told
-            (IsInOrder.is_exchange head _ _ run.holds.built
-            (order_of (origin_of s head start.reused) turns.passed client _ start e failed.why))
-            (λ same. cc)
+            (IsInOrder.is_exchange head _ _ run.holds.relayable order)
+            (λ open_head. exchange_open s turns.passed head _ _ order open_head) (λ same. cc)
             (record {
               head = head;
-              built = run.holds.built;
+              relayable = run.holds.relayable;
               why = failed.why;
               invalid = failed.invalid;
               not_kept = refl;
               stays = refl;
             });
-        stalled = λ silent. cc;
       }

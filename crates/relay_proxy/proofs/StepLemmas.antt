@@ -1,18 +1,22 @@
 -- A step takes the run so far on, and the end adds up what it says.
-use Rattle.std.proofs.Common.{◌≡◌, ◌≢◌, Bool, true, false, List, [], ◌∷◌, ◌++◌, Option, None, Some, true≢false, refl, sym, ap, subst, ◌∙◌, inl, inr, append_assoc, append-nil}
+use Rattle.std.specs.Global.{Box}
+use Rattle.std.proofs.Common.{◌≡◌, ◌≢◌, ℕ, Bool, true, false, List, [], ◌∷◌, ◌++◌, Option, None, Some, true≢false, refl, sym, ap, subst, ◌∙◌, inl, inr, append_assoc, append-nil}
 use Rattle.relay_links.specs.Link.{LinkState, LinkStart}
 use Rattle.relay_links.specs.Told.{more}
 use Rattle.relay_links.specs.declared.Returned.{Returned}
-use Rattle.relay_tasks.specs.declared.took.Pause.TheVariants.{Silent}
+use Rattle.relay_h1.specs.Verdict.{IsOpen}
+use Rattle.relay_exchange.specs.Exchange.{IsUnderWay}
 use Rattle.relay_exchange.specs.Passed.{Passed}
-use Rattle.relay_proxy.specs.Passed.{World, Start, IsUnsent}
+use Rattle.relay_proxy.specs.Passed.{World, Start, origin_of, IsUnsent}
 use Rattle.relay_proxy.specs.Endings.{EndsLinked, EndsUnlinked, AttemptsUnlinked, EndsReturned, EndsWith}
-use Rattle.relay_proxy.specs.Phases.{IsLeased, IsGoing, RunSoFar}
+use Rattle.relay_proxy.specs.Phases.{IsLeased, IsGoing, IsRelaying, RunSoFar}
 use Rattle.relay_proxy.specs.Request.{StepsOn}
-use Rattle.relay_proxy.specs.Turn.{Advances, IsStalled, is_over}
-use Rattle.relay_proxy.specs.Closing.{Hands, HandsBack, Settles, GivesUp, Finishes, IsQuiet, Rests, TurnOf, Ends}
+use Rattle.relay_proxy.specs.Turn.{Advances, HasCause, IsStalled, is_over, is_end}
+use Rattle.relay_proxy.specs.Closing.{Hands, HandsBack, Settles, GivesUp, Finishes, IsQuietExchange, IsQuiet, Rests, TurnOf, Ends}
 use Rattle.relay_proxy.proofs.ConnectSteps.{part_relayed}
+use Rattle.relay_proxy.proofs.HeadSteps.{half_answered}
 use Rattle.relay_proxy.specs.declared.finish.Ending.{Ending}
+use Rattle.relay_proxy.specs.declared.machine.Attempt.{Attempt}
 use Rattle.relay_proxy.specs.declared.machine.Lease.{Lease}
 use Rattle.relay_proxy.specs.declared.machine.Phase.{Phase}
 use Rattle.relay_proxy.specs.declared.machine.Phase.TheVariants.{ReadHead, Refuse, Connect, Relay, Close, Ended}
@@ -32,10 +36,6 @@ pub more-more : {X : Type 0} (told : Option (List X)) (xs ys : List X)
     → more (more told xs) ys ≡ more told (xs ++ ys)
 more-more None xs ys = refl
 more-more (Some ts) xs ys = ap Some (append_assoc ts xs ys)
-
--- the end of a request is no silence
-ended_or_silent : step.Ended ≡ step.Waited Silent → ⊥
-ended_or_silent is = cc
 
 module _ {L : Type 0} (state : L → LinkState) (start_at : L → LinkStart) where
   -- an attempt whose link went back ends as it did while the link was held
@@ -65,7 +65,6 @@ module _ {L C : Type 0} (state : L → LinkState) (start_at : L → LinkStart) w
     handed : List (Returned L)
     gained : after ≡ more before handed
     run : RunSoFar state start_at s p w handed settled
-    stalled : IsStalled state start_at w next → IsStalled state start_at w settled
 
   -- a phase that stays
   stays : (s : Start) (p : Passed) (w : World) (next settled : Phase L C)
@@ -75,7 +74,6 @@ module _ {L C : Type 0} (state : L → LinkState) (start_at : L → LinkStart) w
     handed = [];
     gained = kept ∙ more-nil before;
     run = subst (λ (n : Phase L C). RunSoFar state start_at s p w [] n) (sym same) run;
-    stalled = λ still. subst (λ (n : Phase L C). IsStalled state start_at w n) (sym same) still;
   }
 
   -- settling keeps the run so far
@@ -97,22 +95,47 @@ module _ {L C : Type 0} (state : L → LinkState) (start_at : L → LinkStart) w
         (sym does.1) (record {
           tells = run.tells;
           order = run.order;
+          untouched = run.untouched;
           going = run.going;
           calm = tt;
           holds = returned_ends state start_at s p w link lease keep outcome does.2.entry does.0
               run.holds.0 does.2.hands run.holds.1;
         });
-    stalled = λ never. absurd never;
   }
   settle_run s p w (Ended outcome attempts) settled before after does run =
       stays s p w (Ended outcome attempts) settled before after does.0 does.1 run
 
+  -- a phase that has not ended stays
+  settles_same : (next settled : Phase L C) (before after : Option (List (Returned L)))
+      → Settles next before after settled → is_over next ≡ false → settled ≡ next
+  settles_same ReadHead settled before after does going = does.0
+  settles_same (Refuse answer e) settled before after does going = does.0
+  settles_same (Connect context session) settled before after does going = does.0
+  settles_same (Relay a) settled before after does going = does.0
+  settles_same (Close link lease keep outcome) settled before after does going =
+      absurd (true≢false going)
+  settles_same (Ended outcome attempts) settled before after does going =
+      absurd (true≢false going)
+
+  -- the cause of a turn is that of the step
+  pub settled_cause : (w x : World) (phase next settled : Phase L C) (did : RunStep)
+      (before after : Option (List (Returned L))) → Settles next before after settled
+      → is_over next ≡ is_end did → HasCause state start_at w x phase next did
+      → HasCause state start_at w x phase settled did
+  settled_cause w x phase next settled step.Moved before after does over cause =
+      subst (λ (n : Phase L C). HasCause state start_at w x phase n step.Moved)
+      (sym (settles_same next settled before after does over)) cause
+  settled_cause w x phase next settled (step.Waited pause) before after does over cause =
+      subst (λ (n : Phase L C). HasCause state start_at w x phase n (step.Waited pause))
+      (sym (settles_same next settled before after does over)) cause
+  settled_cause w x phase next settled step.Ended before after does over cause = tt
+
   -- a turn of a request that has not ended, settled, is a step
-  live_on : (s : Start) (p : Passed) (x : World) (phase next settled : Phase L C) (did : RunStep)
+  live_on : (s : Start) (p : Passed) (x : World) (phase next settled : Phase L C)
       (before mid after : Option (List (Returned L))) → is_over phase ≡ false
-      → Advances state start_at s x next did → mid ≡ before → Settles next mid after settled
-      → StepsOn state start_at s p x [] before after phase settled did
-  live_on s p x phase next settled did before mid after live turn kept does =
+      → Advances state start_at s x next → mid ≡ before → Settles next mid after settled
+      → StepsOn state start_at s p x [] before after phase settled
+  live_on s p x phase next settled before mid after live turn kept does =
       let done = settle_run s turn.passed x next settled mid after does turn.run in
       record {
         passed = turn.passed;
@@ -120,7 +143,6 @@ module _ {L C : Type 0} (state : L → LinkState) (start_at : L → LinkStart) w
         gained = done.gained ∙ ap (λ (t : Option (List (Returned L))). more t done.handed) kept;
         run = done.run;
         rested = λ over. absurd (true≢false (sym over ∙ live));
-        stalled = λ silent. done.stalled (turn.stalled silent);
       }
 
   -- a request that has ended stays as it is
@@ -130,7 +152,7 @@ module _ {L C : Type 0} (state : L → LinkState) (start_at : L → LinkStart) w
       → Rests {L = L} {C = C} w x (Ended outcome attempts) next did → mid ≡ before
       → Settles next mid after settled
       → RunSoFar {C = C} state start_at s p w own (Ended outcome attempts)
-      → StepsOn {C = C} state start_at s p x own before after (Ended outcome attempts) settled did
+      → StepsOn {C = C} state start_at s p x own before after (Ended outcome attempts) settled
   ended_on s p own w x outcome attempts next settled did before mid after rests kept does run =
       let stayed = subst (λ (k : Phase L C). Settles k mid after settled) rests.0 does in
       record {
@@ -143,7 +165,6 @@ module _ {L C : Type 0} (state : L → LinkState) (start_at : L → LinkStart) w
             (sym (append-nil own))
             (subst (λ (k : Phase L C). RunSoFar state start_at s p w own k) (sym stayed.0) run));
         rested = λ over. refl;
-        stalled = λ silent. absurd (ended_or_silent (sym rests.1 ∙ silent));
       }
 
   -- a request that is to be closed is ended
@@ -153,7 +174,7 @@ module _ {L C : Type 0} (state : L → LinkState) (start_at : L → LinkStart) w
       → Rests w x (Close link lease keep outcome) next did → mid ≡ before
       → Settles next mid after settled
       → RunSoFar {C = C} state start_at s p w [] (Close link lease keep outcome)
-      → StepsOn state start_at s p x [] before after (Close link lease keep outcome) settled did
+      → StepsOn state start_at s p x [] before after (Close link lease keep outcome) settled
   closed_on s p w x link lease keep outcome next settled did before mid after rests kept does run =
       let done = settle_run s p w (Close link lease keep outcome) settled mid after
       (subst (λ (k : Phase L C). Settles k mid after settled) rests.0 does) run in
@@ -164,27 +185,26 @@ module _ {L C : Type 0} (state : L → LinkState) (start_at : L → LinkStart) w
         run = subst (λ (y : World). RunSoFar state start_at s p y done.handed settled)
             (sym rests.2) done.run;
         rested = λ over. refl;
-        stalled = λ silent. absurd (ended_or_silent (sym rests.1 ∙ silent));
       }
 
   -- a step takes the run so far on
   pub step_on : (s : Start) (p : Passed) (own : List (Returned L)) (w x : World)
       (phase next settled : Phase L C) (did : RunStep)
       (before mid after : Option (List (Returned L)))
-      → (RunSoFar state start_at s p w [] phase → TurnOf state start_at s x phase next did)
+      → (RunSoFar state start_at s p w [] phase → TurnOf state start_at s x phase next)
       → Rests w x phase next did → mid ≡ before → Settles next mid after settled
       → RunSoFar state start_at s p w own phase
-      → StepsOn state start_at s p x own before after phase settled did
+      → StepsOn state start_at s p x own before after phase settled
   step_on s p [] w x ReadHead next settled did before mid after turn rests kept does run =
-      live_on s p x ReadHead next settled did before mid after refl (turn run) kept does
+      live_on s p x ReadHead next settled before mid after refl (turn run) kept does
   step_on s p [] w x (Refuse answer e) next settled did before mid after turn rests kept does run =
-      live_on s p x (Refuse answer e) next settled did before mid after refl (turn run) kept does
+      live_on s p x (Refuse answer e) next settled before mid after refl (turn run) kept does
   step_on s p [] w x (Connect context session) next settled did before mid after turn rests kept
       does run =
-      live_on s p x (Connect context session) next settled did before mid after refl (turn run)
+      live_on s p x (Connect context session) next settled before mid after refl (turn run)
       kept does
   step_on s p [] w x (Relay a) next settled did before mid after turn rests kept does run =
-      live_on s p x (Relay a) next settled did before mid after refl (turn run) kept does
+      live_on s p x (Relay a) next settled before mid after refl (turn run) kept does
   step_on s p [] w x (Close link lease keep outcome) next settled did before mid after turn rests
       kept does run =
       closed_on s p w x link lease keep outcome next settled did before mid after rests kept does
@@ -210,6 +230,20 @@ module _ {L C : Type 0} (state : L → LinkState) (start_at : L → LinkStart) w
       ended_on s p (r ∷ own) w x outcome attempts next settled did before mid after rests kept does
       run
 
+  -- an attempt in which all that can be done asks a silent link
+  quiet_over : (s : Start) (p : Passed) (w : World) (a : Box (Attempt L C))
+      → IsRelaying state start_at s p w a.value → IsStalled {C = C} state start_at w (Relay a)
+      → IsQuietExchange state start_at s p w a.value.exchange.peer.client.link
+  quiet_over s p w a holds stalled = record {
+    exchange = a.value.exchange;
+    is_link = refl;
+    head = holds.head;
+    relayable = holds.relayable;
+    under_way = subst (λ (r : Bool). IsUnderWay state start_at (origin_of s holds.head r) p
+        w.client w.ahead a.value.exchange) (sym holds.leased.reused) holds.under_way;
+    silent = stalled;
+  }
+
   -- a request that gave its link up, or handed it back
   linked_end : (s : Start) (p : Passed) (w : World) (phase : Phase L C) (link : L) (lease : Lease)
       (keep : Bool) (before after : Option (List (Returned L))) (ending : Ending)
@@ -217,8 +251,7 @@ module _ {L C : Type 0} (state : L → LinkState) (start_at : L → LinkStart) w
       → HandsBack link lease keep outcome before after ending.attempts
       → RunSoFar state start_at s p w [] phase → IsLeased p (state link) (start_at link) lease
       → EndsLinked s p w (state link) (start_at link) keep outcome
-      → ((r : Returned L) → r.link ≡ link → IsStalled state start_at w phase
-      → IsQuiet state w (r ∷ []))
+      → (IsStalled state start_at w phase → IsQuietExchange state start_at s p w link)
       → Ends state start_at s p w [] before after phase ending
   linked_end s p w phase link lease keep before after ending outcome is back run leased ends
       stalled = record {
@@ -227,20 +260,22 @@ module _ {L C : Type 0} (state : L → LinkState) (start_at : L → LinkStart) w
         ended = record {
           tells = run.tells;
           order = run.order;
+          untouched = run.untouched;
           ends = subst
               (λ (o : Outcome). EndsReturned state start_at s p w back.entry ending.attempts o)
               (sym is)
               (returned_ends state start_at s p w link lease keep outcome back.entry ending.attempts
               leased back.hands ends);
         };
-        quiet = λ limit still. stalled back.entry back.hands.is_link still;
+        quiet = λ limit still. subst (λ (l : L). IsQuietExchange state start_at s p w l)
+            (sym back.hands.is_link) (stalled still);
       }
 
   -- a request that had no link gave up
   unlinked_end : (s : Start) (p : Passed) (w : World) (phase : Phase L C)
       (before after : Option (List (Returned L))) (ending : Ending) → GivesUp before after ending
       → RunSoFar state start_at s p w [] phase → IsUnsent p
-      → (IsStalled state start_at w phase → IsQuiet state w [])
+      → (IsStalled state start_at w phase → IsQuiet state start_at s p w [])
       → Ends state start_at s p w [] before after phase ending
   unlinked_end s p w phase before after ending gives run unsent stalled = record {
     handed = [];
@@ -248,6 +283,7 @@ module _ {L C : Type 0} (state : L → LinkState) (start_at : L → LinkStart) w
     ended = record {
       tells = run.tells;
       order = run.order;
+      untouched = run.untouched;
       ends = subst (λ (o : Outcome). EndsUnlinked s p w o × AttemptsUnlinked ending.attempts o)
           (sym gives.limit) (unsent, gives.none);
     };
@@ -267,6 +303,7 @@ module _ {L C : Type 0} (state : L → LinkState) (start_at : L → LinkStart) w
     ended = record {
       tells = run.tells;
       order = run.order;
+      untouched = run.untouched;
       ends = subst (λ (o : Outcome). EndsWith state start_at s p w (own ++ []) ending.attempts o)
           (sym is)
           (subst (λ (l : List AttemptRecord). EndsWith state start_at s p w (own ++ []) l outcome)
@@ -283,24 +320,25 @@ module _ {L C : Type 0} (state : L → LinkState) (start_at : L → LinkStart) w
       → Finishes phase before after ending → RunSoFar state start_at s p w own phase
       → Ends state start_at s p w own before after phase ending
   end_of s p [] w ReadHead before after ending does run =
-      unlinked_end s p w ReadHead before after ending does run run.holds.unsent (λ h. inl h)
+      unlinked_end s p w ReadHead before after ending does run run.holds.unsent
+      (λ h. inl (subst (λ (xs : List ℕ). IsOpen xs) run.holds.whole h.0, h.1))
   end_of s p [] w (Refuse answer e) before after ending does run =
       unlinked_end s p w (Refuse answer e) before after ending does run run.holds.unsent
-      (λ h. inr h)
+      (λ h. inr (half_answered s p answer e run.holds, h))
   end_of s p [] w (Connect context session) before after ending does run =
       unlinked_end s p w (Connect context session) before after ending does run run.holds.unsent
       (λ h. absurd h)
   end_of s p [] w (Relay a) before after ending does run =
       linked_end s p w (Relay a) a.value.exchange.peer.client.link a.value.lease false before after
       ending TurnLimit does.limit does.back run run.holds.leased (
-        part_relayed s p run.holds.head a.value.lease.reused _ _ run.holds.built
+        part_relayed s p run.holds.head a.value.lease.reused _ _ run.holds.relayable
             run.holds.leased.reused run.holds.under_way.order,
         refl,
       )
-      (λ r same h. rw same h)
+      (λ h. quiet_over s p w a run.holds h)
   end_of s p [] w (Close link lease keep outcome) before after ending does run =
       linked_end s p w (Close link lease keep outcome) link lease keep before after ending outcome
-      does.0 does.1 run run.holds.0 run.holds.1 (λ r same h. absurd h)
+      does.0 does.1 run run.holds.0 run.holds.1 (λ h. absurd h)
   end_of s p [] w (Ended outcome attempts) before after ending does run =
       ended_end s p w [] outcome attempts before after ending run.holds does.0 does.1 does.2 run
   end_of s p (r ∷ own) w ReadHead before after ending does run = absurd run.holds

@@ -9,7 +9,7 @@ use Rattle.relay_exchange.specs.Passed.{Passed}
 use Rattle.relay_proxy.specs.Passed.{World, Start, start_of, nothing}
 use Rattle.relay_proxy.specs.Phases.{RunSoFar}
 use Rattle.relay_proxy.specs.Request.{is_stop, Counts, StepsOn, ComesToEnd, Processes}
-use Rattle.relay_proxy.specs.Turn.{IsStalled, is_over, is_end}
+use Rattle.relay_proxy.specs.Turn.{IsStalled, HasCause, is_over, is_end}
 use Rattle.relay_proxy.specs.declared.machine.Machine.{Machine}
 use Rattle.relay_proxy.specs.declared.machine.Phase.{Phase}
 use Rattle.relay_proxy.specs.declared.machine.RunStep.{RunStep}
@@ -59,11 +59,11 @@ module _ {L C : Type 0} (state : L → LinkState) (start_at : L → LinkStart) w
 
   -- one more step that is counted
   pub goes_on : (s : Start) (w x : World) (before now after : Option (List (Returned L)))
-      (m n : Machine L C) (turns : ℕ) (did : RunStep) (under : IsUnderWay s w before now m turns)
-      → StepsOn state start_at s under.passed x under.own now after m.phase n.phase did
+      (m n : Machine L C) (turns : ℕ) (under : IsUnderWay s w before now m turns)
+      → StepsOn state start_at s under.passed x under.own now after m.phase n.phase
       → n.turns ≡ up m.turns → turns + 1 ≤ last_count
       → IsUnderWay s x before after n (turns + 1)
-  goes_on s w x before now after m n turns did under steps one few = record {
+  goes_on s w x before now after m n turns under steps one few = record {
     passed = steps.passed;
     own = under.own ++ steps.handed;
     gained = steps.gained
@@ -94,14 +94,14 @@ module _ {L C : Type 0} (state : L → LinkState) (start_at : L → LinkStart) w
 
   -- the end of a request after a step that ended it, or that met silence
   pub stopped : (s : Start) (w x y : World) (before now mid after : Option (List (Returned L)))
-      (m n : Machine L C) (turns most : ℕ) (did : RunStep) (processed : Processed)
+      (m n : Machine L C) (turns most : ℕ) (processed : Processed)
       (under : IsUnderWay s w before now m turns)
-      (steps : StepsOn state start_at s under.passed x under.own now mid m.phase n.phase did)
+      (steps : StepsOn state start_at s under.passed x under.own now mid m.phase n.phase)
       → ComesToEnd state start_at s steps.passed y (under.own ++ steps.handed) mid after n.phase
       processed
       → (processed.outcome ≡ TurnLimit → IsStalled state start_at y n.phase)
       → Processes state start_at s y before after most processed
-  stopped s w x y before now mid after m n turns most did processed under steps ends stalled =
+  stopped s w x y before now mid after m n turns most processed under steps ends stalled =
       record {
         passed = steps.passed;
         own = (under.own ++ steps.handed) ++ ends.handed;
@@ -118,17 +118,17 @@ module _ {L C : Type 0} (state : L → LinkState) (start_at : L → LinkStart) w
         limit = λ is. inr (ends.quiet is (stalled is));
       }
 
-  -- where the call stops and the request has not ended, a link is silent
-  pub stops_at : (w y : World) (next : Phase L C) (did : RunStep) (processed : Processed)
-      → is_stop did ≡ true → (did ≡ step.Waited Silent → IsStalled state start_at w next)
-      → is_over next ≡ is_end did → y ≡ w
+  -- where the call stops and the request has not ended, all that it asks is silent
+  pub stops_at : (w x y : World) (phase next : Phase L C) (did : RunStep) (processed : Processed)
+      → is_stop did ≡ true → HasCause state start_at w x phase next did
+      → is_over next ≡ is_end did → y ≡ x
       → (is_over next ≡ true → processed.outcome ≢ TurnLimit)
       → processed.outcome ≡ TurnLimit → IsStalled state start_at y next
-  stops_at w y next step.Moved processed stops stalled ends same over limit =
+  stops_at w x y phase next step.Moved processed stops cause ends same over limit =
       absurd (true≢false (sym stops))
-  stops_at w y next (step.Waited NotReady) processed stops stalled ends same over limit =
+  stops_at w x y phase next (step.Waited NotReady) processed stops cause ends same over limit =
       absurd (true≢false (sym stops))
-  stops_at w y next (step.Waited Silent) processed stops stalled ends same over limit =
-      subst (λ (x : World). IsStalled state start_at x next) (sym same) (stalled refl)
-  stops_at w y next step.Ended processed stops stalled ends same over limit =
+  stops_at w x y phase next (step.Waited Silent) processed stops cause ends same over limit =
+      subst (λ (z : World). IsStalled state start_at z next) (sym same) cause.stalled
+  stops_at w x y phase next step.Ended processed stops cause ends same over limit =
       absurd (over ends limit)

@@ -1,11 +1,16 @@
 -- How a request gives its link back, and what it leaves.
 use Rattle.std.specs.Prelude.{◌≡◌, ◌⊎◌, Bool, true, false, List, [], ◌∷◌, ◌++◌, Option}
+use Rattle.relay_tasks.specs.Head.{RequestHead}
 use Rattle.relay_links.specs.Link.{LinkState, LinkStart}
 use Rattle.relay_links.specs.Told.{more}
 use Rattle.relay_links.specs.declared.Returned.{Returned}
+use Rattle.relay_h1.specs.Verdict.{IsOpen}
+use Rattle.relay_exchange.specs.Exchange.{IsUnderWay, SilentIn}
 use Rattle.relay_exchange.specs.Passed.{Passed}
-use Rattle.relay_proxy.specs.Passed.{World, Start}
-use Rattle.relay_proxy.specs.Endings.{error_of, IsAskedPeer, IsEnded}
+use Rattle.relay_exchange.specs.declared.exchange.Exchange.{Exchange}
+use Rattle.relay_proxy.specs.Passed.{World, Start, origin_of, asked}
+use Rattle.relay_proxy.specs.Endings.{error_of, IsAskedPeer, IsHalfAnswered, IsEnded}
+use Rattle.relay_proxy.specs.Relayable.{IsRelayable}
 use Rattle.relay_proxy.specs.Turn.{IsStalled, Advances}
 use Rattle.relay_proxy.specs.declared.finish.Ending.{Ending}
 use Rattle.relay_proxy.specs.declared.machine.Lease.{Lease}
@@ -80,13 +85,6 @@ Finishes (Close link lease keep outcome) before after ending =
 Finishes (Ended outcome attempts) before after ending =
     (ending.outcome ≡ outcome) × (ending.attempts ≡ attempts) × (after ≡ before)
 
--- a link of a request is silent: the client's, or the one that it handed back
-abbrev pub IsQuiet : {L : Type 0} → (L → LinkState) → World → List (Returned L) → Type 0
-IsQuiet state w [] = (w.client.silent_on_read ≡ true) ⊎ (w.client.silent_on_write ≡ true)
-IsQuiet state w (r ∷ own) =
-    ((w.client.silent_on_read ≡ true) ⊎ (w.client.silent_on_write ≡ true))
-    ⊎ (((state r.link).silent_on_read ≡ true) ⊎ ((state r.link).silent_on_write ≡ true))
-
 -- a request that has ended stays as it is, in the same world
 abbrev pub Rests : {L C : Type 0} → World → World → Phase L C → Phase L C → RunStep → Type 0
 Rests w x ReadHead next did = Unit {0}
@@ -98,15 +96,34 @@ Rests w x (Close link lease keep outcome) next did =
 Rests w x (Ended outcome attempts) next did =
     (next ≡ Ended outcome attempts) × (did ≡ step.Ended) × (x ≡ w)
 
+module _ {L : Type 0} (state : L → LinkState) (start_at : L → LinkStart) where
+  -- an exchange is under way over this link, and all that can be done in it asks a silent link
+  pub record IsQuietExchange (s : Start) (p : Passed) (w : World) (link : L) : Type 0 where
+    pub exchange : Exchange L
+    pub is_link : exchange.peer.client.link ≡ link
+    pub head : RequestHead
+    pub relayable : IsRelayable head
+    pub under_way : IsUnderWay state start_at (origin_of s head (start_at link).reused) p w.client
+        w.ahead exchange
+    pub silent : SilentIn state start_at w.client exchange.client exchange.peer exchange.stage
+
+  -- all that a request asks is silent: without a link the client, that is to give more of an open
+  -- head or to take more of a generated answer
+  abbrev pub IsQuiet : Start → Passed → World → List (Returned L) → Type 0
+  IsQuiet s p w [] =
+      (IsOpen (asked s p) × (w.client.silent_on_read ≡ true))
+      ⊎ (IsHalfAnswered s p × (w.client.silent_on_write ≡ true))
+  IsQuiet s p w (r ∷ own) = IsQuietExchange s p w r.link
+
 module _ {L C : Type 0} (state : L → LinkState) (start_at : L → LinkStart) where
   -- a turn of a request that has not ended
-  abbrev pub TurnOf : Start → World → Phase L C → Phase L C → RunStep → Type 0
-  TurnOf s x ReadHead next did = Advances state start_at s x next did
-  TurnOf s x (Refuse answer error) next did = Advances state start_at s x next did
-  TurnOf s x (Connect context session) next did = Advances state start_at s x next did
-  TurnOf s x (Relay a) next did = Advances state start_at s x next did
-  TurnOf s x (Close link lease keep outcome) next did = Unit {0}
-  TurnOf s x (Ended outcome attempts) next did = Unit {0}
+  abbrev pub TurnOf : Start → World → Phase L C → Phase L C → Type 0
+  TurnOf s x ReadHead next = Advances state start_at s x next
+  TurnOf s x (Refuse answer error) next = Advances state start_at s x next
+  TurnOf s x (Connect context session) next = Advances state start_at s x next
+  TurnOf s x (Relay a) next = Advances state start_at s x next
+  TurnOf s x (Close link lease keep outcome) next = Unit {0}
+  TurnOf s x (Ended outcome attempts) next = Unit {0}
 
   -- the end of a request: what passed is told, and the outcome has its cause
   pub record Ends
@@ -117,4 +134,4 @@ module _ {L C : Type 0} (state : L → LinkState) (start_at : L → LinkStart) w
     pub gained : after ≡ more before handed
     pub ended : IsEnded state start_at s p w (own ++ handed) ending.attempts ending.outcome
     pub quiet : ending.outcome ≡ TurnLimit → IsStalled state start_at w phase
-        → IsQuiet state w (own ++ handed)
+        → IsQuiet state start_at s p w (own ++ handed)

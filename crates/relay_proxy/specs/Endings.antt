@@ -30,8 +30,8 @@ use Rattle.relay_exchange.specs.Order as exchange
 use Rattle.relay_exchange.specs.Order.{FailsFor, IsRelayed, HasEnded, MayServe}
 use Rattle.relay_exchange.specs.Passed.{Passed}
 use Rattle.relay_exchange.specs.Valid.{IsValid}
-use Rattle.relay_proxy.specs.Built.{IsConnect, IsBuiltRequest}
-use Rattle.relay_proxy.specs.Passed.{World, Start, origin_of, asked, TellsClient, TellsLink, IsUnsent}
+use Rattle.relay_proxy.specs.Relayable.{IsConnect, IsRelayable}
+use Rattle.relay_proxy.specs.Passed.{World, Start, origin_of, asked, TellsClient, TellsLink, IsUnsent, IsUntouched}
 use Rattle.relay_proxy.specs.declared.outcome.Outcome.{Outcome}
 use Rattle.relay_proxy.specs.declared.outcome.Outcome.TheVariants.{NoRequest, Refused, Served, TurnLimit, OutOfMemory}
 use Rattle.relay_proxy.specs.declared.record.AttemptRecord.{AttemptRecord}
@@ -41,7 +41,7 @@ pub record IsAccepted (s : Start) (p : Passed) (head : RequestHead) : Type 0 whe
   pub framing : Framing
   pub len : ℕ
   pub has : HasRequest (asked s p) head framing len
-  pub built : IsBuiltRequest head
+  pub relayable : IsRelayable head
 
 -- why the client is given a generated answer, which one, and the error that goes with it
 pub data IsTurnedDown (bytes answer : List ℕ) (error : Option Error) : Type 0 where
@@ -59,7 +59,7 @@ pub data IsInOrder (s : Start) (p : Passed) : Type 0 where
   is_nothing : p.written ≡ [] → p.sent ≡ [] → IsInOrder s p
   is_refusal : (answer : List ℕ) (error : Option Error) → IsTurnedDown (asked s p) answer error
       → IsFrontOf p.written answer → p.sent ≡ [] → IsInOrder s p
-  is_exchange : (head : RequestHead) (reused closed : Bool) → IsBuiltRequest head
+  is_exchange : (head : RequestHead) (reused closed : Bool) → IsRelayable head
       → exchange.IsInOrder (origin_of s head reused) p closed → IsInOrder s p
 
 -- an error of that side which tells of the fault
@@ -95,18 +95,18 @@ pub record EndsInHead (s : Start) (p : Passed) (w : World) : Type 0 where
   pub ended : w.client.ended ≡ true
 
 -- the head is valid, and is not of a form that is relayed or answered
-pub record IsUnbuiltRequest (s : Start) (p : Passed) : Type 0 where
+pub record IsUnrelayable (s : Start) (p : Passed) : Type 0 where
   pub head : RequestHead
   pub framing : Framing
   pub len : ℕ
   pub has : HasRequest (asked s p) head framing len
   pub no_connect : ¬ (IsConnect head)
-  pub unbuilt : ¬ (IsBuiltRequest head)
+  pub unrelayable : ¬ (IsRelayable head)
 
 -- why nothing is relayed and no answer is given: the head did not end, or is of another form
 pub data IsLeftAlone (s : Start) (p : Passed) (w : World) (e : Error) : Type 0 where
   ends_in_head : EndsInHead s p w → e ≡ left_early → IsLeftAlone s p w e
-  is_unbuilt : IsUnbuiltRequest s p → e ≡ unrelayed Downstream → IsLeftAlone s p w e
+  is_unrelayable : IsUnrelayable s p → e ≡ unrelayed Downstream → IsLeftAlone s p w e
 
 -- nothing is relayed, and nothing was written
 pub record IsNotRelayed (s : Start) (p : Passed) (w : World) (error : Option Error) : Type 0 where
@@ -123,14 +123,18 @@ pub record FailsInHead (s : Start) (p : Passed) (w : World) (fault : Fault) : Ty
   pub ended : w.client.ended ≡ false
   pub written : p.written ≡ []
 
--- a write of the generated answer failed
-pub record FailsInRefusal (s : Start) (p : Passed) (fault : Fault) : Type 0 where
-  pub kind : IsWriteFault fault
+-- the client is given a generated answer, of which some is left
+pub record IsHalfAnswered (s : Start) (p : Passed) : Type 0 where
   pub answer : List ℕ
   pub error : Option Error
   pub turned_down : IsTurnedDown (asked s p) answer error
   pub part : IsFrontOf p.written answer
   pub left : p.written ≢ answer
+
+-- a write of the generated answer failed
+pub record FailsInRefusal (s : Start) (p : Passed) (fault : Fault) : Type 0 where
+  pub kind : IsWriteFault fault
+  pub unfinished : IsHalfAnswered s p
 
 -- the client's link failed before a link was asked for
 pub record IsClientFault (s : Start) (p : Passed) (w : World) (error : Option Error) : Type 0 where
@@ -183,7 +187,7 @@ pub record IsRelayedWhole
     (s : Start) (p : Passed) (w : World) (link : LinkState) (start : LinkStart) (keep reuse : Bool)
     : Type 0 where
   pub head : RequestHead
-  pub built : IsBuiltRequest head
+  pub relayable : IsRelayable head
   pub relayed : IsRelayed (origin_of s head start.reused) p link start
   -- no call of the client's link failed
   pub calm : w.client.faults ≡ s.faults
@@ -205,7 +209,7 @@ pub record IsFailedAttempt
     (s : Start) (p : Passed) (w : World) (link : LinkState) (start : LinkStart) (keep reuse : Bool)
     (e : Error) : Type 0 where
   pub head : RequestHead
-  pub built : IsBuiltRequest head
+  pub relayable : IsRelayable head
   pub why : FailsFor (origin_of s head start.reused) p w.client link start e
   pub invalid : ¬ (IsValid (origin_of s head start.reused) p w.client link start)
   pub not_kept : keep ≡ false
@@ -215,7 +219,7 @@ pub record IsFailedAttempt
 pub record IsPartRelayed (s : Start) (p : Passed) (link : LinkState) (start : LinkStart)
     : Type 0 where
   pub head : RequestHead
-  pub built : IsBuiltRequest head
+  pub relayable : IsRelayable head
   pub order : exchange.IsInOrder (origin_of s head start.reused) p link.ended
 
 -- what passed where memory was wanted: a part of one exchange, or nothing but bytes of the client
@@ -299,4 +303,5 @@ module _ {L : Type 0} (state : L → LinkState) (start_at : L → LinkStart) whe
       (attempts : List AttemptRecord) (outcome : Outcome) : Type 0 where
     pub tells : TellsClient s p w
     pub order : IsInOrder s p
+    pub untouched : IsUntouched s p w
     pub ends : EndsWith s p w own attempts outcome

@@ -8,7 +8,7 @@ use Rattle.relay_links.specs.declared.Returned.{Returned}
 use Rattle.relay_h1.specs.Tasks.{Tasks, ResponseText, broken, cut_off}
 use Rattle.relay_exchange.specs.Passed.{Passed}
 use Rattle.relay_exchange.specs.Valid.{AsksFor, AnswersWith}
-use Rattle.relay_proxy.specs.Built.{IsBuiltRequest}
+use Rattle.relay_proxy.specs.Relayable.{IsRelayable}
 use Rattle.relay_proxy.specs.Passed.{World, Start, origin_of, asked}
 use Rattle.relay_proxy.specs.Endings.{IsAccepted, IsTurnedDown, IsLeftAlone}
 use Rattle.relay_proxy.specs.declared.outcome.Outcome.{Outcome}
@@ -72,7 +72,7 @@ module _ {L : Type 0} (state : L → LinkState) (start_at : L → LinkStart) whe
         → IsUnfit head.method p.got (state r.link).ended
         → IsUnfinished outcome ⊎ IsMissed outcome
     -- a valid request of a form that is relayed and a valid response, with no fault
-    pub whole : (head : RequestHead) → IsBuiltRequest head
+    pub whole : (head : RequestHead) → IsRelayable head
         → AsksFor (origin_of s head false) p w.client
         → ((r : Returned L) → own ≡ r ∷ [] → AnswersWith head.method p (state r.link))
         → IsFaultless s w own

@@ -1,4 +1,4 @@
-pub mod Built
+pub mod Relayable
 pub mod Passed
 pub mod Endings
 pub mod Offer

@@ -3,6 +3,7 @@ use Rattle.std.specs.Prelude.{◌≡◌, ℕ, Bool, ◌≤◌, List, [], ◌++�
 use Rattle.relay_tasks.specs.Head.{RequestHead}
 use Rattle.relay_links.specs.Link.{LinkState, LinkStart}
 use Rattle.relay_links.specs.Told.{Since, told_length}
+use Rattle.relay_h1.specs.Verdict.{IsOpen}
 use Rattle.relay_core.specs.Past.{Origin}
 use Rattle.relay_exchange.specs.Passed.{Passed}
 
@@ -68,3 +69,7 @@ pub record TellsLink (p : Passed) (link : LinkState) (start : LinkStart) : Type 
 pub record IsUnsent (p : Passed) : Type 0 where
   pub got : p.got ≡ []
   pub sent : p.sent ≡ []
+
+-- nothing was taken from the client's bytes while its head is open: all that was asked is ahead
+abbrev pub IsUntouched : Start → Passed → World → Type 0
+IsUntouched s p w = IsOpen (asked s p) → w.ahead ≡ asked s p

@@ -9,8 +9,8 @@ use Rattle.relay_session.specs.declared.session.HttpSession.{HttpSession}
 use Rattle.relay_sides.specs.Client.{BeginsBehind}
 use Rattle.relay_exchange.specs.Exchange.{IsUnderWay}
 use Rattle.relay_exchange.specs.Passed.{Passed}
-use Rattle.relay_proxy.specs.Built.{IsBuiltRequest}
-use Rattle.relay_proxy.specs.Passed.{World, Start, origin_of, asked, TellsClient, TellsLink, IsUnsent}
+use Rattle.relay_proxy.specs.Relayable.{IsRelayable}
+use Rattle.relay_proxy.specs.Passed.{World, Start, origin_of, asked, TellsClient, TellsLink, IsUnsent, IsUntouched}
 use Rattle.relay_proxy.specs.Endings.{IsAccepted, IsTurnedDown, IsInOrder, EndsUnlinked, EndsLinked, EndsWith, IsAskedPeer, AttemptsUnlinked}
 use Rattle.relay_proxy.specs.declared.outcome.Outcome.TheVariants.{TurnLimit}
 use Rattle.relay_proxy.specs.declared.machine.Attempt.{Attempt}
@@ -55,7 +55,7 @@ module _ {L C : Type 0} (state : L → LinkState) (start_at : L → LinkStart) w
     pub leased : IsLeased p (state a.exchange.peer.client.link)
         (start_at a.exchange.peer.client.link) a.lease
     pub head : RequestHead
-    pub built : IsBuiltRequest head
+    pub relayable : IsRelayable head
     pub under_way : IsUnderWay state start_at (origin_of s head a.lease.reused) p w.client w.ahead
         a.exchange
 
@@ -106,6 +106,7 @@ module _ {L C : Type 0} (state : L → LinkState) (start_at : L → LinkStart) w
       : Type 0 where
     pub tells : TellsClient s p w
     pub order : IsInOrder s p
+    pub untouched : IsUntouched s p w
     pub going : IsGoing phase
     pub calm : IsCalm s w phase
     pub holds : PhaseHolds s p w own phase

@@ -46,16 +46,13 @@ module _ {L C : Type 0} (state : L → LinkState) (start_at : L → LinkStart) w
   -- a step took the run so far on from one phase to the next, and handed these links back
   pub record StepsOn
       (s : Start) (p : Passed) (w : World) (own : List (Returned L))
-      (before after : Option (List (Returned L))) (phase next : Phase L C) (step : RunStep)
-      : Type 0 where
+      (before after : Option (List (Returned L))) (phase next : Phase L C) : Type 0 where
     pub passed : Passed
     pub handed : List (Returned L)
     pub gained : after ≡ more before handed
     pub run : RunSoFar state start_at s passed w (own ++ handed) next
     -- a request that has ended passes nothing more
     pub rested : is_over phase ≡ true → passed ≡ p
-    -- where it met silence a link is silent
-    pub stalled : step ≡ did.Waited Silent → IsStalled state start_at w next
 
   -- a request came to its end
   pub record ComesToEnd
@@ -69,7 +66,7 @@ module _ {L C : Type 0} (state : L → LinkState) (start_at : L → LinkStart) w
     -- a request that has ended gives no `TurnLimit`
     pub over : is_over phase ≡ true → processed.outcome ≢ TurnLimit
     pub quiet : processed.outcome ≡ TurnLimit → IsStalled state start_at w phase
-        → IsQuiet state w (own ++ handed)
+        → IsQuiet state start_at s p w (own ++ handed)
 
 -- a whole request: what passed is told by the links, in order; the connector's list gained the
 -- links that were handed back; and the outcome has its cause
@@ -82,6 +79,6 @@ pub record Processes {L : Type 0} (state : L → LinkState) (start_at : L → Li
   pub ended : IsEnded state start_at s passed w own processed.history.attempts processed.outcome
   -- the other way round: where a cause stands, the outcome is its own
   pub exact : IsExact state start_at s passed w own processed.outcome
-  -- a request that has not ended took all its turns, or met a link that is silent
+  -- a request that has not ended took all its turns, or all that it asks is silent
   pub limit : processed.outcome ≡ TurnLimit
-      → (processed.history.turns_taken ≡ turns) ⊎ IsQuiet state w own
+      → (processed.history.turns_taken ≡ turns) ⊎ IsQuiet state start_at s passed w own

@@ -1,9 +1,11 @@
 -- What one turn makes of a phase.
-use Rattle.std.specs.Prelude.{◌≡◌, ℕ, ◌<◌, Bool, true, false, List, []}
-use Rattle.relay_links.specs.Link.{LinkState, LinkStart}
+use Rattle.std.specs.Prelude.{◌≡◌, ◌⊎◌, ℕ, ◌<◌, Bool, true, false, List, [], Option, None, Some}
+use Rattle.relay_links.specs.Count.{up}
+use Rattle.relay_links.specs.Link.{LinkState, LinkStart, GivesBytes, TakesBytes}
 use Rattle.relay_tasks.specs.declared.took.Pause.TheVariants.{NotReady, Silent}
+use Rattle.relay_h1.specs.Verdict.{IsOpen}
 use Rattle.relay_h1.specs.declared.Connection.{Connection}
-use Rattle.relay_exchange.specs.Exchange.{IsSilent}
+use Rattle.relay_exchange.specs.Exchange.{SilentIn}
 use Rattle.relay_exchange.specs.Passed.{Passed}
 use Rattle.relay_proxy.specs.Passed.{World, Start}
 use Rattle.relay_proxy.specs.Phases.{RunSoFar}
@@ -31,6 +33,38 @@ DoesWork step.Ended work = 0 < total_work work
 DoesWork (step.Waited NotReady) work = total_work work ≡ 1
 DoesWork (step.Waited Silent) work = total_work work ≡ 0
 
+-- the client's head is still read
+abbrev pub is_reading_head : {L C : Type 0} → Phase L C → Bool
+is_reading_head ReadHead = true
+is_reading_head (Refuse answer error) = false
+is_reading_head (Connect context session) = false
+is_reading_head (Relay a) = false
+is_reading_head (Close link lease keep outcome) = false
+is_reading_head (Ended outcome attempts) = false
+
+-- the link that a phase holds, as it stands
+abbrev pub held_state : {L C : Type 0} → (L → LinkState) → Phase L C → Option LinkState
+held_state state ReadHead = None
+held_state state (Refuse answer error) = None
+held_state state (Connect context session) = None
+held_state state (Relay a) = Some (state a.value.exchange.peer.client.link)
+held_state state (Close link lease keep outcome) = Some (state link)
+held_state state (Ended outcome attempts) = None
+
+-- a link that is held before and after answered in between that it has to be waited for
+abbrev pub HeldWaited : Option LinkState → Option LinkState → Type 0
+HeldWaited None after = ⊥
+HeldWaited (Some before) None = ⊥
+HeldWaited (Some before) (Some after) = after.waits ≡ up before.waits
+
+-- the client's link gave bytes
+abbrev pub HasGiven : LinkState → LinkState → Type 0
+HasGiven before after = (room : List ℕ) × (n : ℕ) × GivesBytes before room n after
+
+-- the client's link took bytes
+abbrev pub HasTaken : LinkState → LinkState → Type 0
+HasTaken before after = (part : List ℕ) × (n : ℕ) × TakesBytes before part n after
+
 module _ {L C : Type 0} (state : L → LinkState) (start_at : L → LinkStart) where
   -- how many links a phase holds
   abbrev pub links_held : Phase L C → ℕ
@@ -41,21 +75,51 @@ module _ {L C : Type 0} (state : L → LinkState) (start_at : L → LinkStart) w
   links_held (Close link lease keep outcome) = 1
   links_held (Ended outcome attempts) = 0
 
-  -- a link that a phase waits for is silent
+  -- a turn took the run so far on to the next phase; `w` is the world after it
+  pub record Advances (s : Start) (w : World) (next : Phase L C) : Type 0 where
+    pub passed : Passed
+    pub run : RunSoFar state start_at s passed w [] next
+
+  -- all that a phase asks is silent: outside an exchange the one link that it asks, and in an
+  -- exchange what its next write or each of its branches asks
   abbrev pub IsStalled : World → Phase L C → Type 0
-  IsStalled w ReadHead = w.client.silent_on_read ≡ true
+  IsStalled w ReadHead = IsOpen w.ahead × (w.client.silent_on_read ≡ true)
   IsStalled w (Refuse answer error) = w.client.silent_on_write ≡ true
   IsStalled w (Connect context session) = ⊥
-  IsStalled w (Relay a) = IsSilent state start_at w.client a.value.exchange
+  IsStalled w (Relay a) =
+      SilentIn state start_at w.client a.value.exchange.client a.value.exchange.peer
+      a.value.exchange.stage
   IsStalled w (Close link lease keep outcome) = ⊥
   IsStalled w (Ended outcome attempts) = ⊥
 
-  -- a turn took the run so far on to the next phase; `w` is the world after it. Where it met silence
-  -- a link is silent
-  pub record Advances (s : Start) (w : World) (next : Phase L C) (did : RunStep) : Type 0 where
-    pub passed : Passed
-    pub run : RunSoFar state start_at s passed w [] next
-    pub stalled : did ≡ step.Waited Silent → IsStalled w next
+  -- what a turn moved: bytes of the client's head came, or it was judged; bytes of a generated
+  -- answer were taken; or a link was given. What a turn of an exchange moved is not said
+  abbrev pub HasMoved : World → World → Phase L C → Phase L C → Type 0
+  HasMoved w x ReadHead next = HasGiven w.client x.client ⊎ (is_reading_head next ≡ false)
+  HasMoved w x (Refuse answer error) next = HasTaken w.client x.client
+  HasMoved w x (Connect context session) next = links_held next ≡ 1
+  HasMoved w x (Relay a) next = Unit {0}
+  HasMoved w x (Close link lease keep outcome) next = ⊥
+  HasMoved w x (Ended outcome attempts) next = ⊥
+
+  -- the client's link, or the one that is held, answered in a turn that it has to be waited for
+  abbrev pub HasWaited : World → World → Phase L C → Phase L C → Type 0
+  HasWaited w x phase next =
+      (x.client.waits ≡ up w.client.waits)
+      ⊎ HeldWaited (held_state state phase) (held_state state next)
+
+  -- a turn met silence alone, and neither link changed
+  pub record MeetsSilence (w x : World) (phase next : Phase L C) : Type 0 where
+    pub stalled : IsStalled x next
+    pub client_same : x.client ≡ w.client
+    pub held_same : held_state state next ≡ held_state state phase
+
+  -- why a turn was answered so; the end of a request has its cause of its own
+  abbrev pub HasCause : World → World → Phase L C → Phase L C → RunStep → Type 0
+  HasCause w x phase next step.Moved = HasMoved w x phase next
+  HasCause w x phase next (step.Waited NotReady) = HasWaited w x phase next
+  HasCause w x phase next (step.Waited Silent) = MeetsSilence w x phase next
+  HasCause w x phase next step.Ended = Unit {0}
 
 -- a turn did its work; a request that has ended does none
 abbrev pub WorksIn : {L C : Type 0} → Phase L C → RunStep → Work → Type 0

@@ -3,20 +3,20 @@ ghost use Rattle.std.specs.Prelude.{◌≡◌, ◌≤◌, ℕ, [], length};
 ghost use Rattle.relay_tasks.specs.Head.{IsStatus};
 ghost use Rattle.relay_h1.specs.Verdict.{IsOpen, HasRequest};
 ghost use Rattle.relay_h1.specs.Wire.{generated};
-ghost use Rattle.relay_proxy.specs.Built.{IsConnect};
+ghost use Rattle.relay_proxy.specs.Relayable.{IsConnect};
 ghost use Rattle.relay_proxy.specs.Endings.{IsTurnedDown, ended_outcome};
 ghost use Rattle.relay_exchange.specs.Passed.{Passed};
 ghost use Rattle.relay_proxy.specs.Passed.{World, Start};
 ghost use Rattle.relay_proxy.specs.Phases.{RunSoFar};
 ghost use Rattle.relay_proxy.specs.Stock.{items_held};
-ghost use Rattle.relay_proxy.specs.Turn.{world_of, DoesWork, is_over, is_end, links_held, Advances};
+ghost use Rattle.relay_proxy.specs.Turn.{world_of, DoesWork, is_over, is_end, links_held, Advances, HasCause};
 
-use crate::built::{is_built_request, is_connect};
 use crate::hooks::ProxyHttp;
 use crate::machine::{Next, Phase, RunStep};
 use crate::outcome::Outcome;
 use crate::pending::{Offered, Pending};
 use crate::record::AttemptList;
+use crate::relayable::{is_connect, is_relayable};
 use crate::work::Work;
 use relay_h1::{Connection, Output, RequestRead, write_generated};
 use relay_links::{ByteLink, Got};
@@ -33,7 +33,10 @@ pub(crate) fn read_head<SV: ProxyHttp, D: ByteLink, U, L: ByteLink>(
     ensures run { (s : Start) (p : Passed) (faults : ℕ)
         → RunSoFar {C = SV.CTX} L.state L.start s p (world_of D.state client.old faults) [] (Phase.ReadHead)
         → Advances L.state L.start s (world_of D.state client.new faults)
-        result.phase result.step }
+        result.phase }
+    ensures cause { (faults : ℕ) → HasCause {C = SV.CTX} L.state L.start
+        (world_of D.state client.old faults) (world_of D.state client.new faults)
+        (Phase.ReadHead) result.phase result.step }
     ensures work { DoesWork result.step result.work }
     ensures over { is_over result.phase ≡ is_end result.step }
     ensures unlinked { links_held L.state L.start result.phase ≡ 0 }
@@ -62,7 +65,10 @@ fn await_head<D: ByteLink, U, L: ByteLink, C>(
         → RunSoFar {C = C} L.state L.start s p (world_of D.state client.old faults) [] (Phase.ReadHead)
         → IsOpen client.old.ahead
         → Advances L.state L.start s (world_of D.state client.new faults)
-        result.phase result.step }
+        result.phase }
+    ensures cause { (faults : ℕ) → IsOpen client.old.ahead → HasCause {C = C} L.state L.start
+        (world_of D.state client.old faults) (world_of D.state client.new faults)
+        (Phase.ReadHead) result.phase result.step }
     ensures work { DoesWork result.step result.work }
     ensures over { is_over result.phase ≡ is_end result.step }
     ensures unlinked { links_held L.state L.start result.phase ≡ 0 }
@@ -136,7 +142,10 @@ fn take_head<SV: ProxyHttp, D: ByteLink, U, L: ByteLink>(
         → RunSoFar {C = SV.CTX} L.state L.start s p (world_of D.state client.old faults) [] (Phase.ReadHead)
         → HasRequest client.old.ahead read.head read.framing read.len
         → Advances L.state L.start s (world_of D.state client.new faults)
-        result.phase result.step }
+        result.phase }
+    ensures cause { (faults : ℕ) → HasCause {C = SV.CTX} L.state L.start
+        (world_of D.state client.old faults) (world_of D.state client.new faults)
+        (Phase.ReadHead) result.phase result.step }
     ensures work { DoesWork result.step result.work }
     ensures over { is_over result.phase ≡ is_end result.step }
     ensures unlinked { links_held L.state L.start result.phase ≡ 0 }
@@ -164,7 +173,10 @@ fn accept_head<SV: ProxyHttp, D: ByteLink, U, L: ByteLink>(
         → HasRequest client.old.ahead read.head read.framing read.len
         → ¬ (IsConnect read.head)
         → Advances L.state L.start s (world_of D.state client.new faults)
-        result.phase result.step }
+        result.phase }
+    ensures cause { (faults : ℕ) → HasCause {C = SV.CTX} L.state L.start
+        (world_of D.state client.old faults) (world_of D.state client.new faults)
+        (Phase.ReadHead) result.phase result.step }
     ensures work { DoesWork result.step result.work }
     ensures over { is_over result.phase ≡ is_end result.step }
     ensures unlinked { links_held L.state L.start result.phase ≡ 0 }
@@ -172,7 +184,7 @@ fn accept_head<SV: ProxyHttp, D: ByteLink, U, L: ByteLink>(
     ensures kept { client.new.kept ≡ client.old.kept }
     ensures client_start { D.start client.new.link ≡ D.start client.old.link }
 {
-    if !is_built_request(&read.head) {
+    if !is_relayable(&read.head) {
         let error = Error::new_down(ErrorType::Custom(1));
         return Next {
             phase: Phase::Ended(
@@ -208,7 +220,9 @@ fn give_answer<L: ByteLink, C>(alloc: Global, status: u16, error: Option<Error>)
         → RunSoFar {C = C} L.state L.start s p w [] (Phase.ReadHead)
         → IsTurnedDown w.ahead (generated status) error
         → Advances L.state L.start s w
-        result.phase result.step }
+        result.phase }
+    ensures cause { (w x : World) → HasCause {C = C} L.state L.start w x (Phase.ReadHead) result.phase
+        result.step }
     ensures work { DoesWork result.step result.work }
     ensures over { is_over result.phase ≡ is_end result.step }
     ensures unlinked { links_held L.state L.start result.phase ≡ 0 }
@@ -242,7 +256,10 @@ pub(crate) fn write_refusal<D: ByteLink, U, L: ByteLink, C>(
     ensures run { (s : Start) (p : Passed) (faults : ℕ)
         → RunSoFar {C = C} L.state L.start s p (world_of D.state client.old faults) [] (Phase.Refuse answer error)
         → Advances L.state L.start s (world_of D.state client.new faults)
-        result.phase result.step }
+        result.phase }
+    ensures cause { (faults : ℕ) → HasCause {C = C} L.state L.start
+        (world_of D.state client.old faults) (world_of D.state client.new faults)
+        (Phase.Refuse answer error) result.phase result.step }
     ensures work { DoesWork result.step result.work }
     ensures over { is_over result.phase ≡ is_end result.step }
     ensures unlinked { links_held L.state L.start result.phase ≡ 0 }

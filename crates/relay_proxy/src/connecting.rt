@@ -1,5 +1,6 @@
 //! The connector: asked once for a link, over which the request's one attempt then goes.
 ghost use Rattle.std.specs.Prelude.{◌≡◌, ◌+◌, ◌≤◌, [], ◌∷◌, ◌++◌, option_map, ℕ, List, Some, IfSome, false};
+ghost use Rattle.std.specs.Global.{Box};
 ghost use Rattle.relay_links.specs.Link.{LinkState, IsHandedOut};
 ghost use Rattle.relay_exchange.specs.Passed.{Passed};
 ghost use Rattle.relay_session.specs.Reading.{head_of};
@@ -7,7 +8,7 @@ ghost use Rattle.relay_proxy.specs.Endings.{IsInOrder, IsAskedPeer, fault_error,
 ghost use Rattle.relay_proxy.specs.Passed.{World, Start, TellsClient};
 ghost use Rattle.relay_proxy.specs.Phases.{IsRelaying, RunSoFar};
 ghost use Rattle.relay_proxy.specs.Stock.{items_held};
-ghost use Rattle.relay_proxy.specs.Turn.{world_with, DoesWork, is_over, is_end, links_held, Advances};
+ghost use Rattle.relay_proxy.specs.Turn.{world_with, DoesWork, is_over, is_end, links_held, Advances, HasCause};
 
 use crate::machine::{Attempt, Lease, Next, Phase, RunStep};
 use crate::outcome::Outcome;
@@ -56,7 +57,11 @@ pub(crate) fn connect<K: Connector, F: Front, C: Drop>(
         → RunSoFar {C = C} K.Byte.state K.Byte.start s p
         (world_with client ahead (K.fault_count connector.old)) [] (Phase.Connect context session)
         → Advances {C = C} K.Byte.state K.Byte.start s
-        (world_with client ahead (K.fault_count connector.new)) result.phase result.step }
+        (world_with client ahead (K.fault_count connector.new)) result.phase }
+    ensures cause { (client : LinkState) (ahead : List ℕ) → HasCause K.Byte.state K.Byte.start
+        (world_with client ahead (K.fault_count connector.old))
+        (world_with client ahead (K.fault_count connector.new)) (Phase.Connect context session)
+        result.phase result.step }
     ensures work { DoesWork result.step result.work }
     ensures over { is_over result.phase ≡ is_end result.step }
     ensures out { K.out connector.new
@@ -131,7 +136,9 @@ fn begin<L: ByteLink, F: Front, C: Drop>(
         → RunSoFar {C = C} L.state L.start s p w [] (Phase.Connect context session)
         → head_of session.value.reading ≡ Some head
         → IsHandedOut (L.state link) (L.start link) lease.reused → IsAskedPeer lease.peer
-        → Advances {C = C} L.state L.start s w result.phase result.step }
+        → Advances {C = C} L.state L.start s w result.phase }
+    ensures cause { (w x : World) → HasCause L.state L.start w x (Phase.Connect context session)
+        result.phase result.step }
     ensures work { DoesWork result.step result.work }
     ensures over { is_over result.phase ≡ is_end result.step }
     ensures linked { links_held L.state L.start result.phase ≡ 1 }
@@ -159,7 +166,9 @@ fn begin<L: ByteLink, F: Front, C: Drop>(
 fn hold<L: ByteLink, C: Drop>(alloc: Global, attempt: Attempt<L, C>) -> Next<L, C>
     ensures run { (s : Start) (p : Passed) (w : World) → TellsClient s p w → IsInOrder s p
         → w.client.faults ≡ s.faults → IsRelaying L.state L.start s p w attempt
-        → Advances {C = C} L.state L.start s w result.phase result.step }
+        → Advances {C = C} L.state L.start s w result.phase }
+    ensures cause { (w x : World) (context : C) (session : Box HttpSession)
+        → HasCause L.state L.start w x (Phase.Connect context session) result.phase result.step }
     ensures work { DoesWork result.step result.work }
     ensures over { is_over result.phase ≡ is_end result.step }
     ensures linked { links_held L.state L.start result.phase ≡ 1 }

@@ -1,7 +1,6 @@
 //! The proxy itself: one request, from the client's bytes to its outcome.
 #![tactic(auto)]
 
-mod built;
 mod client_head;
 mod connecting;
 mod finish;
@@ -11,6 +10,7 @@ mod outcome;
 mod pending;
 mod proxy;
 mod record;
+mod relayable;
 mod relaying;
 mod turn;
 mod work;

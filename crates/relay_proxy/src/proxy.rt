@@ -6,7 +6,7 @@ ghost use Rattle.relay_proxy.specs.Passed.{Start, start_of, nothing};
 ghost use Rattle.relay_proxy.specs.Phases.{RunSoFar};
 ghost use Rattle.relay_proxy.specs.Request.{is_stop, ended_after, Counts, StepsOn, ComesToEnd, Processes};
 ghost use Rattle.relay_proxy.specs.Stock.{items_held, all_items};
-ghost use Rattle.relay_proxy.specs.Turn.{world_of, links_held, is_over, is_end};
+ghost use Rattle.relay_proxy.specs.Turn.{world_of, links_held, is_over, is_end, HasCause};
 ghost use Rattle.relay_proxy.specs.Work.{total_work, Grows};
 
 use crate::finish::{finish, settle};
@@ -144,6 +144,13 @@ impl<SV: ProxyHttp, K: Connector, P: Purger> HttpProxy<SV, K, P> {
             → StepsOn K.Byte.state K.Byte.start s p
             (world_of D.state client.new (K.fault_count self.new.connector)) own
             (K.returned self.old.connector) (K.returned self.new.connector)
+            machine.old.machine.phase machine.new.machine.phase }
+        // Before there is a link it moved something of the client, or went on to its next phase; it
+        // waits only where a link answered so in this step; and in silence all that can be done asks
+        // a link that is silent on it, and neither link changed.
+        ensures cause { HasCause K.Byte.state K.Byte.start
+            (world_of D.state client.old (K.fault_count self.old.connector))
+            (world_of D.state client.new (K.fault_count self.new.connector))
             machine.old.machine.phase machine.new.machine.phase result }
         // A step that moved did some work.
         ensures progress { result ≡ RunStep.Moved
@@ -259,7 +266,7 @@ impl<SV: ProxyHttp, K: Connector, P: Purger> HttpProxy<SV, K, P> {
     }
 
     /// Processes one request of a client: it is begun, stepped until it has ended, until `turns`
-    /// turns were taken or until a link that it waits for is silent, and then ended.
+    /// turns were taken or until all that it asks is silent, and then ended.
     ///
     /// The outcome is `NoRequest`, `Refused`, `Served` or `TurnLimit`, each with its cause in terms
     /// of what the links gave and took, or `OutOfMemory`.
@@ -347,8 +354,8 @@ impl<SV: ProxyHttp, K: Connector, P: Purger> HttpProxy<SV, K, P> {
     }
 }
 
-/// Whether a call takes no more steps after this answer: the request has ended, or waits for a link
-/// that is silent.
+/// Whether a call takes no more steps after this answer: the request has ended, or all that it asks
+/// is silent.
 fn is_stop(step: RunStep) -> bool
     ensures { result ≡ is_stop step }
 {

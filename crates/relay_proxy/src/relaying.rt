@@ -1,9 +1,10 @@
 //! The attempt: one turn of its exchange, and what becomes of the client and of the link once it has
 //! ended (RFC 9112, section 9.3).
 ghost use Rattle.std.specs.Prelude.{◌≡◌, ℕ, [], ◌∷◌, None, false};
+ghost use Rattle.relay_core.specs.Asked.{WaitRose};
 ghost use Rattle.relay_core.specs.Causes.{says_failed};
 ghost use Rattle.relay_core.specs.Past.{Origin};
-ghost use Rattle.relay_exchange.specs.Exchange.{IsUnderWay, Turns, IsSilent};
+ghost use Rattle.relay_exchange.specs.Exchange.{IsUnderWay, Turns, MeetsSilence};
 ghost use Rattle.relay_exchange.specs.Head.{may_keep};
 ghost use Rattle.relay_exchange.specs.Passed.{Passed};
 ghost use Rattle.relay_proxy.specs.Endings.{outcome_of};
@@ -11,7 +12,7 @@ ghost use Rattle.relay_proxy.specs.Passed.{Start};
 ghost use Rattle.relay_proxy.specs.Phases.{RunSoFar};
 ghost use Rattle.relay_proxy.specs.Reuse.{client_reusable, lets_ask_again};
 ghost use Rattle.relay_proxy.specs.Stock.{items_held};
-ghost use Rattle.relay_proxy.specs.Turn.{world_of, DoesWork, is_over, is_end, links_held, Advances};
+ghost use Rattle.relay_proxy.specs.Turn.{world_of, DoesWork, is_over, is_end, links_held, Advances, HasCause};
 
 use crate::connecting::outcome_of;
 use crate::machine::{Attempt, Next, Phase, RunStep};
@@ -35,8 +36,10 @@ pub(crate) fn relay<D: ByteLink, U: Drop, L: ByteLink, H: Schedule, C: Drop>(
     ensures run { (s : Start) (p : Passed) (faults : ℕ)
         → RunSoFar {C = C} L.state L.start s p (world_of D.state client.old faults) []
         (Phase.Relay attempt)
-        → Advances {C = C} L.state L.start s (world_of D.state client.new faults) result.phase
-        result.step }
+        → Advances {C = C} L.state L.start s (world_of D.state client.new faults) result.phase }
+    ensures cause { (faults : ℕ) → HasCause {C = C} L.state L.start
+        (world_of D.state client.old faults) (world_of D.state client.new faults)
+        (Phase.Relay attempt) result.phase result.step }
     ensures work { DoesWork result.step result.work }
     ensures over { is_over result.phase ≡ is_end result.step }
     ensures linked { links_held L.state L.start result.phase ≡ 1 }
@@ -123,8 +126,12 @@ fn turn_over<D: ByteLink, U: Drop, L: ByteLink, H: Schedule>(
         → IsUnderWay L.state L.start s p (D.state client.old.link) client.old.ahead exchange.old
         → Turns L.state L.start s (D.state client.new.link) client.new.ahead exchange.new
         result.step }
-    ensures silent { result.step ≡ Step.Waited Pause.Silent
-        → IsSilent L.state L.start (D.state client.new.link) exchange.new }
+    ensures waits { result.step ≡ Step.Waited Pause.NotReady
+        → WaitRose (D.state client.old.link) (D.state client.new.link)
+        (L.state exchange.old.peer.client.link) (L.state exchange.new.peer.client.link) }
+    ensures quiet { result.step ≡ Step.Waited Pause.Silent
+        → MeetsSilence L.state L.start (D.state client.old.link) (D.state client.new.link)
+        exchange.old exchange.new }
     ensures calm { says_failed result.step ≡ false
         → (D.state client.new.link).faults ≡ (D.state client.old.link).faults }
     ensures peer_start { L.start exchange.new.peer.client.link

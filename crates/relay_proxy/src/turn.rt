@@ -5,7 +5,7 @@ ghost use Rattle.relay_proxy.specs.Closing.{Rests, TurnOf};
 ghost use Rattle.relay_proxy.specs.Passed.{Start};
 ghost use Rattle.relay_proxy.specs.Phases.{RunSoFar};
 ghost use Rattle.relay_proxy.specs.Stock.{items_held, all_items};
-ghost use Rattle.relay_proxy.specs.Turn.{world_of, links_held, is_over, is_end, WorksIn};
+ghost use Rattle.relay_proxy.specs.Turn.{world_of, links_held, is_over, is_end, WorksIn, HasCause};
 
 use crate::client_head::{read_head, write_refusal};
 use crate::connecting::connect;
@@ -31,6 +31,10 @@ pub(crate) fn take_turn<SV: ProxyHttp, K: Connector, D: ByteLink, U: Drop, H: Sc
         → RunSoFar {C = SV.CTX} K.Byte.state K.Byte.start s p
         (world_of D.state client.old (K.fault_count connector.old)) [] phase
         → TurnOf K.Byte.state K.Byte.start s
+        (world_of D.state client.new (K.fault_count connector.new))
+        phase result.phase }
+    ensures cause { HasCause K.Byte.state K.Byte.start
+        (world_of D.state client.old (K.fault_count connector.old))
         (world_of D.state client.new (K.fault_count connector.new))
         phase result.phase result.step }
     ensures rests { Rests (world_of D.state client.old (K.fault_count connector.old))

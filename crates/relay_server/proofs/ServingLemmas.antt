@@ -12,8 +12,6 @@ use Rattle.relay_proxy.specs.Request.{StepsOn, ComesToEnd, ended_after}
 use Rattle.relay_proxy.specs.Turn.{world_with, world_of, is_over, is_end, links_held}
 use Rattle.relay_proxy.specs.declared.machine.Phase.{Phase}
 use Rattle.relay_proxy.specs.declared.machine.Phase.TheVariants.{ReadHead, Refuse, Connect, Relay, Close, Ended}
-use Rattle.relay_proxy.specs.declared.machine.RunStep.{RunStep}
-use Rattle.relay_proxy.specs.declared.machine.RunStep.TheVariants as step
 use Rattle.relay_proxy.specs.declared.outcome.Outcome.{Outcome}
 use Rattle.relay_proxy.specs.declared.outcome.Outcome.TheVariants.{NoRequest, Refused, Served, TurnLimit, OutOfMemory}
 use Rattle.relay_proxy.specs.declared.outcome.Processed.{Processed}
@@ -59,7 +57,7 @@ module _ {L C : Type 0} (state : L → LinkState) (start_at : L → LinkStart) w
   at_later s p link ahead f g (Relay a) going at = record {
     leased = at.leased;
     head = at.head;
-    built = at.built;
+    relayable = at.relayable;
     under_way = at.under_way;
   }
   at_later s p link ahead f g (Close l lease keep outcome) going at = absurd (true≢false going)
@@ -89,6 +87,7 @@ module _ {L C : Type 0} (state : L → LinkState) (start_at : L → LinkStart) w
       connect_faults = omega (arith, run.tells.connect_faults, more_faults);
     };
     order = run.order;
+    untouched = run.untouched;
     going = run.going;
     calm = calm_later s link ahead f g phase run.calm;
     holds = at_later s p link ahead f g phase going run.holds;
@@ -145,16 +144,16 @@ module _ {L C D U : Type 0}
 
   -- a turn behind which the request goes on
   pub goes_on : (before old now : Books L) (visit next : Visit D U L C)
-      (rest : List (Visit D U L C)) (did : RunStep)
+      (rest : List (Visit D U L C))
       → Serves state start_at client_state before old (visit ∷ rest)
       → now.requests_ended ≡ old.requests_ended → old.faults ≤ now.faults
       → ((s : Start) (p : Passed) (own : List (Returned L))
       → RunSoFar state start_at s p (world_of client_state visit.client old.faults) own visit.phase
       → StepsOn state start_at s p (world_of client_state next.client now.faults) own
-      old.returned now.returned visit.phase next.phase did)
+      old.returned now.returned visit.phase next.phase)
       → is_over next.phase ≡ false
       → Serves state start_at client_state before now (next ∷ rest)
-  goes_on before old now visit next rest did serves same later steps going =
+  goes_on before old now visit next rest serves same later steps going =
       let under = serves.under_way.0 in
       let taken = steps under.start under.passed [] under.run in
       let w = world_of client_state next.client now.faults in
@@ -180,16 +179,16 @@ module _ {L C D U : Type 0}
 
   -- a turn behind which the request has ended
   pub ends_now : (before old now : Books L) (visit next : Visit D U L C)
-      (rest : List (Visit D U L C)) (did : RunStep)
+      (rest : List (Visit D U L C))
       → Serves state start_at client_state before old (visit ∷ rest)
       → now.requests_ended ≡ old.requests_ended → old.faults ≤ now.faults
       → ((s : Start) (p : Passed) (own : List (Returned L))
       → RunSoFar state start_at s p (world_of client_state visit.client old.faults) own visit.phase
       → StepsOn state start_at s p (world_of client_state next.client now.faults) own
-      old.returned now.returned visit.phase next.phase did)
+      old.returned now.returned visit.phase next.phase)
       → is_over next.phase ≡ true
       → EndsOne state start_at client_state before now next rest
-  ends_now before old now visit next rest did serves same later steps over =
+  ends_now before old now visit next rest serves same later steps over =
       let under = serves.under_way.0 in
       let taken = steps under.start under.passed [] under.run in
       record {

@@ -12,7 +12,7 @@ returns-clause-run g c = λ s p faults run has no_connect.
     head_accepted g.L.ByteLink.state g.L.ByteLink.start s p _ _ c.args.read.head
     c.args.read.framing c.args.read.len _ _
     (ap (λ (x : World). x.client) world) (ap (λ (x : World). x.ahead) world) refl has
-    (c.if-not-is_built_request.ensures.0 refl)
+    (c.if-not-is_relayable.ensures.0 refl)
     (rw c.in-Ok.ensures.ok (record {
       is_head = made.head;
       done = made.done;

@@ -17,3 +17,17 @@ returns-in-Err-Error-clause-run g c = λ s p faults run.
     (world_of g.D.ByteLink.state c.args.client.now faults) run
     (endings.IsTurnedDown.has_bad_head verdict.0 verdict.2 refl
     (rw verdict.1 refl)))
+
+pub returns-in-Ok-None-clause-cause : goal.returns-in-Ok-None-clause-cause
+returns-in-Ok-None-clause-cause g c = λ faults.
+    (rw c.judge_request.ensures.same at (c.await_head.ensures.cause faults))
+    (rw c.in-Ok-None.field-0-is at c.in-Ok-None.ensures.verdict)
+
+pub returns-in-Ok-Some-clause-cause : goal.returns-in-Ok-Some-clause-cause
+returns-in-Ok-Some-clause-cause g c = λ faults.
+    rw c.judge_request.ensures.same at (c.take_head.ensures.cause faults)
+
+pub returns-in-Err-Error-clause-cause : goal.returns-in-Err-Error-clause-cause
+returns-in-Err-Error-clause-cause g c = λ faults.
+    c.give_answer.ensures.cause (world_of g.D.ByteLink.state c.args.client.now faults)
+    (world_of g.D.ByteLink.state c.judge_request.new.self faults)

@@ -1,5 +1,5 @@
 -- Each answer of the one write is a turn of the refusal.
-use Rattle.std.proofs.Common.{refl, ap, ◌∙◌}
+use Rattle.std.proofs.Common.{refl, ap, ◌∙◌, inl}
 use Rattle.relay_links.specs.Link.{LinkState}
 use Rattle.relay_proxy.proofs.Tells.{sided}
 use Rattle.relay_proxy.proofs.HeadSteps.{refusal_whole, refusal_part, refusal_waits, refusal_fails, refusal_memory}
@@ -18,16 +18,15 @@ returns-in-Left-clause-run g c = λ s p faults run.
 pub returns-in-NotReady-clause-run : goal.returns-in-NotReady-clause-run
 returns-in-NotReady-clause-run g c = λ s p faults run.
     let (waits, kept) = c.in-NotReady.ensures.offers in
-    refusal_waits g.L.ByteLink.state g.L.ByteLink.start s p _ _ _ _ _ _ refl waits.given
-    waits.taken waits.faults (λ silent. cc) kept run
+    refusal_waits g.L.ByteLink.state g.L.ByteLink.start s p _ _ _ _ _ refl waits.given
+    waits.taken waits.faults kept run
 
 pub returns-in-Silent-clause-run : goal.returns-in-Silent-clause-run
 returns-in-Silent-clause-run g c = λ s p faults run.
     let (silent, kept) = c.in-Silent.ensures.offers in
-    refusal_waits g.L.ByteLink.state g.L.ByteLink.start s p _ _ _ _ _ _ refl
+    refusal_waits g.L.ByteLink.state g.L.ByteLink.start s p _ _ _ _ _ refl
     (ap (λ (l : LinkState). l.given) silent.same) (ap (λ (l : LinkState). l.taken) silent.same)
-    (ap (λ (l : LinkState). l.faults) silent.same)
-    (λ _. ap (λ (l : LinkState). l.silent_on_write) silent.same ∙ silent.silent) kept run
+    (ap (λ (l : LinkState). l.faults) silent.same) kept run
 
 pub returns-in-Failed-clause-run : goal.returns-in-Failed-clause-run
 returns-in-Failed-clause-run g c = λ s p faults run.
@@ -39,3 +38,19 @@ pub returns-in-OutOfMemory-clause-run : goal.returns-in-OutOfMemory-clause-run
 returns-in-OutOfMemory-clause-run g c = λ s p faults run.
     refusal_memory g.L.ByteLink.state g.L.ByteLink.start s p _ _ _ _ _ refl
     c.in-OutOfMemory.ensures.offers c.new-in-OutOfMemory.ensures run
+
+pub returns-in-Left-clause-cause : goal.returns-in-Left-clause-cause
+returns-in-Left-clause-cause g c = λ faults.
+    (_, c.in-Left.ensures.offers.n, c.in-Left.ensures.offers.takes)
+
+pub returns-in-NotReady-clause-cause : goal.returns-in-NotReady-clause-cause
+returns-in-NotReady-clause-cause g c = λ faults. inl c.in-NotReady.ensures.offers.0.waits
+
+pub returns-in-Silent-clause-cause : goal.returns-in-Silent-clause-cause
+returns-in-Silent-clause-cause g c = λ faults.
+    let silent = c.in-Silent.ensures.offers.0 in
+    record {
+      stalled = ap (λ (l : LinkState). l.silent_on_write) silent.same ∙ silent.silent;
+      client_same = silent.same;
+      held_same = refl;
+    }

@@ -17,3 +17,6 @@ returns-in-Err-clause-run g c = λ s p w run is handed peer.
     c.args.link c.in-Err.field-0.link c.args.lease c.in-Err.field-0.why _ is handed peer
     c.in-Err.ensures.link c.outcome_of.ensures c.in-Err.ensures.causes
     (λ is. c.in-Err.ensures.refused.0 (c.in-Err.field-0, refl, is)) run
+
+pub returns-in-Ok-clause-cause : goal.returns-in-Ok-clause-cause
+returns-in-Ok-clause-cause g c = λ w x. c.hold.ensures.cause w x c.args.context c.args.session

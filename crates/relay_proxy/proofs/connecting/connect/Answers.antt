@@ -12,7 +12,7 @@ returns-in-Ok-get-clause-run g c = λ s p client ahead run.
 
 pub returns-in-Err-clause-run : goal.returns-in-Err-clause-run
 returns-in-Err-clause-run g c = λ s p client ahead run.
-    rw (c.refused_link.ensures.phase, c.refused_link.ensures.step)
+    rw c.refused_link.ensures.phase
     (not_connected g.K.Byte.ByteLink.state g.K.Byte.ByteLink.start s p
     (world_with client ahead (g.K.Connector.fault_count c.args.connector.now))
     (g.K.Connector.fault_count c.get.new.self) c.args.context c.args.session
@@ -23,3 +23,9 @@ pub returns-in-Err-clause-stock : goal.returns-in-Err-clause-stock
 returns-in-Err-clause-stock g c =
     rw (c.refused_link.ensures.phase, c.in-Err.ensures.stays)
     (none_out (g.K.Connector.stock c.args.connector.now))
+
+pub returns-in-Ok-get-clause-cause : goal.returns-in-Ok-get-clause-cause
+returns-in-Ok-get-clause-cause g c = λ client ahead.
+    c.begin.ensures.cause
+    (world_with client ahead (g.K.Connector.fault_count c.args.connector.now))
+    (world_with client ahead (g.K.Connector.fault_count c.get.new.self))

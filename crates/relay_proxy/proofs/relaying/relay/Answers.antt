@@ -5,7 +5,8 @@ use Rattle.std.specs.Box.{with_value}
 use Rattle.relay_tasks.specs.declared.took.Pause.TheVariants.{NotReady, Silent}
 use Rattle.relay_core.specs.Causes.{says_failed}
 use Rattle.relay_core.specs.declared.step.Step.TheVariants as step
-use Rattle.relay_proxy.proofs.RelaySteps.{lent, moves, waits, finishes, fails}
+use Rattle.relay_proxy.specs.Turn.{world_of}
+use Rattle.relay_proxy.proofs.RelaySteps.{lent, moves, waits, has_waited, has_stalled, finishes, fails}
 use Rattle.relay_proxy.proofs.relaying.relay.Goals as goal
 
 pub returns-in-Moved-clause-run : goal.returns-in-Moved-clause-run
@@ -29,7 +30,6 @@ returns-in-Waited-NotReady-clause-run g c = λ s p faults given.
     waits g.L.ByteLink.state g.L.ByteLink.start s p _ _ _ (with_value c.args.attempt a) _ _ run
     (rw is at (c.turn_over-step.ensures.goes _ p run.holds.under_way))
     (c.turn_over-step.ensures.calm (ap says_failed is))
-    (λ silent. cc)
 
 pub returns-in-Waited-Silent-clause-run : goal.returns-in-Waited-Silent-clause-run
 returns-in-Waited-Silent-clause-run g c = λ s p faults given.
@@ -43,14 +43,35 @@ returns-in-Waited-Silent-clause-run g c = λ s p faults given.
     waits g.L.ByteLink.state g.L.ByteLink.start s p _ _ _ (with_value c.args.attempt a) _ _ run
     (rw is at (c.turn_over-step.ensures.goes _ p run.holds.under_way))
     (c.turn_over-step.ensures.calm (ap says_failed is))
-    (λ silent. c.turn_over-step.ensures.silent is)
+
+pub returns-in-Waited-NotReady-clause-cause : goal.returns-in-Waited-NotReady-clause-cause
+returns-in-Waited-NotReady-clause-cause g c = λ faults.
+    let here = c.in-Waited-NotReady in
+    let pause : here.field-0 ≡ NotReady = rw here.is at here.field-0-is in
+    has_waited g.L.ByteLink.state g.L.ByteLink.start
+    (world_of g.D.ByteLink.state c.args.client.now faults)
+    (world_of g.D.ByteLink.state c.turn_over-step.new.client faults) c.args.attempt
+    c.deref_mut.result.now c.turn_over-step.new.exchange
+    c.deref_mut.ensures.value
+    (c.turn_over-step.ensures.waits (here.is ∙ ap step.Waited pause))
+
+pub returns-in-Waited-Silent-clause-cause : goal.returns-in-Waited-Silent-clause-cause
+returns-in-Waited-Silent-clause-cause g c = λ faults.
+    let here = c.in-Waited-Silent in
+    let pause : here.field-0 ≡ Silent = rw here.is at here.field-0-is in
+    has_stalled g.L.ByteLink.state g.L.ByteLink.start
+    (world_of g.D.ByteLink.state c.args.client.now faults)
+    (world_of g.D.ByteLink.state c.turn_over-step.new.client faults) c.args.attempt
+    c.deref_mut.result.now c.turn_over-step.new.exchange
+    c.deref_mut.ensures.value
+    (c.turn_over-step.ensures.quiet (here.is ∙ ap step.Waited pause))
 
 pub returns-in-Finished-clause-run : goal.returns-in-Finished-clause-run
 returns-in-Finished-clause-run g c = λ s p faults given.
     let a = c.deref_mut.result.now in
     let run = lent g.L.ByteLink.state g.L.ByteLink.start s p _ c.args.attempt a
     c.deref_mut.ensures.value given in
-    rw (c.close_finished.ensures.phase, c.close_finished.ensures.step)
+    rw c.close_finished.ensures.phase
     (finishes g.L.ByteLink.state g.L.ByteLink.start s p _ _ _ (with_value c.args.attempt a) _ run
     (rw c.in-Finished.is at (c.turn_over-step.ensures.goes _ p run.holds.under_way))
     (c.turn_over-step.ensures.calm (ap says_failed c.in-Finished.is)))
@@ -60,6 +81,6 @@ returns-in-Failed-clause-run g c = λ s p faults given.
     let a = c.deref_mut.result.now in
     let run = lent g.L.ByteLink.state g.L.ByteLink.start s p _ c.args.attempt a
     c.deref_mut.ensures.value given in
-    rw (c.close_failed.ensures.phase, c.close_failed.ensures.step)
+    rw c.close_failed.ensures.phase
     (fails g.L.ByteLink.state g.L.ByteLink.start s p _ _ _ (with_value c.args.attempt a) _ _ run
     (rw c.in-Failed.is at (c.turn_over-step.ensures.goes _ p run.holds.under_way)))

@@ -14,3 +14,22 @@ pub returns-in-Connect-clause-stock : goal.returns-in-Connect-clause-stock
 returns-in-Connect-clause-stock g c =
     rw c.in-Connect.is (one_out g.K.Byte.ByteLink.start _ _ _ _ _ c.connect.ensures.returned
     c.connect.ensures.stock)
+
+pub returns-in-ReadHead-clause-cause : goal.returns-in-ReadHead-clause-cause
+returns-in-ReadHead-clause-cause g c =
+    rw c.in-ReadHead.is
+    (c.read_head.ensures.cause (g.K.Connector.fault_count c.args.connector.now))
+
+pub returns-in-Refuse-clause-cause : goal.returns-in-Refuse-clause-cause
+returns-in-Refuse-clause-cause g c =
+    rw c.in-Refuse.is
+    (c.write_refusal.ensures.cause (g.K.Connector.fault_count c.args.connector.now))
+
+pub returns-in-Connect-clause-cause : goal.returns-in-Connect-clause-cause
+returns-in-Connect-clause-cause g c =
+    rw c.in-Connect.is
+    (c.connect.ensures.cause (g.D.ByteLink.state c.args.client.now.link) c.args.client.now.ahead)
+
+pub returns-in-Relay-clause-cause : goal.returns-in-Relay-clause-cause
+returns-in-Relay-clause-cause g c =
+    rw c.in-Relay.is (c.relay.ensures.cause (g.K.Connector.fault_count c.args.connector.now))

@@ -38,13 +38,13 @@ returns-then-is_stop-clause-processes g c =
     let steps = c.step-step.ensures.steps s under.passed under.own under.run in
     let ends = c.close.ensures.ends s steps.passed _ steps.run in
     stopped state start s _ _ _ _ _ _ _ c.loop-turn.machine.machine
-    c.step-step.new.machine.machine _ _ c.step-step.result c.close.result under steps ends
-    (stops_at state start
+    c.step-step.new.machine.machine _ _ c.close.result under steps ends
+    (stops_at state start _
     (world_of g.D.ByteLink.state c.step-step.new.client
     (g.K.Connector.fault_count c.step-step.new.self.connector))
     (world_of g.D.ByteLink.state c.close.new.client
-    (g.K.Connector.fault_count c.close.new.self.connector)) _ c.step-step.result c.close.result
-    (sym c.is_stop.ensures ∙ c.if-is_stop.true) steps.stalled c.step-step.ensures.ended
+    (g.K.Connector.fault_count c.close.new.self.connector)) _ _ c.step-step.result c.close.result
+    (sym c.is_stop.ensures ∙ c.if-is_stop.true) c.step-step.ensures.cause c.step-step.ensures.ended
     (rw (c.close.ensures.client, c.close.ensures.faults) (refl
     {a = world_of g.D.ByteLink.state c.step-step.new.client
     (g.K.Connector.fault_count c.step-step.new.self.connector)})) ends.over)
@@ -62,7 +62,7 @@ loop-turn-preserved g c =
     let few : c.loop-turn._turn + 1 ≤ last_count =
     omega (arith, c.loop-turn-test.true, c.ranges.turns.fits) in (
       goes_on state start s _ _ _ _ _ c.loop-turn.machine.machine
-          c.step-step.new.machine.machine _ c.step-step.result under steps
+          c.step-step.new.machine.machine _ under steps
           (one_more _ _ c.step-step.result c.step-step.ensures.counted goes) few,
       c.step-step.ensures.client_start ∙ c.loop-turn.invariant.1,
       c.step-step.ensures.stock ∙ c.loop-turn.invariant.2,

@@ -1,5 +1,5 @@
 -- The turn and its settling are a step.
-use Rattle.relay_proxy.proofs.StepLemmas.{step_on}
+use Rattle.relay_proxy.proofs.StepLemmas.{step_on, settled_cause}
 use Rattle.relay_proxy.proofs.proxy.HttpProxy.step.Goals as goal
 
 pub returns-clause-steps : goal.returns-clause-steps
@@ -11,3 +11,12 @@ returns-clause-steps g c = λ s p own run.
     (rw c.replace-phase.ensures.value at (c.take_turn-phase.ensures.turn s p))
     (rw c.replace-phase.ensures.value at c.take_turn-phase.ensures.rests)
     c.take_turn-phase.ensures.returned c.settle-settled.ensures.settles run)
+
+pub returns-clause-cause : goal.returns-clause-cause
+returns-clause-cause g c =
+    rw (c.settle-settled.ensures.faults, c.put.ensures)
+    (settled_cause g.K.Byte.ByteLink.state g.K.Byte.ByteLink.start _ _
+    c.args.machine.now.machine.phase c.take_turn-phase.result.phase c.settle-settled.result
+    c.take_turn-phase.result.step _ _ c.settle-settled.ensures.settles
+    c.take_turn-phase.ensures.over
+    (rw c.replace-phase.ensures.value at c.take_turn-phase.ensures.cause))

@@ -13,7 +13,7 @@ abbrev pub IsKnownTarget : List ℕ → Type 0
 IsKnownTarget target = (slice_get target 0 ≡ Some 47) ⊎ (target ≡ codes "*")
 
 -- a request that is relayed, whatever its body
-pub record IsBuiltRequest (head : RequestHead) : Type 0 where
+pub record IsRelayable (head : RequestHead) : Type 0 where
   pub method : ¬ (IsConnect head)
   pub target : IsKnownTarget head.target
   pub no_upgrade : ¬ (ContainsKey head.fields (codes "upgrade"))

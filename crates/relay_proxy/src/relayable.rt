@@ -2,7 +2,7 @@
 //! 3.2).
 ghost use Rattle.std.specs.Prelude.{◌↔◌, IsTrue, codes};
 ghost use Rattle.http_header.specs.HeaderMap.{ContainsKey};
-ghost use Rattle.relay_proxy.specs.Built.{IsConnect, IsKnownTarget, IsBuiltRequest};
+ghost use Rattle.relay_proxy.specs.Relayable.{IsConnect, IsKnownTarget, IsRelayable};
 
 use http_header::HeaderMap;
 use relay_tasks::RequestHeader;
@@ -15,8 +15,8 @@ pub(crate) fn is_connect(head: &RequestHeader) -> bool
 }
 
 /// Whether a request is relayed.
-pub(crate) fn is_built_request(head: &RequestHeader) -> bool
-    ensures { IsTrue result ↔ IsBuiltRequest head.now }
+pub(crate) fn is_relayable(head: &RequestHeader) -> bool
+    ensures { IsTrue result ↔ IsRelayable head.now }
 {
     if is_connect(head) {
         return false;

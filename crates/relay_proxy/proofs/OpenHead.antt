@@ -1,0 +1,25 @@
+-- A head that was turned down or relayed is open no more.
+use Rattle.std.proofs.Common.{ℕ, Bool, List, Option}
+use Rattle.relay_tasks.specs.Head.{RequestHead}
+use Rattle.relay_tasks.specs.declared.Error.{Error}
+use Rattle.relay_h1.specs.Verdict.{IsOpen}
+use Rattle.relay_h1.proofs.VerdictLemmas.{HasRequest-IsOpen, IsRefusedRequest-IsOpen}
+use Rattle.relay_exchange.specs.Order as exchange
+use Rattle.relay_exchange.specs.Passed.{Passed}
+use Rattle.relay_proxy.specs.Passed.{Start, origin_of, asked}
+use Rattle.relay_proxy.specs.Endings as endings
+use Rattle.relay_proxy.specs.Endings.{IsTurnedDown}
+
+-- a generated answer to an open head
+pub turns_down_open : {bytes answer : List ℕ} {error : Option Error}
+    → IsTurnedDown bytes answer error → IsOpen bytes → ⊥
+turns_down_open {bytes} (endings.IsTurnedDown.has_bad_head why refused is told) open_head =
+    IsRefusedRequest-IsOpen bytes why refused open_head
+turns_down_open {bytes} (endings.IsTurnedDown.asks_to_connect head framing len has connect is told) open_head =
+    HasRequest-IsOpen bytes head framing len has open_head
+
+-- the head of an exchange is open no more
+pub exchange_open : (s : Start) (p : Passed) (head : RequestHead) (reused closed : Bool)
+    → exchange.IsInOrder (origin_of s head reused) p closed → IsOpen (asked s p) → ⊥
+exchange_open s p head reused closed order open_head =
+    HasRequest-IsOpen (asked s p) head order.asks.framing order.asks.len order.asks.has open_head
