@@ -16,6 +16,8 @@ impl<'a, R: Eprint, O: Poller> Poller for Announcer<'a, R, O> {
 
     ghost fault_count = { λ announcer. O.fault_count announcer.poller };
 
+    ghost ports = { λ announcer. O.ports announcer.poller };
+
     fn listen(&mut self, port: u16) -> Listening {
         let listening = self.poller.listen(port);
         if listening == Listening::Ready {

@@ -1,4 +1,5 @@
 //! Serving: a port of this host, for a peer at another one.
+ghost use Rattle.std.specs.Prelude.{◌≡◌, ◌⊎◌};
 
 use crate::announcer::Announcer;
 use relay_links::MemoryPurger;
@@ -44,7 +45,9 @@ pub fn serve<R: Net + Wait + Eprint + Clone + Drop>(
     port: u16,
     peer: u16,
     requests: u64,
-) -> u8 {
+) -> u8
+    ensures { (result ≡ 0) ⊎ ((result ≡ 5) ⊎ (result ≡ 7)) }
+{
     match serve_peer(rt, alloc, port, peer, requests) {
         Ok(()) => 0,
         Err(Stop::OutOfMemory) => {

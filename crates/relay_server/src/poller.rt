@@ -1,7 +1,8 @@
 //! The poller: it listens at a port, hands out the connections of the clients, and sleeps until one
 //! of them may go on.
-ghost use Rattle.std.specs.Prelude.{◌≡◌, ℕ, ◌≤◌};
+ghost use Rattle.std.specs.Prelude.{◌≡◌, ℕ, ◌≤◌, List, Option};
 ghost use Rattle.relay_links.specs.Count.{Rose};
+ghost use Rattle.relay_server.specs.Listening.{listened};
 
 use relay_links::ByteLink;
 
@@ -22,30 +23,38 @@ pub enum Polled {
     Failed,
 }
 
-/// Listens for clients, and waits for their connections. It means how many of its calls failed.
+/// Listens for clients, and waits for their connections. It means how many of its calls failed, and
+/// at which ports it listens, where it tells them.
 pub trait Poller {
     /// The clients' links.
     type Stream: ByteLink;
 
     ghost fault_count: { Self → ℕ };
 
-    /// Listens at a port of this host. The count of faults rose where it failed.
+    ghost ports: { Self → Option (List ℕ) };
+
+    /// Listens at a port of this host as well. Where it failed the count of faults rose, and the
+    /// ports are as they were.
     fn listen(&mut self, port: u16) -> Listening
+        ensures ports { ports self.new ≡ listened result (ports self.old) port }
         ensures failed { result ≡ Listening.Failed
             → Rose (fault_count self.old) (fault_count self.new) }
         ensures grows { fault_count self.old ≤ fault_count self.new };
 
     /// The link of a client that waits to be accepted, and `None` where nobody waits.
     fn accept(&mut self) -> Option<Self::Stream>
+        ensures ports { ports self.new ≡ ports self.old }
         ensures grows { fault_count self.old ≤ fault_count self.new };
 
     /// Takes back a link that was accepted, and ends its connection.
     fn close(&mut self, stream: Self::Stream)
+        ensures ports { ports self.new ≡ ports self.old }
         ensures grows { fault_count self.old ≤ fault_count self.new };
 
     /// Sleeps until a link may go on or a client waits, and for so many milliseconds at most. The
     /// count of faults rose where it failed.
     fn wait(&mut self, millis: u32) -> Polled
+        ensures ports { ports self.new ≡ ports self.old }
         ensures failed { result ≡ Polled.Failed
             → Rose (fault_count self.old) (fault_count self.new) }
         ensures grows { fault_count self.old ≤ fault_count self.new };

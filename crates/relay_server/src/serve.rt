@@ -2,7 +2,9 @@
 //! of them wait the poller sleeps (RFC 9112, section 9).
 ghost use Rattle.std.specs.Prelude.{◌≡◌, ◌≢◌, ◌⊎◌, ◌↔◌, ◌+◌, ◌≤◌, ◌<◌, [], ◌∷◌, length};
 ghost use Rattle.relay_links.specs.Count.{Rose, last_count};
+ghost use Rattle.relay_links.specs.Told.{more};
 ghost use Rattle.relay_proxy.specs.Turn.{links_held};
+ghost use Rattle.relay_server.specs.Listening.{ListensAt};
 ghost use Rattle.relay_server.specs.Serving.{Books, books, CountRises, all_held, HaveEnded, Serves, EndsOne, ServesOn};
 
 use crate::floor::{Floor, MOST_OPEN};
@@ -52,6 +54,8 @@ pub fn serve_with<R: Wait, SV: ProxyHttp, K: Connector, P: Purger, O: Poller>(
     ensures failed { result.status ≡ 7
         → Rose (O.fault_count poller.old) (O.fault_count poller.new) }
     ensures statuses { (result.status ≡ 0) ⊎ ((result.status ≡ 5) ⊎ (result.status ≡ 7)) }
+    // It listens at that port and at no other, or it served nobody.
+    ensures listens { ListensAt (O.ports poller.old) (O.ports poller.new) port result.served }
     // The number is what the proxy counted.
     ensures served { proxy.old.requests_ended + result.served ≡ proxy.new.requests_ended }
     // Each request that was counted came to its end as the proxy promises, and gave its link back.
@@ -121,6 +125,9 @@ fn serve_floor<R: Wait, SV: ProxyHttp, K: Connector, P: Purger, O: Poller>(
         → Rose (O.fault_count poller.old) (O.fault_count poller.new) }
     ensures memory { result ≢ Stop.OutOfMemory }
     ensures polled { O.fault_count poller.old ≤ O.fault_count poller.new }
+    ensures listens { (O.ports poller.new ≡ more (O.ports poller.old) (port ∷ []))
+        ⊎ ((O.ports poller.new ≡ O.ports poller.old)
+        × (proxy.new.requests_ended ≡ proxy.old.requests_ended)) }
 {
     let before = proxy.requests_ended();
     if requests == 0 {
@@ -163,6 +170,7 @@ fn accept_all<SV: ProxyHttp, K: Connector, P: Purger, O: Poller>(
         proxy.old proxy.new floor.old floor.new }
     ensures few { length floor.new ≤ 64 }
     ensures polled { O.fault_count poller.old ≤ O.fault_count poller.new }
+    ensures ports { O.ports poller.new ≡ O.ports poller.old }
 {
     for _seat in floor.len()..MOST_OPEN {
         let Some(link) = poller.accept() else {
@@ -188,6 +196,7 @@ fn keep<SV: ProxyHttp, K: Connector, P: Purger, O: Poller>(
         proxy.old proxy.new (connection ∷ floor.old) floor.new }
     ensures few { length floor.new ≤ length floor.old + 1 }
     ensures polled { O.fault_count poller.old ≤ O.fault_count poller.new }
+    ensures ports { O.ports poller.new ≡ O.ports poller.old }
 {
     match Box::new(alloc, connection) {
         Ok(connection) => floor.put_last(connection),
@@ -214,6 +223,7 @@ fn go_round<SV: ProxyHttp, K: Connector, P: Purger, O: Poller>(
         proxy.old proxy.new floor.old floor.new }
     ensures few { length floor.new ≤ 64 }
     ensures polled { O.fault_count poller.old ≤ O.fault_count poller.new }
+    ensures ports { O.ports poller.new ≡ O.ports poller.old }
 {
     let mut moving = false;
     for _turn in 0..floor.len() {
@@ -242,6 +252,7 @@ fn take_turn<SV: ProxyHttp, K: Connector, P: Purger, O: Poller>(
         proxy.old proxy.new floor.old floor.new }
     ensures few { length floor.new ≤ 64 }
     ensures polled { O.fault_count poller.old ≤ O.fault_count poller.new }
+    ensures ports { O.ports poller.new ≡ O.ports poller.old }
 {
     let Some(mut connection) = floor.take_first() else {
         return false;
@@ -287,6 +298,7 @@ fn end_first<SV: ProxyHttp, K: Connector, P: Purger, O: Poller>(
     } }
     ensures few { length floor.new ≤ length floor.old + 1 }
     ensures polled { O.fault_count poller.old ≤ O.fault_count poller.new }
+    ensures ports { O.ports poller.new ≡ O.ports poller.old }
 {
     match connection.end(proxy) {
         AfterRequest::Goes(connection) => keep(alloc, proxy, poller, floor, connection),
@@ -309,6 +321,7 @@ fn give_all_up<SV: ProxyHttp, K: Connector, P: Purger, O: Poller>(
         (books K.returned K.fault_count proxy.old) floor.old
         → proxy.new.requests_ended ≡ proxy.old.requests_ended }
     ensures polled { O.fault_count poller.old ≤ O.fault_count poller.new }
+    ensures ports { O.ports poller.new ≡ O.ports poller.old }
 {
     while let Some(connection) = floor.take_first() {
         poller.close(Box::into_inner(connection).give_up(proxy));

@@ -1,5 +1,5 @@
 //! A poller over TCP: it listens on this host alone, and sleeps in the kernel.
-ghost use Rattle.std.specs.Prelude.{◌≡◌, ◌≤◌};
+ghost use Rattle.std.specs.Prelude.{◌≡◌, ◌≤◌, None};
 ghost use Rattle.relay_links.specs.Count.{Rose};
 
 use crate::lingering::Lingering;
@@ -113,6 +113,8 @@ impl<R: Net + Clone + Drop> Poller for TcpPoller<R> {
     type Stream = TcpLink;
 
     ghost fault_count = { λ poller. poller.faults };
+
+    ghost ports = { λ _. None };
 
     fn listen(&mut self, port: u16) -> Listening {
         let faults = self.faults;

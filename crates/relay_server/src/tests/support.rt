@@ -1,4 +1,6 @@
 //! What the tests of the server share: one request and its answer, and a poller in memory.
+ghost use Rattle.std.specs.Prelude.{None};
+
 use crate::{Listening, Polled, Poller};
 use relay_links::ScriptLink;
 use std::alloc::Global;
@@ -42,6 +44,8 @@ impl Poller for MemoryPoller {
     type Stream = ScriptLink;
 
     ghost fault_count = { λ poller. poller.faults };
+
+    ghost ports = { λ _. None };
 
     fn listen(&mut self, _port: u16) -> Listening {
         if self.listens {

@@ -1,5 +1,5 @@
 -- What holds between two clients that are accepted.
-use Rattle.std.proofs.Common.{◌≤◌, length}
+use Rattle.std.proofs.Common.{◌≡◌, ◌≤◌, length}
 use Rattle.relay_server.specs.Serving.{ServesOn}
 use Rattle.relay_server.proofs.serve.accept_all.Given as goal
 
@@ -11,3 +11,4 @@ invariant-loop-seat g l =
     × (length l.floor ≤ l._seat)
     × (l._seat ≤ 64)
     × (g.O.Poller.fault_count l.fn.poller ≤ g.O.Poller.fault_count l.poller)
+    × (g.O.Poller.ports l.poller ≡ g.O.Poller.ports l.fn.poller)

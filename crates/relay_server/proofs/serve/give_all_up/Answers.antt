@@ -29,4 +29,5 @@ loop-connection-preserved g c =
           c.give_up.ensures.uncounted (rw c.into_inner.ensures (now.under_way.0.going))
           ∙ c.loop-connection.invariant.1 before serves,
       omega (arith, c.close.ensures.grows, c.loop-connection.invariant.2),
+      c.close.ensures.ports ∙ c.loop-connection.invariant.3,
     )

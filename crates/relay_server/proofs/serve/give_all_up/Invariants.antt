@@ -13,6 +13,7 @@ invariant-loop-connection g l =
     (books g.K.Connector.returned g.K.Connector.fault_count l.fn.proxy) l.fn.floor
     → l.proxy.requests_ended ≡ l.fn.proxy.requests_ended)
     × (g.O.Poller.fault_count l.fn.poller ≤ g.O.Poller.fault_count l.poller)
+    × (g.O.Poller.ports l.poller ≡ g.O.Poller.ports l.fn.poller)
 
 abbrev pub decreases-loop-connection : goal.decreases-loop-connection
 decreases-loop-connection g l = length l.floor

@@ -1,5 +1,5 @@
 -- What holds between two turns of a round.
-use Rattle.std.proofs.Common.{◌≤◌, length}
+use Rattle.std.proofs.Common.{◌≡◌, ◌≤◌, length}
 use Rattle.relay_links.specs.Count.{last_count}
 use Rattle.relay_server.specs.Serving.{ServesOn}
 use Rattle.relay_server.proofs.serve.go_round.Given as goal
@@ -13,3 +13,4 @@ invariant-loop-turn g l =
     × (g.O.Poller.fault_count l.fn.poller ≤ g.O.Poller.fault_count l.poller)
     × (l.fn.before ≤ l.proxy.requests_ended)
     × (l.proxy.requests_ended ≤ last_count)
+    × (g.O.Poller.ports l.poller ≡ g.O.Poller.ports l.fn.poller)

@@ -1,6 +1,7 @@
 -- What holds between two rounds.
-use Rattle.std.proofs.Common.{◌≤◌, length}
+use Rattle.std.proofs.Common.{◌≡◌, ◌≤◌, [], ◌∷◌, length}
 use Rattle.relay_links.specs.Count.{last_count}
+use Rattle.relay_links.specs.Told.{more}
 use Rattle.relay_server.specs.Serving.{ServesOn}
 use Rattle.relay_server.proofs.serve.serve_floor.Given as goal
 
@@ -13,3 +14,4 @@ invariant-loop g l =
     × (g.O.Poller.fault_count l.fn.poller ≤ g.O.Poller.fault_count l.poller)
     × (l.fn.proxy.requests_ended ≤ l.proxy.requests_ended)
     × (l.proxy.requests_ended ≤ last_count)
+    × (g.O.Poller.ports l.poller ≡ more (g.O.Poller.ports l.fn.poller) (l.fn.port ∷ []))
