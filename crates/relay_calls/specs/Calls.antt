@@ -1,5 +1,5 @@
 -- A hook was called once, and its call stands in the log.
-use Rattle.std.specs.Prelude.{◌≡◌, ◌++◌, ◌∷◌, [], ℕ, Bool, false, Option, Some, None, Result, Ok, Err}
+use Rattle.std.specs.Prelude.{◌≡◌, ◌++◌, ◌∷◌, [], List, ℕ, Bool, false, Option, Some, None, Result, Ok, Err}
 use Rattle.relay_tasks.specs.declared.error.Error.{Error}
 use Rattle.relay_tasks.specs.declared.error.Fail.{Fail}
 use Rattle.relay_tasks.specs.declared.error.Fail.TheVariants as fail
@@ -11,6 +11,7 @@ use Rattle.relay_modules.specs.declared.seen.Seen.{Seen}
 use Rattle.relay_hooks.specs.Standing.{Standing, standing}
 use Rattle.relay_hooks.specs.Call.{Left, entry}
 use Rattle.relay_hooks.specs.Session.{Leaves, moment}
+use Rattle.relay_calls.specs.declared.answer.Reply.{Reply}
 use Rattle.relay_calls.specs.Entry.{cleared}
 
 -- the error of an answer, or out of memory
@@ -19,12 +20,23 @@ outcome_of (Ok answer) = Ok None
 outcome_of (Err (fail.Error error)) = Ok (Some error)
 outcome_of (Err fail.OutOfMemory) = Err fail.OutOfMemory
 
+-- the delay of an answer, or none
+abbrev pub delay_of : Result (Option ℕ) Fail → Option ℕ
+delay_of (Ok delay) = delay
+delay_of (Err why) = None
+
+-- the bytes and the error of an answer, or out of memory
+abbrev pub reply_of : Result (Option (List ℕ)) Fail → Result Reply Fail
+reply_of (Ok bytes) = Ok (record { bytes = bytes; error = None })
+reply_of (Err (fail.Error error)) = Ok (record { bytes = None; error = Some error })
+reply_of (Err fail.OutOfMemory) = Err fail.OutOfMemory
+
 -- a hook that is told of this peer was called once: the log gained its entry and no other, the
 -- application allows that entry where the session and the mark stood, and the hook kept its law
 pub record CallsOf (peer : Option Peer) (reused : Bool) (law : Seen → Seen → Type 0)
     (allows : Standing → LogEntry → Type 0) (which : Hook) (input : Item) (old : Seen) (before : ℕ)
     (new : Seen) (after : ℕ) (left : Left) : Type 0 where
-  pub returned : Seen         -- the session as the hook left it
+  pub returned : Seen  -- the session as the hook left it
   pub lawful : law (cleared old) returned
   pub allowed : allows (standing peer reused (moment (cleared old) before))
       (entry which input (moment (cleared old) before) left (moment returned after))

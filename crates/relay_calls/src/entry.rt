@@ -5,7 +5,6 @@ ghost use Rattle.relay_session.specs.Reading.{head_of};
 ghost use Rattle.relay_modules.specs.Seen.{view_of};
 ghost use Rattle.relay_hooks.specs.Call.{told_head};
 ghost use Rattle.relay_hooks.specs.Session.{request_head, moment};
-ghost use Rattle.relay_calls.specs.Calls.{outcome_of};
 ghost use Rattle.relay_calls.specs.Entry.{cleared, told, with_entry};
 
 use relay_modules::Seen;
@@ -41,11 +40,11 @@ pub struct Told {
 pub fn begin(seen: &mut Seen, hook: Hook, mark: u64, input: Told) -> Begun
     ensures seen { seen.new ≡ cleared seen.old }
     ensures begun { result ≡ record {
-        hook = hook;
-        mark = mark;
-        input = input.item;
-        view = view_of seen.old;
-      } }
+      hook = hook;
+      mark = mark;
+      input = input.item;
+      view = view_of seen.old;
+    } }
 {
     seen.begin_call();
     let Told { item } = input;
@@ -107,16 +106,5 @@ fn told_head(seen: &Seen) -> Result<Option<RequestHeader>>
         Ok(Some(seen.req_header().copy()?))
     } else {
         Ok(None)
-    }
-}
-
-/// The error of an answer, or none. Fails out of memory alone, where the answer does.
-pub fn error_of<T>(answer: &Result<T>) -> Result<Option<Error>>
-    ensures { result ≡ outcome_of answer.now }
-{
-    match answer {
-        Ok(_) => Ok(None),
-        Err(Fail::Error(error)) => Ok(Some(*error)),
-        Err(Fail::OutOfMemory) => Err(Fail::OutOfMemory),
     }
 }

@@ -7,6 +7,15 @@ use bytes::Bytes;
 use http_header::HeaderMap;
 use relay_tasks::{Fail, Item, ResponseHeader, Result, copy_fields, copy_piece, copy_trailers};
 
+/// No item.
+pub fn nothing() -> Told
+    ensures { result.item ≡ Item.Nothing }
+{
+    Told {
+        item: Item::Nothing,
+    }
+}
+
 /// A head of a response; `end` says that the response ends with it.
 pub fn head_item(head: &ResponseHeader, end: bool) -> Result<Told>
     ensures ok { IfOk result (λ told. told.item ≡ Item.Response head.now end) }
