@@ -3,6 +3,7 @@
 //! Each call copies what the filter is given before it is made, and what the filter left behind it. So
 //! it may be out of memory with no call made, and behind a call: then the log is as before.
 ghost use Rattle.std.specs.Prelude.{◌≡◌, Some, IsSome};
+ghost use Rattle.relay_tasks.specs.declared.log.Item.TheVariants as item;
 ghost use Rattle.relay_session.specs.Reading.{head_of};
 ghost use Rattle.relay_hooks.specs.Call.{changed, delayed, ended_by};
 ghost use Rattle.relay_hooks.specs.Laws.{KeepsKindUnless};
@@ -27,8 +28,8 @@ pub fn call_request_body_filter<SV: ProxyHttp>(
     end: bool,
 ) -> Result<()>
     requires { IsSome (head_of session.old.seen.downstream.reading) }
-    ensures calls { Enters (changed (Item.Piece body.new end) result)
-        (Calls (SV.allows app.now) Hook.RequestBodyFilter (Item.Piece body.old end)
+    ensures calls { Enters (changed (item.Piece body.new end) result)
+        (Calls (SV.allows app.now) Hook.RequestBodyFilter (item.Piece body.old end)
         session.old.seen (SV.mark_of app.now ctx.old)
         session.new.seen (SV.mark_of app.now ctx.new)) session.old.seen session.new.seen }
 {
@@ -64,8 +65,8 @@ pub fn call_upstream_response_filter<SV: ProxyHttp>(
     end: bool,
 ) -> Result<()>
     requires { IsSome (head_of session.old.seen.downstream.reading) }
-    ensures calls { Enters (changed (Item.Response head.new end) result)
-        (Calls (SV.allows app.now) Hook.UpstreamResponseFilter (Item.Response head.old end)
+    ensures calls { Enters (changed (item.Response head.new end) result)
+        (Calls (SV.allows app.now) Hook.UpstreamResponseFilter (item.Response head.old end)
         session.old.seen (SV.mark_of app.now ctx.old)
         session.new.seen (SV.mark_of app.now ctx.new)) session.old.seen session.new.seen }
     ensures kind { KeepsKindUnless result head.old head.new }
@@ -101,8 +102,8 @@ pub fn call_response_filter<SV: ProxyHttp>(
     end: bool,
 ) -> Result<()>
     requires { IsSome (head_of session.old.seen.downstream.reading) }
-    ensures calls { Enters (changed (Item.Response head.new end) result)
-        (Calls (SV.allows app.now) Hook.ResponseFilter (Item.Response head.old end)
+    ensures calls { Enters (changed (item.Response head.new end) result)
+        (Calls (SV.allows app.now) Hook.ResponseFilter (item.Response head.old end)
         session.old.seen (SV.mark_of app.now ctx.old)
         session.new.seen (SV.mark_of app.now ctx.new)) session.old.seen session.new.seen }
     ensures kind { KeepsKindUnless result head.old head.new }
@@ -139,8 +140,8 @@ pub fn call_upstream_response_body_filter<SV: ProxyHttp>(
     end: bool,
 ) -> Result<Option<u64>>
     requires { IsSome (head_of session.old.seen.downstream.reading) }
-    ensures calls { Enters (delayed (Item.Piece body.new end) result)
-        (Calls (SV.allows app.now) Hook.UpstreamResponseBodyFilter (Item.Piece body.old end)
+    ensures calls { Enters (delayed (item.Piece body.new end) result)
+        (Calls (SV.allows app.now) Hook.UpstreamResponseBodyFilter (item.Piece body.old end)
         session.old.seen (SV.mark_of app.now ctx.old)
         session.new.seen (SV.mark_of app.now ctx.new)) session.old.seen session.new.seen }
 {
@@ -176,8 +177,8 @@ pub fn call_response_body_filter<SV: ProxyHttp>(
     end: bool,
 ) -> Result<Option<u64>>
     requires { IsSome (head_of session.old.seen.downstream.reading) }
-    ensures calls { Enters (delayed (Item.Piece body.new end) result)
-        (Calls (SV.allows app.now) Hook.ResponseBodyFilter (Item.Piece body.old end)
+    ensures calls { Enters (delayed (item.Piece body.new end) result)
+        (Calls (SV.allows app.now) Hook.ResponseBodyFilter (item.Piece body.old end)
         session.old.seen (SV.mark_of app.now ctx.old)
         session.new.seen (SV.mark_of app.now ctx.new)) session.old.seen session.new.seen }
 {
@@ -211,8 +212,8 @@ pub fn call_upstream_response_trailer_filter<SV: ProxyHttp>(
     trailers: &mut HeaderMap,
 ) -> Result<()>
     requires { IsSome (head_of session.old.seen.downstream.reading) }
-    ensures calls { Enters (changed (Item.Trailers (Some trailers.new)) result)
-        (Calls (SV.allows app.now) Hook.UpstreamResponseTrailerFilter (Item.Trailers (Some trailers.old))
+    ensures calls { Enters (changed (item.Trailers (Some trailers.new)) result)
+        (Calls (SV.allows app.now) Hook.UpstreamResponseTrailerFilter (item.Trailers (Some trailers.old))
         session.old.seen (SV.mark_of app.now ctx.old)
         session.new.seen (SV.mark_of app.now ctx.new)) session.old.seen session.new.seen }
 {
@@ -248,7 +249,7 @@ pub fn call_response_trailer_filter<SV: ProxyHttp>(
 ) -> Result<Option<Bytes>>
     requires { IsSome (head_of session.old.seen.downstream.reading) }
     ensures calls { Enters (ended_by trailers.new result)
-        (Calls (SV.allows app.now) Hook.ResponseTrailerFilter (Item.Trailers (Some trailers.old))
+        (Calls (SV.allows app.now) Hook.ResponseTrailerFilter (item.Trailers (Some trailers.old))
         session.old.seen (SV.mark_of app.now ctx.old)
         session.new.seen (SV.mark_of app.now ctx.new)) session.old.seen session.new.seen }
 {
