@@ -8,6 +8,7 @@ ghost use Rattle.relay_session.specs.Reading.{head_of};
 ghost use Rattle.relay_hooks.specs.Call.{changed, delayed, ended_by};
 ghost use Rattle.relay_hooks.specs.Laws.{KeepsKindUnless};
 ghost use Rattle.relay_calls.specs.Calls.{Calls, Enters};
+ghost use Rattle.relay_calls.specs.Log.{IsAllowed, WalksOn};
 
 use crate::answer::{delay_of, error_of, reply_of};
 use crate::entry::{Outcome, begin, log_call};
@@ -30,6 +31,10 @@ pub fn call_request_body_filter<SV: ProxyHttp>(
     requires { IsSome (head_of session.old.seen.downstream.reading) }
     ensures calls { Enters (changed (item.Piece body.new end) result)
         (Calls (SV.allows app.now) Hook.RequestBodyFilter (item.Piece body.old end)
+        session.old.seen (SV.mark_of app.now ctx.old)
+        session.new.seen (SV.mark_of app.now ctx.new)) session.old.seen session.new.seen }
+    ensures walks { Enters (changed (item.Piece body.new end) result)
+        (λ _. WalksOn (IsAllowed (SV.allows app.now) (SV.Modules.allows session.old.modules))
         session.old.seen (SV.mark_of app.now ctx.old)
         session.new.seen (SV.mark_of app.now ctx.new)) session.old.seen session.new.seen }
 {

@@ -7,6 +7,7 @@ ghost use Rattle.relay_session.specs.Reading.{head_of};
 ghost use Rattle.relay_h1.specs.ClientHead.{is_informational};
 ghost use Rattle.relay_modules.specs.Module.{ModuleCall, request_body, response_header, response_body, response_trailer, response_done};
 ghost use Rattle.relay_calls.specs.Calls.{Enters};
+ghost use Rattle.relay_calls.specs.Log.{IsAllowed, WalksOn};
 ghost use Rattle.relay_calls.specs.Modules.{CallsModule, called, replied};
 
 use crate::answer::{error_of, reply_of};
@@ -33,6 +34,10 @@ pub fn call_module_request_body<SV: ProxyHttp>(
         (CallsModule (SV.Modules.allows session.old.modules) session.old.seen
         (SV.mark_of app.now ctx.now) session.new.seen)
         session.old.seen session.new.seen }
+    ensures walks { Enters (called (λ error. request_body body.old body.new end error) result)
+        (λ _. WalksOn (IsAllowed (SV.allows app.now) (SV.Modules.allows session.old.modules))
+        session.old.seen (SV.mark_of app.now ctx.now)
+        session.new.seen (SV.mark_of app.now ctx.now)) session.old.seen session.new.seen }
     ensures narrows { (call : ModuleCall) → SV.Modules.allows session.new.modules call
         → SV.Modules.allows session.old.modules call }
 {
