@@ -10,4 +10,4 @@ returns-clause-calls g c = grind (arith, common_steps)
 pub returns-clause-walks : goal.returns-clause-walks
 returns-clause-walks g c =
     Enters-map _ _ _ _ _ (λ left call. Calls-walks _ _ _ _ _ _ _ _ _ refl call)
-      (returns-clause-calls g c)
+    (returns-clause-calls g c)
