@@ -22,8 +22,8 @@ use Rattle.relay_calls.proofs.LogLemmas.{Views-same, Walk-append}
 -- ---- whose call it is
 
 -- a call of the application's is allowed by it
-AllowsBy-app : (is_modules : Bool) (app : Standing → LogEntry → Type 0) (modules : ModuleCall → Type 0)
-    (st : Standing) (e : LogEntry) → is_modules ≡ false → app st e
+AllowsBy-app : (is_modules : Bool) (app : Standing → LogEntry → Type 0)
+    (modules : ModuleCall → Type 0) (st : Standing) (e : LogEntry) → is_modules ≡ false → app st e
     → AllowsBy is_modules app modules st e
 AllowsBy-app true app modules st e is_app allowed = absurd (true≢false is_app)
 AllowsBy-app false app modules st e is_app allowed = allowed
@@ -66,8 +66,9 @@ told_head-stands true left before untouched = refl
 told_head-stands false left before untouched = untouched refl
 
 module _ (app : Standing → LogEntry → Type 0) (modules : ModuleCall → Type 0) (peer : Option Peer)
-    (reused : Bool) (which : Hook) (input : Item) (old : Seen) (before : ℕ) (new : Seen) (behind : ℕ)
-    (left : Left) (call : CallsOf peer reused Leaves app which input old before new behind left) where
+    (reused : Bool) (which : Hook) (input : Item) (old : Seen) (before : ℕ) (new : Seen)
+    (behind : ℕ) (left : Left)
+    (call : CallsOf peer reused Leaves app which input old before new behind left) where
   -- its entry
   abbrev entered : LogEntry
   entered = entry which input (moment (cleared old) before) left (moment call.returned behind)
@@ -109,8 +110,8 @@ module _ (app : Standing → LogEntry → Type 0) (modules : ModuleCall → Type
   )
 
 -- a log that walked up to the call walks on past it
-pub Calls-walks : (app : Standing → LogEntry → Type 0) (modules : ModuleCall → Type 0) (which : Hook)
-    (input : Item) (old : Seen) (before : ℕ) (new : Seen) (behind : ℕ) (left : Left)
+pub Calls-walks : (app : Standing → LogEntry → Type 0) (modules : ModuleCall → Type 0)
+    (which : Hook) (input : Item) (old : Seen) (before : ℕ) (new : Seen) (behind : ℕ) (left : Left)
     → is_module which ≡ false → Calls app which input old before new behind left
     → WalksOn (IsAllowed app modules) old before new behind
 Calls-walks app modules which input old before new behind left is_app call from walked =

@@ -1,7 +1,7 @@
 //! The filters of an application that run while a message is relayed, each called and entered.
 //!
-//! Each call copies what the filter is given before it is made, and what the filter left behind it. So
-//! it may be out of memory with no call made, and behind a call: then the log is as before.
+//! Each call copies what the filter is given before it is made, and what the filter left behind it.
+//! So it may be out of memory with no call made, and behind a call: then the log is as before.
 ghost use Rattle.std.specs.Prelude.{◌≡◌, Some, IsSome};
 ghost use Rattle.relay_tasks.specs.declared.log.Item.TheVariants as item;
 ghost use Rattle.relay_session.specs.Reading.{head_of};
@@ -18,7 +18,8 @@ use http_header::HeaderMap;
 use relay_hooks::{ProxyHttp, Session};
 use relay_tasks::{Fail, Hook, ResponseHeader, Result};
 
-/// Calls the filter of the pieces of the request's body; `end` says that the body ends with the piece.
+/// Calls the filter of the pieces of the request's body; `end` says that the body ends with the
+/// piece.
 ///
 /// The error of the filter, which stands in its entry; what it left stays.
 pub fn call_request_body_filter<SV: ProxyHttp>(
@@ -58,8 +59,8 @@ pub fn call_request_body_filter<SV: ProxyHttp>(
     answer
 }
 
-/// Calls the filter of the heads as they came from the upstream; `end` says that the response ends with
-/// the head.
+/// Calls the filter of the heads as they came from the upstream; `end` says that the response ends
+/// with the head.
 ///
 /// The error of the filter, which stands in its entry; what it left stays.
 pub fn call_upstream_response_filter<SV: ProxyHttp>(
@@ -96,7 +97,8 @@ pub fn call_upstream_response_filter<SV: ProxyHttp>(
     answer
 }
 
-/// Calls the filter of the heads that go to the client; `end` says that the response ends with the head.
+/// Calls the filter of the heads that go to the client; `end` says that the response ends with the
+/// head.
 ///
 /// The error of the filter, which stands in its entry; what it left stays.
 pub fn call_response_filter<SV: ProxyHttp>(
@@ -133,8 +135,8 @@ pub fn call_response_filter<SV: ProxyHttp>(
     answer
 }
 
-/// Calls the filter of the pieces of the response's body as they came from the upstream; `end` says that the body
-/// ends with the piece. It answers the filter's delay in milliseconds, or none.
+/// Calls the filter of the pieces of the response's body as they came from the upstream; `end` says
+/// that the body ends with the piece. It answers the filter's delay in milliseconds, or none.
 ///
 /// The error of the filter, which stands in its entry; what it left stays.
 pub fn call_upstream_response_body_filter<SV: ProxyHttp>(
@@ -170,8 +172,8 @@ pub fn call_upstream_response_body_filter<SV: ProxyHttp>(
     answer
 }
 
-/// Calls the filter of the pieces of the response's body that go to the client; `end` says that the body
-/// ends with the piece. It answers the filter's delay in milliseconds, or none.
+/// Calls the filter of the pieces of the response's body that go to the client; `end` says that the
+/// body ends with the piece. It answers the filter's delay in milliseconds, or none.
 ///
 /// The error of the filter, which stands in its entry; what it left stays.
 pub fn call_response_body_filter<SV: ProxyHttp>(
@@ -218,7 +220,8 @@ pub fn call_upstream_response_trailer_filter<SV: ProxyHttp>(
 ) -> Result<()>
     requires { IsSome (head_of session.old.seen.downstream.reading) }
     ensures calls { Enters (changed (item.Trailers (Some trailers.new)) result)
-        (Calls (SV.allows app.now) Hook.UpstreamResponseTrailerFilter (item.Trailers (Some trailers.old))
+        (Calls (SV.allows app.now) Hook.UpstreamResponseTrailerFilter
+        (item.Trailers (Some trailers.old))
         session.old.seen (SV.mark_of app.now ctx.old)
         session.new.seen (SV.mark_of app.now ctx.new)) session.old.seen session.new.seen }
 {
@@ -242,8 +245,8 @@ pub fn call_upstream_response_trailer_filter<SV: ProxyHttp>(
     answer
 }
 
-/// Calls the filter of the trailer fields that go to the client. Bytes that it answers end the body in
-/// their place.
+/// Calls the filter of the trailer fields that go to the client. Bytes that it answers end the body
+/// in their place.
 ///
 /// The error of the filter, which stands in its entry; what it left stays.
 pub fn call_response_trailer_filter<SV: ProxyHttp>(
