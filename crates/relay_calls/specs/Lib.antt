@@ -1,0 +1,4 @@
+pub mod Entry
+pub mod Calls
+pub mod Modules
+pub mod Log

@@ -1,0 +1,90 @@
+//! What filters are given and leave, copied for the log. A copy of bytes shares them.
+ghost use Rattle.std.specs.Prelude.{◌≡◌, true, Some, IfOk, IsOkUnless};
+ghost use Rattle.relay_modules.specs.Module.{piece_or};
+ghost use Rattle.relay_hooks.specs.Call.{trailed};
+
+use crate::entry::Told;
+use bytes::Bytes;
+use http_header::HeaderMap;
+use relay_tasks::{Fail, Item, ResponseHeader, Result, copy_fields, copy_piece, copy_trailers};
+
+/// No item.
+pub fn nothing() -> Told
+    ensures { result.item ≡ Item.Nothing }
+{
+    Told {
+        item: Item::Nothing,
+    }
+}
+
+/// A head of a response; `end` says that the response ends with it.
+pub fn head_item(head: &ResponseHeader, end: bool) -> Result<Told>
+    ensures ok { IfOk result (λ told. told.item ≡ Item.Response head.now end) }
+    ensures memory { IsOkUnless result Fail.OutOfMemory }
+{
+    Ok(Told {
+        item: Item::Response(head.copy()?, end),
+    })
+}
+
+/// A piece of a body; `end` says that the body ends with it.
+pub fn piece_item(piece: &Option<Bytes>, end: bool) -> Result<Told>
+    ensures ok { IfOk result (λ told. told.item ≡ Item.Piece piece.now end) }
+    ensures memory { IsOkUnless result Fail.OutOfMemory }
+{
+    Ok(Told {
+        item: Item::Piece(copy_piece(piece)?, end),
+    })
+}
+
+/// Trailer fields.
+pub fn fields_item(fields: &HeaderMap) -> Result<Told>
+    ensures ok { IfOk result (λ told. told.item ≡ Item.Trailers (Some fields.now)) }
+    ensures memory { IsOkUnless result Fail.OutOfMemory }
+{
+    Ok(Told {
+        item: Item::Trailers(Some(copy_fields(fields)?)),
+    })
+}
+
+/// Trailer fields, or none.
+pub fn trailers_item(trailers: &Option<HeaderMap>) -> Result<Told>
+    ensures ok { IfOk result (λ told. told.item ≡ Item.Trailers trailers.now) }
+    ensures memory { IsOkUnless result Fail.OutOfMemory }
+{
+    Ok(Told {
+        item: Item::Trailers(copy_trailers(trailers)?),
+    })
+}
+
+/// The bytes that a filter answered, as the last piece of the body.
+fn last_piece(bytes: &Bytes) -> Result<Told>
+    ensures ok { IfOk result (λ told. told.item ≡ Item.Piece (Some bytes.now) true) }
+    ensures memory { IsOkUnless result Fail.OutOfMemory }
+{
+    Ok(Told {
+        item: Item::Piece(Some(bytes.clone()?), true),
+    })
+}
+
+/// Trailer fields, or in their place the bytes that their filter answered.
+pub fn trailed_item(fields: &HeaderMap, bytes: &Option<Bytes>) -> Result<Told>
+    ensures ok { IfOk result (λ told. told.item ≡ trailed fields.now bytes.now) }
+    ensures memory { IsOkUnless result Fail.OutOfMemory }
+{
+    match bytes {
+        Some(bytes) => last_piece(bytes),
+        None => fields_item(fields),
+    }
+}
+
+/// The bytes that a filter answered, or else what stands in their place.
+pub fn piece_or(bytes: &Option<Bytes>, other: Told) -> Result<Told>
+    ensures ok { IfOk result (λ told. told.item ≡ piece_or bytes.now other.item) }
+    ensures memory { IsOkUnless result Fail.OutOfMemory }
+{
+    match bytes {
+        Some(bytes) => last_piece(bytes),
+        None => Ok(other),
+    }
+}
