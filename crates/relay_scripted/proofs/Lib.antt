@@ -1,0 +1,4 @@
+pub mod ReplyLemmas
+pub mod FieldLemmas
+pub mod PurgeLemmas
+pub mod EntryLemmas

@@ -1,0 +1,4 @@
+pub mod Decision
+pub mod Reply
+pub mod Scripted
+pub mod Modules
