@@ -95,7 +95,7 @@ lone_answer_whole code final = rw (final_head code final)
 
 -- ---- its failure
 
--- a failure that is not want of memory is the fault of a write that failed before
+-- a failure that is not out of memory is the fault of a write that failed before
 pub write_fault : (output : Outgoing) (error : Error) → IsFaultOrMemory output (fail.Error error)
     → IsWriteFault error
 write_fault (outgoing.Open queue) error is = absurd cc

@@ -16,7 +16,7 @@ use Rattle.relay_scripted.specs.declared.decision.Reply.TheVariants as reply
 abbrev pub failure_of : List Rule → Hook → Option Error
 failure_of rules on = apply_rules on_failure on rules None
 
--- what the hook says, where it says that by default
+-- what the hook says that says that by default: what its last rule says, if any
 abbrev pub said_by : List Rule → Hook → Bool → Bool
 said_by rules on by_default = apply_rules on_said on rules by_default
 

@@ -7,8 +7,8 @@ use Rattle.relay_script.specs.Fold.{run_rules}
 use Rattle.relay_script.specs.declared.rule.Rule.{Rule}
 use Rattle.relay_scripted.specs.Decision.{failure_of}
 
--- a filter of a head runs its rules on it; the others leave what they are given, and fail where a rule
--- says so
+-- a filter of a head runs its rules on it; the others leave what they are given, and fail where a
+-- rule says so
 abbrev pub DoesCall : List Rule → ModuleCall → Type 0
 DoesCall rules (request_header before after error) =
     run_rules on_request hook.ModuleRequestHeader rules before

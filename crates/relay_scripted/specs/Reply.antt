@@ -29,8 +29,8 @@ pub record IsWriteFault (error : Error) : Type 0 where
   pub fault : Fault
   pub is : error ≡ error_of fault
 
--- the answer was queued; or a write had failed before, of which the call fails, or memory is wanted,
--- and nothing has changed
+-- the answer was queued; or a write had failed before, of which the call fails, or it is out of
+-- memory, and nothing has changed
 abbrev pub AnswersWith : ℕ → Result Unit Fail → Seen → Seen → Type 0
 AnswersWith code (Ok done) old new = Answers code old new
 AnswersWith code (Err (fail.Error error)) old new = IsWriteFault error × (new ≡ old)

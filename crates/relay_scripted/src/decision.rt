@@ -73,7 +73,7 @@ pub(crate) fn reply_of(rules: &CheckedRules, hook: Hook) -> Reply
 
 /// Queues the answer with that status, which is that of a final head.
 ///
-/// The fault of a write that failed before: nothing is queued then, as where memory is wanted.
+/// The fault of a write that failed before: nothing is queued then, as where it is out of memory.
 pub(crate) fn answer<M: HttpModule>(session: &mut Session<M>, code: u16) -> Result<()>
     requires code { is_final_code code ≡ true }
     requires owed { MayAnswer session.old.seen }

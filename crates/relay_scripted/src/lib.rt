@@ -1,5 +1,5 @@
-//! The application of a script: a proxy whose hooks do what a list of rules says, and the modules of
-//! its requests.
+//! The application of a script: a proxy whose hooks do what a list of rules says, and the modules
+//! of its requests.
 #![tactic(auto)]
 
 mod decision;

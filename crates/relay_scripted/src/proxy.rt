@@ -1,9 +1,10 @@
-//! The application of a script: each hook does what its rules say, and where none stands for it what it
-//! does by default.
+//! The application of a script: each hook does what its rules say, and where none stands for it what
+//! it does by default.
 ghost use Rattle.std.specs.Prelude.{◌≡◌, Some, IfOk, is_some};
 ghost use Rattle.relay_tasks.specs.declared.hook.Hook.TheVariants as hook;
 ghost use Rattle.relay_tasks.specs.declared.log.Item.TheVariants as item;
 ghost use Rattle.relay_links.specs.Count.{up};
+ghost use Rattle.relay_scripted.specs.NoRules.{DoesDefault};
 
 use crate::decision::{Reply, answer, kept, pass, reply_of, said};
 use crate::modules::ScriptModules;
@@ -16,9 +17,9 @@ use relay_tasks::{
 };
 use std::alloc::Global;
 
-/// An application whose behaviour is a list of rules that keep all conditions. Its relation is those
-/// rules (`IsScripted`). Its context is the number of calls that were handed it, which is its mark as
-/// well, and stands still at its last value.
+/// An application whose behaviour is a list of rules that keep all conditions. Its relation is
+/// those rules (`IsScripted`). Its context is the number of calls that were handed it, which is its
+/// mark as well, and stands still at its last value.
 #[derive(Drop)]
 pub struct ScriptProxy {
     rules: CheckedRules,
@@ -26,10 +27,12 @@ pub struct ScriptProxy {
 }
 
 impl ScriptProxy {
-    /// The application of these rules. Each attempt asks for that peer.
+    /// The application of these rules. Each attempt asks for that peer. Where no rule stands for a
+    /// hook, its calls do what those of `Defaults` do, but that they are counted.
     pub fn new(rules: CheckedRules, peer: Peer) -> ScriptProxy
         ensures rules { result.rules ≡ rules }
         ensures peer { result.peer ≡ peer }
+        ensures default { DoesDefault rules peer }
     {
         ScriptProxy { rules, peer }
     }
