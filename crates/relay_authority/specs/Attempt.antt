@@ -72,7 +72,7 @@ ReadiesH2 custom head outcome =
 abbrev pub SettlesH2 : Step
 SettlesH2 = Then Reconciles Validates
 
--- a step that was not done: a refusal as it says, or want of memory
+-- a step that was not done: a refusal as it says, or out of memory
 abbrev pub FailsToFinish : (Outcome → Type 0) → RequestHead → Fail → Type 0
 FailsToFinish table new fail.OutOfMemory = Unit {0}
 FailsToFinish table new (fail.Error error) =

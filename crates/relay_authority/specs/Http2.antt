@@ -37,7 +37,7 @@ PathFor target refusal path =
     (MatchOption (absolute_parts target) (TakenAs (codes "/") refusal path) (λ parts.
     TakenAs (path_of_rest parts.rest) refusal path))))
 
--- a failure to give a path: its refusal, or want of memory
+-- a failure to give a path: its refusal, or out of memory
 abbrev pub FailsTo : (Option Context → List ℕ → Type 0) → Fail → Type 0
 FailsTo table fail.OutOfMemory = Unit {0}
 FailsTo table (fail.Error error) = (why : Context) × (error ≡ refused why) × table (Some why) []

@@ -52,7 +52,7 @@ Passes head answer = answer ≡ Ok head
 abbrev pub Unless : Bool → Stage → Stage
 Unless skipped stage head answer = Line (IsTrue skipped) (Passes head answer) (stage head answer)
 
--- a failure to make a head: a refusal as the stage says, or want of memory
+-- a failure to make a head: a refusal as the stage says, or out of memory
 abbrev pub FailsToMake : (Result RequestHead Error → Type 0) → Fail → Type 0
 FailsToMake stage fail.OutOfMemory = Unit {0}
 FailsToMake stage (fail.Error error) = stage (Err error)

@@ -123,7 +123,7 @@ fn follow_by_target(alloc: Global, head: &mut RequestHeader, host: &[u8]) -> Res
         } => move_target(
             alloc,
             head,
-            Cut {
+            CutTarget {
                 scheme,
                 authority,
                 rest: path_and_query,
@@ -135,13 +135,18 @@ fn follow_by_target(alloc: Global, head: &mut RequestHeader, host: &[u8]) -> Res
 
 // The parts of an absolute target.
 #[derive(Clone, Copy)]
-struct Cut<'a> {
+struct CutTarget<'a> {
     scheme: &'a [u8],
     authority: &'a [u8],
     rest: &'a [u8],
 }
 
-fn move_target(alloc: Global, head: &mut RequestHeader, cut: Cut<'_>, host: &[u8]) -> Result<()>
+fn move_target(
+    alloc: Global,
+    head: &mut RequestHeader,
+    cut: CutTarget<'_>,
+    host: &[u8],
+) -> Result<()>
     requires cut { absolute_parts head.old.target ≡ Some (parts_of cut) }
     requires sendable { IsSendable head.old.target }
     ensures { Settles (ReconcilesTarget head.old (parts_of cut.entry) host.now)
@@ -159,7 +164,7 @@ fn move_target(alloc: Global, head: &mut RequestHeader, cut: Cut<'_>, host: &[u8
 
 fn moved_target(
     alloc: Global,
-    cut: Cut<'_>,
+    cut: CutTarget<'_>,
     host: &[u8],
 ) -> std::result::Result<Vec<u8>, AllocError>
     ensures { IfOk result (λ target. target.items ≡ moved_target (parts_of cut.entry) host.now) }

@@ -64,7 +64,7 @@ fn outside_of(schedule: Vec<Branch>) -> Outside<ListSchedule, ShutdownAt, CountD
     }
 }
 
-/// Whether the outcome is want of memory, which is not reported.
+/// Whether the outcome is out of memory, which is not reported.
 fn wants_memory(outcome: Outcome) -> bool
     ensures { IsTrue result ↔ (outcome ≡ Outcome.OutOfMemory) }
 {

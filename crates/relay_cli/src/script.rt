@@ -35,7 +35,7 @@ pub struct Script {
     pub schedule: Vec<Branch>,
 }
 
-/// Why no script was read: the bytes spell none, or want of memory.
+/// Why no script was read: the bytes spell none, or out of memory.
 #[derive(Clone, Copy, Debug, PartialEq, Eq)]
 pub enum ScriptError {
     Refused,

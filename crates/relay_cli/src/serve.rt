@@ -36,7 +36,7 @@ impl From<io::Error> for Stop {
 /// ended, and answers the number of the status. It may wait for ever. Standard error is told where
 /// it serves, and why it does not.
 ///
-/// 0: so many requests have ended. 5: want of memory. 7: the port is not to be had, or what happens
+/// 0: so many requests have ended. 5: out of memory. 7: the port is not to be had, or what happens
 /// there can not be waited for.
 pub fn serve<R: Net + Wait + Eprint + Clone + Drop>(
     rt: &R,

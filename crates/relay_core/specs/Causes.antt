@@ -40,7 +40,7 @@ told_of branch.MessageUp s = s.down.told
 told_of branch.MessageDown s = s.down.told
 
 -- why an answer came: the side had to wait; or its error is the last of a side whose errors rose,
--- or the send error that was kept. Want of memory is free
+-- or the send error that was kept. Out of memory is free
 abbrev pub HasCause : Told → Told → Option Error → Step → Type 0
 HasCause before after kept step.Moved = Unit {0}
 HasCause before after kept (step.Waited pause) = PauseRose pause before after

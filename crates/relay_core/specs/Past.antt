@@ -52,7 +52,7 @@ pub record UpPast : Type 0 where
 
 -- ---- what an answer says
 
--- the error of a failure; want of memory is none
+-- the error of a failure; out of memory is none
 abbrev pub error_of_fail : Fail → Option Error
 error_of_fail fail.OutOfMemory = None
 error_of_fail (fail.Error error) = Some error

@@ -18,7 +18,7 @@ abbrev pub paused : Pause → Told → Told
 paused pause.NotReady told = record told { waits = up told.waits }
 paused pause.Silent told = record told { silences = up told.silences }
 
--- one more error; want of memory is none
+-- one more error; out of memory is none
 abbrev pub failed : Fail → Told → Told
 failed fail.OutOfMemory told = told
 failed (fail.Error error) told = record told { errors = up told.errors; last = Some error }

@@ -13,7 +13,7 @@ pub struct Told {
     pub waits: u64,
     /// Answers Silent.
     pub silences: u64,
-    /// Errors; want of memory is none.
+    /// Errors; out of memory is none.
     pub errors: u64,
     /// The last error.
     pub last: Option<Error>,
@@ -44,7 +44,7 @@ impl Told {
         }
     }
 
-    /// One more error; want of memory is none.
+    /// One more error; out of memory is none.
     pub fn failed(self, fail: Fail) -> Told
         ensures { result ≡ failed fail self }
     {

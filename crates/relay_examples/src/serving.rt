@@ -12,7 +12,7 @@ use std::net::{Ipv4Addr, Net, SocketAddr};
 use std::sync::Wait;
 
 /// Serves 127.0.0.1 at `port` for the peer 127.0.0.1 at `peer`, until the program is killed. It
-/// ends only where the port is not to be had, or for want of memory.
+/// ends only where the port is not to be had, or when out of memory.
 pub fn serve_port<R: Net + Wait + Clone + Drop>(
     rt: &R,
     alloc: Global,

@@ -28,7 +28,7 @@ use Rattle.relay_h1.specs.Tasks as texts
 use Rattle.relay_h1.specs.Verdict.{HasResponse, settled}
 use Rattle.relay_h1.specs.Wire.{response_text}
 use Rattle.relay_h1.proofs.ClientHeadLemmas.{finds_framing, added_is_chunked}
-use Rattle.relay_peer.specs.ResponseReading.{Told, untold, with_task, with_head, with_piece, says}
+use Rattle.relay_peer.specs.ResponseReading.{ToldResponse, untold, with_task, with_head, with_piece, says}
 use Rattle.relay_peer.proofs.ExactLemmas.{Tasks-unique}
 use Rattle.relay_session.specs.Asked.{method_of, asks_of, request_of}
 use Rattle.relay_session.specs.Response.{is_over}
@@ -247,7 +247,7 @@ framed_goes head ends g found is fits =
     (behind_piece ends (after_piece g [])))
     (sym is) (record { passes = goes.passes; leads = goes.leads })
 
--- a head that informs is sent as such
+-- an informational head is sent as such
 informing_goes : (request : Request) (head : ResponseHead) (ends : Bool)
     → is_informational head.status ≡ true
     → Goes (head_sent request head ends) (head_refusal request head ends) place.NoHead
@@ -263,18 +263,18 @@ final_goes request head ends at is goes = rw is goes
 
 -- ---- what is told
 
--- a head that informs tells no final one
-told_informs : (told : Told) (head : ResponseHead) → is_informational head.status ≡ true
+-- an informational head tells no final one
+told_informs : (told : ToldResponse) (head : ResponseHead) → is_informational head.status ≡ true
     → with_head told head ≡ record told { informed = told.informed ++ head ∷ [] }
 told_informs told head is = rw is refl
 
 -- and any other does
-told_final : (told : Told) (head : ResponseHead) → is_informational head.status ≡ false
+told_final : (told : ToldResponse) (head : ResponseHead) → is_informational head.status ≡ false
     → with_head told head ≡ record told { final = Some head }
 told_final told head is = rw is refl
 
 -- a head tells no byte of the body
-head_body : (told : Told) (head : ResponseHead) → (with_head told head).body ≡ told.body
+head_body : (told : ToldResponse) (head : ResponseHead) → (with_head told head).body ≡ told.body
 head_body told head = on (is_informational head.status)
   where
     on : (informs : Bool) → (if informs then record told { informed = told.informed ++ head ∷ [] }
@@ -288,7 +288,8 @@ never_both : {A : Type 0} (told : Option ResponseHead) (head : ResponseHead) →
 never_both told head none some = let both = sym none ∙ some in absurd (cc)
 
 -- a final head that was told stays
-final_stays : (told : Told) (tasks : List HttpTask) (head : ResponseHead) → Follow told tasks
+final_stays : (told : ToldResponse) (tasks : List HttpTask) (head : ResponseHead)
+    → Follow told tasks
     → told.final ≡ Some head → (told_behind told tasks).final ≡ Some head
 final_stays told [] head follow is = is
 final_stays told (task.Header other end ∷ tasks) head follow is =
@@ -302,7 +303,8 @@ final_stays told (task.Done ∷ tasks) head follow is = final_stays told tasks h
 final_stays told (task.Failed error ∷ tasks) head follow is = absurd follow.0
 
 -- one task takes no byte back
-one_grows : (told : Told) (one : HttpTask) → length told.body ≤ length (with_task told one).body
+one_grows : (told : ToldResponse) (one : HttpTask) → length told.body ≤ length
+    (with_task told one).body
 one_grows told (task.Header head end) =
     omega (arith, ap (λ (l : List ℕ). length l) (head_body told head))
 one_grows told (task.Body None end) = omega arith
@@ -313,7 +315,7 @@ one_grows told task.Done = omega arith
 one_grows told (task.Failed error) = omega arith
 
 -- nor do tasks in order
-body_grows : (told : Told) (tasks : List HttpTask)
+body_grows : (told : ToldResponse) (tasks : List HttpTask)
     → length told.body ≤ length (told_behind told tasks).body
 body_grows told [] = omega arith
 body_grows told (one ∷ tasks) =
@@ -432,7 +434,7 @@ module _
     old = is_http_10 head.version
 
     -- what the whole of the tasks tells
-    abbrev all : Told
+    abbrev all : ToldResponse
     all = told_of are.given
 
     -- this final head is told, with the framing in which it came
@@ -443,7 +445,7 @@ module _
 
     -- where the response stands behind what was told: no final head, or what it leaves of the body
     -- behind the bytes that were told, or the end, which is among the tasks
-    data Stands (told : Told) (at : Place) : Type 0 where
+    data Stands (told : ToldResponse) (at : Place) : Type 0 where
       none_yet : told.final ≡ None → told.body ≡ [] → at ≡ place.NoHead → Stands told at
       in_body : (final : ResponseHead) (f g : Framing) → told.final ≡ Some final
           → IsFinal final f → IsHandedAs f g
@@ -452,7 +454,7 @@ module _
           → list_any is_end are.given ≡ true → at ≡ place.Done → Stands told at
 
     -- the tasks that are left behind what was told
-    record Left (told : Told) (rest : List HttpTask) : Type 0 where
+    record Left (told : ToldResponse) (rest : List HttpTask) : Type 0 where
       pub follow : Follow told rest
       pub tells : told_behind told rest ≡ all
       pub ends_last : EndsLast rest
@@ -468,7 +470,8 @@ module _
     }
 
     -- behind one of them
-    one_less : (told : Told) (one : HttpTask) (rest : List HttpTask) → Left told (one ∷ rest)
+    one_less : (told : ToldResponse) (one : HttpTask) (rest : List HttpTask) → Left told
+        (one ∷ rest)
         → Left (with_task told one) rest
     one_less told one rest left = record {
       follow = left.follow.2;
@@ -480,12 +483,13 @@ module _
     }
 
     -- an end is the last of them
-    record EndsAll (told : Told) : Type 0 where
+    record EndsAll (told : ToldResponse) : Type 0 where
       pub among : list_any is_end are.given ≡ true
       pub tells : all ≡ told
 
     -- so what was told with it is all
-    ends_all : (told : Told) (one : HttpTask) (rest : List HttpTask) → Left told (one ∷ rest)
+    ends_all : (told : ToldResponse) (one : HttpTask) (rest : List HttpTask) → Left told
+        (one ∷ rest)
         → is_end one ≡ true → EndsAll (with_task told one)
     ends_all told one rest left is =
         let none = left.ends_last (one ∷ []) rest refl (rw is refl) in
@@ -526,26 +530,27 @@ module _
         (ap (λ (t : ResponseText). t.body) one) (ap (λ (t : ResponseText). t.mark) one)
 
     -- at an end the body is not short
-    end_fits : (told : Told) (one : HttpTask) (rest : List HttpTask) → Left told (one ∷ rest)
+    end_fits : (told : ToldResponse) (one : HttpTask) (rest : List HttpTask) → Left told
+        (one ∷ rest)
         → (final : ResponseHead) (f g : Framing) → IsFinal final f → IsHandedAs f g
         → is_end one ≡ true
         → is_short (after_piece (framing_for old g) (with_task told one).body) ≡ false
     end_fits told one rest left final f g is comes ends =
         let here = ends_all told one rest left ends in
         handed_fits old f g (with_task told one).body comes
-        (λ k same. subst (λ (t : Told). length t.body ≡ k) here.tells
+        (λ k same. subst (λ (t : ToldResponse). length t.body ≡ k) here.tells
         (length_told here.among final f is k same))
 
     -- ---- one task
 
     -- a task is not refused, and where the response stands behind it
-    record Steps (told : Told) (at : Place) (one : HttpTask) : Type 0 where
+    record Steps (told : ToldResponse) (at : Place) (one : HttpTask) : Type 0 where
       pub passes : refusal (request_of head) at (handed head.method one) ≡ None
       pub stands : Stands (with_task told one)
           (task_sent (request_of head) at (handed head.method one)).place
 
     -- where it stands behind a piece, which may be the last
-    stands_behind : (told : Told) (at : Place) (ends : Bool) (rest : Framing)
+    stands_behind : (told : ToldResponse) (at : Place) (ends : Bool) (rest : Framing)
         (final : ResponseHead) (f g : Framing) → told.final ≡ Some final → IsFinal final f
         → IsHandedAs f g → (ends ≡ true → list_any is_end are.given ≡ true)
         → rest ≡ after_piece (framing_for old g) told.body → at ≡ behind_piece ends rest
@@ -556,17 +561,17 @@ module _
         in_body final f g tells is comes (leads ∙ ap place.Body same)
 
     -- a final head
-    final_steps : (told : Told) (given : ResponseHead) (ends : Bool) (rest : List HttpTask)
+    final_steps : (told : ToldResponse) (given : ResponseHead) (ends : Bool) (rest : List HttpTask)
         → Left told (task.Header given ends ∷ rest) → told.body ≡ []
         → is_informational given.status ≡ false
         → Steps told place.NoHead (task.Header given ends)
     final_steps told given ends rest left none final =
         let one = task.Header given ends in
         let tells : (with_task told one).final ≡ Some given =
-        ap (λ (t : Told). t.final) (told_final told given final) in
+        ap (λ (t : ToldResponse). t.final) (told_final told given final) in
         let bare : (with_task told one).body ≡ [] = head_body told given ∙ none in
         let in_all : all.final ≡ Some given =
-        ap (λ (t : Told). t.final) (sym left.tells)
+        ap (λ (t : ToldResponse). t.final) (sym left.tells)
         ∙ final_stays (with_task told one) rest given left.follow.2 tells in
         let found = are.final given in_all in
         let f = found.0 in
@@ -593,8 +598,8 @@ module _
               (ap (λ (l : List ℕ). after_piece (framing_for old g) l) (sym bare)) goes.leads;
         }
 
-    -- a head that informs
-    informs_steps : (told : Told) (given : ResponseHead) (ends : Bool) → told.final ≡ None
+    -- an informational head
+    informs_steps : (told : ToldResponse) (given : ResponseHead) (ends : Bool) → told.final ≡ None
         → told.body ≡ [] → is_informational given.status ≡ true
         → Steps told place.NoHead (task.Header given ends)
     informs_steps told given ends none bare informs =
@@ -603,12 +608,14 @@ module _
         (ap is_informational (handed_status head.method ends given) ∙ informs) in
         record {
           passes = goes.passes;
-          stands = subst (λ (t : Told). Stands t (head_sent (request_of head) out ends).place)
+          stands = subst (λ (t : ToldResponse).
+              Stands t (head_sent (request_of head) out ends).place)
               (sym (told_informs told given informs)) (none_yet none bare goes.leads);
         }
 
     -- where no final head was sent
-    from_none : (told : Told) (one : HttpTask) (rest : List HttpTask) → Left told (one ∷ rest)
+    from_none : (told : ToldResponse) (one : HttpTask) (rest : List HttpTask) → Left told
+        (one ∷ rest)
         → told.final ≡ None → told.body ≡ [] → Steps told place.NoHead one
     from_none told (task.Header given ends) rest left none bare =
         elim (cases_Bool (is_informational given.status)) [
@@ -625,7 +632,7 @@ module _
     from_none told (task.Failed error) rest left none bare = absurd left.follow.0
 
     -- a piece of the body
-    piece_steps : (told : Told) (one : HttpTask) (rest : List HttpTask)
+    piece_steps : (told : ToldResponse) (one : HttpTask) (rest : List HttpTask)
         → Left told (one ∷ rest) → (final : ResponseHead) (f g : Framing)
         → told.final ≡ Some final → IsFinal final f → IsHandedAs f g → (piece : List ℕ)
         → (with_task told one).final ≡ told.final
@@ -650,7 +657,8 @@ module _
         )
 
     -- inside the body
-    from_body : (told : Told) (one : HttpTask) (rest : List HttpTask) → Left told (one ∷ rest)
+    from_body : (told : ToldResponse) (one : HttpTask) (rest : List HttpTask) → Left told
+        (one ∷ rest)
         → (final : ResponseHead) (f g : Framing) → told.final ≡ Some final → IsFinal final f
         → IsHandedAs f g
         → Steps told (place.Body (after_piece (framing_for old g) told.body)) one
@@ -671,7 +679,8 @@ module _
     from_body told (task.Failed error) rest left final f g tells is comes = absurd left.follow.0
 
     -- behind the end
-    from_done : (told : Told) (one : HttpTask) (rest : List HttpTask) → Left told (one ∷ rest)
+    from_done : (told : ToldResponse) (one : HttpTask) (rest : List HttpTask) → Left told
+        (one ∷ rest)
         → (final : ResponseHead) → told.final ≡ Some final
         → list_any is_end are.given ≡ true → Steps told place.Done one
     from_done told (task.Header given ends) rest left final tells among =
@@ -687,7 +696,7 @@ module _
     from_done told (task.Failed error) rest left final tells among = absurd left.follow.0
 
     -- from wherever it stands
-    steps : (told : Told) (at : Place) (one : HttpTask) (rest : List HttpTask)
+    steps : (told : ToldResponse) (at : Place) (one : HttpTask) (rest : List HttpTask)
         → Left told (one ∷ rest) → Stands told at → Steps told at one
     steps told at one rest left (none_yet none bare there) =
         subst (λ (p : Place). Steps told p one) (sym there)
@@ -702,14 +711,15 @@ module _
     -- ---- tasks in order
 
     -- none of a front of them is refused, and where the response stands behind it
-    record Walks (told : Told) (at : Place) (front rest : List HttpTask) : Type 0 where
+    record Walks (told : ToldResponse) (at : Place) (front rest : List HttpTask) : Type 0 where
       pub passes : first_refusal (request_of head) at (map (handed head.method) front) ≡ None
       pub stands : Stands (told_behind told front)
           (wire (request_of head) at (map (handed head.method) front)).place
       pub left : Left (told_behind told front) rest
 
     -- every front is so, from wherever the response stands
-    walks : (told : Told) (at : Place) (front rest : List HttpTask) → Left told (front ++ rest)
+    walks : (told : ToldResponse) (at : Place) (front rest : List HttpTask) → Left told
+        (front ++ rest)
         → Stands told at → Walks told at front rest
     walks told at [] rest left stands = record { passes = refl; stands = stands; left = left }
     walks told at (one ∷ front) rest left stands =
@@ -727,7 +737,7 @@ module _
 
     -- where the response stands behind a front, by the tasks that it was handed on from
     record SendsFront (front rest : List HttpTask) : Type 0 where
-      pub told : Told
+      pub told : ToldResponse
       pub next : List HttpTask
       pub are_next : map (handed head.method) next ≡ rest
       pub passes : first_refusal (request_of head) place.NoHead front ≡ None
@@ -810,7 +820,8 @@ module _
         (rw fits refl)
 
     -- a body that takes no more bytes has ended
-    full_whole : (told : Told) (rest : List HttpTask) → Left told rest → (final : ResponseHead)
+    full_whole : (told : ToldResponse) (rest : List HttpTask) → Left told rest →
+        (final : ResponseHead)
         (f : Framing) → IsFinal final f
         → is_full (after_piece (framing_for old f) told.body) ≡ true → IsTold
     full_whole told rest left final framing.Empty is full =
@@ -820,7 +831,7 @@ module _
     full_whole told rest left final (framing.Length k) is full =
         let none = eqb-true (k - length told.body) 0 full in
         let grows = body_grows told rest in
-        let same = ap (λ (t : Told). length t.body) left.tells in
+        let same = ap (λ (t : ToldResponse). length t.body) left.tells in
         length_whole final k is (omega arith)
     full_whole told rest left final framing.Chunked is full =
         let wrong = sym full ∙ chunked_open old told.body in absurd (cc)
@@ -828,7 +839,7 @@ module _
     full_whole told rest left final framing.Tunnel is full = absurd (cc)
 
     -- where the response is over, all of it was told
-    over_told : (told : Told) (rest : List HttpTask) (at : Place) → Left told rest
+    over_told : (told : ToldResponse) (rest : List HttpTask) (at : Place) → Left told rest
         → Stands told at → is_over at ≡ true → IsTold
     over_told told rest at left (none_yet none bare there) over =
         let wrong : false ≡ true = subst (λ (p : Place). is_over p ≡ true) there over in

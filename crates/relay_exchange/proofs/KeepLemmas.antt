@@ -19,13 +19,13 @@ use Rattle.relay_core.proofs.BoolLemmas.{clash, and_left, and_right, not_true}
 use Rattle.relay_peer.specs.H1Client.{may_keep_client}
 use Rattle.relay_peer.specs.RequestWriting as writing
 use Rattle.relay_peer.specs.RequestWriting.{Sent, SentSoFar, Stands, body_framing, head_in, is_whole, lets_keep_request, may_keep_writing, sent_wire}
-use Rattle.relay_peer.specs.ResponseReading.{Told, ReadSoFar, ReadAt, IsReadWhole, keeps_at, may_keep_reading, says}
+use Rattle.relay_peer.specs.ResponseReading.{ToldResponse, ReadSoFar, ReadAt, IsReadWhole, keeps_at, may_keep_reading, says}
 use Rattle.relay_peer.specs.declared.h1_client.H1Client.{H1Client}
-use Rattle.relay_peer.specs.declared.request_writing.Request.{Request}
-use Rattle.relay_peer.specs.declared.request_writing.Request.TheVariants as request
+use Rattle.relay_peer.specs.declared.request_writing.RequestPlace.{RequestPlace}
+use Rattle.relay_peer.specs.declared.request_writing.RequestPlace.TheVariants as request
 use Rattle.relay_peer.specs.declared.request_writing.RequestWriting.{RequestWriting}
-use Rattle.relay_peer.specs.declared.response_reading.Place.{Place}
-use Rattle.relay_peer.specs.declared.response_reading.Place.TheVariants as place
+use Rattle.relay_peer.specs.declared.response_reading.ResponsePlace.{ResponsePlace}
+use Rattle.relay_peer.specs.declared.response_reading.ResponsePlace.TheVariants as place
 use Rattle.relay_peer.specs.declared.response_reading.ResponseReading.{ResponseReading}
 use Rattle.relay_peer.proofs.ExactLemmas.{Tasks-unique}
 use Rattle.relay_session.specs.TaskWire.{refusal}
@@ -84,7 +84,7 @@ same_head : (a b : RequestHead) → Some a ≡ Some b → a ≡ b
 same_head a b same = cc
 
 -- all of it was taken, by what was queued
-sent_at : (sent : Sent) (now : Request) (taken : List ℕ) (head : RequestHead)
+sent_at : (sent : Sent) (now : RequestPlace) (taken : List ℕ) (head : RequestHead)
     → head_in now ≡ Some head → Stands sent now → taken ≡ sent_wire sent
     → is_whole now ≡ true → lets_keep_request now ≡ true → IsSent head taken
 sent_at sent request.NoHead taken head is stands text whole lets = absurd (cc)
@@ -131,7 +131,7 @@ sent_whole sent taken now head is so_far kept =
 -- ---- the response
 
 -- what was told is what the text says
-same_told : (a b : Told) (m k : ResponseMark) → says a m ≡ says b k
+same_told : (a b : ToldResponse) (m k : ResponseMark) → says a m ≡ says b k
     → a ≡ b
 same_told a b m k same =
     ap (λ (t : ResponseText).
@@ -143,7 +143,8 @@ keeps_end true true stays is = refl
 keeps_end true false stays is = absurd (cc)
 keeps_end false end stays is = absurd (cc)
 
-read_at : (method : List ℕ) (closed : Bool) (given : List ℕ) (told : Told) (now : Place)
+read_at : (method : List ℕ) (closed : Bool) (given : List ℕ) (told : ToldResponse)
+    (now : ResponsePlace)
     (ahead : List ℕ) → ReadAt method closed given told now ahead → keeps_at now ≡ true
     → ahead ≡ [] → IsReadWhole method closed given told
 read_at method closed given told place.NoHead ahead at keeps none = absurd (cc)
@@ -166,7 +167,7 @@ read_at method closed given told (place.Ended kept) ahead at keeps none =
     }
 
 -- the response that was told was read whole, and what it told is what these tell
-pub read_whole : (method : List ℕ) (closed : Bool) (given : List ℕ) (told all : Told)
+pub read_whole : (method : List ℕ) (closed : Bool) (given : List ℕ) (told all : ToldResponse)
     (now : ResponseReading) (n : ℕ) → ReadSoFar method closed given all now
     → may_keep_reading now ≡ true → Tasks method false given closed (says told (ended n))
     → IsReadWhole method closed given told
@@ -174,7 +175,7 @@ read_whole method closed given told all now n so_far kept whole =
     let read = read_at method closed given all now.place now.ahead so_far.at
     (and_left (keeps_at now.place) _ kept)
     (none_left now.ahead (and_right (keeps_at now.place) _ kept)) in
-    subst (λ (t : Told). IsReadWhole method closed given t)
+    subst (λ (t : ToldResponse). IsReadWhole method closed given t)
     (same_told all told _ _ (Tasks-unique method false given closed _ _ read.whole whole)) read
 
 -- ---- the end of a response

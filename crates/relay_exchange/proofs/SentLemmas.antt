@@ -13,7 +13,7 @@ use Rattle.relay_h1.specs.declared.framing.Framing.TheVariants as framing
 use Rattle.relay_h1.specs.BodyWire.{is_short, is_full, after_piece}
 use Rattle.relay_h1.specs.ClientHead.{is_informational, lacks_framing, chunked_head, client_framing, client_head}
 use Rattle.relay_h1.specs.Wire.{response_text}
-use Rattle.relay_peer.specs.ResponseReading.{Told, untold, with_task, with_head, with_piece}
+use Rattle.relay_peer.specs.ResponseReading.{ToldResponse, untold, with_task, with_head, with_piece}
 use Rattle.relay_session.specs.Asked.{method_of}
 use Rattle.relay_session.specs.Response.{Holds, HoldsOn, has_head, is_over, pending}
 use Rattle.relay_session.specs.TaskWire.{Sent, framing_of, shown, piece_sent, piece_refusal, piece_at, piece_refusal_at, framed_head_sent, framed_head_refusal, head_at, head_refusal_at, task_sent, refusal, wire, or_later, first_refusal}
@@ -86,7 +86,7 @@ framed_behind head ends None passes = absurd (cc)
 framed_behind head ends (Some framing) passes = piece_behind framing [] ends passes
 
 -- a final head was sent wherever one was told
-abbrev Shows : Told → Place → Type 0
+abbrev Shows : ToldResponse → Place → Type 0
 Shows told at = (head : ResponseHead) → told.final ≡ Some head → has_head at ≡ true
 
 -- where no final head was sent none was told
@@ -94,7 +94,7 @@ never_shows : {A : Type 0} → false ≡ true → A
 never_shows wrong = absurd (cc)
 
 -- a head: it is the final one, or one was told before
-head_behind : (request : Request) (told : Told) (at : Place) (head given : ResponseHead)
+head_behind : (request : Request) (told : ToldResponse) (at : Place) (head given : ResponseHead)
     (ends : Bool) (final : ResponseHead) → given.status ≡ head.status
     → Shows told at → head_refusal_at request at given ends ≡ None
     → (with_head told head).final ≡ Some final
@@ -123,13 +123,14 @@ handed_status true head = refl
 handed_status false head = refl
 
 -- a piece of the body leaves the final head
-piece_final : (told : Told) (piece : Option (List ℕ))
+piece_final : (told : ToldResponse) (piece : Option (List ℕ))
     → (with_piece told piece).final ≡ told.final
 piece_final told None = refl
 piece_final told (Some piece) = refl
 
 -- a task as it is handed on, with which a final head was told
-task_behind : (request : Request) (method : List ℕ) (told : Told) (at : Place) (one : HttpTask)
+task_behind : (request : Request) (method : List ℕ) (told : ToldResponse) (at : Place)
+    (one : HttpTask)
     (final : ResponseHead) → Shows told at
     → refusal request at (handed method one) ≡ None
     → (with_task told one).final ≡ Some final
@@ -150,7 +151,7 @@ task_behind request method told at (task.Failed error) final shows passes tells 
 
 -- behind tasks with an end, as they are handed on, with which a final head was told, the response
 -- has ended
-ends_at : (request : Request) (method : List ℕ) (told : Told) (at : Place)
+ends_at : (request : Request) (method : List ℕ) (told : ToldResponse) (at : Place)
     (tasks : List HttpTask) (final : ResponseHead) → Shows told at
     → EndsLast tasks → list_any is_end tasks ≡ true
     → (told_behind told tasks).final ≡ Some final

@@ -10,10 +10,10 @@ use Rattle.relay_h1.specs.ClientHead.{is_informational}
 use Rattle.relay_h1.specs.Tasks.{Informs, HasFinal, Tasks, ResponseText}
 use Rattle.relay_h1.specs.Tasks as tasks
 use Rattle.relay_h1.proofs.TasksLemmas.{Informs-front, Stops-open, Stops-refused, Stops-final}
-use Rattle.relay_peer.specs.declared.response_reading.Place.{Place}
-use Rattle.relay_peer.specs.declared.response_reading.Place.TheVariants as place
+use Rattle.relay_peer.specs.declared.response_reading.ResponsePlace.{ResponsePlace}
+use Rattle.relay_peer.specs.declared.response_reading.ResponsePlace.TheVariants as place
 use Rattle.relay_peer.specs.declared.response_reading.ResponseReading.{ResponseReading}
-use Rattle.relay_peer.specs.ResponseReading.{Told, ReadAt, IsResponseTask, untold, with_task, with_head, with_piece}
+use Rattle.relay_peer.specs.ResponseReading.{ToldResponse, ReadAt, IsResponseTask, untold, with_task, with_head, with_piece}
 use Rattle.relay_core.specs.Moves.{EndsLast}
 use Rattle.relay_sides.specs.Body.{IsFrontOf}
 use Rattle.relay_sides.specs.Peer.{AreTasks, Follow, told_behind, told_of}
@@ -23,14 +23,14 @@ use Rattle.relay_sides.proofs.SaidLemmas.{told_front}
 -- ---- more is told
 
 -- more was told: a final head that was told stays, and no head comes behind it
-pub record TellsOn (before after : Told) : Type 0 where
+pub record TellsOn (before after : ToldResponse) : Type 0 where
   pub informed : IsFrontOf before.informed after.informed
   pub body : IsFrontOf before.body after.body
   pub final : (head : ResponseHead) → before.final ≡ Some head
       → (after.final ≡ Some head) × (after.informed ≡ before.informed)
 
 -- nothing more is told
-same_tells : (told : Told) → TellsOn told told
+same_tells : (told : ToldResponse) → TellsOn told told
 same_tells told = record {
   informed = own_front told.informed;
   body = own_front told.body;
@@ -38,7 +38,7 @@ same_tells told = record {
 }
 
 -- more than more
-tells_then : (a b c : Told) → TellsOn a b → TellsOn b c → TellsOn a c
+tells_then : (a b c : ToldResponse) → TellsOn a b → TellsOn b c → TellsOn a c
 tells_then a b c x y = record {
   informed = front_then a.informed b.informed c.informed x.informed y.informed;
   body = front_then a.body b.body c.body x.body y.body;
@@ -54,7 +54,7 @@ never_both : {A : Type 0} (told : Option ResponseHead) (head : ResponseHead) →
 never_both told head none some = let both = sym none ∙ some in absurd (cc)
 
 -- a head, where no final one was told
-head_tells : (told : Told) (head : ResponseHead) → told.final ≡ None
+head_tells : (told : ToldResponse) (head : ResponseHead) → told.final ≡ None
     → TellsOn told (with_head told head)
 head_tells told head none = on (is_informational head.status)
   where
@@ -73,7 +73,7 @@ head_tells told head none = on (is_informational head.status)
     }
 
 -- a piece of the body
-piece_tells : (told : Told) (piece : Option (List ℕ)) → TellsOn told (with_piece told piece)
+piece_tells : (told : ToldResponse) (piece : Option (List ℕ)) → TellsOn told (with_piece told piece)
 piece_tells told None = same_tells told
 piece_tells told (Some piece) = record {
   informed = own_front told.informed;
@@ -82,7 +82,7 @@ piece_tells told (Some piece) = record {
 }
 
 -- a task that follows what was told
-task_tells : (told : Told) (one : HttpTask) → IsResponseTask told one
+task_tells : (told : ToldResponse) (one : HttpTask) → IsResponseTask told one
     → TellsOn told (with_task told one)
 task_tells told (task.Header head end) is = head_tells told head is
 task_tells told (task.Body piece end) is = piece_tells told piece
@@ -92,7 +92,7 @@ task_tells told task.Done is = same_tells told
 task_tells told (task.Failed error) is = absurd is
 
 -- tasks that follow what was told tell more
-tasks_tell : (told : Told) (tasks : List HttpTask) → Follow told tasks
+tasks_tell : (told : ToldResponse) (tasks : List HttpTask) → Follow told tasks
     → TellsOn told (told_behind told tasks)
 tasks_tell told [] follow = same_tells told
 tasks_tell told (one ∷ tasks) follow =
@@ -100,13 +100,13 @@ tasks_tell told (one ∷ tasks) follow =
     (task_tells told one follow.0) (tasks_tell (with_task told one) tasks follow.2)
 
 -- what is told in parts
-told_append : (told : Told) (front behind : List HttpTask)
+told_append : (told : ToldResponse) (front behind : List HttpTask)
     → told_behind told (front ++ behind) ≡ told_behind (told_behind told front) behind
 told_append told [] behind = refl
 told_append told (one ∷ front) behind = told_append (with_task told one) front behind
 
 -- tasks that follow what was told do so in parts
-follow_parts : (told : Told) (front behind : List HttpTask) → Follow told (front ++ behind)
+follow_parts : (told : ToldResponse) (front behind : List HttpTask) → Follow told (front ++ behind)
     → Follow told front × Follow (told_behind told front) behind
 follow_parts told [] behind follow = (tt, follow)
 follow_parts told (one ∷ front) behind follow =
@@ -115,7 +115,7 @@ follow_parts told (one ∷ front) behind follow =
 
 -- ---- what the bytes say
 
--- heads that inform are the front of all of them
+-- informational heads are the front of all of them
 informed_front : (method : List ℕ) (closed : Bool) (got : List ℕ) (heads : List ResponseHead)
     (n : ℕ) (text : ResponseText) → Informs method false got heads n
     → Tasks method false got closed text → IsFrontOf heads text.informed
@@ -136,7 +136,8 @@ informed_front method closed got heads n _ informs
     record { rest = rest.0; joined = sym rest.1 }
 
 -- the same, by where the reading is
-informed_at : (method : List ℕ) (closed : Bool) (got : List ℕ) (told : Told) (at : Place)
+informed_at : (method : List ℕ) (closed : Bool) (got : List ℕ) (told : ToldResponse)
+    (at : ResponsePlace)
     (ahead : List ℕ) (text : ResponseText) → ReadAt method closed got told at ahead
     → Tasks method false got closed text → IsFrontOf told.informed text.informed
 informed_at method closed got told place.NoHead ahead text read said =
@@ -183,7 +184,8 @@ final_said method closed got _ final
     })
 
 -- the final head that was told, by where the reading is
-final_at : (method : List ℕ) (closed : Bool) (got : List ℕ) (told : Told) (at : Place)
+final_at : (method : List ℕ) (closed : Bool) (got : List ℕ) (told : ToldResponse)
+    (at : ResponsePlace)
     (ahead : List ℕ) (final : ResponseHead) → ReadAt method closed got told at ahead
     → told.final ≡ Some final → FinalBehind method got told.informed final
 final_at method closed got told place.NoHead ahead final read is =
@@ -222,14 +224,15 @@ module _
     -- what those in front tell is the front of what all tell
     given_tell : TellsOn (told_of given) (told_of (given ++ withheld))
     given_tell =
-        subst (λ (t : Told). TellsOn (told_of given) t) (sym (told_append untold given withheld))
+        subst (λ (t : ToldResponse). TellsOn (told_of given) t)
+        (sym (told_append untold given withheld))
         (tasks_tell (told_of given) withheld (follow_parts untold given withheld are.follow).1)
 
     -- those in front follow one another
     pub given_follow : Follow untold given
     given_follow = (follow_parts untold given withheld are.follow).0
 
-    -- their heads that inform are the front of those that the bytes say
+    -- their informational heads are the front of those that the bytes say
     pub given_informed : (text : ResponseText) → Tasks method false got closed text
         → IsFrontOf (told_of given).informed text.informed
     given_informed text said =

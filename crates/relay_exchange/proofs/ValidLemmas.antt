@@ -31,7 +31,7 @@ use Rattle.relay_h1.proofs.HeadEndLemmas.{head_end-within}
 use Rattle.relay_h1.proofs.TasksLemmas.{HasFinal-within, HasFinal-append, HasFinal-unique, HasFinal-IsOpenBehind, HasFinal-IsRefusedBehind, IsRefusedBehind-append}
 use Rattle.relay_h1.proofs.VerdictLemmas.{HasRequest-unique, HasRequest-append}
 use Rattle.relay_peer.specs.RequestWriting.{body_framing}
-use Rattle.relay_peer.specs.ResponseReading.{Told, says}
+use Rattle.relay_peer.specs.ResponseReading.{ToldResponse, says}
 use Rattle.relay_peer.proofs.ExactLemmas.{Tasks-unique}
 use Rattle.relay_session.specs.Reading.{SaysBody, IsWhole}
 use Rattle.relay_core.specs.Past.{Origin, DownPast}
@@ -212,7 +212,7 @@ broken_stays method bytes more closed later _ is
     }
 
 -- no front of a response is broken
-response_unbroken : (method came response : List ℕ) (closed : Bool) (told : Told)
+response_unbroken : (method came response : List ℕ) (closed : Bool) (told : ToldResponse)
     → IsResponse method response → IsFrontOf came response
     → Tasks method false came closed (says told broken) → ⊥
 response_unbroken method came response closed told is front reads =
@@ -226,7 +226,7 @@ response_unbroken method came response closed told is front reads =
     apart same = cc
 
 -- a whole response is not cut off
-response_uncut : (method response : List ℕ) (told : Told) → IsResponse method response
+response_uncut : (method response : List ℕ) (told : ToldResponse) → IsResponse method response
     → Tasks method false response true (says told cut_off) → ⊥
 response_uncut method response told is reads =
     apart (ap (λ (t : ResponseText). t.mark)

@@ -16,7 +16,7 @@ use relay_tasks::{Fail, Pause};
 /// One turn. The branch is that of the answer; none where all enabled ones are silent.
 ///
 /// That no branch is enabled comes only where both halves have finished or one failed, so no turn
-/// of an exchange meets it; the answer then is want of memory.
+/// of an exchange meets it; the answer then is out of memory.
 pub(crate) fn go_round<D: Down, U: Up, H: Schedule>(
     duplex: &mut Duplex,
     client: &mut D::Client,

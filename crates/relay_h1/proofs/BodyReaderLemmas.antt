@@ -15,8 +15,8 @@ use Rattle.relay_h1.specs.declared.framing.Framing.{Framing}
 use Rattle.relay_h1.specs.declared.framing.Framing.TheVariants as framing
 use Rattle.relay_h1.specs.declared.body_reader.Cut.{Cut}
 use Rattle.relay_h1.specs.declared.body_reader.Cut.TheVariants as cut
-use Rattle.relay_h1.specs.declared.body_reader.Front.{Front}
-use Rattle.relay_h1.specs.declared.body_reader.Front.TheVariants as front
+use Rattle.relay_h1.specs.declared.body_reader.BodyFront.{BodyFront}
+use Rattle.relay_h1.specs.declared.body_reader.BodyFront.TheVariants as front
 use Rattle.relay_h1.specs.declared.body_reader.Passed.{Passed}
 use Rattle.relay_h1.specs.declared.body_reader.State.{State}
 use Rattle.relay_h1.specs.declared.body_reader.State.TheVariants as state
@@ -99,7 +99,7 @@ Takes-front old new ahead piece n over = record {
 }
 
 -- the reader stays where it is
-pub stays : (at : State) (ahead : List ℕ) (here : Front) → Stands here at ahead
+pub stays : (at : State) (ahead : List ℕ) (here : BodyFront) → Stands here at ahead
     → Passes at ahead (record { state = at; front = here }) ahead
 stays at ahead here stands = record { takes = Takes-nothing at ahead; stands = stands }
 
@@ -417,7 +417,7 @@ answers_end old ahead rest passed passes is =
       done,
     )
 
--- a run of body bytes, or want of memory for it
+-- a run of body bytes, or out of memory for it
 pub answers_run : (old new : State) (ahead mid rest : List ℕ) (passed : Passed) (given : Cut)
     → Passes old ahead passed mid → passed.front ≡ front.Run
     → TakesRun passed.state mid new rest given → Answers old ahead new rest given

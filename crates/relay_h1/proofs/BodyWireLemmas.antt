@@ -58,7 +58,7 @@ chunk_len : (bytes : List ℕ)
     → length (size_line (length bytes)) + (length bytes + 2) ≡ length (chunk bytes)
 chunk_len bytes =
     let line = size_line (length bytes) in
-    omega (arith, length-append (line ++ bytes) wire.line_end, length-append line bytes)
+    omega (arith, length-append (line ++ bytes) wire.crlf, length-append line bytes)
 
 -- a chunk says its bytes, in front of what follows it
 chunk_says : (bytes tail : List ℕ) (said : BodyText) → 0 < length bytes → length bytes < 2 ^ 64

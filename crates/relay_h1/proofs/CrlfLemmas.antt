@@ -4,7 +4,8 @@ use Rattle.std.proofs.lemmas.Bool.{cases_Bool, cases_lt}
 use Rattle.std.proofs.lemmas.List.{length-take-le, length-take, take-append-le, take-take}
 use Rattle.bytes.proofs.Ranges.{take-append_past}
 use Rattle.relay_h1.specs.HeadEnd.{head_end, begins_with_mark, end_mark, shifted}
-use Rattle.relay_h1.specs.Body.{crlf, begins_with_crlf, crlf_end, line_end, most_line, trailer_end}
+use Rattle.relay_h1.specs.Wire.{crlf}
+use Rattle.relay_h1.specs.Body.{begins_with_crlf, crlf_end, line_end, most_line, trailer_end}
 use Rattle.relay_h1.proofs.HeadEndLemmas.{head_end-within, head_end-here, head_end-cons, shifted-one, shifted-some}
 
 -- nothing and more is nothing

@@ -290,7 +290,7 @@ takes_one_more_kept text spans fields count name few inside are refuses =
     in
     takes_one_more items name size (rw are at refuses)
 
--- what is not that error is want of memory
+-- what is not that error is out of memory
 pub memory_alone : (error : Error) (failure : Fail) → IsMemoryOr error failure
     → ¬ (failure ≡ fail.Error error)
     → failure ≡ fail.OutOfMemory

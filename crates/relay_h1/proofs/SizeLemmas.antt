@@ -4,7 +4,7 @@ use Rattle.std.proofs.Math.Nat.{pow-suc}
 use Rattle.std.proofs.lemmas.Bool.{eq-eqb, ne_eqb}
 use Rattle.std.proofs.lemmas.List.{drop-set}
 use Rattle.std.specs.Fmt.{digits, digits_onto, digit_glyph}
-use Rattle.relay_h1.specs.Wire.{line_end}
+use Rattle.relay_h1.specs.Wire.{crlf}
 use Rattle.relay_h1.specs.BodyWire.{size_line}
 
 -- the last digit is written, and what is left has more
@@ -39,9 +39,9 @@ onto_append (suc k) n xs ys =
     by false before = before
 
 -- the whole line
-pub onto_line : (n : ℕ) → digits_onto 64 16 true n line_end ≡ size_line n
+pub onto_line : (n : ℕ) → digits_onto 64 16 true n crlf ≡ size_line n
 unfolding digits
-onto_line n = onto_append 64 n [] line_end
+onto_line n = onto_append 64 n [] crlf
 
 -- what fits some digits and is no digit itself has one before it
 pub has_digit_before : (n place : ℕ) → n < 16 ^ (place + 1) → 16 ≤ n → 0 < place

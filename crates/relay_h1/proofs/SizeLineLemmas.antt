@@ -109,11 +109,11 @@ size_line_ends : (size : ℕ) (rest : List ℕ) → size < 2 ^ 64
     → line_end (size_line size ++ rest) ≡ Some (length (size_line size))
 size_line_ends size rest fits =
     let line = size_line size in
-    let some = length-append (digits 16 true size) wire.line_end in
+    let some = length-append (digits 16 true size) wire.crlf in
     let short : length line ≤ most_line = omega (arith, digits_short size fits, some) in
     let left = most_line - length line in
     ap crlf_end (take-append_past line rest left most_line (omega arith))
-    ∙ ap crlf_end (append_assoc (digits 16 true size) wire.line_end (take left rest))
+    ∙ ap crlf_end (append_assoc (digits 16 true size) wire.crlf (take left rest))
     ∙ digits_end (digits 16 true size) (take left rest) (digits_pass size)
     ∙ ap Some (sym some)
 

@@ -1,4 +1,4 @@
--- Heads that only inform: there is one list of them, and more bytes leave it as it is.
+-- Informational heads: there is one list of them, and more bytes leave it as it is.
 use Rattle.std.proofs.Common.{◌≡◌, ℕ, zero, suc, ◌+◌, ◌<◌, ◌≤◌, Bool, true, false, cond, Some, List, [], ◌∷◌, ◌++◌, length, drop, refl, sym, ap, subst, ◌∙◌, arith, length-append, length-drop}
 use Rattle.std.proofs.lemmas.List.{drop-append-le, drop-drop}
 use Rattle.relay_tasks.specs.Head.{ResponseHead}
@@ -75,7 +75,7 @@ Informs-more method asked bytes heads n head framing len
     regroup : (a b c : ℕ) → a + (b + c) ≡ (a + b) + c
     regroup a b c = omega arith
 
--- no head that only informs stands at the front
+-- no informational head stands at the front
 pub record Stops (method : List ℕ) (asked : Bool) (bytes : List ℕ) : Type 0 where
   pub none : (head : ResponseHead) (framing : Framing) (len : ℕ)
       → HasResponse method asked bytes head framing len → is_informational head.status ≡ true → ⊥

@@ -5,6 +5,7 @@ use Rattle.httparse.specs.Grammar.{ChunkLine, ReadsChunkLine, chunk_size}
 use Rattle.relay_h1.specs.declared.framing.Framing.{Framing}
 use Rattle.relay_h1.specs.declared.framing.Framing.TheVariants as framing
 use Rattle.relay_h1.specs.HeadEnd.{head_end}
+use Rattle.relay_h1.specs.Wire.{crlf}
 
 -- whether a body has ended: not yet, with the first so many bytes of the text, or not at all,
 -- since the text is broken at some place behind the bytes that it says
@@ -45,10 +46,6 @@ behind n piece text = record { bytes = piece ++ text.bytes; mark = counted_from 
 -- how many bytes a chunk line may have with its CR LF
 abbrev pub most_line : ℕ
 most_line = 1024
-
--- CR LF
-abbrev pub crlf : List ℕ
-crlf = 13 ∷ 10 ∷ []
 
 -- whether the bytes begin with CR LF
 abbrev pub begins_with_crlf : List ℕ → Bool

@@ -10,8 +10,8 @@ use Rattle.relay_h1.specs.declared.framing.Framing.{Framing}
 use Rattle.relay_h1.specs.declared.framing.Framing.TheVariants as framing
 use Rattle.relay_h1.specs.declared.body_reader.Cut.{Cut}
 use Rattle.relay_h1.specs.declared.body_reader.Cut.TheVariants as cut
-use Rattle.relay_h1.specs.declared.body_reader.Front.{Front}
-use Rattle.relay_h1.specs.declared.body_reader.Front.TheVariants as front
+use Rattle.relay_h1.specs.declared.body_reader.BodyFront.{BodyFront}
+use Rattle.relay_h1.specs.declared.body_reader.BodyFront.TheVariants as front
 use Rattle.relay_h1.specs.declared.body_reader.Line.{Line}
 use Rattle.relay_h1.specs.declared.body_reader.Line.TheVariants as line
 use Rattle.relay_h1.specs.declared.body_reader.Passed.{Passed}
@@ -50,12 +50,12 @@ is_done state.Tunnel = false
 is_done state.Done = true
 
 -- the body comes in chunks
-abbrev pub is_chunked : Framing → Bool
-is_chunked framing.Empty = false
-is_chunked (framing.Length n) = false
-is_chunked framing.Chunked = true
-is_chunked framing.UntilClose = false
-is_chunked framing.Tunnel = false
+abbrev pub is_in_chunks : Framing → Bool
+is_in_chunks framing.Empty = false
+is_in_chunks (framing.Length n) = false
+is_in_chunks framing.Chunked = true
+is_in_chunks framing.UntilClose = false
+is_in_chunks framing.Tunnel = false
 
 -- the body has a length
 abbrev pub has_length : Framing → Bool
@@ -83,10 +83,10 @@ is_tunnel framing.Tunnel = true
 
 -- a place in a body with that framing
 abbrev pub is_of : Framing → State → Bool
-is_of framing state.ChunkLine = is_chunked framing
-is_of framing (state.Chunk left) = is_chunked framing
-is_of framing state.ChunkEnd = is_chunked framing
-is_of framing state.Trailer = is_chunked framing
+is_of framing state.ChunkLine = is_in_chunks framing
+is_of framing (state.Chunk left) = is_in_chunks framing
+is_of framing state.ChunkEnd = is_in_chunks framing
+is_of framing state.Trailer = is_in_chunks framing
 is_of framing (state.Length left) = has_length framing
 is_of framing state.UntilClose = is_until_close framing
 is_of framing state.Tunnel = is_tunnel framing
@@ -128,7 +128,7 @@ IsInRun state.Tunnel = Unit {0}
 IsInRun state.Done = ⊥
 
 -- what stands at the front inside a run
-abbrev pub run_front : List ℕ → Front
+abbrev pub run_front : List ℕ → BodyFront
 run_front bytes = if length bytes == 0 then front.More else front.Run
 
 -- where the reader is behind so many bytes of the run
@@ -149,7 +149,7 @@ IsLine bytes line.Broken = IsLineBroken bytes
 IsLine bytes (line.Chunk len size) = StartsWithLine bytes len size
 
 -- what stands at the front where the reader is
-abbrev pub Stands : Front → State → List ℕ → Type 0
+abbrev pub Stands : BodyFront → State → List ℕ → Type 0
 Stands front.Run at bytes = 0 < length (run at bytes)
 Stands front.End at bytes = is_done at ≡ true
 Stands front.More at bytes = Reads at bytes (open_text [])
@@ -205,7 +205,7 @@ Answers old ahead new rest (cut.Failed fail.OutOfMemory) = 0 < length (run new r
 Answers old ahead new rest (cut.Failed (fail.Error error)) =
     (error ≡ refused BadFraming) × Reads old ahead broken_text
 
--- each answer but a piece and want of memory comes exactly where the bytes ahead say so
+-- each answer but a piece and out of memory comes exactly where the bytes ahead say so
 pub record IsExact (old : State) (ahead : List ℕ) (answer : Cut) : Type 0 where
   pub more : (answer ≡ cut.More) ↔ Reads old ahead (open_text [])
   pub end : (answer ≡ cut.End) ↔ ((n : ℕ) × Reads old ahead (ended_text [] n))

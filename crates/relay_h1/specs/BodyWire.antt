@@ -6,7 +6,7 @@ use Rattle.relay_tasks.specs.declared.context.Context.TheVariants.{BodyShort}
 use Rattle.relay_tasks.specs.declared.error.Error.{Error}
 use Rattle.relay_tasks.specs.declared.error.ErrorType.TheVariants.{PrematureBodyEnd}
 use Rattle.relay_tasks.specs.Error.{explained}
-use Rattle.relay_h1.specs.Wire.{line_end}
+use Rattle.relay_h1.specs.Wire.{crlf}
 use Rattle.relay_h1.specs.Body.{BodyText, Body}
 use Rattle.relay_h1.specs.Body.BodyMark.{ended, still_open}
 use Rattle.relay_h1.specs.declared.framing.Framing.{Framing}
@@ -14,11 +14,11 @@ use Rattle.relay_h1.specs.declared.framing.Framing.TheVariants.{Empty, Length, C
 
 -- the line in front of a chunk: its size in upper-case hexadecimal (RFC 9112, section 7.1)
 abbrev pub size_line : ℕ → List ℕ
-size_line size = digits 16 true size ++ line_end
+size_line size = digits 16 true size ++ crlf
 
 -- a chunk of these bytes
 abbrev pub chunk : List ℕ → List ℕ
-chunk bytes = size_line (length bytes) ++ bytes ++ line_end
+chunk bytes = size_line (length bytes) ++ bytes ++ crlf
 
 -- a piece as one chunk; an empty one would end the body, so it writes nothing
 abbrev pub chunk_text : List ℕ → List ℕ
@@ -53,7 +53,7 @@ after_piece Tunnel piece = Tunnel
 abbrev pub end_text : Framing → List ℕ
 end_text Empty = []
 end_text (Length left) = []
-end_text Chunked = codes "0" ++ line_end ++ line_end
+end_text Chunked = codes "0" ++ crlf ++ crlf
 end_text UntilClose = []
 end_text Tunnel = []
 

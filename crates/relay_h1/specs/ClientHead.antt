@@ -11,11 +11,11 @@ use Rattle.relay_h1.specs.declared.framing.Framing.TheVariants as framing
 use Rattle.relay_h1.specs.Framing.{is_http_10, has_no_body, response_framing}
 use Rattle.relay_h1.specs.Verdict.{settled}
 
--- 1xx but 101: a head that only informs
+-- 1xx but 101: a informational head
 abbrev pub is_informational : ℕ → Bool
 is_informational status = nat_le 100 status && nat_lt status 200 && not (status == 101)
 
--- HTTP/1.0 has no heads that only inform, so its client gets none
+-- HTTP/1.0 has no informational heads, so its client gets none
 abbrev pub is_sent_to : Version → ℕ → Bool
 is_sent_to version status = not (is_http_10 version && is_informational status)
 

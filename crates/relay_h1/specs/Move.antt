@@ -50,7 +50,3 @@ pub record WritesPart
 -- one write of all the bytes that wait
 abbrev pub WritesOut : LinkState → LinkState → List ℕ → List ℕ → Put → Type 0
 WritesOut before after old new = WritesPart before after old old new
-
--- one write of at most so many of the bytes ahead
-abbrev pub RelaysBody : LinkState → LinkState → ℕ → List ℕ → List ℕ → Put → Type 0
-RelaysBody before after most old new = WritesPart before after (take most old) old new

@@ -1,4 +1,4 @@
--- What the bytes of a response say: the heads that only inform, the final head, and its body
+-- What the bytes of a response say: the informational heads, the final head, and its body
 -- (RFC 9110, section 15.2; RFC 9112, sections 4 to 8).
 use Rattle.std.specs.Prelude.{◌≡◌, ℕ, ◌+◌, Bool, true, false, List, [], ◌∷◌, length, drop, Option, Some, None, if◌then◌else◌}
 use Rattle.relay_tasks.specs.Head.{ResponseHead}
@@ -27,7 +27,7 @@ pub data ResponseMark : Type 0 where
   broken : ResponseMark
   cut_off : ResponseMark
 
--- what a text says of a response: its heads that only inform, its final head, the bytes of its
+-- what a text says of a response: its informational heads, its final head, the bytes of its
 -- body, and its mark
 pub record ResponseText : Type 0 where
   pub informed : List ResponseHead
@@ -71,7 +71,7 @@ pub data Tasks (method : List ℕ) (asked : Bool) (bytes : List ℕ) (closed : B
         mark = mark_of framing (n + len) (length bytes) closed text.mark;
       })
 
--- behind heads that only inform stands this final head, which ends with the first `len` bytes
+-- behind informational heads stands this final head, which ends with the first `len` bytes
 pub record HasFinal (method : List ℕ) (asked : Bool) (bytes : List ℕ)
     (informed : List ResponseHead) (head : ResponseHead) (framing : Framing) (len : ℕ)
     : Type 0 where
@@ -82,14 +82,14 @@ pub record HasFinal (method : List ℕ) (asked : Bool) (bytes : List ℕ)
   pub final : is_informational head.status ≡ false
   pub ends : len ≡ place + own
 
--- behind heads that only inform no further head ends yet, and one still may
+-- behind informational heads no further head ends yet, and one still may
 pub record IsOpenBehind (method : List ℕ) (asked : Bool) (bytes : List ℕ)
     (informed : List ResponseHead) : Type 0 where
   pub place : ℕ
   pub informs : Informs method asked bytes informed place
   pub is_open : IsOpen (drop place bytes)
 
--- behind heads that only inform stands what is no head, for that reason
+-- behind informational heads stands what is no head, for that reason
 pub record IsRefusedBehind (method : List ℕ) (asked : Bool) (bytes : List ℕ)
     (informed : List ResponseHead) (why : Context) : Type 0 where
   pub place : ℕ

@@ -1,11 +1,10 @@
 //! Reads the body behind a head, piece by piece (RFC 9112, sections 6.3 and 7.1).
-ghost use Rattle.std.specs.Prelude.{◌≡◌, ◌↔◌, ℕ, ◌+◌, ◌≤◌, true, ◌||◌, List, [], ◌++◌, length, drop, IfSome, IfNone, OnOk, OnErr};
+ghost use Rattle.std.specs.Prelude.{◌≡◌, ◌↔◌, ℕ, ◌+◌, ◌≤◌, true, ◌||◌, List, [], ◌++◌, length, take, drop, IfSome, IfNone, OnOk, OnErr};
 ghost use Rattle.relay_tasks.specs.Error.{refused};
 ghost use Rattle.relay_h1.specs.Body.{ended_text, begins_with_crlf, crlf_end, trailer_end, IsLineOf};
 ghost use Rattle.relay_h1.specs.BodyReader.{Reads, first_state, is_done, is_of, Takes, Passes, run, run_front, after_run, IsInRun, IsLine, TakesRun, Answers, IsExact, piece_of, SoFar, Tells, may_end, EndsThere};
 
 use crate::ahead::Ahead;
-use crate::connection::front;
 use crate::framing::Framing;
 use bytes::Bytes;
 use httparse::{Status, parse_chunk_size};
@@ -55,7 +54,7 @@ pub(crate) enum State {
 
 /// What stands at the front of the bytes ahead, where the framing before it was passed.
 #[derive(Clone, Copy)]
-pub(crate) enum Front {
+pub(crate) enum BodyFront {
     /// Bytes of the body.
     Run,
     /// The end of the body.
@@ -81,7 +80,7 @@ pub(crate) enum Line {
 #[derive(Clone, Copy)]
 pub(crate) struct Passed {
     state: State,
-    front: Front,
+    front: BodyFront,
 }
 
 /// Reads the body of one message out of the bytes that were read ahead.
@@ -131,10 +130,10 @@ impl BodyReader {
         let passed = pass_framing(self.state, ahead);
         self.state = passed.state;
         match passed.front {
-            Front::Run => self.take_run(alloc, ahead),
-            Front::End => Cut::End,
-            Front::More => Cut::More,
-            Front::Broken => Cut::Failed(Fail::Error(broken())),
+            BodyFront::Run => self.take_run(alloc, ahead),
+            BodyFront::End => Cut::End,
+            BodyFront::More => Cut::More,
+            BodyFront::Broken => Cut::Failed(Fail::Error(broken())),
         }
     }
 
@@ -255,11 +254,11 @@ fn pass_framing(state: State, ahead: &mut Ahead) -> Passed
         State::Chunk(left) => stay_in_run(State::Chunk(left), ahead),
         State::ChunkEnd => pass_chunk_end(ahead),
         State::Trailer => pass_trailer(ahead),
-        State::Length(0) => stay(State::Length(0), Front::End),
+        State::Length(0) => stay(State::Length(0), BodyFront::End),
         State::Length(left) => stay_in_run(State::Length(left), ahead),
         State::UntilClose => stay_in_run(State::UntilClose, ahead),
         State::Tunnel => stay_in_run(State::Tunnel, ahead),
-        State::Done => stay(State::Done, Front::End),
+        State::Done => stay(State::Done, BodyFront::End),
     }
 }
 
@@ -272,13 +271,13 @@ fn stay_in_run(state: State, ahead: &Ahead) -> Passed
 }
 
 /// What stands at the front inside a run.
-fn run_front(ahead: &Ahead) -> Front
+fn run_front(ahead: &Ahead) -> BodyFront
     ensures { result ≡ run_front ahead.now }
 {
     if ahead.is_empty() {
-        return Front::More;
+        return BodyFront::More;
     }
-    Front::Run
+    BodyFront::Run
 }
 
 /// Passes the CR LF behind the bytes of a chunk, and what comes before the next byte.
@@ -286,10 +285,10 @@ fn pass_chunk_end(ahead: &mut Ahead) -> Passed
     ensures { Passes State.ChunkEnd ahead.old result ahead.new }
 {
     if ahead.len() < 2 {
-        return stay(State::ChunkEnd, Front::More);
+        return stay(State::ChunkEnd, BodyFront::More);
     }
     if !begins_with_crlf(ahead.bytes()) {
-        return stay(State::ChunkEnd, Front::Broken);
+        return stay(State::ChunkEnd, BodyFront::Broken);
     }
     ahead.consume(2);
     pass_line(ahead)
@@ -300,8 +299,8 @@ fn pass_line(ahead: &mut Ahead) -> Passed
     ensures { Passes State.ChunkLine ahead.old result ahead.new }
 {
     match find_line(ahead.bytes()) {
-        Line::Open => stay(State::ChunkLine, Front::More),
-        Line::Broken => stay(State::ChunkLine, Front::Broken),
+        Line::Open => stay(State::ChunkLine, BodyFront::More),
+        Line::Broken => stay(State::ChunkLine, BodyFront::Broken),
         Line::Chunk(len, 0) => {
             ahead.consume(len);
             pass_trailer(ahead)
@@ -318,17 +317,17 @@ fn pass_trailer(ahead: &mut Ahead) -> Passed
     ensures { Passes State.Trailer ahead.old result ahead.new }
 {
     match trailer_end(ahead) {
-        Some(len) if len > MAX_TRAILER + 2 => stay(State::Trailer, Front::Broken),
+        Some(len) if len > MAX_TRAILER + 2 => stay(State::Trailer, BodyFront::Broken),
         Some(len) => {
             ahead.consume(len);
-            stay(State::Done, Front::End)
+            stay(State::Done, BodyFront::End)
         }
-        None if ahead.len() < MAX_TRAILER + 2 => stay(State::Trailer, Front::More),
-        None => stay(State::Trailer, Front::Broken),
+        None if ahead.len() < MAX_TRAILER + 2 => stay(State::Trailer, BodyFront::More),
+        None => stay(State::Trailer, BodyFront::Broken),
     }
 }
 
-fn stay(state: State, front: Front) -> Passed
+fn stay(state: State, front: BodyFront) -> Passed
     ensures { result ≡ record { state = state; front = front } }
 {
     Passed { state, front }
@@ -396,4 +395,14 @@ fn line_size(text: &[u8]) -> Option<u64>
         Ok(Status::Complete((len, size))) if len == text.len() => Some(size),
         Ok(Status::Complete(_) | Status::Partial) | Err(_) => None,
     }
+}
+
+/// The first `most` of the bytes, or all where there are fewer.
+fn front(bytes: &[u8], most: u64) -> &[u8]
+    ensures { result.now ≡ take most bytes.now }
+{
+    if bytes.len() as u64 <= most {
+        return bytes;
+    }
+    &bytes[..most as usize]
 }

@@ -1,16 +1,14 @@
 //! A link with the bytes that were read ahead from it, and what is kept for its next request.
-ghost use Rattle.std.specs.Prelude.{◌≡◌, ◌≤◌, ◌<◌, ◌++◌, ℕ, List, [], length, take, drop, None, Some, IfOk, OnErr, option_copied};
-ghost use Rattle.relay_h1.specs.HeadEnd.{head_end};
-ghost use Rattle.relay_h1.specs.Move.{ReadsMore, WritesOut, RelaysBody};
+ghost use Rattle.std.specs.Prelude.{◌≡◌, ◌≤◌, ◌<◌, ◌++◌, ℕ, List, [], length, drop, None, Some, IfOk, OnErr, option_copied};
+ghost use Rattle.relay_h1.specs.Move.{ReadsMore, WritesOut};
 ghost use Rattle.relay_h1.specs.BodyReader.{Answers, IsExact, Takes, piece_of, SoFar, Tells};
 ghost use Rattle.relay_h1.specs.declared.framing.Framing.{Framing};
-ghost use Rattle.relay_h1.specs.Verdict.{JudgesRequest, JudgesResponse};
+ghost use Rattle.relay_h1.specs.Verdict.{JudgesRequest};
 
 use crate::ahead::Ahead;
 use crate::body_reader::{BodyReader, Cut};
-use crate::output::{Output, taken};
-use crate::verdict::{RequestRead, ResponseRead, judge_request, judge_response};
-use http::Method;
+use crate::output::Output;
+use crate::verdict::{RequestRead, judge_request};
 use relay_links::{ByteLink, Got, Put};
 use relay_tasks::Result;
 use std::alloc::{AllocError, Global};
@@ -67,14 +65,6 @@ impl<D, U> Connection<D, U> {
         self.kept.take()
     }
 
-    /// The place after the first CR LF CR LF in the bytes that were read ahead.
-    pub fn head_end(&mut self) -> Option<usize>
-        ensures place { result ≡ head_end self.old.ahead }
-        ensures same { self.new ≡ self.old }
-    {
-        self.ahead.head_end()
-    }
-
     /// Drops the first `n` of the bytes that were read ahead.
     pub fn consume(&mut self, n: usize)
         requires { n ≤ length self.old.ahead }
@@ -89,19 +79,6 @@ impl<D, U> Connection<D, U> {
         ensures same { self.new ≡ self.old }
     {
         judge_request(alloc, &mut self.ahead)
-    }
-
-    /// The response head at the front of the bytes that were read ahead, as in `judge_response`.
-    pub fn judge_response(
-        &mut self,
-        alloc: Global,
-        method: &Method,
-        asked: bool,
-    ) -> Result<Option<ResponseRead>>
-        ensures verdict { JudgesResponse method.now asked self.old.ahead result }
-        ensures same { self.new ≡ self.old }
-    {
-        judge_response(alloc, &mut self.ahead, method, asked)
     }
 }
 
@@ -171,29 +148,4 @@ impl<D: ByteLink, U> Connection<D, U> {
     {
         output.write_to(&mut self.link)
     }
-
-    /// One write to the other connection of at most `most` of the bytes that were read ahead,
-    /// which are some. What its link takes is consumed here; no byte is copied.
-    pub fn relay_body<E: ByteLink, V>(&mut self, to: &mut Connection<E, V>, most: u64) -> Put
-        requires some { 0 < length self.old.ahead }
-        requires room { 0 < most }
-        ensures answer { RelaysBody (E.state to.old.link) (E.state to.new.link) most self.old.ahead
-            self.new.ahead result }
-        ensures start { E.start to.new.link ≡ E.start to.old.link }
-        ensures same { (self.new.link ≡ self.old.link) × (self.new.kept ≡ self.old.kept) }
-        ensures same_there { (to.new.ahead ≡ to.old.ahead) × (to.new.kept ≡ to.old.kept) }
-    {
-        let put = to.link.write(front(self.ahead.bytes(), most));
-        self.ahead.consume(taken(put));
-        put
-    }
-}
-
-pub(crate) fn front(bytes: &[u8], most: u64) -> &[u8]
-    ensures { result.now ≡ take most bytes.now }
-{
-    if bytes.len() as u64 <= most {
-        return bytes;
-    }
-    &bytes[..most as usize]
 }

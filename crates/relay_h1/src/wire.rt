@@ -2,7 +2,7 @@
 ghost use Rattle.std.specs.Prelude.{◌≡◌, ◌++◌, OnOk, OnErr, IsOkUnless, flat_map};
 ghost use Rattle.http_header.specs.HeaderMap.{pairs};
 ghost use Rattle.relay_tasks.specs.Head.{IsStatus};
-ghost use Rattle.relay_h1.specs.Wire.{line_end, field_lines, request_line, status_line, reason, request_text, response_text, generated, KeepsFront};
+ghost use Rattle.relay_h1.specs.Wire.{crlf, field_lines, request_line, status_line, reason, request_text, response_text, generated, KeepsFront};
 
 use http::StatusCode;
 use http_header::HeaderMap;
@@ -120,7 +120,7 @@ fn reason(status: StatusCode) -> &'static [u8]
 /// The field lines, and the empty line that ends a head.
 fn push_fields(out: &mut Vec<u8>, fields: &HeaderMap) -> std::result::Result<(), AllocError>
     ensures ok { OnOk result
-        (out.new.items ≡ out.old.items ++ field_lines (pairs fields.now) ++ line_end) }
+        (out.new.items ≡ out.old.items ++ field_lines (pairs fields.now) ++ crlf) }
     ensures front { KeepsFront out.old.items out.new.items }
 {
     for (name, value) in fields.iter() {

@@ -20,7 +20,7 @@ is_body false (task.Trailer fields ∷ tasks) = is_empty tasks
 is_body false (task.Done ∷ tasks) = is_empty tasks
 is_body false (task.Failed error ∷ tasks) = false
 
--- one whole final answer: heads that only inform, a final head, its body and its end
+-- one whole final answer: informational heads, a final head, its body and its end
 abbrev pub is_whole : List HttpTask → Bool
 is_whole [] = false
 is_whole (task.Header head end ∷ tasks) =
@@ -31,7 +31,7 @@ is_whole (task.Trailer fields ∷ tasks) = false
 is_whole (task.Done ∷ tasks) = false
 is_whole (task.Failed error ∷ tasks) = false
 
--- heads that only inform, and nothing else
+-- informational heads, and nothing else
 abbrev pub only_informs : List HttpTask → Bool
 only_informs [] = true
 only_informs (task.Header head end ∷ tasks) =
@@ -42,7 +42,7 @@ only_informs (task.Trailer fields ∷ tasks) = false
 only_informs (task.Done ∷ tasks) = false
 only_informs (task.Failed error ∷ tasks) = false
 
--- one answer, which may be an ending head that only informs: heads that only inform, a head, its
+-- one answer, which may be an ending informational head: informational heads, a head, its
 -- body and its end
 abbrev pub is_answer : List HttpTask → Bool
 is_answer [] = false

@@ -91,14 +91,14 @@ entry which input before left after = record {
 
 -- ---- the promise
 
--- the application allows the call of a hook that is told of this peer, want of memory aside
+-- the application allows the call of a hook that is told of this peer, out of memory aside
 abbrev pub AskedOf : Option Peer → Bool → (Standing → LogEntry → Type 0) → Hook → Item → Moment
     → Option Left → Moment → Type 0
 AskedOf peer reused allows which input before None after = Unit {0}
 AskedOf peer reused allows which input before (Some left) after =
     allows (standing peer reused before) (entry which input before left after)
 
--- the application allows the call, want of memory aside
+-- the application allows the call, out of memory aside
 abbrev pub Asked : (Standing → LogEntry → Type 0) → Hook → Item → Moment → Option Left → Moment
     → Type 0
 Asked allows which input before left after =

@@ -25,7 +25,7 @@ AnswersOnYes (Ok false) old new = Leaves old new
 AnswersOnYes (Err (fail.Error error)) old new = Leaves old new
 AnswersOnYes (Err fail.OutOfMemory) old new = new.log ≡ old.log
 
--- with false it queued nothing, heads that only inform, or one whole final answer; else nothing
+-- with false it queued nothing, informational heads, or one whole final answer; else nothing
 abbrev pub AnswersOnNo : Result Bool Fail → Seen → Seen → Type 0
 AnswersOnNo (Ok false) old new =
     Leaves old new
@@ -44,11 +44,11 @@ AnswersOnce (Err fail.OutOfMemory) old new = new.log ≡ old.log
 
 -- ---- what a hook does to a head
 
--- a head that only informs stays one, and a final head stays one
+-- a informational head stays one, and a final head stays one
 abbrev pub KeepsKind : ResponseHead → ResponseHead → Type 0
 KeepsKind old new = is_informational new.status ≡ is_informational old.status
 
--- the same, wherever the hook answered anything but want of memory
+-- the same, wherever the hook answered anything but out of memory
 abbrev pub KeepsKindUnless : {T : Type 0} → Result T Fail → ResponseHead → ResponseHead → Type 0
 KeepsKindUnless (Ok answer) old new = KeepsKind old new
 KeepsKindUnless (Err (fail.Error error)) old new = KeepsKind old new

@@ -74,7 +74,7 @@ pub trait Filters {
         Ok(())
     }
 
-    /// Changes a head as it came from the upstream. A head that only informs stays one.
+    /// Changes a head as it came from the upstream. An informational head stays one.
     fn upstream_response_filter(
         &self,
         _alloc: Global,
@@ -88,7 +88,7 @@ pub trait Filters {
         Ok(())
     }
 
-    /// Changes a head before it goes to the client. A head that only informs stays one.
+    /// Changes a head before it goes to the client. An informational head stays one.
     fn response_filter(
         &self,
         _alloc: Global,

@@ -24,7 +24,7 @@ use std::alloc::Global;
 ///
 /// It states which calls it allows: `allows st e` says that, where `st` stood before a call, the
 /// call may be told by the log entry `e`. Each hook promises that what it answers is allowed
-/// (clause `allowed`), want of memory aside, so an entry that is allowed can come only from an answer
+/// (clause `allowed`), out of memory aside: an entry that is allowed can come only from an answer
 /// of the hook. And each keeps the laws of its kind: what it may queue (`leaves`, `answers`), and what
 /// it may do to a head (`kind`, `bodiless`). `mark_of` is a number that a context shows; a context
 /// whose number moves with each call makes each call stand out in the log.
@@ -155,7 +155,7 @@ pub trait ProxyHttp {
             (moment session.new.seen (mark_of self.now ctx.new)) }
         ensures leaves { LeavesUnless result session.old.seen session.new.seen };
 
-    /// Changes a head as it came from the upstream. A head that only informs stays one.
+    /// Changes a head as it came from the upstream. An informational head stays one.
     fn upstream_response_filter(
         &self,
         alloc: Global,
@@ -171,7 +171,7 @@ pub trait ProxyHttp {
         ensures leaves { LeavesUnless result session.old.seen session.new.seen }
         ensures kind { KeepsKindUnless result head.old head.new };
 
-    /// Changes a head before it goes to the client. A head that only informs stays one.
+    /// Changes a head before it goes to the client. An informational head stays one.
     fn response_filter(
         &self,
         alloc: Global,

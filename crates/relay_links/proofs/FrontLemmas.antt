@@ -12,7 +12,7 @@ use Rattle.relay_links.specs.ReadScript.{is_passed, rest_of, left_items, is_sile
 use Rattle.relay_links.proofs.ReadScriptLemmas.{given_of-more, given_of-passed, faults_before-suc, left_items-here, left_items-past}
 
 -- the item at the place of a settled script: it is the one that answers
-pub record Front (before settled : ReadScript) (taken : ℕ) (x : ReadItem)
+pub record ReadFront (before settled : ReadScript) (taken : ℕ) (x : ReadItem)
     (behind : List ReadItem) : Type 0 where
   pub found : slice_get settled.items.items settled.at ≡ Some x
   pub stays : is_passed x settled.done taken ≡ false
@@ -39,7 +39,7 @@ pub front : (before settled : ReadScript) (taken n : ℕ) (read x : ReadItem) �
     → Passes before settled taken → IsSettled settled taken → n ≡ vec_len settled.items
     → settled.at < n
     → read ≡ get_or settled.items.items settled.at read → read ≡ x
-    → Front before settled taken x (behind settled)
+    → ReadFront before settled taken x (behind settled)
 front before settled taken n read x was_open passes settles size within is_read is =
     let read_here : slice_get settled.items.items settled.at ≡ Some read =
     slice_get_read settled.items.items n settled.at read (size
@@ -70,7 +70,7 @@ front before settled taken n read x was_open passes settles size within is_read 
 
 -- the item's bytes were given
 pub gives : (before settled : ReadScript) (taken n : ℕ) (bytes room_before room : List ℕ)
-    → Front before settled taken (item.Bytes bytes) (behind settled) → 0 < length room_before
+    → ReadFront before settled taken (item.Bytes bytes) (behind settled) → 0 < length room_before
     → length room ≡ length room_before
     → n ≡ min (length bytes - settled.done) (length room_before)
     → take n room ≡ take n (drop settled.done bytes)
@@ -113,13 +113,13 @@ none_more (suc done) given = append-nil given
 
 -- a wait that is not over
 pub wait_is_short : (before settled : ReadScript) (taken n : ℕ)
-    → Front before settled taken (item.Wait n) (behind settled)
+    → ReadFront before settled taken (item.Wait n) (behind settled)
     → settled.done < n
 wait_is_short before settled taken n here = leb-false n settled.done here.stays
 
 -- a wait goes on
 pub waits : (before settled : ReadScript) (taken room n : ℕ)
-    → Front before settled taken (item.Wait n) (behind settled)
+    → ReadFront before settled taken (item.Wait n) (behind settled)
     → ScriptWaits before taken room
     (record {
       items = settled.items;
@@ -148,7 +148,7 @@ waits before settled taken room n here =
 
 -- the script stays silent before an item that is silent
 pub is_silent_after : (before settled : ReadScript) (taken room n : ℕ)
-    → Front before settled taken (item.After n) (behind settled)
+    → ReadFront before settled taken (item.After n) (behind settled)
     → ScriptIsSilent before taken room settled
 is_silent_after before settled taken room n here =
     record {
@@ -194,7 +194,7 @@ is_silent_past before settled taken n room was_open passes settles size past =
 
 -- a fault is answered once
 pub fails : (before settled : ReadScript) (taken room : ℕ) (fault answered : Fault)
-    → Front before settled taken (item.Fault fault) (behind settled)
+    → ReadFront before settled taken (item.Fault fault) (behind settled)
     → answered ≡ as_read_fault fault → IsReadFault answered
     → ScriptFails before taken room answered
     (record { items = settled.items; at = settled.at + 1; done = 0; ended = settled.ended })
@@ -219,7 +219,7 @@ fails before settled taken room fault answered here is kind =
 
 -- the end is answered
 pub ends : (before settled : ReadScript) (taken room : ℕ)
-    → Front before settled taken item.End (behind settled)
+    → ReadFront before settled taken item.End (behind settled)
     → ScriptEnds before taken room
     (record { items = settled.items; at = settled.at; done = settled.done; ended = true })
 ends before settled taken room here =

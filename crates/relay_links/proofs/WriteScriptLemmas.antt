@@ -113,7 +113,7 @@ abbrev pub behind : WriteScript → List WriteItem
 behind script = left_items script.items.items (suc script.at) 0
 
 -- the item at the place of a settled script: it is the one that answers
-pub record Front (before settled : WriteScript) (x : WriteItem) : Type 0 where
+pub record WriteFront (before settled : WriteScript) (x : WriteItem) : Type 0 where
   pub found : slice_get settled.items.items settled.at ≡ Some x
   pub stays : is_passed x settled.done ≡ false
   pub front : script_front before ≡ rest_of x settled.done ∷ behind settled
@@ -121,7 +121,7 @@ pub record Front (before settled : WriteScript) (x : WriteItem) : Type 0 where
   pub items : settled.items ≡ before.items
 
 -- the faults after an item that was answered at once
-faults-next : (before settled : WriteScript) (x : WriteItem) → Front before settled x
+faults-next : (before settled : WriteScript) (x : WriteItem) → WriteFront before settled x
     → faults_before settled.items.items (settled.at + 1) ≡ script_faults before ++ fault_of x
 faults-next before settled x here =
     rw add-one (faults_before-suc settled.items.items settled.at x here.found
@@ -132,7 +132,7 @@ pub front : (before settled : WriteScript) (n : ℕ) (read x : WriteItem) → Pa
     → IsSettled settled
     → n ≡ vec_len settled.items → settled.at < n → read ≡ get_or settled.items.items settled.at read
     → read ≡ x
-    → Front before settled x
+    → WriteFront before settled x
 front before settled n read x passes settles size within is_read is =
     let read_here : slice_get settled.items.items settled.at ≡ Some read =
     slice_get_read settled.items.items n settled.at read (size
@@ -165,7 +165,7 @@ takes_all before settled n passes settles size past =
     }
 
 -- a part is taken
-pub takes : (before settled : WriteScript) (n : ℕ) → Front before settled (item.Take n)
+pub takes : (before settled : WriteScript) (n : ℕ) → WriteFront before settled (item.Take n)
     → TakesTurn before (record { items = settled.items; at = settled.at + 1; done = 0 }) (Takes n)
 takes before settled n here =
     record {
@@ -177,12 +177,12 @@ takes before settled n here =
     }
 
 -- a wait that is not over
-pub wait_is_short : (before settled : WriteScript) (n : ℕ) → Front before settled (item.Wait n)
+pub wait_is_short : (before settled : WriteScript) (n : ℕ) → WriteFront before settled (item.Wait n)
     → settled.done < n
 wait_is_short before settled n here = leb-false n settled.done here.stays
 
 -- a wait goes on
-pub waits : (before settled : WriteScript) (n : ℕ) → Front before settled (item.Wait n)
+pub waits : (before settled : WriteScript) (n : ℕ) → WriteFront before settled (item.Wait n)
     → TakesTurn before
     (record { items = settled.items; at = settled.at; done = settled.done + 1 }) Waits
 waits before settled n here =
@@ -198,7 +198,7 @@ waits before settled n here =
 
 -- a fault is answered once
 pub fails : (before settled : WriteScript) (fault answered : Fault)
-    → Front before settled (item.Fault fault)
+    → WriteFront before settled (item.Fault fault)
     → answered ≡ as_write_fault fault → IsWriteFault answered
     → TakesTurn before (record { items = settled.items; at = settled.at + 1; done = 0 })
     (Fails answered)

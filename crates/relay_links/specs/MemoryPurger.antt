@@ -13,6 +13,6 @@ purger_state purger = record { told = Some purger.calls.items; faults = purger.f
 abbrev pub one_answer : MemoryPurger → Purged
 one_answer purger = purger.answer
 
--- the purger's one answer, or want of memory
+-- the purger's one answer, or out of memory
 abbrev pub AnswersAs : Purged → Purged → Type 0
 AnswersAs answer result = (result ≡ answer) ⊎ (result ≡ OutOfMemory)

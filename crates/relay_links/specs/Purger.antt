@@ -25,7 +25,7 @@ pub record FailsPurge (before : PurgerState) (call : PurgeCall) (after : PurgerS
   pub fits_before : before.faults ≤ last_count
   pub fits : after.faults ≤ last_count
 
--- what a call does, by its answer; for want of memory nothing changed
+-- what a call does, by its answer; when out of memory nothing changed
 abbrev pub Purges : PurgerState → PurgeAction → List ℕ → List ℕ → PurgerState → Purged → Type 0
 Purges before action host target after NoCache =
     Answers before

@@ -93,7 +93,7 @@ pub record AnswersWrite (before : ScriptLink) (part : ℕ) (after : ScriptLink)
   pub left : writes.script_left after.writes ≡ writes.after_turn (writes.script_front before.writes)
   pub reads : after.reads ≡ before.reads
 
--- a write follows the script of writes; for want of memory no item answers
+-- a write follows the script of writes; when out of memory no item answers
 abbrev pub FollowsWrites : ScriptLink → ℕ → ScriptLink → Put → Type 0
 FollowsWrites before part after (put.Took n) = AnswersWrite before part after (put.Took n)
 FollowsWrites before part after put.NotReady = AnswersWrite before part after put.NotReady

@@ -26,7 +26,7 @@ pub record FailsSink (before after : SinkState) : Type 0 where
   pub fits_before : before.faults ≤ last_count
   pub faults_fit : after.faults ≤ last_count
 
--- what a write does, by its answer; for want of memory nothing changed
+-- what a write does, by its answer; when out of memory nothing changed
 abbrev pub Pushes : SinkState → List ℕ → SinkState → Wrote → Type 0
 Pushes before part after (Took n) = TakesFirst before part n after
 Pushes before part after Failed = FailsSink before after

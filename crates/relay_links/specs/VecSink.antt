@@ -15,7 +15,7 @@ sink_state sink = record { taken = Some sink.bytes.items; faults = sink.faults }
 abbrev pub sink_calls : VecSink → FailingCalls
 sink_calls sink = sink.calls
 
--- a listed call fails, and else all of the part is taken, but for want of memory
+-- a listed call fails, and else all of the part is taken, but when out of memory
 abbrev pub IsSinkAnswer : VecSink → ℕ → Wrote → Type 0
 IsSinkAnswer sink part answer =
     (answer ≡ cond (next_fails sink.calls) Failed (Took part)) ⊎ (answer ≡ OutOfMemory)

@@ -35,7 +35,7 @@ pub use branch_set::BranchSet;
 pub use connector::{Connector, Returned};
 pub use count_delay::CountDelay;
 pub use delay::Delay;
-pub use link::{ByteLink, Got, Pause, Put};
+pub use link::{ByteLink, Got, Put};
 pub use list_schedule::ListSchedule;
 pub use memory_purger::MemoryPurger;
 pub use mute_link::MuteLink;

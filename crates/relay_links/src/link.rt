@@ -34,15 +34,6 @@ pub enum Put {
     OutOfMemory,
 }
 
-/// Why nothing moved on a link, though nothing is wrong with it.
-#[derive(Clone, Copy, Debug, PartialEq, Eq)]
-pub enum Pause {
-    /// A later call may move something.
-    NotReady,
-    /// Nothing moves in this direction before something moves in the other.
-    Silent,
-}
-
 /// A link that gives and takes bytes. It means its state, and the state at which its connector
 /// handed it out, which no call changes.
 pub trait ByteLink {

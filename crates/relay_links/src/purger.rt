@@ -20,7 +20,7 @@ pub trait Purger {
     ghost state: { Self → PurgerState };
 
     /// Purges what is kept for the target at the host. The count of faults rose where it failed;
-    /// for want of memory nothing changed.
+    /// when out of memory nothing changed.
     fn purge(&mut self, action: PurgeAction, host: &[u8], target: &[u8]) -> Purged
         ensures { Purges (state self.old) action host.now target.now (state self.new) result };
 

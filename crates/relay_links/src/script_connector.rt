@@ -38,7 +38,7 @@ pub struct ScriptConnector {
 impl ScriptConnector {
     ghost use Rattle.relay_links.specs.ScriptEntries.{links_returned, IsNew};
 
-    /// A connector with these entries. It fails only for want of memory.
+    /// A connector with these entries. It fails only when out of memory.
     pub fn new(alloc: Global, peers: Vec<PeerScript>) -> relay_tasks::Result<ScriptConnector>
         ensures ok { IfOk result (λ connector. IsNew connector peers.items) }
         ensures err { IsOkUnless result Fail.OutOfMemory }

@@ -23,14 +23,14 @@ pub data ModuleCall : Type 0 where
 
 -- ---- what a module allows
 
--- a call with that outcome is allowed; want of memory always is
+-- a call with that outcome is allowed; out of memory always is
 abbrev pub AllowsOutcome : (ModuleCall → Type 0) → (Option Error → ModuleCall) → Result Unit Fail
     → Type 0
 AllowsOutcome allows call (Ok done) = allows (call None)
 AllowsOutcome allows call (Err (fail.Error error)) = allows (call (Some error))
 AllowsOutcome allows call (Err fail.OutOfMemory) = Unit {0}
 
--- a call with that answer is allowed; want of memory always is
+-- a call with that answer is allowed; out of memory always is
 abbrev pub AllowsAnswer : (ModuleCall → Type 0)
     → (Option (List ℕ) → Option Error → ModuleCall) → Result (Option (List ℕ)) Fail → Type 0
 AllowsAnswer allows call (Ok answer) = allows (call answer None)

@@ -25,10 +25,10 @@ use Rattle.relay_h1.specs.Tasks as tasks
 use Rattle.relay_h1.proofs.BodyLemmas.{Body-unique, Chunked-total}
 use Rattle.relay_h1.proofs.BodyReaderLemmas.{SoFar-reads}
 use Rattle.relay_h1.proofs.TasksLemmas.{Informs-unique, Informs-front, Stops-open, Stops-refused, Stops-final, SameFinal, HasFinal-unique, HasFinal-IsOpenBehind, HasFinal-IsRefusedBehind, IsRefusedBehind-IsOpenBehind}
-use Rattle.relay_peer.specs.declared.response_reading.Place.{Place}
-use Rattle.relay_peer.specs.declared.response_reading.Place.TheVariants as place
+use Rattle.relay_peer.specs.declared.response_reading.ResponsePlace.{ResponsePlace}
+use Rattle.relay_peer.specs.declared.response_reading.ResponsePlace.TheVariants as place
 use Rattle.relay_peer.specs.declared.response_reading.ResponseReading.{ResponseReading}
-use Rattle.relay_peer.specs.ResponseReading.{Told, ReadSoFar, ReadAt, IsAwaiting, IsInBody, IsPiece, says, with_head, with_piece, is_over, got_of, cut_off_error, fault_error, end_answer, IsAnswerOfLink, IsAnswerAt, IsItem, AnswersExactly, Answers, Asks, Refuses, Rests, ReadsTask, AnswerCuts}
+use Rattle.relay_peer.specs.ResponseReading.{ToldResponse, ReadSoFar, ReadAt, IsAwaiting, IsInBody, IsPiece, says, with_head, with_piece, is_over, got_of, cut_off_error, fault_error, end_answer, IsAnswerOfLink, IsAnswerAt, IsItem, AnswersExactly, Answers, Asks, Refuses, Rests, ReadsTask, AnswerCuts}
 use Rattle.relay_peer.specs.ResponseReading as reading
 
 -- ---- one text
@@ -119,7 +119,8 @@ Tasks-unique method asked bytes closed _ _
     (subst (λ (k : Framing). Body k (drop (m + l) bytes) said) (sym same.framing) says)))
 
 -- behind what was told they have one mark
-mark_unique : (method : List ℕ) (closed : Bool) (given : List ℕ) (told : Told) (a b : ResponseMark)
+mark_unique : (method : List ℕ) (closed : Bool) (given : List ℕ) (told : ToldResponse)
+    (a b : ResponseMark)
     → Tasks method false given closed (says told a) → Tasks method false given closed (says told b)
     → a ≡ b
 mark_unique method closed given told a b x y =
@@ -128,7 +129,7 @@ mark_unique method closed given told a b x y =
 
 -- ---- what heads say more
 
--- heads that inform are the first of those that the text says
+-- informational heads are the first of those that the text says
 informs_first : (method : List ℕ) (closed : Bool) (given : List ℕ) (text : ResponseText)
     (heads : List ResponseHead) (n : ℕ) → Informs method false given heads n
     → Tasks method false given closed text
@@ -183,7 +184,7 @@ none_is_some value option none some = apart (sym none ∙ some)
     apart same = cc
 
 -- a head that was told last is more than what was told before it, where no final head comes yet
-awaited_says_more : (method : List ℕ) (closed : Bool) (given : List ℕ) (told : Told)
+awaited_says_more : (method : List ℕ) (closed : Bool) (given : List ℕ) (told : ToldResponse)
     (head : ResponseHead) (ahead : List ℕ) (mark : ResponseMark) (inform : Bool)
     → IsAwaiting method given (
     if inform then record told { informed = told.informed ++ head ∷ [] }
@@ -197,8 +198,9 @@ awaited_says_more method closed given told head ahead mark false a said =
     none_is_some head (Some head) a.no_final refl
 
 -- a head that was told last is more than what was told before it
-head_says_more : (method : List ℕ) (closed : Bool) (given : List ℕ) (told : Told)
-    (head : ResponseHead) (at : Place) (ahead : List ℕ) (mark : ResponseMark) → told.final ≡ None
+head_says_more : (method : List ℕ) (closed : Bool) (given : List ℕ) (told : ToldResponse)
+    (head : ResponseHead) (at : ResponsePlace) (ahead : List ℕ) (mark : ResponseMark)
+    → told.final ≡ None
     → ReadAt method closed given (with_head told head) at ahead
     → Tasks method false given closed (says told mark) → ⊥
 head_says_more method closed given told head place.NoHead ahead mark none read said =
@@ -253,8 +255,8 @@ never_none bytes piece some same =
     omega (arith, some, sizes, length-append bytes piece)
 
 -- a piece that was told last is more than what was told before it
-piece_says_more : (method : List ℕ) (closed : Bool) (given : List ℕ) (told : Told)
-    (piece : List ℕ) (at : Place) (ahead : List ℕ) (mark : ResponseMark) → 0 < length piece
+piece_says_more : (method : List ℕ) (closed : Bool) (given : List ℕ) (told : ToldResponse)
+    (piece : List ℕ) (at : ResponsePlace) (ahead : List ℕ) (mark : ResponseMark) → 0 < length piece
     → ReadAt method closed given (record told { body = told.body ++ piece }) at ahead
     → Tasks method false given closed (says told mark) → ⊥
 piece_says_more method closed given told piece place.NoHead ahead mark some read said =
@@ -286,7 +288,8 @@ piece_says_more method closed given told piece (place.Ended keeps) ahead mark so
 -- ---- what answers say
 
 -- what was told is whole where the reading has ended
-whole_there : (method : List ℕ) (closed : Bool) (given : List ℕ) (told : Told) (at : Place)
+whole_there : (method : List ℕ) (closed : Bool) (given : List ℕ) (told : ToldResponse)
+    (at : ResponsePlace)
     (ahead : List ℕ) → is_over at ≡ true → ReadAt method closed given told at ahead
     → (n : ℕ) × Tasks method false given closed (says told (ended n))
 whole_there method closed given told place.NoHead ahead over read = absurd (cc)
@@ -295,20 +298,22 @@ whole_there method closed given told (place.InBody at) ahead over read = absurd 
 whole_there method closed given told (place.Ended keeps) ahead over read = (read.place, read.whole)
 
 -- an answer says a mark of the bytes behind what was told, and comes with it
-record Marks (method : List ℕ) (closed : Bool) (given : List ℕ) (told : Told) (asked : Option Got)
+record Marks (method : List ℕ) (closed : Bool) (given : List ℕ) (told : ToldResponse)
+    (asked : Option Got)
     (over : Bool) (answer : Took HttpTask) : Type 0 where
   pub mark : ResponseMark
   pub said : Tasks method false given closed (says told mark)
   pub is : IsAnswerAt mark given asked over answer
 
 -- or it is a task of bytes that say more than was told
-record IsNext (method : List ℕ) (closed : Bool) (given : List ℕ) (told : Told)
+record IsNext (method : List ℕ) (closed : Bool) (given : List ℕ) (told : ToldResponse)
     (answer : Took HttpTask) : Type 0 where
   pub item : IsItem answer
   pub more : (mark : ResponseMark) → Tasks method false given closed (says told mark) → ⊥
 
 -- or memory is wanted
-data Says (method : List ℕ) (closed : Bool) (given : List ℕ) (told : Told) (asked : Option Got)
+data Says (method : List ℕ) (closed : Bool) (given : List ℕ) (told : ToldResponse)
+    (asked : Option Got)
     (over : Bool) (answer : Took HttpTask) : Type 0 where
   wants_memory : answer ≡ took.Failed fail.OutOfMemory
       → Says method closed given told asked over answer
@@ -318,7 +323,8 @@ data Says (method : List ℕ) (closed : Bool) (given : List ℕ) (told : Told) (
       → Says method closed given told asked over answer
 
 -- bytes that leave the response open come with an answer of the link
-open_marks : (method : List ℕ) (closed : Bool) (given : List ℕ) (told : Told) (asked : Option Got)
+open_marks : (method : List ℕ) (closed : Bool) (given : List ℕ) (told : ToldResponse)
+    (asked : Option Got)
     (over : Bool) (answer : Took HttpTask) → closed ≡ false
     → Tasks method false given false (says told still_open) → IsAnswerOfLink asked answer
     → Says method closed given told asked over answer
@@ -342,7 +348,8 @@ done_marks true rests n given asked = absurd (apart (rests refl))
 done_marks false rests n given asked = refl
 
 -- the link ended, and the response has not
-cut_marks : (method : List ℕ) (closed : Bool) (given : List ℕ) (told : Told) (asked : Option Got)
+cut_marks : (method : List ℕ) (closed : Bool) (given : List ℕ) (told : ToldResponse)
+    (asked : Option Got)
     (over : Bool) (error : Error) → closed ≡ true → error ≡ cut_off_error given
     → Tasks method false given true (says told cut_off)
     → Says method closed given told asked over (took.Failed (fail.Error error))
@@ -363,7 +370,8 @@ fault_marks fault asked error was is =
     (ap (λ (e : Error). took.Failed (fail.Error e)) is)
 
 -- a refusal
-refusal_says : (method : List ℕ) (before after : LinkState) (given came : List ℕ) (told : Told)
+refusal_says : (method : List ℕ) (before after : LinkState) (given came : List ℕ)
+    (told : ToldResponse)
     (asked : Option Got) (over : Bool) (error : Error) → Asks before after came asked
     → Refuses method after.ended given told asked error
     → Says method after.ended given told asked over (took.Failed (fail.Error error))
@@ -386,7 +394,8 @@ refusal_says method before after given came told asked over error asks
     (subst (λ (a : Option Got). Asks before after came a) was asks).0.ended is said
 
 -- the link gives nothing now
-pause_says : (method : List ℕ) (before after : LinkState) (given came : List ℕ) (told : Told)
+pause_says : (method : List ℕ) (before after : LinkState) (given came : List ℕ)
+    (told : ToldResponse)
     (asked : Option Got) (over : Bool) (why : Pause) → Asks before after came asked
     → asked ≡ Some (got_of why) → Tasks method false given false (says told still_open)
     → Says method after.ended given told asked over (took.Waited why)
@@ -401,7 +410,8 @@ pause_says method before after given came told asked over pause.Silent asks was 
     (subst (λ (a : Option Got). IsAnswerOfLink a (took.Waited pause.Silent)) (sym was) refl)
 
 -- what an answer says
-answer_says : (method : List ℕ) (before after : LinkState) (given came : List ℕ) (told : Told)
+answer_says : (method : List ℕ) (before after : LinkState) (given came : List ℕ)
+    (told : ToldResponse)
     (asked : Option Got) (old new : ResponseReading) (answer : Took HttpTask)
     → Asks before after came asked → (is_over old.place ≡ true → Rests old new asked answer)
     → Answers method after.ended given told asked old.place new answer
@@ -468,7 +478,8 @@ answer_says method before after given came told asked old new (took.Failed (fail
 -- ---- exactly
 
 -- an answer comes exactly where the bytes say so
-exactly : (method : List ℕ) (closed : Bool) (given : List ℕ) (told : Told) (asked : Option Got)
+exactly : (method : List ℕ) (closed : Bool) (given : List ℕ) (told : ToldResponse)
+    (asked : Option Got)
     (over : Bool) (answer : Took HttpTask) → Says method closed given told asked over answer
     → AnswersExactly method closed given told asked over answer
 exactly method closed given told asked over answer (Says.wants_memory is) = record {
@@ -494,9 +505,10 @@ pub reads_task : (method : List ℕ) (before after : LinkState) (old new : Respo
     → answer ≡ took.Failed (fail.Error (fault_error fault)))
     → (is_over old.place ≡ true → Rests old new asked answer)
     → AnswerCuts old.place (old.ahead ++ came) answer new.ahead
-    → ((given : List ℕ) (told : Told) (got : Got) → ReadSoFar method before.ended given told old
+    → ((given : List ℕ) (told : ToldResponse) (got : Got)
+    → ReadSoFar method before.ended given told old
     → asked ≡ Some got → Tasks method false given false (says told still_open))
-    → ((given : List ℕ) (told : Told) → ReadSoFar method before.ended given told old
+    → ((given : List ℕ) (told : ToldResponse) → ReadSoFar method before.ended given told old
     → Answers method after.ended (given ++ came) told asked old.place new answer)
     → ReadsTask method before after old new answer
 reads_task method before after old new answer came asked asks fails rests cuts needs answers =

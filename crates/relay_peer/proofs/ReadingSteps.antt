@@ -18,10 +18,10 @@ use Rattle.relay_h1.specs.Move.{ReadsMore}
 use Rattle.relay_h1.proofs.BodyReaderLemmas.{Takes-append}
 use Rattle.relay_peer.specs.declared.response_reading.Found.{Found}
 use Rattle.relay_peer.specs.declared.response_reading.Found.TheVariants as found
-use Rattle.relay_peer.specs.declared.response_reading.Place.{Place}
-use Rattle.relay_peer.specs.declared.response_reading.Place.TheVariants as place
+use Rattle.relay_peer.specs.declared.response_reading.ResponsePlace.{ResponsePlace}
+use Rattle.relay_peer.specs.declared.response_reading.ResponsePlace.TheVariants as place
 use Rattle.relay_peer.specs.declared.response_reading.ResponseReading.{ResponseReading}
-use Rattle.relay_peer.specs.ResponseReading.{Told, ReadAt, OpenAt, Finds, FindsAgain, FindsAtEnd, EndsThere, Answers, Refuses, ReadsTask, ReadsOn, Asks, Cuts, CutsBody, AnswerCuts, PassesOn, FoundCuts, is_over, got_of, fault_error}
+use Rattle.relay_peer.specs.ResponseReading.{ToldResponse, ReadAt, OpenAt, Finds, FindsAgain, FindsAtEnd, EndsThere, Answers, Refuses, ReadsTask, ReadsOn, Asks, Cuts, CutsBody, AnswerCuts, PassesOn, FoundCuts, is_over, got_of, fault_error}
 use Rattle.relay_peer.specs.ResponseReading as reading
 use Rattle.relay_peer.proofs.ExactLemmas.{reads_task}
 use Rattle.relay_peer.proofs.ResponseLemmas.{came_more, open_read, open_not_over, open_tells}
@@ -63,7 +63,7 @@ body_cuts old mid bytes between came rest task.Done passes cuts = tt
 body_cuts old mid bytes between came rest (task.Failed error) passes cuts = absurd cuts
 
 -- the same for a task at any place
-task_cuts : (old mid : Place) (bytes between came rest : List ℕ) (here : HttpTask)
+task_cuts : (old mid : ResponsePlace) (bytes between came rest : List ℕ) (here : HttpTask)
     → PassesOn old mid bytes between → Cuts mid (between ++ came) here rest
     → Cuts old (bytes ++ came) here rest
 task_cuts place.NoHead place.NoHead bytes between came rest here passes cuts = cuts
@@ -86,7 +86,7 @@ task_cuts (place.InBody body) (place.Ended keeps) bytes between came rest here p
 task_cuts (place.Ended keeps) mid bytes between came rest here passes cuts = absurd passes
 
 -- the same for an answer
-answer_cuts : (old mid : Place) (bytes between came rest : List ℕ) (answer : Took HttpTask)
+answer_cuts : (old mid : ResponsePlace) (bytes between came rest : List ℕ) (answer : Took HttpTask)
     → PassesOn old mid bytes between → AnswerCuts mid (between ++ came) answer rest
     → AnswerCuts old (bytes ++ came) answer rest
 answer_cuts old mid bytes between came rest (took.Item task) passes cuts =
@@ -104,7 +104,7 @@ took_of found.End = took.End
 took_of (found.Failed fail) = took.Failed fail
 
 -- what was found ahead, as an answer that is cut so
-found_cuts : (old new : Place) (bytes rest : List ℕ) (here : Found)
+found_cuts : (old new : ResponsePlace) (bytes rest : List ℕ) (here : Found)
     → FoundCuts old new bytes rest here → AnswerCuts old (bytes ++ []) (took_of here) rest
 found_cuts old new bytes rest (found.Task task) cuts =
     subst (λ (xs : List ℕ). Cuts old xs task rest) (sym (append-nil bytes)) cuts
@@ -122,7 +122,8 @@ IsFound found.End = Unit {0}
 IsFound (found.Failed fail) = Unit {0}
 
 -- what was found answers the call
-answers_found : (method : List ℕ) (closed : Bool) (given : List ℕ) (told : Told) (old : Place)
+answers_found : (method : List ℕ) (closed : Bool) (given : List ℕ) (told : ToldResponse)
+    (old : ResponsePlace)
     (new : ResponseReading) (here : Found) → IsFound here
     → Finds method closed given told old new.place new.ahead here
     → Answers method closed given told None old new (took_of here)
@@ -143,7 +144,7 @@ nothing_asked got same = cc
 -- a call that found something ahead
 pub reads_found : (method : List ℕ) (link : LinkState) (old new : ResponseReading) (here : Found)
     → IsFound here
-    → ((closed : Bool) (given : List ℕ) (told : Told)
+    → ((closed : Bool) (given : List ℕ) (told : ToldResponse)
     → ReadAt method closed given told old.place old.ahead
     → Finds method closed given told old.place new.place new.ahead here)
     → (is_over old.place ≡ true → (here ≡ found.End) × (new ≡ old))
@@ -167,8 +168,9 @@ reads_found method link old new here is finds rests cuts =
 -- ---- one read of the link
 
 -- an answer that is not the end says nothing of the place before
-answers_as : (method : List ℕ) (closed : Bool) (given : List ℕ) (told : Told) (asked : Option Got)
-    (mid old : Place) (new : ResponseReading) (answer : Took HttpTask) → is_over mid ≡ false
+answers_as : (method : List ℕ) (closed : Bool) (given : List ℕ) (told : ToldResponse)
+    (asked : Option Got)
+    (mid old : ResponsePlace) (new : ResponseReading) (answer : Took HttpTask) → is_over mid ≡ false
     → Answers method closed given told asked mid new answer
     → Answers method closed given told asked old new answer
 answers_as method closed given told asked mid old new (took.Item task) going answers = answers
@@ -191,7 +193,7 @@ nothing_is_no_end same = cc
 -- a call that found nothing ahead and read the link
 pub reads_on : (method : List ℕ) (before after : LinkState) (old mid new : ResponseReading)
     (answer : Took HttpTask)
-    → ((closed : Bool) (given : List ℕ) (told : Told)
+    → ((closed : Bool) (given : List ℕ) (told : ToldResponse)
     → ReadAt method closed given told old.place old.ahead
     → OpenAt method given told mid.place mid.ahead)
     → (is_over old.place ≡ true → (found.Nothing ≡ found.End) × (mid ≡ old))
@@ -210,7 +212,7 @@ reads_on method before after old mid new answer opens rests passes reads =
     answer (open_not_over method given told mid.place mid.ahead still)
     (reads.answers given told still))
 
--- want of memory, before the link was asked
+-- out of memory, before the link was asked
 pub wants_memory : (method : List ℕ) (before after : LinkState) (old : ResponseReading)
     (ahead : List ℕ) → after ≡ before → ahead ≡ old.ahead
     → ReadsOn method before after old (record old { ahead = ahead }) (took.Failed fail.OutOfMemory)
@@ -289,8 +291,8 @@ link_fails method before after old ahead fault error asks kept is = record {
 }
 
 -- what was found after bytes came answers the call
-answers_again : (method : List ℕ) (closed : Bool) (given : List ℕ) (told : Told) (n : ℕ)
-    (old : Place) (new : ResponseReading) (answer : Took HttpTask) → is_over old ≡ false
+answers_again : (method : List ℕ) (closed : Bool) (given : List ℕ) (told : ToldResponse) (n : ℕ)
+    (old : ResponsePlace) (new : ResponseReading) (answer : Took HttpTask) → is_over old ≡ false
     → FindsAgain method closed given told old new answer
     → Answers method closed given told (Some (got.Bytes n)) old new answer
 answers_again method closed given told n old new (took.Item task) going finds =
@@ -315,7 +317,7 @@ answers_again method closed given told n old new (took.Failed (fail.Error error)
 pub link_gives : (method : List ℕ) (before after : LinkState) (old new : ResponseReading)
     (ahead : List ℕ) (n : ℕ) (answer : Took HttpTask)
     → ReadsMore before after old.ahead ahead (got.Bytes n)
-    → ((closed : Bool) (given : List ℕ) (told : Told)
+    → ((closed : Bool) (given : List ℕ) (told : ToldResponse)
     → ReadAt method closed given told old.place ahead
     → FindsAgain method closed given told old.place new answer)
     → AnswerCuts old.place ahead answer new.ahead
@@ -337,7 +339,8 @@ link_gives method before after old new ahead n answer more finds cuts = record {
 }
 
 -- what follows from the end of the link answers the call
-answers_end : (method given : List ℕ) (told : Told) (old : Place) (new : ResponseReading)
+answers_end : (method given : List ℕ) (told : ToldResponse) (old : ResponsePlace)
+    (new : ResponseReading)
     (answer : Took HttpTask) → EndsThere method given told new answer
     → Answers method true given told (Some got.End) old new answer
 answers_end method given told old new (took.Item task.Done) ends =
@@ -358,7 +361,7 @@ answers_end method given told old new (took.Failed (fail.Error error)) ends =
 pub link_ends : (method : List ℕ) (before after : LinkState) (old new : ResponseReading)
     (ahead : List ℕ) (answer : Took HttpTask)
     → Asks before after [] (Some got.End) → after.ended ≡ true → ahead ≡ old.ahead
-    → ((method given : List ℕ) (told : Told) → OpenAt method given told old.place ahead
+    → ((method given : List ℕ) (told : ToldResponse) → OpenAt method given told old.place ahead
     → EndsThere method given told new answer)
     → ((bytes rest : List ℕ) → AnswerCuts old.place bytes answer rest)
     → ReadsOn method before after old new answer

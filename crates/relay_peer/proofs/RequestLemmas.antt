@@ -12,8 +12,8 @@ use Rattle.relay_tasks.specs.declared.context.Context.TheVariants.{BadFraming}
 use Rattle.relay_tasks.specs.declared.error.Error.{Error}
 use Rattle.relay_tasks.specs.declared.error.ErrorSource.TheVariants.{Internal}
 use Rattle.relay_h1.specs.Wire.{request_text}
-use Rattle.relay_peer.specs.declared.request_writing.Request.{Request}
-use Rattle.relay_peer.specs.declared.request_writing.Request.TheVariants as request
+use Rattle.relay_peer.specs.declared.request_writing.RequestPlace.{RequestPlace}
+use Rattle.relay_peer.specs.declared.request_writing.RequestPlace.TheVariants as request
 use Rattle.relay_peer.specs.declared.request_writing.RequestWriting.{RequestWriting}
 use Rattle.relay_peer.specs.RequestWriting.{Sent, SentSoFar, Stands, with_head, has_head, body_framing}
 use Rattle.relay_peer.specs.RequestWriting as writing
@@ -33,7 +33,7 @@ none_written given = record {
 }
 
 -- no head was queued
-no_head : (at : Request) → has_head at ≡ false → at ≡ request.NoHead
+no_head : (at : RequestPlace) → has_head at ≡ false → at ≡ request.NoHead
 no_head request.NoHead none = refl
 no_head (request.Sending sending) none = cc
 
@@ -74,7 +74,8 @@ first_head sent taken old unsent head rest framed none queued so_far =
     (record { request = request.Sending (record { head = head; body = rest }); unsent = xs }))
     (sym queued)
     (head_queued sent taken old.unsent head rest framed
-    (subst (λ (r : Request). SentSoFar sent taken (record { request = r; unsent = old.unsent }))
+    (subst (λ (r : RequestPlace).
+    SentSoFar sent taken (record { request = r; unsent = old.unsent }))
     none_yet so_far))
 
 -- the head's framing was refused

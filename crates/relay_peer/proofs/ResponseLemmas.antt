@@ -31,16 +31,16 @@ use Rattle.relay_h1.proofs.HeadEndLemmas.{head_end-within}
 use Rattle.relay_h1.proofs.TasksLemmas.{Informs-within, Informs-append, Informs-more}
 use Rattle.relay_h1.proofs.VerdictLemmas.{HasResponse-append}
 use Rattle.relay_peer.specs.declared.response_reading.OpenBody.{OpenBody}
-use Rattle.relay_peer.specs.declared.response_reading.Place.{Place}
+use Rattle.relay_peer.specs.declared.response_reading.ResponsePlace.{ResponsePlace}
 use Rattle.relay_peer.specs.declared.response_reading.ResponseReading.{ResponseReading}
-use Rattle.relay_peer.specs.declared.response_reading.Place.TheVariants as place
-use Rattle.relay_peer.specs.ResponseReading.{Told, untold, ReadSoFar, says, with_head, cut_off_error, is_over, IsAwaitingHead, lets_keep, place_behind, place_behind_final, IsAwaiting, IsInBody, IsWhole, ReadAt, OpenAt, Finds, FindsAtEnd}
+use Rattle.relay_peer.specs.declared.response_reading.ResponsePlace.TheVariants as place
+use Rattle.relay_peer.specs.ResponseReading.{ToldResponse, untold, ReadSoFar, says, with_head, cut_off_error, is_over, IsAwaitingHead, lets_keep, place_behind, place_behind_final, IsAwaiting, IsInBody, IsWhole, ReadAt, OpenAt, Finds, FindsAtEnd}
 use Rattle.relay_peer.specs.declared.response_reading.Found.TheVariants as found
 
 -- ---- what the bytes say
 
 -- the final head stands, and this is what its body says
-pub tells_final : (method : List ℕ) (closed : Bool) (given : List ℕ) (told : Told) (n : ℕ)
+pub tells_final : (method : List ℕ) (closed : Bool) (given : List ℕ) (told : ToldResponse) (n : ℕ)
     (head : ResponseHead) (framing : Framing) (len : ℕ) (text : BodyText)
     → Informs method false given told.informed n
     → HasResponse method false (drop n given) head framing len
@@ -61,7 +61,8 @@ tells_final method closed given told n head framing len text informs has is_fina
     here)
 
 -- no final head stands yet, and one still may
-tells_open : (method : List ℕ) (closed : Bool) (given : List ℕ) (told : Told) (ahead : List ℕ)
+tells_open : (method : List ℕ) (closed : Bool) (given : List ℕ) (told : ToldResponse)
+    (ahead : List ℕ)
     → IsAwaiting method given told ahead → IsOpen ahead
     → Tasks method false given closed (says told (open_mark closed))
 tells_open method closed given told ahead a still =
@@ -77,7 +78,8 @@ tells_open method closed given told ahead a still =
 -- ---- heads
 
 -- the reading that awaits its final head
-pub awaiting : (method : List ℕ) (closed : Bool) (given : List ℕ) (told : Told) (at : Place)
+pub awaiting : (method : List ℕ) (closed : Bool) (given : List ℕ) (told : ToldResponse)
+    (at : ResponsePlace)
     (ahead : List ℕ) → IsAwaitingHead at → ReadAt method closed given told at ahead
     → IsAwaiting method given told ahead
 awaiting method closed given told place.NoHead ahead is read = read.0
@@ -103,7 +105,8 @@ ends_at_once framing.UntilClose bytes done = cc
 ends_at_once framing.Tunnel bytes done = cc
 
 -- behind the final head
-behind_final : (method : List ℕ) (closed : Bool) (given : List ℕ) (told : Told) (ahead : List ℕ)
+behind_final : (method : List ℕ) (closed : Bool) (given : List ℕ) (told : ToldResponse)
+    (ahead : List ℕ)
     (head : ResponseHead) (framing : Framing) (len : ℕ) (done : Bool)
     → is_done (first_state framing) ≡ done → is_informational head.status ≡ false
     → IsAwaiting method given told ahead → HasResponse method false ahead head framing len
@@ -113,7 +116,7 @@ behind_final : (method : List ℕ) (closed : Bool) (given : List ℕ) (told : To
     (record { reader = first_state framing; keeps = lets_keep head framing })) (drop len ahead)
 behind_final method closed given told ahead head framing len true done final a has =
     let there = subst (λ (xs : List ℕ). HasResponse method false xs head framing len) a.rest has in
-    let now : Told = record told { final = Some head } in
+    let now : ToldResponse = record told { final = Some head } in
     record {
       n = a.n;
       head = head;
@@ -153,7 +156,8 @@ behind_final method closed given told ahead head framing len false done final a 
     }
 
 -- behind a head
-behind_head : (method : List ℕ) (closed : Bool) (given : List ℕ) (told : Told) (ahead : List ℕ)
+behind_head : (method : List ℕ) (closed : Bool) (given : List ℕ) (told : ToldResponse)
+    (ahead : List ℕ)
     (head : ResponseHead) (framing : Framing) (len : ℕ) (inform : Bool)
     → is_informational head.status ≡ inform → IsAwaiting method given told ahead
     → HasResponse method false ahead head framing len
@@ -181,7 +185,8 @@ behind_head method closed given told ahead head framing len false informs a has 
     informs a has
 
 -- the head that stands ahead was told
-pub head_told : (method : List ℕ) (closed : Bool) (given : List ℕ) (told : Told) (ahead : List ℕ)
+pub head_told : (method : List ℕ) (closed : Bool) (given : List ℕ) (told : ToldResponse)
+    (ahead : List ℕ)
     (head : ResponseHead) (framing : Framing) (len : ℕ) → IsAwaiting method given told ahead
     → HasResponse method false ahead head framing len
     → ReadAt method closed given (with_head told head) (place_behind head framing) (drop len ahead)
@@ -207,7 +212,8 @@ rest_of_body given front rest begins split =
     ∙ ap (λ (k : ℕ). drop (begins + k) given) (sym here)
 
 -- the body goes on
-pub body_goes_on : (method given : List ℕ) (told : Told) (old new : OpenBody) (ahead rest : List ℕ)
+pub body_goes_on : (method given : List ℕ) (told : ToldResponse) (old new : OpenBody)
+    (ahead rest : List ℕ)
     (bytes : List ℕ) (here : IsInBody method given told old ahead)
     → SoFar here.framing (drop (here.n + here.len) given) bytes new.reader rest
     → is_done new.reader ≡ false → new.keeps ≡ old.keeps
@@ -227,7 +233,8 @@ body_goes_on method given told old new ahead rest bytes here so_far goes_on kept
 }
 
 -- the body ended with what was read of it
-pub body_ended : (method : List ℕ) (closed : Bool) (given : List ℕ) (told : Told) (old : OpenBody)
+pub body_ended : (method : List ℕ) (closed : Bool) (given : List ℕ) (told : ToldResponse)
+    (old : OpenBody)
     (ahead rest : List ℕ) (bytes : List ℕ) (new : OpenBody)
     (here : IsInBody method given told old ahead)
     → SoFar here.framing (drop (here.n + here.len) given) bytes new.reader rest
@@ -236,7 +243,7 @@ pub body_ended : (method : List ℕ) (closed : Bool) (given : List ℕ) (told : 
     → IsWhole method closed given (record told { body = bytes }) old.keeps rest
 body_ended method closed given told old ahead rest bytes new here so_far ended_there =
     let begins = here.n + here.len in
-    let now : Told = record told { body = bytes } in
+    let now : ToldResponse = record told { body = bytes } in
     record {
       n = here.n;
       head = here.head;
@@ -266,8 +273,8 @@ final_within method given heads n head framing len informs has =
     let size = length-drop n given in
     (ends.0, omega (arith, ends.1, inside, size))
 
--- heads that informed stay when more bytes come
-awaits_more : (method given came : List ℕ) (told : Told) (ahead : List ℕ)
+-- informational heads stay when more bytes come
+awaits_more : (method given came : List ℕ) (told : ToldResponse) (ahead : List ℕ)
     → IsAwaiting method given told ahead
     → IsAwaiting method (given ++ came) told (ahead ++ came)
 awaits_more method given came told ahead a = record {
@@ -281,7 +288,8 @@ awaits_more method given came told ahead a = record {
 }
 
 -- so does a body
-body_awaits_more : (method given came : List ℕ) (told : Told) (at : OpenBody) (ahead : List ℕ)
+body_awaits_more : (method given came : List ℕ) (told : ToldResponse) (at : OpenBody)
+    (ahead : List ℕ)
     → IsInBody method given told at ahead → IsInBody method (given ++ came) told at (ahead ++ came)
 body_awaits_more method given came told at ahead here =
     let inside = Informs-within method false given told.informed here.n here.informs in
@@ -310,7 +318,8 @@ body_awaits_more method given came told at ahead here =
     }
 
 -- more bytes came behind those ahead, where nothing stood
-pub came_more : (method : List ℕ) (closed : Bool) (given came : List ℕ) (told : Told) (at : Place)
+pub came_more : (method : List ℕ) (closed : Bool) (given came : List ℕ) (told : ToldResponse)
+    (at : ResponsePlace)
     (ahead : List ℕ) → OpenAt method given told at ahead
     → ReadAt method closed (given ++ came) told at (ahead ++ came)
 came_more method closed given came told place.NoHead ahead still =
@@ -324,7 +333,8 @@ came_more method closed given came told (place.InBody at) ahead still =
 came_more method closed given came told (place.Ended keeps) ahead still = absurd still
 
 -- what stands open is read up to there
-pub open_read : (method : List ℕ) (closed : Bool) (given : List ℕ) (told : Told) (at : Place)
+pub open_read : (method : List ℕ) (closed : Bool) (given : List ℕ) (told : ToldResponse)
+    (at : ResponsePlace)
     (ahead : List ℕ) → OpenAt method given told at ahead → ReadAt method closed given told at ahead
 open_read method closed given told place.NoHead ahead still = (still.0, still.1)
 open_read method closed given told place.Informed ahead still = (still.0, still.1)
@@ -332,7 +342,8 @@ open_read method closed given told (place.InBody at) ahead still = still.0
 open_read method closed given told (place.Ended keeps) ahead still = absurd still
 
 -- and has not ended
-pub open_not_over : (method given : List ℕ) (told : Told) (at : Place) (ahead : List ℕ)
+pub open_not_over : (method given : List ℕ) (told : ToldResponse) (at : ResponsePlace)
+    (ahead : List ℕ)
     → OpenAt method given told at ahead → is_over at ≡ false
 open_not_over method given told place.NoHead ahead still = refl
 open_not_over method given told place.Informed ahead still = refl
@@ -351,7 +362,7 @@ open_is_open framing.UntilClose begins all = refl
 open_is_open framing.Tunnel begins all = refl
 
 -- the bytes so far leave the response open
-pub open_tells : (method given : List ℕ) (told : Told) (at : Place) (ahead : List ℕ)
+pub open_tells : (method given : List ℕ) (told : ToldResponse) (at : ResponsePlace) (ahead : List ℕ)
     → OpenAt method given told at ahead → Tasks method false given false (says told still_open)
 open_tells method given told place.NoHead ahead still =
     tells_open method false given told ahead still.0 still.2
@@ -383,7 +394,7 @@ ended_mark framing.UntilClose begins all may = refl
 ended_mark framing.Tunnel begins all may = refl
 
 -- a link that ended inside a body that says its end cut the response off
-pub body_cut_off : (method given : List ℕ) (told : Told) (at : OpenBody) (ahead : List ℕ)
+pub body_cut_off : (method given : List ℕ) (told : ToldResponse) (at : OpenBody) (ahead : List ℕ)
     (here : IsInBody method given told at ahead)
     → Body here.framing (drop (here.n + here.len) given) (open_text told.body)
     → may_end here.framing ≡ false → Tasks method false given true (says told cut_off)
@@ -407,7 +418,7 @@ no_end_said framing.UntilClose bytes got still may said = cc
 no_end_said framing.Tunnel bytes got still may said = cc
 
 -- a body that lasts until the link ends has ended with it
-pub body_ends_there : (method given : List ℕ) (told : Told) (at : OpenBody) (ahead : List ℕ)
+pub body_ends_there : (method given : List ℕ) (told : ToldResponse) (at : OpenBody) (ahead : List ℕ)
     (here : IsInBody method given told at ahead)
     → Body here.framing (drop (here.n + here.len) given) (open_text told.body)
     → may_end here.framing ≡ true → IsWhole method true given told at.keeps ahead
@@ -430,7 +441,7 @@ body_ends_there method given told at ahead here still may = record {
 }
 
 -- some bytes came where a final head stands
-pub body_has_come : (method given : List ℕ) (told : Told) (at : OpenBody) (ahead : List ℕ)
+pub body_has_come : (method given : List ℕ) (told : ToldResponse) (at : OpenBody) (ahead : List ℕ)
     → IsInBody method given told at ahead → 0 < length given
 body_has_come method given told at ahead here =
     let within = final_within method given told.informed here.n here.head here.framing here.len
@@ -474,11 +485,11 @@ run_goes_on state.Tunnel bytes some = refl
 run_goes_on state.Done bytes some = absurd (omega arith)
 
 -- the same of what was told, where an answer brought no byte
-said_nothing : (told : Told) → told.body ++ [] ≡ told.body
+said_nothing : (told : ToldResponse) → told.body ++ [] ≡ told.body
 said_nothing told = append-nil told.body
 
 -- the body ended behind what was told
-pub body_ended_here : (method : List ℕ) (closed : Bool) (given : List ℕ) (told : Told)
+pub body_ended_here : (method : List ℕ) (closed : Bool) (given : List ℕ) (told : ToldResponse)
     (old : OpenBody) (ahead rest : List ℕ) (new : OpenBody)
     (here : IsInBody method given told old ahead)
     → SoFar here.framing (drop (here.n + here.len) given) (told.body ++ []) new.reader rest
@@ -492,7 +503,8 @@ body_ended_here method closed given told old ahead rest new here so_far ended_th
     ended_there)
 
 -- the body goes on behind what was told
-pub body_stays : (method given : List ℕ) (told : Told) (old new : OpenBody) (ahead rest : List ℕ)
+pub body_stays : (method given : List ℕ) (told : ToldResponse) (old new : OpenBody)
+    (ahead rest : List ℕ)
     (here : IsInBody method given told old ahead)
     → SoFar here.framing (drop (here.n + here.len) given) (told.body ++ []) new.reader rest
     → is_done new.reader ≡ false → new.keeps ≡ old.keeps → IsInBody method given told new rest
@@ -502,7 +514,8 @@ body_stays method given told old new ahead rest here so_far going kept =
     (said_nothing told) so_far) going kept
 
 -- nothing stands ahead of a body
-pub body_open : (method given : List ℕ) (told : Told) (old new : OpenBody) (ahead rest : List ℕ)
+pub body_open : (method given : List ℕ) (told : ToldResponse) (old new : OpenBody)
+    (ahead rest : List ℕ)
     (here : IsInBody method given told old ahead)
     → SoFar here.framing (drop (here.n + here.len) given) (told.body ++ []) new.reader rest
     → Body here.framing (drop (here.n + here.len) given) (open_text (told.body ++ []))
@@ -517,12 +530,12 @@ body_open method given told old new ahead rest here so_far still kept = (
 )
 
 -- a broken body
-pub record IsBroken (method : List ℕ) (closed : Bool) (given : List ℕ) (told : Told)
+pub record IsBroken (method : List ℕ) (closed : Bool) (given : List ℕ) (told : ToldResponse)
     (new : OpenBody) (rest : List ℕ) : Type 0 where
   pub says_so : Tasks method false given closed (says told broken)
   pub read : IsInBody method given told new rest
 
-pub body_broken : (method : List ℕ) (closed : Bool) (given : List ℕ) (told : Told)
+pub body_broken : (method : List ℕ) (closed : Bool) (given : List ℕ) (told : ToldResponse)
     (old new : OpenBody) (ahead rest : List ℕ) (here : IsInBody method given told old ahead)
     → SoFar here.framing (drop (here.n + here.len) given) (told.body ++ []) new.reader rest
     → Body here.framing (drop (here.n + here.len) given)
@@ -550,7 +563,7 @@ may_not_end true done never = cc
 may_not_end false done never = refl
 
 -- the body has ended with the link
-pub ends_there : (method given : List ℕ) (told : Told) (at : OpenBody) (ahead : List ℕ)
+pub ends_there : (method given : List ℕ) (told : ToldResponse) (at : OpenBody) (ahead : List ℕ)
     (still : OpenAt method given told (place.InBody at) ahead)
     → (may_end still.0.framing || is_done at.reader) ≡ true
     → IsWhole method true given told at.keeps ahead
@@ -571,7 +584,7 @@ cut_off_late (b ∷ given) some =
     ap error came
 
 -- the link ended inside the body
-pub cut_there : (method given : List ℕ) (told : Told) (old new : OpenBody) (ahead : List ℕ)
+pub cut_there : (method given : List ℕ) (told : ToldResponse) (old new : OpenBody) (ahead : List ℕ)
     (inner outer : Error) (still : OpenAt method given told (place.InBody old) ahead)
     → inner ≡ reader.closed → (may_end still.0.framing || is_done old.reader) ≡ false
     → new.reader ≡ old.reader → outer ≡ record inner { esource = Upstream }
@@ -587,7 +600,7 @@ cut_there method given told old new ahead inner outer still is never same out = 
 )
 
 -- the link ended before the final head
-pub head_cut : (method given : List ℕ) (told : Told) (at : Place) (ahead : List ℕ)
+pub head_cut : (method given : List ℕ) (told : ToldResponse) (at : ResponsePlace) (ahead : List ℕ)
     → IsAwaitingHead at → OpenAt method given told at ahead
     → FindsAtEnd method given told at ahead (found.Failed (fail.Error (cut_off_error given)))
 head_cut method given told place.NoHead ahead is still =
@@ -604,7 +617,8 @@ has_come given some = grind (arith, nat_tests)
 -- ---- heads that are refused
 
 -- what was refused in front of the final head
-tells_refused : (method : List ℕ) (closed : Bool) (given : List ℕ) (told : Told) (ahead : List ℕ)
+tells_refused : (method : List ℕ) (closed : Bool) (given : List ℕ) (told : ToldResponse)
+    (ahead : List ℕ)
     (why : Context) → IsAwaiting method given told ahead → IsRefusedResponse method false ahead why
     → Tasks method false given closed (says told broken)
 tells_refused method closed given told ahead why a refused =
@@ -618,7 +632,8 @@ tells_refused method closed given told ahead why a refused =
     here)
 
 -- a verdict that no head stands and none will
-pub head_refused : (method : List ℕ) (closed : Bool) (given : List ℕ) (told : Told) (at : Place)
+pub head_refused : (method : List ℕ) (closed : Bool) (given : List ℕ) (told : ToldResponse)
+    (at : ResponsePlace)
     (ahead : List ℕ) (why : Fail) → IsAwaitingHead at
     → JudgesResponse method false ahead (Err why) → ReadAt method closed given told at ahead
     → Finds method closed given told at at ahead (found.Failed why)
@@ -632,7 +647,8 @@ head_refused method closed given told at ahead (fail.Error error) is verdict rea
 )
 
 -- a verdict that a head may still come
-pub head_open : (method : List ℕ) (closed : Bool) (given : List ℕ) (told : Told) (at : Place)
+pub head_open : (method : List ℕ) (closed : Bool) (given : List ℕ) (told : ToldResponse)
+    (at : ResponsePlace)
     (ahead : List ℕ) → IsAwaitingHead at → IsOpen ahead
     → ReadAt method closed given told at ahead → OpenAt method given told at ahead
 head_open method closed given told place.NoHead ahead is still read = (read.0, read.1, still)
@@ -646,7 +662,7 @@ head_open method closed given told (place.Ended keeps) ahead is still read = abs
 pub read_nothing : (method : List ℕ) (closed : Bool) (new : ResponseReading)
     → new.place ≡ place.NoHead → new.ahead ≡ [] → ReadSoFar method closed [] untold new
 read_nothing method closed new at ahead = record {
-  at = subst (λ (p : Place). ReadAt method closed [] untold p new.ahead) (sym at)
+  at = subst (λ (p : ResponsePlace). ReadAt method closed [] untold p new.ahead) (sym at)
       (subst (λ (xs : List ℕ). ReadAt method closed [] untold place.NoHead xs) (sym ahead) (
         record {
           n = 0;

@@ -10,8 +10,8 @@ use Rattle.relay_h1.specs.BodyWire.{HasWritten, after_pieces, body_text, is_full
 use Rattle.relay_h1.specs.Framing.{request_framing}
 use Rattle.relay_h1.specs.Options.{closes}
 use Rattle.relay_h1.specs.Wire.{request_text}
-use Rattle.relay_peer.specs.declared.request_writing.Request.{Request}
-use Rattle.relay_peer.specs.declared.request_writing.Request.TheVariants as request
+use Rattle.relay_peer.specs.declared.request_writing.RequestPlace.{RequestPlace}
+use Rattle.relay_peer.specs.declared.request_writing.RequestPlace.TheVariants as request
 use Rattle.relay_peer.specs.declared.request_writing.RequestWriting.{RequestWriting}
 
 -- ---- what a request is sent as
@@ -54,32 +54,32 @@ with_end (whole head pieces) = whole head pieces
 -- ---- where the writing is
 
 -- how what is left of the body is framed
-abbrev pub rest_of : Request → Framing
+abbrev pub rest_of : RequestPlace → Framing
 rest_of request.NoHead = framing.Empty
 rest_of (request.Sending sending) = sending.body
 
 -- the method of the request; a response that comes before any request is read as one to GET
-abbrev pub method_of : Request → List ℕ
+abbrev pub method_of : RequestPlace → List ℕ
 method_of request.NoHead = codes "GET"
 method_of (request.Sending sending) = sending.head.method
 
 -- the head of the request, once one was queued
-abbrev pub head_in : Request → Option RequestHead
+abbrev pub head_in : RequestPlace → Option RequestHead
 head_in request.NoHead = None
 head_in (request.Sending sending) = Some sending.head
 
 -- a head was queued
-abbrev pub has_head : Request → Bool
+abbrev pub has_head : RequestPlace → Bool
 has_head request.NoHead = false
 has_head (request.Sending sending) = true
 
 -- the head was queued, and so was all of the body
-abbrev pub is_whole : Request → Bool
+abbrev pub is_whole : RequestPlace → Bool
 is_whole request.NoHead = false
 is_whole (request.Sending sending) = is_full sending.body
 
 -- the head has no option `close`
-abbrev pub lets_keep_request : Request → Bool
+abbrev pub lets_keep_request : RequestPlace → Bool
 lets_keep_request request.NoHead = false
 lets_keep_request (request.Sending sending) = not (closes sending.head.fields)
 
@@ -89,7 +89,7 @@ may_keep_writing writing =
     is_whole writing.request && (lets_keep_request writing.request && (length writing.unsent == 0))
 
 -- the writing stands where that was queued
-abbrev pub Stands : Sent → Request → Type 0
+abbrev pub Stands : Sent → RequestPlace → Type 0
 Stands nothing request.NoHead = Unit {0}
 Stands nothing (request.Sending sending) = ⊥
 Stands (begun head pieces) request.NoHead = ⊥

@@ -37,36 +37,36 @@ use Rattle.relay_h1.specs.Verdict.{HasResponse, IsOpen, refused_from}
 use Rattle.relay_peer.specs.declared.response_reading.Found.{Found}
 use Rattle.relay_peer.specs.declared.response_reading.Found.TheVariants as found
 use Rattle.relay_peer.specs.declared.response_reading.OpenBody.{OpenBody}
-use Rattle.relay_peer.specs.declared.response_reading.Place.{Place}
-use Rattle.relay_peer.specs.declared.response_reading.Place.TheVariants as place
+use Rattle.relay_peer.specs.declared.response_reading.ResponsePlace.{ResponsePlace}
+use Rattle.relay_peer.specs.declared.response_reading.ResponsePlace.TheVariants as place
 use Rattle.relay_peer.specs.declared.response_reading.ResponseReading.{ResponseReading}
-use Rattle.relay_peer.specs.declared.response_reading.Step.{Step}
+use Rattle.relay_peer.specs.declared.response_reading.ReadingStep.{ReadingStep}
 
 -- ---- what tasks tell
 
--- what tasks tell of a response: its heads that only inform, its final head, the bytes of its body
-pub record Told : Type 0 where
+-- what tasks tell of a response: its informational heads, its final head, the bytes of its body
+pub record ToldResponse : Type 0 where
   pub informed : List ResponseHead
   pub final : Option ResponseHead
   pub body : List ℕ
 
 -- nothing was told yet
-abbrev pub untold : Told
+abbrev pub untold : ToldResponse
 untold = record { informed = []; final = None; body = [] }
 
 -- what is told with one head more
-abbrev pub with_head : Told → ResponseHead → Told
+abbrev pub with_head : ToldResponse → ResponseHead → ToldResponse
 with_head told head =
     if is_informational head.status then record told { informed = told.informed ++ head ∷ [] }
     else record told { final = Some head }
 
 -- what is told with one piece of the body more
-abbrev pub with_piece : Told → Option (List ℕ) → Told
+abbrev pub with_piece : ToldResponse → Option (List ℕ) → ToldResponse
 with_piece told None = told
 with_piece told (Some piece) = record told { body = told.body ++ piece }
 
 -- what is told with one task more
-abbrev pub with_task : Told → HttpTask → Told
+abbrev pub with_task : ToldResponse → HttpTask → ToldResponse
 with_task told (task.Header head end) = with_head told head
 with_task told (task.Body piece end) = with_piece told piece
 with_task told (task.UpgradedBody piece end) = told
@@ -81,7 +81,7 @@ IsPiece (Some piece) = 0 < length piece
 
 -- a task that an HTTP/1 response gives behind what was told: a head, where no final one was told,
 -- some bytes of the body, or the end alone
-abbrev pub IsResponseTask : Told → HttpTask → Type 0
+abbrev pub IsResponseTask : ToldResponse → HttpTask → Type 0
 IsResponseTask told (task.Header head end) = told.final ≡ None
 IsResponseTask told (task.Body piece end) = IsPiece piece
 IsResponseTask told (task.UpgradedBody piece end) = ⊥
@@ -107,7 +107,7 @@ body_len (took.Waited pause) = 0
 body_len took.End = 0
 body_len (took.Failed fail) = 0
 
--- the answer is an error; want of memory is none
+-- the answer is an error; out of memory is none
 abbrev pub is_error : Took HttpTask → Bool
 is_error (took.Item task) = false
 is_error took.More = false
@@ -137,7 +137,7 @@ abbrev pub counted : ℕ → ℕ → ℕ
 counted count more = min (count + more) last_count
 
 -- what is told, and the mark of the response
-abbrev pub says : Told → ResponseMark → ResponseText
+abbrev pub says : ToldResponse → ResponseMark → ResponseText
 says told mark =
     record { informed = told.informed; final = told.final; body = told.body; mark = mark }
 
@@ -163,58 +163,58 @@ lets_keep head framing =
 -- ---- where the reading is
 
 -- the response has ended
-abbrev pub is_over : Place → Bool
+abbrev pub is_over : ResponsePlace → Bool
 is_over place.NoHead = false
 is_over place.Informed = false
 is_over (place.InBody body) = false
 is_over (place.Ended keeps) = true
 
 -- the response has ended, and its head and framing let the link be kept
-abbrev pub keeps_at : Place → Bool
+abbrev pub keeps_at : ResponsePlace → Bool
 keeps_at place.NoHead = false
 keeps_at place.Informed = false
 keeps_at (place.InBody body) = false
 keeps_at (place.Ended keeps) = keeps
 
 -- the final head has not come
-abbrev pub IsAwaitingHead : Place → Type 0
+abbrev pub IsAwaitingHead : ResponsePlace → Type 0
 IsAwaitingHead place.NoHead = Unit {0}
 IsAwaitingHead place.Informed = Unit {0}
 IsAwaitingHead (place.InBody body) = ⊥
 IsAwaitingHead (place.Ended keeps) = ⊥
 
 -- where the reading is behind a final head: its body has ended at once, or is to come
-abbrev pub place_behind_final : ResponseHead → Framing → Place
+abbrev pub place_behind_final : ResponseHead → Framing → ResponsePlace
 place_behind_final head framing =
     if is_done (first_state framing) then place.Ended (lets_keep head framing)
     else place.InBody
     (record { reader = first_state framing; keeps = lets_keep head framing })
 
 -- where the reading is behind a head
-abbrev pub place_behind : ResponseHead → Framing → Place
+abbrev pub place_behind : ResponseHead → Framing → ResponsePlace
 place_behind head framing =
     if is_informational head.status then place.Informed else place_behind_final head framing
 
 -- the step over a head: the task carries the end where the body has ended at once
-abbrev pub step_over : ResponseHead → Framing → Step
+abbrev pub step_over : ResponseHead → Framing → ReadingStep
 step_over head framing =
     record {
       place = place_behind head framing;
       found = found.Task (task.Header head (is_over (place_behind head framing)));
     }
 
--- of the bytes that the link gave, the first were the heads that informed, and the rest is ahead
-pub record IsAwaiting (method given : List ℕ) (told : Told) (ahead : List ℕ) : Type 0 where
+-- of the bytes that the link gave, the first were the informational heads, and the rest is ahead
+pub record IsAwaiting (method given : List ℕ) (told : ToldResponse) (ahead : List ℕ) : Type 0 where
   pub n : ℕ
   pub informs : Informs method false given told.informed n
   pub rest : ahead ≡ drop n given
   pub no_final : told.final ≡ None
   pub no_body : told.body ≡ []
 
--- of the bytes that the link gave, the first were the heads that informed and the final head, and
+-- of the bytes that the link gave, the first were the informational heads and the final head, and
 -- those of the body before the ones ahead said the bytes that were told; more of it is to come
 pub record IsInBody
-    (method given : List ℕ) (told : Told) (body : OpenBody) (ahead : List ℕ) : Type 0 where
+    (method given : List ℕ) (told : ToldResponse) (body : OpenBody) (ahead : List ℕ) : Type 0 where
   pub n : ℕ
   pub head : ResponseHead
   pub framing : Framing
@@ -229,7 +229,7 @@ pub record IsInBody
 
 -- what was told is the response whole, which ended with the first so many bytes that the link gave
 pub record IsWhole
-    (method : List ℕ) (closed : Bool) (given : List ℕ) (told : Told) (kept : Bool)
+    (method : List ℕ) (closed : Bool) (given : List ℕ) (told : ToldResponse) (kept : Bool)
     (ahead : List ℕ) : Type 0 where
   pub n : ℕ
   pub head : ResponseHead
@@ -246,7 +246,7 @@ pub record IsWhole
 -- where the reading of the response to that method is, after the link gave these bytes since this
 -- client began, and what the tasks so far told of them; `closed` is whether the link has ended.
 -- What follows is read from here
-abbrev pub ReadAt : List ℕ → Bool → List ℕ → Told → Place → List ℕ → Type 0
+abbrev pub ReadAt : List ℕ → Bool → List ℕ → ToldResponse → ResponsePlace → List ℕ → Type 0
 ReadAt method closed given told place.NoHead ahead =
     IsAwaiting method given told ahead × (ahead ≡ given)
 ReadAt method closed given told place.Informed ahead =
@@ -258,12 +258,12 @@ ReadAt method closed given told (place.Ended keeps) ahead =
 
 -- the same, for the whole reading
 pub record ReadSoFar
-    (method : List ℕ) (closed : Bool) (given : List ℕ) (told : Told)
+    (method : List ℕ) (closed : Bool) (given : List ℕ) (told : ToldResponse)
     (reading : ResponseReading) : Type 0 where
   pub at : ReadAt method closed given told reading.place reading.ahead
 
 -- the same, where the bytes ahead hold no task, no end and nothing to refuse
-abbrev pub OpenAt : List ℕ → List ℕ → Told → Place → List ℕ → Type 0
+abbrev pub OpenAt : List ℕ → List ℕ → ToldResponse → ResponsePlace → List ℕ → Type 0
 OpenAt method given told place.NoHead ahead =
     IsAwaiting method given told ahead × (ahead ≡ given) × IsOpen ahead
 OpenAt method given told place.Informed ahead =
@@ -301,14 +301,14 @@ IsHead (task.Failed error) = ⊥
 
 -- a task out of the bytes, from where the reading is: a head up to the final one, and then the body
 -- as it is cut
-abbrev pub Cuts : Place → List ℕ → HttpTask → List ℕ → Type 0
+abbrev pub Cuts : ResponsePlace → List ℕ → HttpTask → List ℕ → Type 0
 Cuts place.NoHead bytes task rest = IsHead task
 Cuts place.Informed bytes task rest = IsHead task
 Cuts (place.InBody body) bytes task rest = CutsBody body.reader bytes task rest
 Cuts (place.Ended keeps) bytes task rest = ⊥
 
 -- the same for an answer
-abbrev pub AnswerCuts : Place → List ℕ → Took HttpTask → List ℕ → Type 0
+abbrev pub AnswerCuts : ResponsePlace → List ℕ → Took HttpTask → List ℕ → Type 0
 AnswerCuts at bytes (took.Item task) rest = Cuts at bytes task rest
 AnswerCuts at bytes took.More rest = Unit {0}
 AnswerCuts at bytes (took.Waited pause) rest = Unit {0}
@@ -316,21 +316,21 @@ AnswerCuts at bytes took.End rest = Unit {0}
 AnswerCuts at bytes (took.Failed fail) rest = Unit {0}
 
 -- in a body no more than framing was passed
-abbrev pub PassesIn : State → Place → List ℕ → List ℕ → Type 0
+abbrev pub PassesIn : State → ResponsePlace → List ℕ → List ℕ → Type 0
 PassesIn at place.NoHead bytes rest = ⊥
 PassesIn at place.Informed bytes rest = ⊥
 PassesIn at (place.InBody body) bytes rest = Takes at bytes [] body.reader rest
 PassesIn at (place.Ended keeps) bytes rest = ⊥
 
 -- the same at each place
-abbrev pub PassesOn : Place → Place → List ℕ → List ℕ → Type 0
+abbrev pub PassesOn : ResponsePlace → ResponsePlace → List ℕ → List ℕ → Type 0
 PassesOn place.NoHead new bytes rest = IsAwaitingHead new
 PassesOn place.Informed new bytes rest = IsAwaitingHead new
 PassesOn (place.InBody body) new bytes rest = PassesIn body.reader new bytes rest
 PassesOn (place.Ended keeps) new bytes rest = ⊥
 
 -- what was found in the bytes ahead was cut so, or nothing was taken of the body
-abbrev pub FoundCuts : Place → Place → List ℕ → List ℕ → Found → Type 0
+abbrev pub FoundCuts : ResponsePlace → ResponsePlace → List ℕ → List ℕ → Found → Type 0
 FoundCuts old new bytes rest (found.Task task) = Cuts old bytes task rest
 FoundCuts old new bytes rest found.Nothing = PassesOn old new bytes rest
 FoundCuts old new bytes rest found.End = Unit {0}
@@ -347,7 +347,7 @@ is_task (found.Failed fail) = false
 
 -- what was found ahead, where these bytes came so far and this was told before
 abbrev pub Finds :
-    List ℕ → Bool → List ℕ → Told → Place → Place → List ℕ → Found → Type 0
+    List ℕ → Bool → List ℕ → ToldResponse → ResponsePlace → ResponsePlace → List ℕ → Found → Type 0
 Finds method closed given told old new rest (found.Task task) =
     IsResponseTask told task × (is_end task ≡ is_over new)
     × ReadAt method closed given (with_task told task) new rest
@@ -391,7 +391,7 @@ fault_error fault = record (error_of_fault fault) { esource = Upstream }
 
 -- why a read is refused: the text is broken, the link failed, or it ended inside the response
 pub data Refuses
-    (method : List ℕ) (closed : Bool) (given : List ℕ) (told : Told) (asked : Option Got)
+    (method : List ℕ) (closed : Bool) (given : List ℕ) (told : ToldResponse) (asked : Option Got)
     (error : Error) : Type 0 where
   is_broken : (why : Context) → error ≡ refused_from Upstream why
       → Tasks method false given closed (says told broken)
@@ -405,7 +405,8 @@ pub data Refuses
 
 -- the answer of a call, where these bytes came so far, in it too, and this was told before it
 abbrev pub Answers :
-    List ℕ → Bool → List ℕ → Told → Option Got → Place → ResponseReading → Took HttpTask → Type 0
+    List ℕ → Bool → List ℕ → ToldResponse → Option Got → ResponsePlace → ResponseReading
+    → Took HttpTask → Type 0
 Answers method closed given told asked old new (took.Item task) =
     IsResponseTask told task × (is_end task ≡ is_over new.place)
     × ReadSoFar method closed given (with_task told task) new
@@ -463,10 +464,10 @@ IsItem (took.Waited pause) = ⊥
 IsItem took.End = ⊥
 IsItem (took.Failed fail) = ⊥
 
--- want of memory aside, the answer is the one of their mark where the bytes say no more than was
+-- out of memory aside, the answer is the one of their mark where the bytes say no more than was
 -- told, and a task where they say more
 pub record AnswersExactly
-    (method : List ℕ) (closed : Bool) (given : List ℕ) (told : Told) (asked : Option Got)
+    (method : List ℕ) (closed : Bool) (given : List ℕ) (told : ToldResponse) (asked : Option Got)
     (over : Bool) (answer : Took HttpTask) : Type 0 where
   pub by_mark : (mark : ResponseMark) → Tasks method false given closed (says told mark)
       → (answer ≡ took.Failed fail.OutOfMemory) ⊎ IsAnswerAt mark given asked over answer
@@ -488,12 +489,13 @@ pub record ReadsTask
       → answer ≡ took.Failed (fail.Error (fault_error fault))
   pub rests : is_over old.place ≡ true → Rests old new asked answer
   pub cuts : AnswerCuts old.place (old.ahead ++ came) answer new.ahead
-  pub needs : (given : List ℕ) (told : Told) (got : Got)
+  pub needs : (given : List ℕ) (told : ToldResponse) (got : Got)
       → ReadSoFar method before.ended given told old → asked ≡ Some got
       → Tasks method false given false (says told still_open)
-  pub answers : (given : List ℕ) (told : Told) → ReadSoFar method before.ended given told old
+  pub answers : (given : List ℕ) (told : ToldResponse)
+      → ReadSoFar method before.ended given told old
       → Answers method after.ended (given ++ came) told asked old.place new answer
-  pub exact : (given : List ℕ) (told : Told) → ReadSoFar method before.ended given told old
+  pub exact : (given : List ℕ) (told : ToldResponse) → ReadSoFar method before.ended given told old
       → AnswersExactly method after.ended (given ++ came) told asked (is_over old.place) answer
 
 -- the same, where nothing stood ahead: one read, and what stands ahead after it
@@ -506,12 +508,13 @@ pub record ReadsOn
   pub fails : (fault : Fault) → asked ≡ Some (got.Failed fault)
       → answer ≡ took.Failed (fail.Error (fault_error fault))
   pub cuts : AnswerCuts old.place (old.ahead ++ came) answer new.ahead
-  pub answers : (given : List ℕ) (told : Told) → OpenAt method given told old.place old.ahead
+  pub answers : (given : List ℕ) (told : ToldResponse)
+      → OpenAt method given told old.place old.ahead
       → Answers method after.ended (given ++ came) told asked old.place new answer
 
 -- what was found ahead after bytes came, as an answer
 abbrev pub FindsAgain :
-    List ℕ → Bool → List ℕ → Told → Place → ResponseReading → Took HttpTask → Type 0
+    List ℕ → Bool → List ℕ → ToldResponse → ResponsePlace → ResponseReading → Took HttpTask → Type 0
 FindsAgain method closed given told old new (took.Item task) =
     Finds method closed given told old new.place new.ahead (found.Task task)
 FindsAgain method closed given told old new took.More =
@@ -524,7 +527,7 @@ FindsAgain method closed given told old new (took.Failed fail) =
 
 -- what follows from the end of the link, where nothing stands ahead: a body that lasts until then
 -- has ended, and else the response is cut off
-abbrev pub FindsAtEnd : List ℕ → List ℕ → Told → Place → List ℕ → Found → Type 0
+abbrev pub FindsAtEnd : List ℕ → List ℕ → ToldResponse → ResponsePlace → List ℕ → Found → Type 0
 FindsAtEnd method given told new ahead (found.Task task.Done) =
     (is_over new ≡ true) × ReadAt method true given told new ahead
 FindsAtEnd method given told new ahead (found.Task (task.Header head end)) = ⊥
@@ -540,7 +543,7 @@ FindsAtEnd method given told new ahead (found.Failed (fail.Error error)) =
     × ReadAt method true given told new ahead
 
 -- the same, as an answer
-abbrev pub EndsThere : List ℕ → List ℕ → Told → ResponseReading → Took HttpTask → Type 0
+abbrev pub EndsThere : List ℕ → List ℕ → ToldResponse → ResponseReading → Took HttpTask → Type 0
 EndsThere method given told new (took.Item task) =
     FindsAtEnd method given told new.place new.ahead (found.Task task)
 EndsThere method given told new took.More = ⊥
@@ -550,7 +553,7 @@ EndsThere method given told new (took.Failed fail) =
     FindsAtEnd method given told new.place new.ahead (found.Failed fail)
 
 -- all that the link gave was the response, whole, and its head and framing let the link be kept
-pub record IsReadWhole (method : List ℕ) (closed : Bool) (given : List ℕ) (told : Told)
+pub record IsReadWhole (method : List ℕ) (closed : Bool) (given : List ℕ) (told : ToldResponse)
     : Type 0 where
   pub n : ℕ
   pub head : ResponseHead

@@ -8,10 +8,10 @@ ghost use Rattle.relay_h1.specs.Framing.{request_framing};
 ghost use Rattle.relay_h1.specs.Move.{WritesOut, taken};
 ghost use Rattle.relay_h1.specs.Verdict.{refused_from};
 ghost use Rattle.relay_peer.specs.RequestWriting.{Sent, nothing, SentSoFar, with_head, with_piece, with_end, rest_of, head_in, method_of, IsSentWhole, short_request};
-ghost use Rattle.relay_peer.specs.ResponseReading.{Told, untold, ReadSoFar, ReadsTask, IsReadWhole, is_item, is_over, body_len, is_error, counted};
+ghost use Rattle.relay_peer.specs.ResponseReading.{ToldResponse, untold, ReadSoFar, ReadsTask, IsReadWhole, is_item, is_over, body_len, is_error, counted};
 ghost use Rattle.relay_peer.specs.H1Client.{is_fault, may_keep_client};
 
-use crate::request_writing::{Request, RequestWriting};
+use crate::request_writing::{RequestPlace, RequestWriting};
 use crate::response_reading::ResponseReading;
 use http::Method;
 use relay_links::{ByteLink, Put};
@@ -50,7 +50,7 @@ impl<L> H1Client<L> {
     }
 
     /// Queues the head of the request; its body is framed as the head says. A head behind one
-    /// writes nothing. For want of memory nothing is queued, and the head is gone.
+    /// writes nothing. When out of memory nothing is queued, and the head is gone.
     ///
     /// `InvalidHTTPHeader` of the source `Internal`, about `BadFraming`: exactly where
     /// `request_framing` refuses the head. Nothing is queued then.
@@ -71,7 +71,7 @@ impl<L> H1Client<L> {
 
     /// Queues a piece of the body in its framing, and gives how many of its bytes belong to the
     /// body: none past its length. None exactly where the body takes no more bytes, or no head was
-    /// queued; nothing is queued then. For want of memory nothing changes.
+    /// queued; nothing is queued then. When out of memory nothing changes.
     pub fn write_body(&mut self, piece: &[u8]) -> Result<Option<u64>>
         ensures keeps { OnOk result ((sent : Sent) (taken : List ℕ)
             → SentSoFar sent taken self.old.request
@@ -115,8 +115,8 @@ impl<L> H1Client<L> {
         ensures { option_copied result ≡ head_in self.now.request.request }
     {
         match &self.request.request {
-            Request::NoHead => None,
-            Request::Sending(sending) => Some(&sending.head),
+            RequestPlace::NoHead => None,
+            RequestPlace::Sending(sending) => Some(&sending.head),
         }
     }
 
@@ -149,7 +149,7 @@ impl<L> H1Client<L> {
         ensures exact { result ≡ may_keep_client self.now }
         ensures request { (sent : Sent) (taken : List ℕ) → SentSoFar sent taken self.now.request
             → result ≡ true → IsSentWhole sent taken }
-        ensures response { (method given : List ℕ) (closed : Bool) (told : Told)
+        ensures response { (method given : List ℕ) (closed : Bool) (told : ToldResponse)
             → ReadSoFar method closed given told self.now.response → result ≡ true
             → IsReadWhole method closed given told }
     {
@@ -211,8 +211,8 @@ impl<L: ByteLink> H1Client<L> {
     /// - `ConnectionClosed`: the link ended inside the response. Its mark is `ReusedOnly` where no
     ///   byte of the response had come, else `Decided(false)`.
     ///
-    /// Want of memory aside, each of these comes exactly where the bytes and the link say so. After
-    /// an error, and for want of memory, what was told stays, and a next call goes on from there.
+    /// Out of memory aside, each of these comes exactly where the bytes and the link say so. After
+    /// an error, and when out of memory, what was told stays, and a next call goes on from there.
     pub fn read_response_task(&mut self, alloc: Global) -> Took<HttpTask>
         ensures reads { ReadsTask (method_of self.old.request.request) (L.state self.old.link)
             (L.state self.new.link) self.old.response self.new.response result }
@@ -258,8 +258,8 @@ impl<L: ByteLink> H1Client<L> {
         } }
     {
         match &self.request.request {
-            Request::NoHead => self.response.read_task(alloc, &Method::GET, &mut self.link),
-            Request::Sending(sending) => {
+            RequestPlace::NoHead => self.response.read_task(alloc, &Method::GET, &mut self.link),
+            RequestPlace::Sending(sending) => {
                 self.response
                     .read_task(alloc, sending.head.method(), &mut self.link)
             }

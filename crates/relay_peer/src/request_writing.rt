@@ -23,7 +23,7 @@ pub(crate) struct Sending {
 
 /// What of a request was queued.
 #[derive(Drop)]
-pub(crate) enum Request {
+pub(crate) enum RequestPlace {
     /// Nothing.
     NoHead,
     /// Its head, and its body as far as the writer has come.
@@ -33,17 +33,17 @@ pub(crate) enum Request {
 /// The writing of one request.
 #[derive(Drop)]
 pub(crate) struct RequestWriting {
-    pub(crate) request: Request,
+    pub(crate) request: RequestPlace,
     pub(crate) unsent: Unsent,
 }
 
 impl RequestWriting {
     pub(crate) fn new(alloc: Global) -> RequestWriting
-        ensures request { result.request ≡ Request.NoHead }
+        ensures request { result.request ≡ RequestPlace.NoHead }
         ensures unsent { result.unsent ≡ [] }
     {
         RequestWriting {
-            request: Request::NoHead,
+            request: RequestPlace::NoHead,
             unsent: Unsent::new(alloc),
         }
     }
@@ -77,7 +77,7 @@ impl RequestWriting {
             return Ok(());
         }
         self.unsent.push_head(&head)?;
-        self.request = Request::Sending(Sending { head, body });
+        self.request = RequestPlace::Sending(Sending { head, body });
         Ok(())
     }
 
@@ -86,8 +86,8 @@ impl RequestWriting {
         ensures { result ≡ has_head self.now.request }
     {
         match &self.request {
-            Request::NoHead => false,
-            Request::Sending(_) => true,
+            RequestPlace::NoHead => false,
+            RequestPlace::Sending(_) => true,
         }
     }
 
@@ -102,8 +102,8 @@ impl RequestWriting {
         ensures err { OnErr result (self.new ≡ self.old) }
     {
         match &mut self.request {
-            Request::NoHead => Ok(None),
-            Request::Sending(sending) => self.unsent.push_piece(&mut sending.body, piece),
+            RequestPlace::NoHead => Ok(None),
+            RequestPlace::Sending(sending) => self.unsent.push_piece(&mut sending.body, piece),
         }
     }
 
@@ -117,8 +117,8 @@ impl RequestWriting {
         ensures err { OnErr result (self.new ≡ self.old) }
     {
         match &mut self.request {
-            Request::NoHead => Ok(()),
-            Request::Sending(sending) => match self.unsent.push_end(&mut sending.body) {
+            RequestPlace::NoHead => Ok(()),
+            RequestPlace::Sending(sending) => match self.unsent.push_end(&mut sending.body) {
                 Ok(()) => Ok(()),
                 Err(Fail::OutOfMemory) => Err(Fail::OutOfMemory),
                 Err(Fail::Error(error)) => Err(Fail::Error(error.into_up())),
@@ -151,8 +151,8 @@ impl RequestWriting {
         ensures { result ≡ may_keep_writing self.now }
     {
         match &self.request {
-            Request::NoHead => false,
-            Request::Sending(sending) => {
+            RequestPlace::NoHead => false,
+            RequestPlace::Sending(sending) => {
                 sending.body.is_done()
                     && (!closes(sending.head.headers()) && self.unsent.is_empty())
             }

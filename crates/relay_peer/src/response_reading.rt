@@ -1,9 +1,9 @@
-//! How the response of a peer is read: the heads that only inform, the final head, and its body
+//! How the response of a peer is read: the informational heads, the final head, and its body
 //! piece by piece (RFC 9110, section 15.2; RFC 9112, sections 4 to 8).
 ghost use Rattle.std.specs.Prelude.{◌≡◌, ◌==◌, ℕ, List, [], Bool, true, false, length};
 ghost use Rattle.relay_links.specs.Count.{up};
 ghost use Rattle.relay_h1.specs.BodyWire.{says_end};
-ghost use Rattle.relay_peer.specs.ResponseReading.{Told, ReadAt, OpenAt, IsAwaitingHead, lets_keep, is_http_11, step_over, Finds, FindsAtEnd, ReadsTask, ReadsOn, FindsAgain, EndsThere, FoundCuts, AnswerCuts, is_wait, is_item, is_task, cut_off_error, is_over, may_keep_reading};
+ghost use Rattle.relay_peer.specs.ResponseReading.{ToldResponse, ReadAt, OpenAt, IsAwaitingHead, lets_keep, is_http_11, step_over, Finds, FindsAtEnd, ReadsTask, ReadsOn, FindsAgain, EndsThere, FoundCuts, AnswerCuts, is_wait, is_item, is_task, cut_off_error, is_over, may_keep_reading};
 
 use http::{Method, Version};
 use relay_h1::{Ahead, BodyReader, Cut, Framing, closes, judge_response};
@@ -22,10 +22,10 @@ pub(crate) struct OpenBody {
 
 /// Where the reading of a response is.
 #[derive(Drop)]
-pub(crate) enum Place {
+pub(crate) enum ResponsePlace {
     /// No head was read.
     NoHead,
-    /// Heads that only inform were read.
+    /// Informational heads were read.
     Informed,
     /// The final head was read, and its body has not ended.
     InBody(OpenBody),
@@ -48,25 +48,25 @@ pub(crate) enum Found {
 
 /// Where the reading is behind what was found.
 #[derive(Drop)]
-pub(crate) struct Step {
-    pub(crate) place: Place,
+pub(crate) struct ReadingStep {
+    pub(crate) place: ResponsePlace,
     pub(crate) found: Found,
 }
 
 /// The reading of one response.
 #[derive(Drop)]
 pub(crate) struct ResponseReading {
-    pub(crate) place: Place,
+    pub(crate) place: ResponsePlace,
     pub(crate) ahead: Ahead,
 }
 
 impl ResponseReading {
     pub(crate) fn new(alloc: Global) -> ResponseReading
-        ensures place { result.place ≡ Place.NoHead }
+        ensures place { result.place ≡ ResponsePlace.NoHead }
         ensures ahead { result.ahead ≡ [] }
     {
         ResponseReading {
-            place: Place::NoHead,
+            place: ResponsePlace::NoHead,
             ahead: Ahead::new(alloc),
         }
     }
@@ -105,12 +105,12 @@ impl ResponseReading {
         ensures rests { is_over self.old.place ≡ true
             → (result ≡ Found.End) × (self.new ≡ self.old) }
         ensures cuts { FoundCuts self.old.place self.new.place self.old.ahead self.new.ahead result }
-        ensures finds { (closed : Bool) (given : List ℕ) (told : Told)
+        ensures finds { (closed : Bool) (given : List ℕ) (told : ToldResponse)
             → ReadAt method.now closed given told self.old.place self.old.ahead
             → Finds method.now closed given told self.old.place self.new.place self.new.ahead
             result }
     {
-        let place = mem::replace(&mut self.place, Place::NoHead);
+        let place = mem::replace(&mut self.place, ResponsePlace::NoHead);
         let step = find(alloc, method, place, &mut self.ahead);
         self.place = step.place;
         step.found
@@ -149,7 +149,7 @@ impl ResponseReading {
         ensures waits { is_wait result ≡ false }
         ensures stays { is_item result ≡ false
             → is_over self.new.place ≡ is_over self.old.place }
-        ensures finds { (closed : Bool) (given : List ℕ) (told : Told)
+        ensures finds { (closed : Bool) (given : List ℕ) (told : ToldResponse)
             → ReadAt method.now closed given told self.old.place self.old.ahead
             → FindsAgain method.now closed given told self.old.place self.new result }
         ensures cuts { AnswerCuts self.old.place self.old.ahead result self.new.ahead }
@@ -167,12 +167,12 @@ impl ResponseReading {
         ensures waits { is_wait result ≡ false }
         ensures stays { is_item result ≡ false
             → is_over self.new.place ≡ is_over self.old.place }
-        ensures ends { (method given : List ℕ) (told : Told)
+        ensures ends { (method given : List ℕ) (told : ToldResponse)
             → OpenAt method given told self.old.place self.old.ahead
             → EndsThere method given told self.new result }
         ensures cuts { (bytes rest : List ℕ) → AnswerCuts self.old.place bytes result rest }
     {
-        let place = mem::replace(&mut self.place, Place::NoHead);
+        let place = mem::replace(&mut self.place, ResponsePlace::NoHead);
         let step = end_of_link(place, self.ahead.is_empty());
         self.place = step.place;
         match step.found {
@@ -188,39 +188,39 @@ impl ResponseReading {
         ensures { result ≡ may_keep_reading self.now }
     {
         match &self.place {
-            Place::Ended(keeps) => *keeps && self.ahead.is_empty(),
-            Place::NoHead | Place::Informed | Place::InBody(_) => false,
+            ResponsePlace::Ended(keeps) => *keeps && self.ahead.is_empty(),
+            ResponsePlace::NoHead | ResponsePlace::Informed | ResponsePlace::InBody(_) => false,
         }
     }
 }
 
 /// What stands ahead, and the place behind it.
-fn find(alloc: Global, method: &Method, place: Place, ahead: &mut Ahead) -> Step
+fn find(alloc: Global, method: &Method, place: ResponsePlace, ahead: &mut Ahead) -> ReadingStep
     ensures ends { is_task result.found ≡ false → is_over result.place ≡ is_over place }
     ensures rests { is_over place ≡ true
         → (result ≡ record { place = place; found = Found.End }) × (ahead.new ≡ ahead.old) }
     ensures cuts { FoundCuts place result.place ahead.old ahead.new result.found }
-    ensures finds { (closed : Bool) (given : List ℕ) (told : Told)
+    ensures finds { (closed : Bool) (given : List ℕ) (told : ToldResponse)
         → ReadAt method.now closed given told place ahead.old
         → Finds method.now closed given told place result.place ahead.new result.found }
 {
     match place {
-        Place::NoHead => find_head(alloc, method, Place::NoHead, ahead),
-        Place::Informed => find_head(alloc, method, Place::Informed, ahead),
-        Place::InBody(body) => find_piece(alloc, body, ahead),
-        Place::Ended(keeps) => Step {
-            place: Place::Ended(keeps),
+        ResponsePlace::NoHead => find_head(alloc, method, ResponsePlace::NoHead, ahead),
+        ResponsePlace::Informed => find_head(alloc, method, ResponsePlace::Informed, ahead),
+        ResponsePlace::InBody(body) => find_piece(alloc, body, ahead),
+        ResponsePlace::Ended(keeps) => ReadingStep {
+            place: ResponsePlace::Ended(keeps),
             found: Found::End,
         },
     }
 }
 
 /// The head that stands ahead.
-fn find_head(alloc: Global, method: &Method, place: Place, ahead: &mut Ahead) -> Step
+fn find_head(alloc: Global, method: &Method, place: ResponsePlace, ahead: &mut Ahead) -> ReadingStep
     requires { IsAwaitingHead place }
     ensures ends { is_task result.found ≡ false → is_over result.place ≡ is_over place }
     ensures cuts { FoundCuts place result.place ahead.old ahead.new result.found }
-    ensures finds { (closed : Bool) (given : List ℕ) (told : Told)
+    ensures finds { (closed : Bool) (given : List ℕ) (told : ToldResponse)
         → ReadAt method.now closed given told place ahead.old
         → Finds method.now closed given told place result.place ahead.new result.found }
 {
@@ -229,11 +229,11 @@ fn find_head(alloc: Global, method: &Method, place: Place, ahead: &mut Ahead) ->
             ahead.consume(read.len);
             step_over(read.head, read.framing)
         }
-        Ok(None) => Step {
+        Ok(None) => ReadingStep {
             place,
             found: Found::Nothing,
         },
-        Err(fail) => Step {
+        Err(fail) => ReadingStep {
             place,
             found: Found::Failed(fail),
         },
@@ -241,107 +241,108 @@ fn find_head(alloc: Global, method: &Method, place: Place, ahead: &mut Ahead) ->
 }
 
 /// The step over a head, which carries the end where its body has ended at once.
-fn step_over(head: ResponseHeader, framing: Framing) -> Step
+fn step_over(head: ResponseHeader, framing: Framing) -> ReadingStep
     ensures { result ≡ step_over head framing }
 {
     if head.is_informational() {
-        return Step {
-            place: Place::Informed,
+        return ReadingStep {
+            place: ResponsePlace::Informed,
             found: Found::Task(HttpTask::Header(head, false)),
         };
     }
     let keeps = lets_keep(&head, framing);
     let reader = BodyReader::new(framing);
     if reader.is_done() {
-        return Step {
-            place: Place::Ended(keeps),
+        return ReadingStep {
+            place: ResponsePlace::Ended(keeps),
             found: Found::Task(HttpTask::Header(head, true)),
         };
     }
-    Step {
-        place: Place::InBody(OpenBody { reader, keeps }),
+    ReadingStep {
+        place: ResponsePlace::InBody(OpenBody { reader, keeps }),
         found: Found::Task(HttpTask::Header(head, false)),
     }
 }
 
 /// The piece of a body, or its end, that stands ahead.
-fn find_piece(alloc: Global, mut body: OpenBody, ahead: &mut Ahead) -> Step
+fn find_piece(alloc: Global, mut body: OpenBody, ahead: &mut Ahead) -> ReadingStep
     ensures ends { is_task result.found ≡ false → is_over result.place ≡ false }
-    ensures cuts { FoundCuts (Place.InBody body) result.place ahead.old ahead.new result.found }
-    ensures finds { (method : List ℕ) (closed : Bool) (given : List ℕ) (told : Told)
-        → ReadAt method closed given told (Place.InBody body) ahead.old
-        → Finds method closed given told (Place.InBody body) result.place ahead.new result.found }
+    ensures cuts { FoundCuts (ResponsePlace.InBody body) result.place ahead.old ahead.new result.found }
+    ensures finds { (method : List ℕ) (closed : Bool) (given : List ℕ) (told : ToldResponse)
+        → ReadAt method closed given told (ResponsePlace.InBody body) ahead.old
+        → Finds method closed given told
+        (ResponsePlace.InBody body) result.place ahead.new result.found }
 {
     match body.reader.take(alloc, ahead) {
-        Cut::Piece(piece, true) => Step {
-            place: Place::Ended(body.keeps),
+        Cut::Piece(piece, true) => ReadingStep {
+            place: ResponsePlace::Ended(body.keeps),
             found: Found::Task(HttpTask::Body(Some(piece), true)),
         },
-        Cut::Piece(piece, false) => Step {
-            place: Place::InBody(body),
+        Cut::Piece(piece, false) => ReadingStep {
+            place: ResponsePlace::InBody(body),
             found: Found::Task(HttpTask::Body(Some(piece), false)),
         },
-        Cut::End => Step {
-            place: Place::Ended(body.keeps),
+        Cut::End => ReadingStep {
+            place: ResponsePlace::Ended(body.keeps),
             found: Found::Task(HttpTask::Done),
         },
-        Cut::More => Step {
-            place: Place::InBody(body),
+        Cut::More => ReadingStep {
+            place: ResponsePlace::InBody(body),
             found: Found::Nothing,
         },
-        Cut::Failed(Fail::OutOfMemory) => Step {
-            place: Place::InBody(body),
+        Cut::Failed(Fail::OutOfMemory) => ReadingStep {
+            place: ResponsePlace::InBody(body),
             found: Found::Failed(Fail::OutOfMemory),
         },
-        Cut::Failed(Fail::Error(error)) => Step {
-            place: Place::InBody(body),
+        Cut::Failed(Fail::Error(error)) => ReadingStep {
+            place: ResponsePlace::InBody(body),
             found: Found::Failed(Fail::Error(error.into_up())),
         },
     }
 }
 
 /// The place where a link ended, and the end or the error that follows from it.
-fn end_of_link(place: Place, none_ahead: bool) -> Step
+fn end_of_link(place: ResponsePlace, none_ahead: bool) -> ReadingStep
     ensures stays { is_task result.found ≡ false → is_over result.place ≡ is_over place }
-    ensures ends { (method given : List ℕ) (told : Told) (ahead : List ℕ)
+    ensures ends { (method given : List ℕ) (told : ToldResponse) (ahead : List ℕ)
         → OpenAt method given told place ahead → none_ahead ≡ (length ahead == 0)
         → FindsAtEnd method given told result.place ahead result.found }
     ensures cuts { (bytes rest : List ℕ) → FoundCuts place result.place bytes rest result.found }
 {
     match place {
-        Place::NoHead => cut_off(Place::NoHead, none_ahead),
-        Place::Informed => cut_off(Place::Informed, false),
-        Place::InBody(body) => end_of_body(body),
-        Place::Ended(keeps) => Step {
-            place: Place::Ended(keeps),
+        ResponsePlace::NoHead => cut_off(ResponsePlace::NoHead, none_ahead),
+        ResponsePlace::Informed => cut_off(ResponsePlace::Informed, false),
+        ResponsePlace::InBody(body) => end_of_body(body),
+        ResponsePlace::Ended(keeps) => ReadingStep {
+            place: ResponsePlace::Ended(keeps),
             found: Found::End,
         },
     }
 }
 
 /// The same inside a body.
-fn end_of_body(mut body: OpenBody) -> Step
+fn end_of_body(mut body: OpenBody) -> ReadingStep
     ensures stays { is_task result.found ≡ false → is_over result.place ≡ false }
-    ensures ends { (method given : List ℕ) (told : Told) (ahead : List ℕ)
-        → OpenAt method given told (Place.InBody body) ahead
+    ensures ends { (method given : List ℕ) (told : ToldResponse) (ahead : List ℕ)
+        → OpenAt method given told (ResponsePlace.InBody body) ahead
         → FindsAtEnd method given told result.place ahead result.found }
     ensures cuts { (bytes rest : List ℕ)
-        → FoundCuts (Place.InBody body) result.place bytes rest result.found }
+        → FoundCuts (ResponsePlace.InBody body) result.place bytes rest result.found }
 {
     match body.reader.end_of_stream() {
-        Ok(()) => Step {
-            place: Place::Ended(body.keeps),
+        Ok(()) => ReadingStep {
+            place: ResponsePlace::Ended(body.keeps),
             found: Found::Task(HttpTask::Done),
         },
-        Err(error) => Step {
-            place: Place::InBody(body),
+        Err(error) => ReadingStep {
+            place: ResponsePlace::InBody(body),
             found: Found::Failed(Fail::Error(error.into_up())),
         },
     }
 }
 
 /// The link ended inside the response. Another attempt may help where no byte had come.
-fn cut_off(place: Place, none_came: bool) -> Step
+fn cut_off(place: ResponsePlace, none_came: bool) -> ReadingStep
     ensures stays { result.place ≡ place }
     ensures cuts { (bytes rest : List ℕ) → FoundCuts place result.place bytes rest result.found }
     ensures fails { (given : List ℕ) → none_came ≡ (length given == 0)
@@ -354,7 +355,7 @@ fn cut_off(place: Place, none_came: bool) -> Step
     if none_came {
         error.retry = RetryType::ReusedOnly;
     }
-    Step {
+    ReadingStep {
         place,
         found: Found::Failed(Fail::Error(error)),
     }

@@ -70,7 +70,7 @@ same_head given own session is is_own = grind (arith, is, is_own)
 not_missing : (framing : Framing) (found : Option Framing) → found ≡ None → found ≡ Some framing → ⊥
 not_missing framing found none some = cc
 
--- a want of memory is no limit of turns
+-- out of memory is no limit of turns
 no_limit : outcome.OutOfMemory ≢ outcome.TurnLimit
 no_limit limit = cc
 
@@ -168,7 +168,7 @@ module _ {L C : Type 0} (state : L → LinkState) (start_at : L → LinkStart) w
     stalled = λ silent. cc;
   }
 
-  -- the attempt is not held, for want of memory
+  -- the attempt is not held, when out of memory
   pub not_held : (s : Start) (p : Passed) (w : World) (a : Attempt L C) → TellsClient s p w
       → IsInOrder s p → IsRelaying state start_at s p w a
       → Advances {C = C} state start_at s w
@@ -192,7 +192,7 @@ module _ {L C : Type 0} (state : L → LinkState) (start_at : L → LinkStart) w
     stalled = λ silent. cc;
   }
 
-  -- the exchange was not begun, for want of memory
+  -- the exchange was not begun, when out of memory
   pub not_begun : (s : Start) (p : Passed) (w : World) (context : C) (session : Box HttpSession)
       (given : RequestHead) (link back : L) (lease : Lease) (why : Fail) (end : Outcome)
       → head_of session.value.reading ≡ Some given

@@ -31,7 +31,7 @@ pub(crate) fn asked_peer() -> Peer
     }
 }
 
-/// A request that ended without a link, for want of memory.
+/// A request that ended without a link, when out of memory.
 fn out_of_memory<L, C>(alloc: Global) -> Next<L, C>
     ensures phase { result.phase ≡ Phase.Ended Outcome.OutOfMemory [] }
     ensures step { result.step ≡ RunStep.Ended }

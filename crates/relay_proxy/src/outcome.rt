@@ -15,7 +15,7 @@ use relay_tasks::Error;
 /// - `Served`: the request was relayed, or failed while it was; `reuse` says that the client's
 ///   connection goes back for another request.
 /// - `TurnLimit`: the request has not ended, and no more turns were given or could help.
-/// - `OutOfMemory`: want of memory ended it early.
+/// - `OutOfMemory`: out of memory ended it early.
 #[derive(Clone, Copy, Debug, PartialEq, Eq)]
 pub enum Outcome {
     NoRequest,

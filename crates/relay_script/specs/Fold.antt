@@ -47,7 +47,7 @@ abbrev pub Keeps : {X : Type 0} → (Action → X → Outcome X) → (Action →
 Keeps {X} act may test =
     (action : Action) (x : X) → may action ≡ true → test (act action x).left ≡ test x
 
--- a call answered so and left that, want of memory aside
+-- a call answered so and left that, out of memory aside
 abbrev pub Answers : {X : Type 0} → Result Unit Fail → X → Outcome X → Type 0
 Answers (Ok done) left outcome = outcome ≡ goes_on left
 Answers (Err (fail.Error error)) left outcome = outcome ≡ stops left error

@@ -16,8 +16,8 @@ use Rattle.relay_proxy.specs.declared.outcome.Outcome.{Outcome}
 use Rattle.relay_proxy.specs.declared.outcome.Outcome.TheVariants.{NoRequest, Refused, Served, TurnLimit, OutOfMemory}
 use Rattle.relay_proxy.specs.declared.proxy.HttpProxy.{HttpProxy}
 use Rattle.relay_proxy.specs.declared.record.AttemptRecord.{AttemptRecord}
-use Rattle.relay_server.specs.declared.open_connection.Next.{Next}
-use Rattle.relay_server.specs.declared.open_connection.Next.TheVariants.{Goes, Ends}
+use Rattle.relay_server.specs.declared.open_connection.AfterRequest.{AfterRequest}
+use Rattle.relay_server.specs.declared.open_connection.AfterRequest.TheVariants.{Goes, Ends}
 
 -- what a proxy and its connector tell of the requests so far: how many ended, the links that were
 -- handed back, and how many calls of the connector failed
@@ -111,7 +111,8 @@ module _ {L C D U : Type 0}
     pub under_way : AreUnderWay now.faults rest
 
   -- the requests that are open behind one that was ended: its connection's next one, or none
-  abbrev pub with_next : Next (Visit D U L C) D → List (Visit D U L C) → List (Visit D U L C)
+  abbrev pub with_next : AfterRequest (Visit D U L C) D → List (Visit D U L C) → List
+      (Visit D U L C)
   with_next (Goes visit) rest = visit ∷ rest
   with_next (Ends link) rest = rest
 

@@ -98,7 +98,7 @@ impl<SV: ProxyHttp, K: Connector, D: ByteLink> OpenConnection<SV, K, D> {
     pub(crate) fn end<P: Purger>(
         self,
         proxy: &mut HttpProxy<SV, K, P>,
-    ) -> Next<OpenConnection<SV, K, D>, D>
+    ) -> AfterRequest<OpenConnection<SV, K, D>, D>
         requires { links_held K.Byte.state K.Byte.start self.phase ≤ K.out proxy.old.connector }
         ensures serves { (before : Books _) (rest : List (Visit _ _ _ _))
             → EndsOne K.Byte.state K.Byte.start D.state before
@@ -124,10 +124,10 @@ impl<SV: ProxyHttp, K: Connector, D: ByteLink> OpenConnection<SV, K, D> {
         } = self;
         let (processed, kept) = proxy.end(machine, &mut client);
         if !goes_back(processed.outcome) {
-            return Next::Ends(client.into_link());
+            return AfterRequest::Ends(client.into_link());
         }
         let machine = proxy.begin(&mut client, kept);
-        Next::Goes(OpenConnection {
+        AfterRequest::Goes(OpenConnection {
             client,
             machine,
             outside,
@@ -165,7 +165,7 @@ impl<SV: ProxyHttp, K: Connector, D: ByteLink> OpenConnection<SV, K, D> {
 }
 
 /// What becomes of a connection whose request was ended.
-pub(crate) enum Next<O, D> {
+pub(crate) enum AfterRequest<O, D> {
     /// Its next request has begun.
     Goes(O),
     /// No request follows: its link is to be closed.

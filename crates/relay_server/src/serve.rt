@@ -6,7 +6,7 @@ ghost use Rattle.relay_proxy.specs.Turn.{links_held};
 ghost use Rattle.relay_server.specs.Serving.{Books, books, CountRises, all_held, HaveEnded, Serves, EndsOne, ServesOn};
 
 use crate::floor::{Floor, MOST_OPEN};
-use crate::open_connection::{Next, OpenConnection};
+use crate::open_connection::{AfterRequest, OpenConnection};
 use crate::poller::{Listening, Polled, Poller};
 use relay_links::{Connector, Purger};
 use relay_proxy::{HttpProxy, ProxyHttp};
@@ -23,7 +23,7 @@ const ROUNDS_UNASKED: u8 = 16;
 /// How serving ended.
 #[derive(Clone, Copy, Debug, PartialEq, Eq)]
 pub struct ServeEnd {
-    /// 0 where all requests ended that were asked for, 5 for want of memory, and 7 where the port
+    /// 0 where all requests ended that were asked for, 5 when out of memory, and 7 where the port
     /// is not to be had or can not be waited for.
     pub status: u8,
     /// How many requests ended: those that were served or refused.
@@ -289,8 +289,8 @@ fn end_first<SV: ProxyHttp, K: Connector, P: Purger, O: Poller>(
     ensures polled { O.fault_count poller.old ≤ O.fault_count poller.new }
 {
     match connection.end(proxy) {
-        Next::Goes(connection) => keep(alloc, proxy, poller, floor, connection),
-        Next::Ends(link) => poller.close(link),
+        AfterRequest::Goes(connection) => keep(alloc, proxy, poller, floor, connection),
+        AfterRequest::Ends(link) => poller.close(link),
     }
 }
 

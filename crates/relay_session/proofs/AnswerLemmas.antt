@@ -25,7 +25,7 @@ place_before place.NoHead none = refl
 place_before (place.Body rest) none = cc
 place_before place.Done none = cc
 
--- what is not refused fails by the fault that is kept, or for want of memory
+-- what is not refused fails by the fault that is kept, or when out of memory
 only_memory : (output : Outgoing) (why : Option Error) (given : Fail)
     → why ≡ None → IsFailure output why given → IsFaultOrMemory output given
 only_memory (outgoing.Open queue) why fail.OutOfMemory passes failure = refl

@@ -14,7 +14,7 @@ use Rattle.relay_h1.specs.declared.framing.Framing.TheVariants as framing
 use Rattle.relay_h1.specs.Framing.{is_length, is_http_10, opens_tunnel, has_no_body, response_framing}
 use Rattle.relay_h1.specs.ClientHead.{is_informational, is_sent_to, client_framing, client_head, framing_for, head_for}
 use Rattle.relay_h1.specs.BodyWire.{after_piece}
-use Rattle.relay_h1.specs.Wire.{response_text, generated, status_line, line_end}
+use Rattle.relay_h1.specs.Wire.{response_text, generated, status_line, crlf}
 use Rattle.relay_session.specs.Asked.{method_of}
 use Rattle.relay_session.specs.declared.task_text.Request.{Request}
 use Rattle.relay_session.specs.Generated.{generated_head}
@@ -158,7 +158,7 @@ generated_text : (code : ℕ) → response_text (generated_head code 0) ≡ gene
 unfolding generated_head
 generated_text code =
     let digit : decimal 0 ≡ codes "0" = decimal_digit 0 (omega arith) in
-    rw digit (append_assoc (status_line code) _ line_end)
+    rw digit (append_assoc (status_line code) _ crlf)
 
 -- an answer without a body: an empty piece ends it, and gives nothing
 answer_ends : (given : Framing) → IsAnswerFraming 0 given
@@ -180,7 +180,7 @@ chosen_text true true text want other holds is same = is
 chosen_text true false text want other holds is same = cc
 chosen_text false told text want other holds is same = same
 
--- a head that informs is not refused, nor is a final one that is not
+-- an informational head is not refused, nor is a final one that is not
 chosen_passes : (informs : Bool) (why : Option Error) → why ≡ None
     → (if informs then None else why) ≡ None
 chosen_passes true why passes = refl

@@ -58,7 +58,7 @@ abbrev pub IsKeptFault : Outgoing → Fail → Type 0
 IsKeptFault (outgoing.Open queue) given = ⊥
 IsKeptFault (outgoing.Broken fault) given = given ≡ fail.Error (error_of fault)
 
--- the failure of a call that is never refused: the fault that is kept, or else want of memory
+-- the failure of a call that is never refused: the fault that is kept, or else out of memory
 abbrev pub IsFaultOrMemory : Outgoing → Fail → Type 0
 IsFaultOrMemory (outgoing.Open queue) given = given ≡ fail.OutOfMemory
 IsFaultOrMemory (outgoing.Broken fault) given = given ≡ fail.Error (error_of fault)

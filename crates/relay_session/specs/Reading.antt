@@ -97,7 +97,7 @@ IsItem (took.Waited pause) = ⊥
 IsItem took.End = ⊥
 IsItem (took.Failed fail) = ⊥
 
--- the answer is that one, but for want of memory
+-- the answer is that one, but when out of memory
 abbrev pub Yields : {T : Type 0} → Took T → Took T → Type 0
 Yields answer wanted = (answer ≡ wanted) ⊎ (answer ≡ took.Failed fail.OutOfMemory)
 
@@ -143,7 +143,7 @@ IsHeadRefusal (took.Failed fail.OutOfMemory) = Unit {0}
 IsHeadRefusal (took.Failed (fail.Error error)) =
     (why : Context) × (error ≡ refused_from Downstream why)
 
--- want of memory aside, each answer comes wherever all bytes given, and the end of the link, say so
+-- out of memory aside, each answer comes wherever all bytes given, and the end of the link, say so
 pub record IsExactHead (after : LinkState) (given : List ℕ) (answer : Took ⊤) : Type 0 where
   pub item : (head : RequestHead) (framing : Framing) (len : ℕ) → HasRequest given head framing len
       → Yields answer (took.Item tt)
@@ -209,7 +209,7 @@ YieldsItem took.End = ⊥
 YieldsItem (took.Failed fail.OutOfMemory) = Unit {0}
 YieldsItem (took.Failed (fail.Error error)) = ⊥
 
--- want of memory aside, each answer comes wherever all bytes given, and the end of the link, say
+-- out of memory aside, each answer comes wherever all bytes given, and the end of the link, say
 -- so; `body` are the bytes of the body that were given out before the call
 pub record IsExactBody (after : LinkState) (given body : List ℕ) (answer : Took (List ℕ))
     : Type 0 where

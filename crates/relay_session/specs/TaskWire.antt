@@ -89,7 +89,7 @@ piece_refusal rest piece false = None
 piece_refusal rest piece true =
     if is_short (after_piece rest piece) then Some ends_short else None
 
--- a head that only informs: its text, and nothing for a client of HTTP/1.0
+-- a informational head: its text, and nothing for a client of HTTP/1.0
 abbrev pub informed : Request → ResponseHead → Sent
 informed request head =
     record {

@@ -176,7 +176,7 @@ fn after_piece(rest: Framing, piece: &[u8]) -> Framing
 }
 
 /// Appends a head where no final head was appended: for a final head its text as the client gets
-/// it, and the end of the body where it ends with the head; for a head that only informs its text,
+/// it, and the end of the body where it ends with the head; for a informational head its text,
 /// and nothing for a client of HTTP/1.0.
 ///
 /// It is refused with `InvalidHTTPHeader`, of the relay's own side, exactly where the framing of a

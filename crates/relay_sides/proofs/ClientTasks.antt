@@ -438,7 +438,7 @@ module _
       refusal r (wire r place.NoHead (p.batched ++ front)).place at ≡ Some e) h.client.answers
       (ap (λ (q : Place). refusal request q at) leads ∙ is)
 
-  -- the session stopped at a task, for want of memory or since it is refused
+  -- the session stopped at a task, when out of memory or since it is refused
   stops_on : (stops : StopsAt old.writing tasks new.writing why) (given : Fail) → why ≡ given
       → StopsOn stops.mid stops.at new.writing given
       → BatchRefused (λ q. HasPassed s q link ahead new done finished broken)

@@ -8,8 +8,8 @@ use Rattle.relay_tasks.specs.Task.{is_end}
 use Rattle.relay_h1.specs.declared.framing.Framing.{Framing}
 use Rattle.relay_h1.specs.BodyWire.{piece_text, pieces_text, after_piece, after_pieces, end_text}
 use Rattle.relay_h1.specs.Wire.{request_text}
-use Rattle.relay_peer.specs.declared.request_writing.Request.{Request}
-use Rattle.relay_peer.specs.declared.request_writing.Request.TheVariants as request
+use Rattle.relay_peer.specs.declared.request_writing.RequestPlace.{RequestPlace}
+use Rattle.relay_peer.specs.declared.request_writing.RequestPlace.TheVariants as request
 use Rattle.relay_peer.specs.RequestWriting.{Sent, Stands, sent_wire, with_piece, with_end, head_in, body_framing}
 use Rattle.relay_peer.specs.RequestWriting as writing
 use Rattle.relay_sides.specs.Body.{IsFrontOf, bytes_of, body_of, sent_with, sent_behind}
@@ -108,7 +108,7 @@ head_of (writing.Sent.begun head pieces) = Some head
 head_of (writing.Sent.whole head pieces) = Some head
 
 -- is the one that was queued
-pub stands_head : (sent : Sent) (at : Request) → Stands sent at → head_in at ≡ head_of sent
+pub stands_head : (sent : Sent) (at : RequestPlace) → Stands sent at → head_in at ≡ head_of sent
 stands_head writing.Sent.nothing request.NoHead stands = refl
 stands_head writing.Sent.nothing (request.Sending sending) stands = absurd stands
 stands_head (writing.Sent.begun head pieces) request.NoHead stands = absurd stands

@@ -19,7 +19,7 @@ use Rattle.relay_links.specs.declared.link.Put.TheVariants as put
 use Rattle.relay_links.specs.Count.{last_count}
 use Rattle.relay_tasks.specs.declared.fault.Fault.{Fault}
 use Rattle.relay_tasks.specs.declared.error.ErrorSource.TheVariants.{Upstream}
-use Rattle.relay_core.specs.declared.told.Told.{Told as CoreTold}
+use Rattle.relay_core.specs.declared.told.Told.{Told}
 use Rattle.relay_core.specs.Told.{failed, paused, written}
 use Rattle.relay_tasks.specs.declared.took.Pause.{Pause}
 use Rattle.relay_tasks.specs.declared.took.Pause.TheVariants.{NotReady, Silent}
@@ -29,13 +29,13 @@ use Rattle.relay_links.proofs.SinceLemmas.{Since-kept}
 use Rattle.relay_h1.specs.ClientHead.{is_informational}
 use Rattle.relay_h1.specs.Move.{taken}
 use Rattle.relay_peer.specs.declared.h1_client.H1Client.{H1Client}
-use Rattle.relay_peer.specs.declared.request_writing.Request.{Request}
-use Rattle.relay_peer.specs.declared.request_writing.Request.TheVariants as request
+use Rattle.relay_peer.specs.declared.request_writing.RequestPlace.{RequestPlace}
+use Rattle.relay_peer.specs.declared.request_writing.RequestPlace.TheVariants as request
 use Rattle.relay_peer.specs.declared.request_writing.RequestWriting.{RequestWriting}
-use Rattle.relay_peer.specs.declared.response_reading.Place.{Place}
+use Rattle.relay_peer.specs.declared.response_reading.ResponsePlace.{ResponsePlace}
 use Rattle.relay_peer.specs.declared.response_reading.ResponseReading.{ResponseReading}
 use Rattle.relay_peer.specs.RequestWriting.{SentSoFar, head_in, method_of}
-use Rattle.relay_peer.specs.ResponseReading.{Told, ReadSoFar, ReadsTask, Answers, Asks, Refuses, IsResponseTask, untold, with_task, with_head, is_over, is_item, is_error, fault_error}
+use Rattle.relay_peer.specs.ResponseReading.{ToldResponse, ReadSoFar, ReadsTask, Answers, Asks, Refuses, IsResponseTask, untold, with_task, with_head, is_over, is_item, is_error, fault_error}
 use Rattle.relay_peer.specs.ResponseReading as reading
 use Rattle.relay_core.specs.Past.{Origin, UpPast, UpGoes, error_of_fail, error_of_took}
 use Rattle.relay_sides.specs.declared.peer_side.PeerSide.{PeerSide}
@@ -88,7 +88,7 @@ goes {L} o start started before after old new stopped lost q p head read taken g
     })
 
 -- the method of a request whose head was queued
-method_is : (at : Request) (head : RequestHead) → head_in at ≡ Some head
+method_is : (at : RequestPlace) (head : RequestHead) → head_in at ≡ Some head
     → method_of at ≡ head.method
 method_is request.NoHead head is = absurd (cc)
 method_is (request.Sending sending) head is =
@@ -183,8 +183,9 @@ peer_read {L} o start before after old new stopped_before stopped lost q came re
     }
 
 -- an answer without a task leaves what was told
-told_stays : (method : List ℕ) (closed : Bool) (had : List ℕ) (told : Told) (asked : Option Got)
-    (old : Place) (new : ResponseReading) (answer : Took HttpTask) → is_item answer ≡ false
+told_stays : (method : List ℕ) (closed : Bool) (had : List ℕ) (told : ToldResponse)
+    (asked : Option Got)
+    (old : ResponsePlace) (new : ResponseReading) (answer : Took HttpTask) → is_item answer ≡ false
     → Answers method closed had told asked old new answer → ReadSoFar method closed had told new
 told_stays method closed had told asked old new (took.Item item) none answers = absurd (cc)
 told_stays method closed had told asked old new took.More none answers = answers.2
@@ -197,7 +198,7 @@ told_stays method closed had told asked old new (took.Failed (fail.Error error))
 
 -- the error of a refusal is blamed
 refusal_blamed : (start : LinkStart) (before after : LinkState) (head : RequestHead)
-    (q : UpPast) (came : List ℕ) (read : List HttpTask) (told : Told) (asked : Option Got)
+    (q : UpPast) (came : List ℕ) (read : List HttpTask) (told : ToldResponse) (asked : Option Got)
     (error : Error) → ReadMoves start before after q.got came asked
     → Refuses head.method after.ended (q.got ++ came) told asked error
     → PeerBlames start after head (after_read q came read) error
@@ -213,8 +214,8 @@ refusal_blamed start before after head q came read told asked error moves
     peer.PeerBlames.is_cut_off told (moves.over was) is said
 
 answer_blamed : (start : LinkStart) (before after : LinkState) (head : RequestHead)
-    (q : UpPast) (came : List ℕ) (read : List HttpTask) (told : Told) (asked : Option Got)
-    (old : Place) (new : ResponseReading) (answer : Took HttpTask)
+    (q : UpPast) (came : List ℕ) (read : List HttpTask) (told : ToldResponse) (asked : Option Got)
+    (old : ResponsePlace) (new : ResponseReading) (answer : Took HttpTask)
     → ReadMoves start before after q.got came asked
     → Answers head.method after.ended (q.got ++ came) told asked old new answer → (e : Error)
     → error_of_took answer ≡ Some e → PeerBlames start after head (after_read q came read) e
@@ -301,7 +302,7 @@ record Brings {L : Type 0} (o : Origin) (start : LinkStart) (before after : Link
   pub moves : ReadMoves start before after q.got came asked
   pub fails : (fault : Fault) → asked ≡ Some (got.Failed fault)
       → took.Item item ≡ took.Failed (fail.Error (fault_error fault))
-  pub told : Told
+  pub told : ToldResponse
   pub is : IsResponseTask told item
   pub read : ReadSoFar stands.head.method after.ended (q.got ++ came) (with_task told item)
       new.response
@@ -393,7 +394,7 @@ read_hands {L} o start started before after old new stopped lost q item given op
 
 -- the error for which a task is withheld is blamed
 withheld_blamed : (start : LinkStart) (after : LinkState) (head : RequestHead) (p : UpPast)
-    (told : Told) (new : ResponseReading) (item : HttpTask) (why : Fail) (closed : Bool)
+    (told : ToldResponse) (new : ResponseReading) (item : HttpTask) (why : Fail) (closed : Bool)
     → IsResponseTask told item → ReadSoFar head.method closed p.got (with_task told item) new
     → Withholds head.method item why → (e : Error) → why ≡ fail.Error e
     → PeerBlames start after head p e
@@ -541,7 +542,7 @@ never_none : (n : ℕ) → min (n + 1) last_count ≡ 0 → ⊥
 never_none n none = absurd (omega (arith, none))
 
 -- no error was told before one more failure
-told_before : (why : Fail) (told : CoreTold) → (failed why told).errors ≡ 0 → told.errors ≡ 0
+told_before : (why : Fail) (told : Told) → (failed why told).errors ≡ 0 → told.errors ≡ 0
 told_before fail.OutOfMemory told none = none
 told_before (fail.Error e) told none = absurd (never_none told.errors none)
 
@@ -550,15 +551,15 @@ or_none true = refl
 or_none false = refl
 
 -- no fault came before, where no error is told after one more answer without an error
-pub calm_same : (old now : CoreTold) (was is : Bool) (answer : Took HttpTask)
+pub calm_same : (old now : Told) (was is : Bool) (answer : Took HttpTask)
     → is ≡ was || is_error answer → is_error answer ≡ false → now ≡ old
     → (old.errors ≡ 0 → was ≡ false) → now.errors ≡ 0 → is ≡ false
 calm_same old now was is answer fails none same calm still =
     fails ∙ ap (λ (b : Bool). was || b) none ∙ or_none was
-    ∙ calm (sym (ap (λ (t : CoreTold). t.errors) same) ∙ still)
+    ∙ calm (sym (ap (λ (t : Told). t.errors) same) ∙ still)
 
 -- nor after a pause
-pub calm_paused : (old : CoreTold) (was is : Bool) (pause : Pause)
+pub calm_paused : (old : Told) (was is : Bool) (pause : Pause)
     → is ≡ was || is_error (took.Waited pause) → (old.errors ≡ 0 → was ≡ false)
     → (paused pause old).errors ≡ 0 → is ≡ false
 calm_paused old was is NotReady fails calm still =
@@ -567,7 +568,7 @@ calm_paused old was is Silent fails calm still =
     calm_same old old was is took.More fails refl refl calm still
 
 -- nor after one that failed
-pub calm_failed : (old : CoreTold) (was is : Bool) (why : Fail)
+pub calm_failed : (old : Told) (was is : Bool) (why : Fail)
     → is ≡ was || is_error (took.Failed why) → (old.errors ≡ 0 → was ≡ false)
     → (failed why old).errors ≡ 0 → is ≡ false
 calm_failed old was is fail.OutOfMemory fails calm still =
@@ -575,12 +576,12 @@ calm_failed old was is fail.OutOfMemory fails calm still =
 calm_failed old was is (fail.Error e) fails calm still = absurd (never_none old.errors still)
 
 -- nor after a failure of the side's own
-pub calm_withheld : (old : CoreTold) (was is : Bool) (why : Fail) → is ≡ was
+pub calm_withheld : (old : Told) (was is : Bool) (why : Fail) → is ≡ was
     → (old.errors ≡ 0 → was ≡ false) → (failed why old).errors ≡ 0 → is ≡ false
 calm_withheld old was is why same calm still = same ∙ calm (told_before why old still)
 
 -- nor after a write
-pub calm_put : (old : CoreTold) (was is : Bool) (answer : Put) → is ≡ was || is_fault answer
+pub calm_put : (old : Told) (was is : Bool) (answer : Put) → is ≡ was || is_fault answer
     → (old.errors ≡ 0 → was ≡ false) → (written Upstream answer old).errors ≡ 0 → is ≡ false
 calm_put old was is (put.Took n) fails calm still =
     calm_same old old was is took.More fails refl refl calm still

@@ -10,10 +10,10 @@ use Rattle.relay_h1.specs.Tasks.{Tasks, ResponseText, ended, mark_of}
 use Rattle.relay_h1.specs.Tasks as tasks
 use Rattle.relay_h1.proofs.BodyLemmas.{Chunked-total}
 use Rattle.relay_h1.proofs.BodyReaderLemmas.{SoFar-reads}
-use Rattle.relay_peer.specs.declared.response_reading.Place.{Place}
-use Rattle.relay_peer.specs.declared.response_reading.Place.TheVariants as place
+use Rattle.relay_peer.specs.declared.response_reading.ResponsePlace.{ResponsePlace}
+use Rattle.relay_peer.specs.declared.response_reading.ResponsePlace.TheVariants as place
 use Rattle.relay_peer.specs.declared.response_reading.ResponseReading.{ResponseReading}
-use Rattle.relay_peer.specs.ResponseReading.{Told, ReadSoFar, ReadAt, says}
+use Rattle.relay_peer.specs.ResponseReading.{ToldResponse, ReadSoFar, ReadAt, says}
 use Rattle.relay_peer.proofs.ExactLemmas.{Tasks-unique}
 use Rattle.relay_sides.specs.Body.{IsFrontOf}
 use Rattle.relay_sides.specs.Peer.{AreTasks, told_of}
@@ -35,7 +35,8 @@ no_body : (told all : List ℕ) → told ≡ [] → IsFrontOf told all
 no_body told all none =
     subst (λ (xs : List ℕ). IsFrontOf xs all) (sym none) (record { rest = all; joined = refl })
 
-body_at : (method : List ℕ) (closed : Bool) (got : List ℕ) (told : Told) (at : Place)
+body_at : (method : List ℕ) (closed : Bool) (got : List ℕ) (told : ToldResponse)
+    (at : ResponsePlace)
     (ahead : List ℕ) (text : ResponseText) → ReadAt method closed got told at ahead
     → Tasks method false got closed text → IsFrontOf told.body text.body
 body_at method closed got told place.NoHead ahead text read said =

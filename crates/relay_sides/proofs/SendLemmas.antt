@@ -21,8 +21,8 @@ use Rattle.relay_h1.specs.BodyWire.{after_pieces, is_short}
 use Rattle.relay_h1.specs.Move.{WritesOut, taken}
 use Rattle.relay_peer.specs.H1Client.{is_fault}
 use Rattle.relay_peer.specs.declared.h1_client.H1Client.{H1Client}
-use Rattle.relay_peer.specs.declared.request_writing.Request.{Request}
-use Rattle.relay_peer.specs.declared.request_writing.Request.TheVariants as request
+use Rattle.relay_peer.specs.declared.request_writing.RequestPlace.{RequestPlace}
+use Rattle.relay_peer.specs.declared.request_writing.RequestPlace.TheVariants as request
 use Rattle.relay_peer.specs.declared.request_writing.RequestWriting.{RequestWriting}
 use Rattle.relay_peer.specs.declared.response_reading.ResponseReading.{ResponseReading}
 use Rattle.relay_peer.specs.RequestWriting.{Sent, SentSoFar, Stands, head_in, rest_of, with_piece, with_end, sent_wire, body_framing, short_request}
@@ -198,7 +198,7 @@ short_here head tasks piece (writing.Sent.begun first pieces) had at is headed s
     same_head : Some first ≡ Some head → first ≡ head
     same_head same = cc
 
-    on : (r : Request)
+    on : (r : RequestPlace)
         → Stands (writing.Sent.begun first (pieces ++ bytes_of piece ∷ [])) r
         → is_short (rest_of r) ≡ true → ShortHere head tasks piece
     on request.NoHead stands few = absurd stands
@@ -215,7 +215,7 @@ short_here head tasks piece (writing.Sent.begun first pieces) had at is headed s
 short_here head tasks piece (writing.Sent.whole first pieces) had at is headed so_far short =
     on at.request so_far.stands short
   where
-    on : (r : Request) → Stands (writing.Sent.whole first pieces) r
+    on : (r : RequestPlace) → Stands (writing.Sent.whole first pieces) r
         → is_short (rest_of r) ≡ true → ShortHere head tasks piece
     on request.NoHead stands few = absurd stands
     on (request.Sending sending) stands few =
@@ -498,7 +498,7 @@ on_ok P Q (Err e) ensures further = tt
 
 -- ---- one piece
 
--- a piece of which nothing was queued, for want of memory
+-- a piece of which nothing was queued, when out of memory
 pub nothing_queued : {L : Type 0} (old new : H1Client L) (piece : HttpTask) (why : Fail)
     → why ≡ fail.OutOfMemory → new ≡ old → (sent : Sent) (had : List ℕ)
     → SentSoFar sent had old.request → Loses sent had piece new.request why

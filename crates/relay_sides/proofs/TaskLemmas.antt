@@ -19,10 +19,10 @@ use Rattle.relay_h1.specs.ClientHead.{is_informational, lacks_framing}
 use Rattle.relay_h1.specs.Framing.{has_no_body, is_bodiless}
 use Rattle.relay_h1.specs.Tasks.{HasFinal, Tasks, ended}
 use Rattle.relay_h1.specs.Verdict.{HasResponse}
-use Rattle.relay_peer.specs.declared.response_reading.Place.{Place}
-use Rattle.relay_peer.specs.declared.response_reading.Place.TheVariants as place
+use Rattle.relay_peer.specs.declared.response_reading.ResponsePlace.{ResponsePlace}
+use Rattle.relay_peer.specs.declared.response_reading.ResponsePlace.TheVariants as place
 use Rattle.relay_peer.specs.declared.response_reading.ResponseReading.{ResponseReading}
-use Rattle.relay_peer.specs.ResponseReading.{Told, ReadSoFar, ReadAt, IsResponseTask, untold, with_task, with_head, says, is_over}
+use Rattle.relay_peer.specs.ResponseReading.{ToldResponse, ReadSoFar, ReadAt, IsResponseTask, untold, with_task, with_head, says, is_over}
 use Rattle.relay_core.specs.Moves.{EndsLast}
 use Rattle.relay_sides.specs.Peer.{AreTasks, Follow, HasRoom, StandsBehind, Withholds, inside, told_behind, told_of}
 use Rattle.relay_sides.specs.Peer as peer
@@ -30,12 +30,12 @@ use Rattle.relay_sides.specs.Peer as peer
 -- ---- one task more
 
 -- what is told with one task more
-told_push : (told : Told) (tasks : List HttpTask) (last : HttpTask)
+told_push : (told : ToldResponse) (tasks : List HttpTask) (last : HttpTask)
     → told_behind told (tasks ++ last ∷ []) ≡ with_task (told_behind told tasks) last
 told_push told [] last = refl
 told_push told (first ∷ tasks) last = told_push (with_task told first) tasks last
 
-follow_push : (told : Told) (tasks : List HttpTask) (last : HttpTask) → Follow told tasks
+follow_push : (told : ToldResponse) (tasks : List HttpTask) (last : HttpTask) → Follow told tasks
     → IsResponseTask (told_behind told tasks) last → StandsBehind (told_behind told tasks) last
     → Follow told (tasks ++ last ∷ [])
 follow_push told [] last follow is stands = (is, stands, tt)
@@ -49,8 +49,9 @@ some_piece body piece some none =
     omega (arith, length-append body piece, empty, some)
 
 -- a piece that was told stands behind the final head: before that no body is told
-piece_behind : (method : List ℕ) (closed : Bool) (got : List ℕ) (told : Told) (piece : List ℕ)
-    (at : Place) (ahead : List ℕ) → 0 < length piece
+piece_behind : (method : List ℕ) (closed : Bool) (got : List ℕ) (told : ToldResponse)
+    (piece : List ℕ)
+    (at : ResponsePlace) (ahead : List ℕ) → 0 < length piece
     → ReadAt method closed got (record told { body = told.body ++ piece }) at ahead
     → is_some told.final ≡ true
 piece_behind method closed got told piece place.NoHead ahead some read =
@@ -63,7 +64,8 @@ piece_behind method closed got told piece (place.Ended keeps) ahead some read =
     ap (λ (h : Option ResponseHead). is_some h) read.final
 
 -- so does each task that a call gave
-stands_behind : (method : List ℕ) (closed : Bool) (got : List ℕ) (told : Told) (last : HttpTask)
+stands_behind : (method : List ℕ) (closed : Bool) (got : List ℕ) (told : ToldResponse)
+    (last : HttpTask)
     (new : ResponseReading) → IsResponseTask told last
     → ReadSoFar method closed got (with_task told last) new → StandsBehind told last
 stands_behind method closed got told (task.Header head end) new is read = tt
@@ -134,7 +136,7 @@ pub tasks_push : (method : List ℕ) (before after : LinkState) (got came : List
     → ReadSoFar method after.ended (got ++ came) (with_task (told_of tasks) last) new
     → AreTasks method after.ended (got ++ came) (tasks ++ last ∷ []) new
 tasks_push method before after got came tasks last old new are going is ends read = record {
-  so_far = subst (λ (t : Told). ReadSoFar method after.ended (got ++ came) t new)
+  so_far = subst (λ (t : ToldResponse). ReadSoFar method after.ended (got ++ came) t new)
       (sym (told_push untold tasks last)) read;
   follow = follow_push untold tasks last are.follow is
       (stands_behind method after.ended (got ++ came) (told_of tasks) last new is read);
@@ -170,7 +172,7 @@ no_tasks method closed new read = record {
   ends_last = λ front behind same found. none_behind front behind same;
 }
   where
-    none_over : (at : Place) (ahead : List ℕ) → ReadAt method closed [] untold at ahead
+    none_over : (at : ResponsePlace) (ahead : List ℕ) → ReadAt method closed [] untold at ahead
         → is_over at ≡ false
     none_over place.NoHead ahead read = refl
     none_over place.Informed ahead read = refl
@@ -192,8 +194,9 @@ some_head a b same = cc
 never_final : (a : ResponseHead) → Some a ≡ None → ⊥
 never_final a same = cc
 
-final_at : (method : List ℕ) (closed : Bool) (got : List ℕ) (told : Told) (final : ResponseHead)
-    (at : Place) (ahead : List ℕ) → is_informational final.status ≡ false
+final_at : (method : List ℕ) (closed : Bool) (got : List ℕ) (told : ToldResponse)
+    (final : ResponseHead)
+    (at : ResponsePlace) (ahead : List ℕ) → is_informational final.status ≡ false
     → ReadAt method closed got (record told { final = Some final }) at ahead
     → FinalIn method got final
 final_at method closed got told final place.NoHead ahead last read =
@@ -230,12 +233,12 @@ final_at method closed got told final (place.Ended keeps) ahead last read = reco
 }
 
 -- the final head that a task brought stands in the bytes
-pub final_in : (method : List ℕ) (closed : Bool) (got : List ℕ) (told : Told)
+pub final_in : (method : List ℕ) (closed : Bool) (got : List ℕ) (told : ToldResponse)
     (final : ResponseHead) (new : ResponseReading) → is_informational final.status ≡ false
     → ReadSoFar method closed got (with_head told final) new → FinalIn method got final
 final_in method closed got told final new last read =
     final_at method closed got told final new.place new.ahead last
-    (subst (λ (t : Told). ReadAt method closed got t new.place new.ahead)
+    (subst (λ (t : ToldResponse). ReadAt method closed got t new.place new.ahead)
     (ap (λ (b : Bool). if b then record told { informed = told.informed ++ final ∷ [] }
     else record told { final = Some final }) last)
     read.at)
@@ -296,13 +299,14 @@ switch_withholds method head end status inner outer of is cause out =
 -- ---- what tasks with an end say
 
 -- tasks that end are the response whole, with its final head
-pub record SaysWhole (method got : List ℕ) (closed : Bool) (told : Told) : Type 0 where
+pub record SaysWhole (method got : List ℕ) (closed : Bool) (told : ToldResponse) : Type 0 where
   pub place : ℕ
   pub head : ResponseHead
   pub whole : Tasks method false got closed (says told (ended place))
   pub final : told.final ≡ Some head
 
-whole_at : (method got : List ℕ) (closed : Bool) (told : Told) (at : Place) (ahead : List ℕ)
+whole_at : (method got : List ℕ) (closed : Bool) (told : ToldResponse) (at : ResponsePlace)
+    (ahead : List ℕ)
     → is_over at ≡ true → ReadAt method closed got told at ahead
     → SaysWhole method got closed told
 whole_at method got closed told place.NoHead ahead over read = absurd (cc)

@@ -150,7 +150,7 @@ pub record IsQueued (head : RequestHead) (taken : List HttpTask) (lost : Bool) (
   pub front : IsFrontOf (sent_wire sent) (sent_wire (sent_as head taken))
 
 -- what of a piece was queued that was lost: nothing, or its bytes without the end that it carries.
--- It is lost for want of memory, or since the request ends short
+-- It is lost when out of memory, or since the request ends short
 pub data Loses (sent : Sent) (taken : List ℕ) (task : HttpTask) (writing : RequestWriting)
     : Fail → Type 0 where
   unwritten : SentSoFar sent taken writing → Loses sent taken task writing fail.OutOfMemory

@@ -146,7 +146,7 @@ impl<L> PeerSide<L> {
 }
 
 impl<L: ByteLink> PeerSide<L> {
-    /// Queues the head of the request. For want of memory nothing is queued, and the head is gone.
+    /// Queues the head of the request. When out of memory nothing is queued, and the head is gone.
     ///
     /// `InvalidHTTPHeader` of the source `Internal`, about `BadFraming`: exactly where
     /// `request_framing` refuses the head. Nothing is queued then.

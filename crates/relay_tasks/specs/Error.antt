@@ -66,7 +66,7 @@ abbrev pub decided_by : RetryType → Bool → RetryType
 decided_by (Decided on) reused = Decided on
 decided_by ReusedOnly reused = Decided reused
 
--- a failure for want of memory, or by this error and no other
+-- a failure when out of memory, or by this error and no other
 abbrev pub IsMemoryOr : Error → Fail → Type 0
 IsMemoryOr error fail.OutOfMemory = Unit {0}
 IsMemoryOr error (fail.Error given) = given ≡ error

@@ -6,7 +6,7 @@ use Rattle.relay_tasks.specs.declared.error.Fail.{Fail}
 use Rattle.relay_tasks.specs.declared.error.Fail.TheVariants as fail
 use Rattle.relay_tasks.specs.declared.context.Context.TheVariants as about
 
--- a full map is a head that is too long; want of memory stays what it is
+-- a full map is a head that is too long; out of memory stays what it is
 abbrev pub map_failure : HeaderMapError → Fail
 map_failure map.MaxSizeReached = fail.Error (refused about.HeadTooLong)
 map_failure map.OutOfMemory = fail.OutOfMemory

@@ -247,7 +247,7 @@ impl Error {
     }
 }
 
-/// Why a call did not do its work: want of memory, which is merged with nothing, or an error.
+/// Why a call did not do its work: out of memory, which is merged with nothing, or an error.
 #[derive(Clone, Copy, Debug, PartialEq, Eq)]
 pub enum Fail {
     OutOfMemory,

@@ -1,4 +1,4 @@
-//! Heads that only inform, and clients that speak HTTP/1.0.
+//! Informational heads, and clients that speak HTTP/1.0.
 use crate::tests::{HOST, assert_served};
 use std::alloc::AllocError;
 

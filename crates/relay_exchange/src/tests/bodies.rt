@@ -54,7 +54,7 @@ fn a_body_byte_by_byte_is_a_chunk_for_each_byte(rt: HostRuntime) -> Checked {
     )
 }
 
-/// An upload that waits for leave: the body comes only once the client got the head that informs,
+/// An upload that waits for leave: the body comes only once the client got the informational head,
 /// and the final head only once the peer got the body.
 #[test]
 fn a_body_follows_the_leave_to_send_it(rt: HostRuntime) -> Checked {

@@ -24,25 +24,21 @@ fn connection(
 }
 
 #[test]
-fn reads_a_request_in_pieces_and_relays_its_body(rt: HostRuntime) -> Checked {
+fn reads_a_request_in_pieces(rt: HostRuntime) -> Checked {
     let mut client = connection(
         rt.alloc(),
         b"PUT / HTTP/1.1\r\nHost: h\r\nContent-Length: 9\r\n\r",
         b"\n123456789",
     )?;
-    let mut peer = connection(rt.alloc(), b"", b"")?;
     assert_eq!(rt; client.read_more()?, Got::Bytes(45));
     assert!(rt; client.judge_request(rt.alloc())?.is_none());
-    assert_eq!(rt; client.head_end(), None);
     assert_eq!(rt; client.read_more()?, Got::Bytes(10));
     let read = client.judge_request(rt.alloc())?.ok_or("no request")?;
     assert_eq!(rt; read.framing, Framing::Length(9));
     assert_eq!(rt; read.len, 46);
     assert!(rt; read.len <= client.ahead().len());
     client.consume(read.len);
-    assert!(rt; !client.ahead().is_empty());
-    assert_eq!(rt; client.relay_body(&mut peer, 9), Put::Took(8));
-    assert!(rt; client.ahead() == b"9".as_slice());
+    assert!(rt; client.ahead() == b"123456789".as_slice());
     assert_eq!(rt; client.read_more()?, Got::End);
     Ok(())
 }
@@ -72,15 +68,12 @@ fn keeps_a_value_between_requests(rt: HostRuntime) -> Checked {
 
 #[test]
 fn settles_a_chunked_response(rt: HostRuntime) -> Checked {
-    let mut peer = connection(
-        rt.alloc(),
-        b"HTTP/1.1 200 OK\r\nContent-Length: 5\r\nTransfer-Encoding: chunked\r\n\r\n",
-        b"",
-    )?;
-    let _got = peer.read_more()?;
-    let read = peer
-        .judge_response(rt.alloc(), &Method::GET, false)?
-        .ok_or("no response")?;
+    let text = b"HTTP/1.1 200 OK\r\nContent-Length: 5\r\nTransfer-Encoding: chunked\r\n\r\n";
+    let read = vec![in rt.alloc(); ReadItem::Bytes(Bytes::from_static(text))]?;
+    let mut link = ScriptLink::new(rt.alloc(), read, Vec::new(rt.alloc()));
+    let mut ahead = Ahead::new(rt.alloc());
+    let _got = ahead.read_from(&mut link)?;
+    let read = judge_response(rt.alloc(), &mut ahead, &Method::GET, false)?.ok_or("no response")?;
     assert_eq!(rt; read.framing, Framing::Chunked);
     assert!(rt; !read.head.headers().contains_key("content-length"));
     assert!(rt; read.head.headers().contains_key("transfer-encoding"));

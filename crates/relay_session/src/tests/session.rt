@@ -158,7 +158,7 @@ fn queues_a_piece_that_ends_its_body_short(rt: HostRuntime) -> Checked {
     )
 }
 
-/// A head that informs, and a final head whose Content-Length is no number.
+/// An informational head, and a final head whose Content-Length is no number.
 fn unframed_tasks(alloc: Global) -> relay_tasks::Result<TaskList> {
     let mut bad = ResponseHeader::build(alloc, 200)?;
     let value = HeaderValue::from_bytes(alloc, b"x").map_err(|_| Fail::OutOfMemory)?;

@@ -52,7 +52,7 @@ fn expect_written(rt: &impl Abort, alloc: Global, writing: &mut Writing, want: &
     Ok(())
 }
 
-/// The tasks of a response in chunks, behind a head that informs, with what gives nothing.
+/// The tasks of a response in chunks, behind an informational head, with what gives nothing.
 fn chunked_tasks(alloc: Global) -> relay_tasks::Result<TaskList> {
     let mut tasks = TaskList::new(alloc);
     tasks.push(HttpTask::Header(ResponseHeader::build(alloc, 103)?, false))?;

@@ -2,7 +2,7 @@
 use Rattle.std.proofs.Common.{arith, sym, ◌∙◌, ap}
 use Rattle.relay_h1.specs.Body as body
 use Rattle.relay_h1.specs.Body.{begins_with_crlf}
-use Rattle.relay_h1.specs.declared.body_reader.Front.TheVariants as front
+use Rattle.relay_h1.specs.declared.body_reader.BodyFront.TheVariants as front
 use Rattle.relay_h1.specs.declared.body_reader.State.TheVariants as state
 use Rattle.relay_h1.proofs.BodyReaderLemmas.{stays, goes_on, GoesOver-crlf}
 use Rattle.relay_h1.proofs.body_reader.pass_chunk_end.Goals as goal

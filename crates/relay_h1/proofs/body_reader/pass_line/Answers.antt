@@ -2,7 +2,7 @@
 use Rattle.std.proofs.Common.{◌<◌, drop, arith}
 use Rattle.relay_h1.specs.Body as body
 use Rattle.relay_h1.specs.Body.{IsLineOpen, IsLineBroken, StartsWithLine}
-use Rattle.relay_h1.specs.declared.body_reader.Front.TheVariants as front
+use Rattle.relay_h1.specs.declared.body_reader.BodyFront.TheVariants as front
 use Rattle.relay_h1.specs.declared.body_reader.State.TheVariants as state
 use Rattle.relay_h1.proofs.BodyReaderLemmas.{stays, goes_on, GoesOver-line, GoesOver-last}
 use Rattle.relay_h1.proofs.CrlfLemmas.{line_end-within}

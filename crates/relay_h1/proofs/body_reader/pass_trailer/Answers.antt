@@ -2,7 +2,7 @@
 use Rattle.std.proofs.Common.{List, ℕ, length, ap, arith, sym, refl}
 use Rattle.relay_h1.specs.Body as body
 use Rattle.relay_h1.specs.Body.{trailer_end, IsTrailerOpen, EndsTrailer}
-use Rattle.relay_h1.specs.declared.body_reader.Front.TheVariants as front
+use Rattle.relay_h1.specs.declared.body_reader.BodyFront.TheVariants as front
 use Rattle.relay_h1.specs.declared.body_reader.State.TheVariants as state
 use Rattle.relay_h1.proofs.BodyReaderLemmas.{stays, goes_on, GoesOver-trailer}
 use Rattle.relay_h1.proofs.CrlfLemmas.{trailer_end-within}

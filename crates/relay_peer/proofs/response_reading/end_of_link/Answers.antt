@@ -1,6 +1,6 @@
 -- Before the final head the response is cut off; inside a body its reader decides.
 use Rattle.std.proofs.Common.{◌∙◌, ap, List, ℕ, length, ◌==◌}
-use Rattle.relay_peer.specs.declared.response_reading.Place.TheVariants.{NoHead, Informed}
+use Rattle.relay_peer.specs.declared.response_reading.ResponsePlace.TheVariants.{NoHead, Informed}
 use Rattle.relay_peer.proofs.ResponseLemmas.{head_cut, has_come}
 use Rattle.relay_peer.proofs.response_reading.end_of_link.Goals as goal
 
