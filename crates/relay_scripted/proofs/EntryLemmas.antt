@@ -70,7 +70,12 @@ tells_making rules peer st e error fails is allowed =
           subst
           (λ (on : Hook). Does rules peer st on e.input (record { left = e.output; error = Some error }) e.wrote)
           (sym is)
-          (told _ _ _ _ error fails did.0, did.1);
+          (
+            told (failure_of rules hook.InitDownstreamModules)
+                (scripted rules peer st hook.AllowSpawningSubrequest e.input) e.output e.error error fails
+                did.0,
+            did.1,
+          );
       head = allowed.head;
       keepalive = allowed.keepalive;
       delay = allowed.delay;

@@ -6,6 +6,7 @@ use Rattle.relay_tasks.specs.declared.hook.Hook.{Hook}
 use Rattle.relay_tasks.specs.declared.hook.Hook.TheVariants as hook
 use Rattle.relay_tasks.specs.declared.log.Item.{Item}
 use Rattle.relay_tasks.specs.declared.log.Item.TheVariants as item
+use Rattle.relay_tasks.specs.declared.message.Injected.{Injected}
 use Rattle.relay_tasks.specs.declared.peer.Peer.{Peer}
 use Rattle.relay_tasks.specs.declared.task.HttpTask.{HttpTask}
 use Rattle.relay_hooks.specs.DefaultLaw.{IsDefaultWrote, default_output, marked, purge_answer}
@@ -128,7 +129,8 @@ did_default rules peer st hook.UpstreamResponseFilter input did wrote free makin
 did_default rules peer st hook.ResponseFilter input did wrote free making does =
     (does.0 ∙ filtered_free rules hook.ResponseFilter input free, does.1)
 did_default rules peer st hook.CustomForwarding input did wrote free making does =
-    (does.0 ∙ ap forwarded (run_free on_injected hook.CustomForwarding rules no_messages free), does.1)
+    (does.0 ∙ ap (λ (sent : Outcome Injected). forwarded sent)
+    (run_free on_injected hook.CustomForwarding rules no_messages free), does.1)
 did_default rules peer st hook.DownstreamCustomMessageProxyFilter input did wrote free making does =
     (does.0 ∙ answered_free rules hook.DownstreamCustomMessageProxyFilter input free, does.1)
 did_default rules peer st hook.UpstreamCustomMessageProxyFilter input did wrote free making does =

@@ -3,10 +3,10 @@
 use Rattle.std.proofs.Common.{◌≡◌, ℕ, ◌≢◌, true, false, List, [], ◌∷◌, map, codes, bytes_eq, refl, sym, ap, subst, ◌∙◌, inl, inr, arith}
 use Rattle.std.proofs.lemmas.Bool.{cases_Bool, both_ways}
 use Rattle.std.proofs.lemmas.Slice.Eq.{bytes_eq-Decides}
-use Rattle.std.specs.Fmt.{digits}
+use Rattle.std.specs.Fmt.{decimal}
 use Rattle.std.specs.List.{list_all}
 use Rattle.std.specs.Prelude.{Bool, not, ◌||◌, Option, Some, None, Result, Ok, Err, OnOk}
-use Rattle.http_header.specs.FieldValue.{FieldValue}
+use Rattle.http_header.specs.FieldValue.{FieldValue, plain_value}
 use Rattle.http_header.specs.HeaderMap.{IsUnique, get_all, insert, remove}
 use Rattle.http_header.proofs.HeaderMapLemmas.{get_all-insert_other, get_all-remove_other}
 use Rattle.relay_tasks.specs.Head.{Fields, ResponseHead}
@@ -18,7 +18,7 @@ use Rattle.relay_tasks.specs.declared.log.Item.TheVariants as item
 use Rattle.relay_session.specs.Generated.{generated_head}
 use Rattle.relay_hooks.specs.DefaultLaw.{purge_answer}
 use Rattle.relay_hooks.specs.Laws.{IsBodiless}
-use Rattle.relay_hooks.specs.Purge.{purge_head, purged_of}
+use Rattle.relay_hooks.specs.Purge.{purge_code, purge_head, purged_of}
 use Rattle.relay_hooks.specs.declared.purge.PurgeStatus.{PurgeStatus}
 use Rattle.relay_hooks.specs.declared.purge.PurgeStatus.TheVariants as status
 use Rattle.relay_hooks.proofs.PurgeLemmas.{purge_head-bodiless}
@@ -50,19 +50,34 @@ pub record AreBodiless (fields : Fields) : Type 0 where
       map (λ value. value.bytes) (get_all fields (codes "content-length")) ≡ codes "0" ∷ []
   pub uncoded : get_all fields (codes "transfer-encoding") ≡ []
 
--- no name of a generated answer stands twice
-generated_unique : (code : ℕ) → IsUnique (generated_head code 0).fields
+-- the fields of a generated answer, set one after the other
+generated_fields : (code : ℕ)
+    → (generated_head code 0).fields
+    ≡ insert
+    (insert (insert [] (codes "server") (plain_value (codes "Pingora"))) (codes "content-length")
+    (plain_value (decimal 0)))
+    (codes "cache-control") (plain_value (codes "private, no-store"))
 unfolding generated_head
+generated_fields code = refl
+
+-- so no name stands twice
+generated_unique : (code : ℕ) → IsUnique (generated_head code 0).fields
 generated_unique code =
     let none : IsUnique {X = FieldValue} [] = λ i j within other same. omega arith in
-    set_unique _ (codes "cache-control") _
-    (set_unique _ (codes "content-length") _ (set_unique [] (codes "server") _ none))
+    subst (λ (fields : Fields). IsUnique fields) (sym (generated_fields code))
+    (set_unique
+    (insert (insert [] (codes "server") (plain_value (codes "Pingora"))) (codes "content-length")
+    (plain_value (decimal 0)))
+    (codes "cache-control") (plain_value (codes "private, no-store"))
+    (set_unique (insert [] (codes "server") (plain_value (codes "Pingora"))) (codes "content-length")
+    (plain_value (decimal 0))
+    (set_unique [] (codes "server") (plain_value (codes "Pingora")) none)))
 
 -- the head that the relay made has no body
 purge_head_bodiless : (answer : PurgeStatus) → AreBodiless (purge_head answer).fields
 purge_head_bodiless answer =
     let head = purge_head-bodiless answer in
-    record { unique = generated_unique _; length_0 = head.length_0; uncoded = head.uncoded }
+    record { unique = generated_unique (purge_code answer); length_0 = head.length_0; uncoded = head.uncoded }
 
 -- ---- one action
 
@@ -86,10 +101,10 @@ set_bodiless fields name value other was =
       unique = set_unique fields name value was.unique;
       length_0 =
           ap (map (λ (v : FieldValue). v.bytes))
-          (get_all-insert_other fields name (codes "content-length") value (apart _ _ parts.0))
+          (get_all-insert_other fields name (codes "content-length") value (apart name (codes "content-length") parts.0))
           ∙ was.length_0;
       uncoded =
-          get_all-insert_other fields name (codes "transfer-encoding") value (apart _ _ parts.1)
+          get_all-insert_other fields name (codes "transfer-encoding") value (apart name (codes "transfer-encoding") parts.1)
           ∙ was.uncoded;
     }
 
@@ -103,10 +118,10 @@ removed_bodiless fields name other was =
       unique = removed_unique fields name was.unique;
       length_0 =
           ap (map (λ (v : FieldValue). v.bytes))
-          (get_all-remove_other fields name (codes "content-length") was.unique (apart _ _ parts.0))
+          (get_all-remove_other fields name (codes "content-length") was.unique (apart name (codes "content-length") parts.0))
           ∙ was.length_0;
       uncoded =
-          get_all-remove_other fields name (codes "transfer-encoding") was.unique (apart _ _ parts.1)
+          get_all-remove_other fields name (codes "transfer-encoding") was.unique (apart name (codes "transfer-encoding") parts.1)
           ∙ was.uncoded;
     }
 

@@ -66,13 +66,22 @@ reply_final on (rule ∷ rules) given codes final =
       | inr off ↦ rw off (reply_final on rules given parts.1 final)
     ]
 
+-- it is 200 at least
+from_200 : (code : ℕ) → nat_le 200 code ≡ true → 200 ≤ code
+from_200 code h = grind (arith, nat_tests)
+
+-- and has three digits
+below_1000 : (code : ℕ) → nat_lt code 1000 ≡ true → code < 1000
+below_1000 code h = grind (arith, nat_tests)
+
 -- a code of a final head is a status
 pub final_status : (code : ℕ) → is_final_code code ≡ true → IsStatus code
 final_status code final =
     let parts = both_true (nat_le 200 code) (nat_lt code 1000) final in
-    let from : 200 ≤ code = grind (arith, nat_tests) in
-    let below : code < 1000 = grind (arith, nat_tests) in
-    record { from_100 = omega arith; below_1000 = below }
+    record {
+      from_100 = omega (arith, from_200 code parts.0);
+      below_1000 = below_1000 code parts.1;
+    }
 
 -- what is false with anything is false
 and_false : (b : Bool) → (b && false) ≡ false
@@ -121,8 +130,9 @@ noted_queues tasks old new notes wrote =
         untouched = λ _. same;
       };
       goes_on =
-          subst (GoesOnWith old.downstream.writing new.downstream.writing) (sym wrote)
-          notes.queued.goes_on;
+          subst
+          (λ (more : List HttpTask). GoesOnWith old.downstream.writing new.downstream.writing more)
+          (sym wrote) notes.queued.goes_on;
       rest =
           subst
           (λ (s : Seen). s ≡ record old {
@@ -148,7 +158,7 @@ answers_with code (Ok done) old new final may notes =
     record {
       queues = noted_queues tasks old new notes wrote;
       wrote = is;
-      whole = ap is_whole is ∙ lone_answer_whole code final;
+      whole = ap (λ (queued : List HttpTask). is_whole queued) is ∙ lone_answer_whole code final;
     }
 answers_with code (Err (fail.Error error)) old new final may failed =
     (write_fault old.downstream.writing.output error failed.0, failed.1)

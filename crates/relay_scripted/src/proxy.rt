@@ -402,6 +402,6 @@ impl ProxyHttp for ScriptProxy {
         answer: &mut ResponseHeader,
     ) -> Result<()> {
         count(ctx);
-        filter_response(&self.rules, Hook::PurgeResponseFilter, answer)
+        run_rules(self.rules.as_slice(), Hook::PurgeResponseFilter, answer)
     }
 }
