@@ -159,6 +159,8 @@ answers_with code (Ok done) old new final may notes =
       queues = noted_queues tasks old new notes wrote;
       wrote = is;
       whole = ap (λ (queued : List HttpTask). is_whole queued) is ∙ lone_answer_whole code final;
+      untouched = ap (λ (s : Seen). s.touched) notes.rest ∙ may.ready.untouched;
+      keepalive = ap (λ (s : Seen). s.keepalive) notes.rest;
     }
 answers_with code (Err (fail.Error error)) old new final may failed =
     (write_fault old.downstream.writing.output error failed.0, failed.1)

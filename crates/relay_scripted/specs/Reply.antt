@@ -1,5 +1,5 @@
 -- An answer to the client in the place of an upstream's (RFC 9110, section 15).
-use Rattle.std.specs.Prelude.{◌≡◌, ℕ, Bool, true, List, [], Result, Ok, Err}
+use Rattle.std.specs.Prelude.{◌≡◌, ℕ, Bool, true, false, List, [], Result, Ok, Err}
 use Rattle.relay_tasks.specs.declared.error.Error.{Error}
 use Rattle.relay_tasks.specs.declared.error.Fail.{Fail}
 use Rattle.relay_tasks.specs.declared.error.Fail.TheVariants as fail
@@ -18,11 +18,13 @@ abbrev pub IsFinalReply : Reply → Type 0
 IsFinalReply reply.Nothing = Unit {0}
 IsFinalReply (reply.Status code) = is_final_code code ≡ true
 
--- the answer with that status was queued, whole, and all else is as every hook leaves it
+-- the answer with that status was queued, whole; the request's head and the keepalive flag stay
 pub record Answers (code : ℕ) (old new : Seen) : Type 0 where
   pub queues : Queues old new
   pub wrote : new.wrote ≡ lone_answer code
   pub whole : is_whole new.wrote ≡ true
+  pub untouched : new.touched ≡ false
+  pub keepalive : new.keepalive ≡ old.keepalive
 
 -- the error is that of a write that failed before
 pub record IsWriteFault (error : Error) : Type 0 where
