@@ -168,12 +168,11 @@ answers_with code (Ok done) old new final may notes =
       untouched = ap (λ (s : Seen). s.touched) notes.rest ∙ may.ready.untouched;
       keepalive = ap (λ (s : Seen). s.keepalive) notes.rest;
     }
-answers_with code (Err (fail.Error error)) old new final may failed =
-    (
-      record {
-        is_fault = write_fault old.downstream.writing.output error failed.0;
-        is_kept = kept_fault old.downstream.writing.output error failed.0;
-      },
-      failed.1,
-    )
+answers_with code (Err (fail.Error error)) old new final may failed = (
+  record {
+    is_fault = write_fault old.downstream.writing.output error failed.0;
+    is_kept = kept_fault old.downstream.writing.output error failed.0;
+  },
+  failed.1,
+)
 answers_with code (Err fail.OutOfMemory) old new final may same = same

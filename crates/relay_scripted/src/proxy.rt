@@ -251,7 +251,11 @@ impl ProxyHttp for ScriptProxy {
         ctx: &mut u64,
     ) -> Result<Option<u64>> {
         count(ctx);
-        run_rules(self.rules.as_slice(), Hook::UpstreamResponseBodyFilter, body)?;
+        run_rules(
+            self.rules.as_slice(),
+            Hook::UpstreamResponseBodyFilter,
+            body,
+        )?;
         Ok(None)
     }
 
@@ -301,11 +305,7 @@ impl ProxyHttp for ScriptProxy {
         count(ctx);
     }
 
-    fn persist_connection_context(
-        &self,
-        session: &Session<ScriptModules>,
-        ctx: &u64,
-    ) -> Option<u64>
+    fn persist_connection_context(&self, session: &Session<ScriptModules>, ctx: &u64) -> Option<u64>
         requires { IsReady session.now.seen }
         ensures allowed { Asked (IsScripted self.now.rules self.now.peer)
             hook.PersistConnectionContext (item.Request (request_head session.now.seen))
