@@ -1,0 +1,274 @@
+//! Each hook, called once over a session of its own: that of a request for `/a` without a body, of
+//! which nothing was answered. What comes of it is a plain value.
+ghost use Rattle.std.specs.Prelude.{IfOk};
+ghost use Rattle.relay_hooks.specs.Session.{IsReady};
+ghost use Rattle.relay_hooks.specs.Purge.{purge_head};
+
+use bytes::Bytes;
+use http::Method;
+use http_header::HeaderMap;
+use relay_h1::Framing;
+use relay_hooks::{FailToProxy, ProxyHttp, ProxyWarnLogContext, PurgeStatus, Session};
+use relay_session::{HttpSession, generated_head};
+use relay_tasks::{Error, Fail, Peer, PurgeAction, RequestHeader, ResponseHeader, Result};
+use std::alloc::Global;
+
+/// The session of a request with that method.
+fn session_of<A: ProxyHttp>(app: &A, alloc: Global, method: &Method) -> Result<Session<A::Modules>>
+    ensures { IfOk result (λ session. IsReady session.seen) }
+{
+    let modules = app.init_downstream_modules(alloc)?;
+    let head = RequestHeader::build(alloc, method, b"/a")?;
+    let client = HttpSession::begun_http1(alloc, head, Framing::Empty);
+    Ok(Session::new_h1_with_modules(alloc, client, modules))
+}
+
+/// What an application says of a request and of an error that it is only shown.
+#[derive(Clone, Copy, Debug, PartialEq, Eq)]
+pub(crate) struct Answers {
+    pub(crate) spawns: bool,
+    pub(crate) keeps: bool,
+    pub(crate) hides_error: bool,
+    pub(crate) hides_warning: bool,
+    pub(crate) purges: bool,
+    pub(crate) action: PurgeAction,
+}
+
+/// The hooks that change nothing.
+pub(crate) fn answers_of<A: ProxyHttp>(app: &A, alloc: Global, error: &Error) -> Result<Answers> {
+    let session = session_of(app, alloc, &Method::GET)?;
+    let ctx = app.new_ctx();
+    let context = ProxyWarnLogContext::UpstreamRetry;
+    Ok(Answers {
+        spawns: app.allow_spawning_subrequest(&session, &ctx),
+        keeps: app.persist_connection_context(&session, &ctx).is_some(),
+        hides_error: app.suppress_error_log(&session, &ctx, error),
+        hides_warning: app.suppress_proxy_warn_log(&session, &ctx, error, context),
+        purges: app.is_purge(&session, &ctx),
+        action: app.purge_action(&session, &ctx),
+    })
+}
+
+pub(crate) fn request_summary<A: ProxyHttp>(app: &A, alloc: Global) -> Result<Vec<u8>> {
+    let session = session_of(app, alloc, &Method::POST)?;
+    let ctx = app.new_ctx();
+    app.request_summary(alloc, &session, &ctx)
+}
+
+pub(crate) fn early_request_filter<A: ProxyHttp>(app: &A, alloc: Global) -> Result<()> {
+    let mut session = session_of(app, alloc, &Method::GET)?;
+    let mut ctx = app.new_ctx();
+    app.early_request_filter(alloc, &mut session, &mut ctx)
+}
+
+pub(crate) fn upstream_peer<A: ProxyHttp>(app: &A, alloc: Global) -> Result<Peer> {
+    let mut session = session_of(app, alloc, &Method::GET)?;
+    let mut ctx = app.new_ctx();
+    app.upstream_peer(alloc, &mut session, &mut ctx)
+}
+
+pub(crate) fn connected_to_upstream<A: ProxyHttp>(
+    app: &A,
+    alloc: Global,
+    peer: &Peer,
+) -> Result<()> {
+    let mut session = session_of(app, alloc, &Method::GET)?;
+    let mut ctx = app.new_ctx();
+    app.connected_to_upstream(alloc, &mut session, true, peer, &mut ctx)
+}
+
+pub(crate) fn request_filter<A: ProxyHttp>(app: &A, alloc: Global) -> Result<(bool, usize)> {
+    let mut session = session_of(app, alloc, &Method::GET)?;
+    if session.seen.downstream.response_written() {
+        return Err(Fail::OutOfMemory);
+    }
+    let mut ctx = app.new_ctx();
+    let answers = app.request_filter(alloc, &mut session, &mut ctx)?;
+    Ok((answers, session.seen.take_wrote().len()))
+}
+
+pub(crate) fn proxy_upstream_filter<A: ProxyHttp>(app: &A, alloc: Global) -> Result<(bool, usize)> {
+    let mut session = session_of(app, alloc, &Method::GET)?;
+    if session.seen.downstream.response_written() {
+        return Err(Fail::OutOfMemory);
+    }
+    let mut ctx = app.new_ctx();
+    let goes_on = app.proxy_upstream_filter(alloc, &mut session, &mut ctx)?;
+    Ok((goes_on, session.seen.take_wrote().len()))
+}
+
+pub(crate) fn request_body_filter<A: ProxyHttp>(
+    app: &A,
+    alloc: Global,
+    piece: &mut Option<Bytes>,
+) -> Result<()> {
+    let mut session = session_of(app, alloc, &Method::GET)?;
+    let mut ctx = app.new_ctx();
+    app.request_body_filter(alloc, &mut session, piece, true, &mut ctx)
+}
+
+pub(crate) fn upstream_response_body_filter<A: ProxyHttp>(
+    app: &A,
+    alloc: Global,
+    piece: &mut Option<Bytes>,
+) -> Result<Option<u64>> {
+    let mut session = session_of(app, alloc, &Method::GET)?;
+    let mut ctx = app.new_ctx();
+    app.upstream_response_body_filter(alloc, &mut session, piece, true, &mut ctx)
+}
+
+pub(crate) fn response_body_filter<A: ProxyHttp>(
+    app: &A,
+    alloc: Global,
+    piece: &mut Option<Bytes>,
+) -> Result<Option<u64>> {
+    let mut session = session_of(app, alloc, &Method::GET)?;
+    let mut ctx = app.new_ctx();
+    app.response_body_filter(alloc, &mut session, piece, true, &mut ctx)
+}
+
+pub(crate) fn upstream_request_filter<A: ProxyHttp>(
+    app: &A,
+    alloc: Global,
+    head: &mut RequestHeader,
+) -> Result<()> {
+    let mut session = session_of(app, alloc, &Method::GET)?;
+    let mut ctx = app.new_ctx();
+    app.upstream_request_filter(alloc, &mut session, head, &mut ctx)
+}
+
+pub(crate) fn upstream_response_filter<A: ProxyHttp>(
+    app: &A,
+    alloc: Global,
+    head: &mut ResponseHeader,
+) -> Result<()> {
+    let mut session = session_of(app, alloc, &Method::GET)?;
+    let mut ctx = app.new_ctx();
+    app.upstream_response_filter(alloc, &mut session, head, &mut ctx)
+}
+
+pub(crate) fn response_filter<A: ProxyHttp>(
+    app: &A,
+    alloc: Global,
+    head: &mut ResponseHeader,
+) -> Result<()> {
+    let mut session = session_of(app, alloc, &Method::GET)?;
+    let mut ctx = app.new_ctx();
+    app.response_filter(alloc, &mut session, head, &mut ctx)
+}
+
+pub(crate) fn upstream_response_trailer_filter<A: ProxyHttp>(
+    app: &A,
+    alloc: Global,
+    trailers: &mut HeaderMap,
+) -> Result<()> {
+    let mut session = session_of(app, alloc, &Method::GET)?;
+    let mut ctx = app.new_ctx();
+    app.upstream_response_trailer_filter(alloc, &mut session, trailers, &mut ctx)
+}
+
+pub(crate) fn response_trailer_filter<A: ProxyHttp>(
+    app: &A,
+    alloc: Global,
+    trailers: &mut HeaderMap,
+) -> Result<Option<Bytes>> {
+    let mut session = session_of(app, alloc, &Method::GET)?;
+    let mut ctx = app.new_ctx();
+    app.response_trailer_filter(alloc, &mut session, trailers, &mut ctx)
+}
+
+/// How many messages go to the upstream and to the client in front of theirs.
+pub(crate) fn custom_forwarding<A: ProxyHttp>(app: &A, alloc: Global) -> Result<(usize, usize)> {
+    let mut session = session_of(app, alloc, &Method::GET)?;
+    let mut ctx = app.new_ctx();
+    let injected = app.custom_forwarding(alloc, &mut session, &mut ctx)?;
+    Ok((injected.to_upstream.len(), injected.to_downstream.len()))
+}
+
+pub(crate) fn downstream_message<A: ProxyHttp>(
+    app: &A,
+    alloc: Global,
+    message: Bytes,
+) -> Result<Option<Bytes>> {
+    let mut session = session_of(app, alloc, &Method::GET)?;
+    let mut ctx = app.new_ctx();
+    app.downstream_custom_message_proxy_filter(alloc, &mut session, message, &mut ctx, true)
+}
+
+pub(crate) fn upstream_message<A: ProxyHttp>(
+    app: &A,
+    alloc: Global,
+    message: Bytes,
+) -> Result<Option<Bytes>> {
+    let mut session = session_of(app, alloc, &Method::GET)?;
+    let mut ctx = app.new_ctx();
+    app.upstream_custom_message_proxy_filter(alloc, &mut session, message, &mut ctx, true)
+}
+
+/// The mark behind the call.
+pub(crate) fn logging<A: ProxyHttp>(app: &A, alloc: Global, error: &Error) -> Result<u64> {
+    let mut session = session_of(app, alloc, &Method::GET)?;
+    let mut ctx = app.new_ctx();
+    app.logging(&mut session, Some(error), &mut ctx);
+    Ok(app.mark(&ctx))
+}
+
+/// The mark behind the call.
+pub(crate) fn on_connection_reuse<A: ProxyHttp>(
+    app: &A,
+    alloc: Global,
+    previous: A::Kept,
+) -> Result<u64> {
+    let mut session = session_of(app, alloc, &Method::GET)?;
+    let mut ctx = app.new_ctx();
+    app.on_connection_reuse(&mut session, &mut ctx, previous);
+    Ok(app.mark(&ctx))
+}
+
+pub(crate) fn error_while_proxy<A: ProxyHttp>(
+    app: &A,
+    alloc: Global,
+    peer: &Peer,
+    method: &Method,
+    error: Error,
+    reused: bool,
+) -> Result<Error> {
+    let mut session = session_of(app, alloc, method)?;
+    let mut ctx = app.new_ctx();
+    Ok(app.error_while_proxy(peer, &mut session, error, &mut ctx, reused))
+}
+
+pub(crate) fn fail_to_connect<A: ProxyHttp>(
+    app: &A,
+    alloc: Global,
+    peer: &Peer,
+    error: Error,
+) -> Result<Error> {
+    let mut session = session_of(app, alloc, &Method::GET)?;
+    let mut ctx = app.new_ctx();
+    Ok(app.fail_to_connect(&mut session, peer, &mut ctx, error))
+}
+
+/// What it answers, and how many tasks it queued.
+pub(crate) fn fail_to_proxy<A: ProxyHttp>(
+    app: &A,
+    alloc: Global,
+    error: &Error,
+) -> Result<(FailToProxy, usize)> {
+    let mut session = session_of(app, alloc, &Method::GET)?;
+    let mut ctx = app.new_ctx();
+    let told = app.fail_to_proxy(alloc, &mut session, error, &mut ctx)?;
+    Ok((told, session.seen.take_wrote().len()))
+}
+
+/// The head of the answer to a purge that found something.
+pub(crate) fn purge_response_filter<A: ProxyHttp>(
+    app: &A,
+    alloc: Global,
+) -> Result<ResponseHeader> {
+    let session = session_of(app, alloc, &Method::GET)?;
+    let mut ctx = app.new_ctx();
+    let mut answer = generated_head(alloc, 200, 0)?;
+    app.purge_response_filter(alloc, &session, &mut ctx, &PurgeStatus::Found, &mut answer)?;
+    Ok(answer)
+}
