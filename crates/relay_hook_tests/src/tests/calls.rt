@@ -2,7 +2,6 @@
 //! which nothing was answered. What comes of it is a plain value.
 ghost use Rattle.std.specs.Prelude.{IfOk};
 ghost use Rattle.relay_hooks.specs.Session.{IsReady};
-ghost use Rattle.relay_hooks.specs.Purge.{purge_head};
 
 use bytes::Bytes;
 use http::Method;
@@ -23,6 +22,9 @@ fn session_of<A: ProxyHttp>(app: &A, alloc: Global, method: &Method) -> Result<S
     Ok(Session::new_h1_with_modules(alloc, client, modules))
 }
 
+/// Lets go of a session. To drop one is dear to prove, so it stands here alone.
+fn release<M: Drop>(_session: Session<M>) {}
+
 /// What an application says of a request and of an error that it is only shown.
 #[derive(Clone, Copy, Debug, PartialEq, Eq)]
 pub(crate) struct Answers {
@@ -39,32 +41,40 @@ pub(crate) fn answers_of<A: ProxyHttp>(app: &A, alloc: Global, error: &Error) ->
     let session = session_of(app, alloc, &Method::GET)?;
     let ctx = app.new_ctx();
     let context = ProxyWarnLogContext::UpstreamRetry;
-    Ok(Answers {
+    let answers = Answers {
         spawns: app.allow_spawning_subrequest(&session, &ctx),
         keeps: app.persist_connection_context(&session, &ctx).is_some(),
         hides_error: app.suppress_error_log(&session, &ctx, error),
         hides_warning: app.suppress_proxy_warn_log(&session, &ctx, error, context),
         purges: app.is_purge(&session, &ctx),
         action: app.purge_action(&session, &ctx),
-    })
+    };
+    release(session);
+    Ok(answers)
 }
 
 pub(crate) fn request_summary<A: ProxyHttp>(app: &A, alloc: Global) -> Result<Vec<u8>> {
     let session = session_of(app, alloc, &Method::POST)?;
     let ctx = app.new_ctx();
-    app.request_summary(alloc, &session, &ctx)
+    let answer = app.request_summary(alloc, &session, &ctx);
+    release(session);
+    answer
 }
 
 pub(crate) fn early_request_filter<A: ProxyHttp>(app: &A, alloc: Global) -> Result<()> {
     let mut session = session_of(app, alloc, &Method::GET)?;
     let mut ctx = app.new_ctx();
-    app.early_request_filter(alloc, &mut session, &mut ctx)
+    let answer = app.early_request_filter(alloc, &mut session, &mut ctx);
+    release(session);
+    answer
 }
 
 pub(crate) fn upstream_peer<A: ProxyHttp>(app: &A, alloc: Global) -> Result<Peer> {
     let mut session = session_of(app, alloc, &Method::GET)?;
     let mut ctx = app.new_ctx();
-    app.upstream_peer(alloc, &mut session, &mut ctx)
+    let answer = app.upstream_peer(alloc, &mut session, &mut ctx);
+    release(session);
+    answer
 }
 
 pub(crate) fn connected_to_upstream<A: ProxyHttp>(
@@ -74,27 +84,55 @@ pub(crate) fn connected_to_upstream<A: ProxyHttp>(
 ) -> Result<()> {
     let mut session = session_of(app, alloc, &Method::GET)?;
     let mut ctx = app.new_ctx();
-    app.connected_to_upstream(alloc, &mut session, true, peer, &mut ctx)
+    let answer = app.connected_to_upstream(alloc, &mut session, true, peer, &mut ctx);
+    release(session);
+    answer
 }
 
+/// What it answers, and how many tasks it queued.
 pub(crate) fn request_filter<A: ProxyHttp>(app: &A, alloc: Global) -> Result<(bool, usize)> {
     let mut session = session_of(app, alloc, &Method::GET)?;
-    if session.seen.downstream.response_written() {
-        return Err(Fail::OutOfMemory);
-    }
-    let mut ctx = app.new_ctx();
-    let answers = app.request_filter(alloc, &mut session, &mut ctx)?;
-    Ok((answers, session.seen.take_wrote().len()))
+    let answer = filter_request(app, alloc, &mut session);
+    release(session);
+    answer
 }
 
-pub(crate) fn proxy_upstream_filter<A: ProxyHttp>(app: &A, alloc: Global) -> Result<(bool, usize)> {
-    let mut session = session_of(app, alloc, &Method::GET)?;
+fn filter_request<A: ProxyHttp>(
+    app: &A,
+    alloc: Global,
+    session: &mut Session<A::Modules>,
+) -> Result<(bool, usize)>
+    requires { IsReady session.old.seen }
+{
     if session.seen.downstream.response_written() {
         return Err(Fail::OutOfMemory);
     }
     let mut ctx = app.new_ctx();
-    let goes_on = app.proxy_upstream_filter(alloc, &mut session, &mut ctx)?;
-    Ok((goes_on, session.seen.take_wrote().len()))
+    let answers = app.request_filter(alloc, session, &mut ctx)?;
+    Ok((answers, session.seen.wrote.len()))
+}
+
+/// What it answers, and how many tasks it queued.
+pub(crate) fn proxy_upstream_filter<A: ProxyHttp>(app: &A, alloc: Global) -> Result<(bool, usize)> {
+    let mut session = session_of(app, alloc, &Method::GET)?;
+    let answer = filter_upstream(app, alloc, &mut session);
+    release(session);
+    answer
+}
+
+fn filter_upstream<A: ProxyHttp>(
+    app: &A,
+    alloc: Global,
+    session: &mut Session<A::Modules>,
+) -> Result<(bool, usize)>
+    requires { IsReady session.old.seen }
+{
+    if session.seen.downstream.response_written() {
+        return Err(Fail::OutOfMemory);
+    }
+    let mut ctx = app.new_ctx();
+    let goes_on = app.proxy_upstream_filter(alloc, session, &mut ctx)?;
+    Ok((goes_on, session.seen.wrote.len()))
 }
 
 pub(crate) fn request_body_filter<A: ProxyHttp>(
@@ -104,7 +142,9 @@ pub(crate) fn request_body_filter<A: ProxyHttp>(
 ) -> Result<()> {
     let mut session = session_of(app, alloc, &Method::GET)?;
     let mut ctx = app.new_ctx();
-    app.request_body_filter(alloc, &mut session, piece, true, &mut ctx)
+    let answer = app.request_body_filter(alloc, &mut session, piece, true, &mut ctx);
+    release(session);
+    answer
 }
 
 pub(crate) fn upstream_response_body_filter<A: ProxyHttp>(
@@ -114,7 +154,9 @@ pub(crate) fn upstream_response_body_filter<A: ProxyHttp>(
 ) -> Result<Option<u64>> {
     let mut session = session_of(app, alloc, &Method::GET)?;
     let mut ctx = app.new_ctx();
-    app.upstream_response_body_filter(alloc, &mut session, piece, true, &mut ctx)
+    let answer = app.upstream_response_body_filter(alloc, &mut session, piece, true, &mut ctx);
+    release(session);
+    answer
 }
 
 pub(crate) fn response_body_filter<A: ProxyHttp>(
@@ -124,7 +166,9 @@ pub(crate) fn response_body_filter<A: ProxyHttp>(
 ) -> Result<Option<u64>> {
     let mut session = session_of(app, alloc, &Method::GET)?;
     let mut ctx = app.new_ctx();
-    app.response_body_filter(alloc, &mut session, piece, true, &mut ctx)
+    let answer = app.response_body_filter(alloc, &mut session, piece, true, &mut ctx);
+    release(session);
+    answer
 }
 
 pub(crate) fn upstream_request_filter<A: ProxyHttp>(
@@ -134,7 +178,9 @@ pub(crate) fn upstream_request_filter<A: ProxyHttp>(
 ) -> Result<()> {
     let mut session = session_of(app, alloc, &Method::GET)?;
     let mut ctx = app.new_ctx();
-    app.upstream_request_filter(alloc, &mut session, head, &mut ctx)
+    let answer = app.upstream_request_filter(alloc, &mut session, head, &mut ctx);
+    release(session);
+    answer
 }
 
 pub(crate) fn upstream_response_filter<A: ProxyHttp>(
@@ -144,7 +190,9 @@ pub(crate) fn upstream_response_filter<A: ProxyHttp>(
 ) -> Result<()> {
     let mut session = session_of(app, alloc, &Method::GET)?;
     let mut ctx = app.new_ctx();
-    app.upstream_response_filter(alloc, &mut session, head, &mut ctx)
+    let answer = app.upstream_response_filter(alloc, &mut session, head, &mut ctx);
+    release(session);
+    answer
 }
 
 pub(crate) fn response_filter<A: ProxyHttp>(
@@ -154,7 +202,9 @@ pub(crate) fn response_filter<A: ProxyHttp>(
 ) -> Result<()> {
     let mut session = session_of(app, alloc, &Method::GET)?;
     let mut ctx = app.new_ctx();
-    app.response_filter(alloc, &mut session, head, &mut ctx)
+    let answer = app.response_filter(alloc, &mut session, head, &mut ctx);
+    release(session);
+    answer
 }
 
 pub(crate) fn upstream_response_trailer_filter<A: ProxyHttp>(
@@ -164,7 +214,9 @@ pub(crate) fn upstream_response_trailer_filter<A: ProxyHttp>(
 ) -> Result<()> {
     let mut session = session_of(app, alloc, &Method::GET)?;
     let mut ctx = app.new_ctx();
-    app.upstream_response_trailer_filter(alloc, &mut session, trailers, &mut ctx)
+    let answer = app.upstream_response_trailer_filter(alloc, &mut session, trailers, &mut ctx);
+    release(session);
+    answer
 }
 
 pub(crate) fn response_trailer_filter<A: ProxyHttp>(
@@ -174,14 +226,18 @@ pub(crate) fn response_trailer_filter<A: ProxyHttp>(
 ) -> Result<Option<Bytes>> {
     let mut session = session_of(app, alloc, &Method::GET)?;
     let mut ctx = app.new_ctx();
-    app.response_trailer_filter(alloc, &mut session, trailers, &mut ctx)
+    let answer = app.response_trailer_filter(alloc, &mut session, trailers, &mut ctx);
+    release(session);
+    answer
 }
 
 /// How many messages go to the upstream and to the client in front of theirs.
 pub(crate) fn custom_forwarding<A: ProxyHttp>(app: &A, alloc: Global) -> Result<(usize, usize)> {
     let mut session = session_of(app, alloc, &Method::GET)?;
     let mut ctx = app.new_ctx();
-    let injected = app.custom_forwarding(alloc, &mut session, &mut ctx)?;
+    let answer = app.custom_forwarding(alloc, &mut session, &mut ctx);
+    release(session);
+    let injected = answer?;
     Ok((injected.to_upstream.len(), injected.to_downstream.len()))
 }
 
@@ -192,7 +248,15 @@ pub(crate) fn downstream_message<A: ProxyHttp>(
 ) -> Result<Option<Bytes>> {
     let mut session = session_of(app, alloc, &Method::GET)?;
     let mut ctx = app.new_ctx();
-    app.downstream_custom_message_proxy_filter(alloc, &mut session, message, &mut ctx, true)
+    let answer = app.downstream_custom_message_proxy_filter(
+        alloc,
+        &mut session,
+        message,
+        &mut ctx,
+        true,
+    );
+    release(session);
+    answer
 }
 
 pub(crate) fn upstream_message<A: ProxyHttp>(
@@ -202,7 +266,15 @@ pub(crate) fn upstream_message<A: ProxyHttp>(
 ) -> Result<Option<Bytes>> {
     let mut session = session_of(app, alloc, &Method::GET)?;
     let mut ctx = app.new_ctx();
-    app.upstream_custom_message_proxy_filter(alloc, &mut session, message, &mut ctx, true)
+    let answer = app.upstream_custom_message_proxy_filter(
+        alloc,
+        &mut session,
+        message,
+        &mut ctx,
+        true,
+    );
+    release(session);
+    answer
 }
 
 /// The mark behind the call.
@@ -210,7 +282,9 @@ pub(crate) fn logging<A: ProxyHttp>(app: &A, alloc: Global, error: &Error) -> Re
     let mut session = session_of(app, alloc, &Method::GET)?;
     let mut ctx = app.new_ctx();
     app.logging(&mut session, Some(error), &mut ctx);
-    Ok(app.mark(&ctx))
+    let answer = app.mark(&ctx);
+    release(session);
+    Ok(answer)
 }
 
 /// The mark behind the call.
@@ -222,7 +296,9 @@ pub(crate) fn on_connection_reuse<A: ProxyHttp>(
     let mut session = session_of(app, alloc, &Method::GET)?;
     let mut ctx = app.new_ctx();
     app.on_connection_reuse(&mut session, &mut ctx, previous);
-    Ok(app.mark(&ctx))
+    let answer = app.mark(&ctx);
+    release(session);
+    Ok(answer)
 }
 
 pub(crate) fn error_while_proxy<A: ProxyHttp>(
@@ -235,7 +311,9 @@ pub(crate) fn error_while_proxy<A: ProxyHttp>(
 ) -> Result<Error> {
     let mut session = session_of(app, alloc, method)?;
     let mut ctx = app.new_ctx();
-    Ok(app.error_while_proxy(peer, &mut session, error, &mut ctx, reused))
+    let answer = app.error_while_proxy(peer, &mut session, error, &mut ctx, reused);
+    release(session);
+    Ok(answer)
 }
 
 pub(crate) fn fail_to_connect<A: ProxyHttp>(
@@ -246,7 +324,9 @@ pub(crate) fn fail_to_connect<A: ProxyHttp>(
 ) -> Result<Error> {
     let mut session = session_of(app, alloc, &Method::GET)?;
     let mut ctx = app.new_ctx();
-    Ok(app.fail_to_connect(&mut session, peer, &mut ctx, error))
+    let answer = app.fail_to_connect(&mut session, peer, &mut ctx, error);
+    release(session);
+    Ok(answer)
 }
 
 /// What it answers, and how many tasks it queued.
@@ -256,9 +336,22 @@ pub(crate) fn fail_to_proxy<A: ProxyHttp>(
     error: &Error,
 ) -> Result<(FailToProxy, usize)> {
     let mut session = session_of(app, alloc, &Method::GET)?;
+    let answer = fail(app, alloc, &mut session, error);
+    release(session);
+    answer
+}
+
+fn fail<A: ProxyHttp>(
+    app: &A,
+    alloc: Global,
+    session: &mut Session<A::Modules>,
+    error: &Error,
+) -> Result<(FailToProxy, usize)>
+    requires { IsReady session.old.seen }
+{
     let mut ctx = app.new_ctx();
-    let told = app.fail_to_proxy(alloc, &mut session, error, &mut ctx)?;
-    Ok((told, session.seen.take_wrote().len()))
+    let told = app.fail_to_proxy(alloc, session, error, &mut ctx)?;
+    Ok((told, session.seen.wrote.len()))
 }
 
 /// The head of the answer to a purge that found something.
@@ -267,8 +360,20 @@ pub(crate) fn purge_response_filter<A: ProxyHttp>(
     alloc: Global,
 ) -> Result<ResponseHeader> {
     let session = session_of(app, alloc, &Method::GET)?;
+    let answer = filter_purge(app, alloc, &session);
+    release(session);
+    answer
+}
+
+fn filter_purge<A: ProxyHttp>(
+    app: &A,
+    alloc: Global,
+    session: &Session<A::Modules>,
+) -> Result<ResponseHeader>
+    requires { IsReady session.now.seen }
+{
     let mut ctx = app.new_ctx();
     let mut answer = generated_head(alloc, 200, 0)?;
-    app.purge_response_filter(alloc, &session, &mut ctx, &PurgeStatus::Found, &mut answer)?;
+    app.purge_response_filter(alloc, session, &mut ctx, &PurgeStatus::Found, &mut answer)?;
     Ok(answer)
 }
