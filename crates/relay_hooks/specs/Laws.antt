@@ -1,5 +1,5 @@
--- The laws of hooks: what each may do beside answering, out of memory aside (RFC 9110, sections 8.6
--- and 15.2; RFC 9112, section 6.1).
+-- The laws of hooks: what each may do beside answering (RFC 9110, sections 8.6 and 15.2; RFC 9112,
+-- section 6.1). A hook that answers out of memory may leave much behind, but never another log.
 use Rattle.std.specs.Prelude.{◌≡◌, Bool, true, false, ◌||◌, ◌⊎◌, [], ◌∷◌, codes, map, Result, Ok, Err}
 use Rattle.http_header.specs.HeaderMap.{get_all}
 use Rattle.relay_tasks.specs.Head.{ResponseHead}
@@ -16,14 +16,14 @@ use Rattle.relay_hooks.specs.Session.{Leaves, Queues, is_answered}
 abbrev pub LeavesUnless : {T : Type 0} → Result T Fail → Seen → Seen → Type 0
 LeavesUnless (Ok answer) old new = Leaves old new
 LeavesUnless (Err (fail.Error error)) old new = Leaves old new
-LeavesUnless (Err fail.OutOfMemory) old new = Unit {0}
+LeavesUnless (Err fail.OutOfMemory) old new = new.log ≡ old.log
 
 -- with true it queued one whole final answer, else nothing
 abbrev pub AnswersOnYes : Result Bool Fail → Seen → Seen → Type 0
 AnswersOnYes (Ok true) old new = Queues old new × (is_whole new.wrote ≡ true)
 AnswersOnYes (Ok false) old new = Leaves old new
 AnswersOnYes (Err (fail.Error error)) old new = Leaves old new
-AnswersOnYes (Err fail.OutOfMemory) old new = Unit {0}
+AnswersOnYes (Err fail.OutOfMemory) old new = new.log ≡ old.log
 
 -- with false it queued nothing, informational heads, or one whole final answer; else nothing
 abbrev pub AnswersOnNo : Result Bool Fail → Seen → Seen → Type 0
@@ -32,7 +32,7 @@ AnswersOnNo (Ok false) old new =
     ⊎ (Queues old new × (is_whole new.wrote || only_informs new.wrote ≡ true))
 AnswersOnNo (Ok true) old new = Leaves old new
 AnswersOnNo (Err (fail.Error error)) old new = Leaves old new
-AnswersOnNo (Err fail.OutOfMemory) old new = Unit {0}
+AnswersOnNo (Err fail.OutOfMemory) old new = new.log ≡ old.log
 
 -- it queued nothing, or one answer where no final head was queued before
 abbrev pub AnswersOnce : {T : Type 0} → Result T Fail → Seen → Seen → Type 0
@@ -40,7 +40,7 @@ AnswersOnce (Ok answer) old new =
     Leaves old new
     ⊎ (Queues old new × (is_answered old ≡ false) × (is_answer new.wrote ≡ true))
 AnswersOnce (Err (fail.Error error)) old new = Leaves old new
-AnswersOnce (Err fail.OutOfMemory) old new = Unit {0}
+AnswersOnce (Err fail.OutOfMemory) old new = new.log ≡ old.log
 
 -- ---- what a hook does to a head
 

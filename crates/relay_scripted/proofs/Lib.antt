@@ -1,0 +1,5 @@
+pub mod ReplyLemmas
+pub mod FieldLemmas
+pub mod PurgeLemmas
+pub mod EntryLemmas
+pub mod NoRulesLemmas
