@@ -4,3 +4,4 @@ mod app;
 mod calls;
 mod default_app;
 mod errors;
+mod scripted;
