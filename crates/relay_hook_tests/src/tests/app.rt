@@ -1,6 +1,6 @@
 //! An application that changes one thing.
-use crate::tests::calls;
-use http_header::{HeaderValue, SERVER};
+use crate::tests::calls::{self, Told};
+use http_header::{HeaderValue, VIA};
 use relay_hooks::{App, Filters, NoModules, Session};
 use relay_tasks::{ResponseHeader, Result};
 use std::alloc::Global;
@@ -24,16 +24,23 @@ impl Filters for Tag {
         head: &mut ResponseHeader,
         _ctx: &mut (),
     ) -> Result<()> {
-        head.insert_header(SERVER, HeaderValue::from_static("relay"))
+        head.insert_header(VIA, HeaderValue::from_static("relay"))
     }
 }
 
 #[test]
 fn changes_one_thing(rt: HostRuntime) -> Checked {
-    let app = App::new(Tag);
-    let mut head = ResponseHeader::build(rt.alloc(), 200)?;
-    calls::response_filter(&app, rt.alloc(), &mut head)?;
-    assert!(rt; head.headers().contains_key("server"));
-    assert_eq!(rt; calls::request_filter(&app, rt.alloc()), Ok((false, 0)));
+    let tagged = Told {
+        status: 204,
+        via: true,
+    };
+    assert_eq!(rt;
+        calls::response_filter(App::new(Tag), rt.alloc()),
+        Ok(tagged)
+    );
+    assert_eq!(rt;
+        calls::request_filter(App::new(Tag), rt.alloc()),
+        Ok((false, 0))
+    );
     Ok(())
 }

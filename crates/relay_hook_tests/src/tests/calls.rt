@@ -5,7 +5,7 @@ ghost use Rattle.relay_hooks.specs.Session.{IsReady};
 
 use bytes::Bytes;
 use http::Method;
-use http_header::HeaderMap;
+use http_header::{HeaderMap, VIA};
 use relay_h1::Framing;
 use relay_hooks::{FailToProxy, ProxyHttp, ProxyWarnLogContext, PurgeStatus, Session};
 use relay_session::{HttpSession, generated_head};
@@ -22,8 +22,8 @@ fn session_of<A: ProxyHttp>(app: &A, alloc: Global, method: &Method) -> Result<S
     Ok(Session::new_h1_with_modules(alloc, client, modules))
 }
 
-/// Lets go of a session. To drop one is dear to prove, so it stands here alone.
-fn release<M: Drop>(_session: Session<M>) {}
+/// Lets go of a value. To drop a session is dear to prove, so no other place does.
+fn release<T: Drop>(_value: T) {}
 
 /// What an application says of a request and of an error that it is only shown.
 #[derive(Clone, Copy, Debug, PartialEq, Eq)]
@@ -37,8 +37,12 @@ pub(crate) struct Answers {
 }
 
 /// The hooks that change nothing.
-pub(crate) fn answers_of<A: ProxyHttp>(app: &A, alloc: Global, error: &Error) -> Result<Answers> {
-    let session = session_of(app, alloc, &Method::GET)?;
+pub(crate) fn answers_of<A: ProxyHttp + Drop>(
+    app: A,
+    alloc: Global,
+    error: &Error,
+) -> Result<Answers> {
+    let session = session_of(&app, alloc, &Method::GET)?;
     let ctx = app.new_ctx();
     let context = ProxyWarnLogContext::UpstreamRetry;
     let answers = Answers {
@@ -53,36 +57,36 @@ pub(crate) fn answers_of<A: ProxyHttp>(app: &A, alloc: Global, error: &Error) ->
     Ok(answers)
 }
 
-pub(crate) fn request_summary<A: ProxyHttp>(app: &A, alloc: Global) -> Result<Vec<u8>> {
-    let session = session_of(app, alloc, &Method::POST)?;
+pub(crate) fn request_summary<A: ProxyHttp + Drop>(app: A, alloc: Global) -> Result<Vec<u8>> {
+    let session = session_of(&app, alloc, &Method::POST)?;
     let ctx = app.new_ctx();
     let answer = app.request_summary(alloc, &session, &ctx);
     release(session);
     answer
 }
 
-pub(crate) fn early_request_filter<A: ProxyHttp>(app: &A, alloc: Global) -> Result<()> {
-    let mut session = session_of(app, alloc, &Method::GET)?;
+pub(crate) fn early_request_filter<A: ProxyHttp + Drop>(app: A, alloc: Global) -> Result<()> {
+    let mut session = session_of(&app, alloc, &Method::GET)?;
     let mut ctx = app.new_ctx();
     let answer = app.early_request_filter(alloc, &mut session, &mut ctx);
     release(session);
     answer
 }
 
-pub(crate) fn upstream_peer<A: ProxyHttp>(app: &A, alloc: Global) -> Result<Peer> {
-    let mut session = session_of(app, alloc, &Method::GET)?;
+pub(crate) fn upstream_peer<A: ProxyHttp + Drop>(app: A, alloc: Global) -> Result<Peer> {
+    let mut session = session_of(&app, alloc, &Method::GET)?;
     let mut ctx = app.new_ctx();
     let answer = app.upstream_peer(alloc, &mut session, &mut ctx);
     release(session);
     answer
 }
 
-pub(crate) fn connected_to_upstream<A: ProxyHttp>(
-    app: &A,
+pub(crate) fn connected_to_upstream<A: ProxyHttp + Drop>(
+    app: A,
     alloc: Global,
     peer: &Peer,
 ) -> Result<()> {
-    let mut session = session_of(app, alloc, &Method::GET)?;
+    let mut session = session_of(&app, alloc, &Method::GET)?;
     let mut ctx = app.new_ctx();
     let answer = app.connected_to_upstream(alloc, &mut session, true, peer, &mut ctx);
     release(session);
@@ -90,9 +94,9 @@ pub(crate) fn connected_to_upstream<A: ProxyHttp>(
 }
 
 /// What it answers, and how many tasks it queued.
-pub(crate) fn request_filter<A: ProxyHttp>(app: &A, alloc: Global) -> Result<(bool, usize)> {
-    let mut session = session_of(app, alloc, &Method::GET)?;
-    let answer = filter_request(app, alloc, &mut session);
+pub(crate) fn request_filter<A: ProxyHttp + Drop>(app: A, alloc: Global) -> Result<(bool, usize)> {
+    let mut session = session_of(&app, alloc, &Method::GET)?;
+    let answer = filter_request(&app, alloc, &mut session);
     release(session);
     answer
 }
@@ -113,9 +117,12 @@ fn filter_request<A: ProxyHttp>(
 }
 
 /// What it answers, and how many tasks it queued.
-pub(crate) fn proxy_upstream_filter<A: ProxyHttp>(app: &A, alloc: Global) -> Result<(bool, usize)> {
-    let mut session = session_of(app, alloc, &Method::GET)?;
-    let answer = filter_upstream(app, alloc, &mut session);
+pub(crate) fn proxy_upstream_filter<A: ProxyHttp + Drop>(
+    app: A,
+    alloc: Global,
+) -> Result<(bool, usize)> {
+    let mut session = session_of(&app, alloc, &Method::GET)?;
+    let answer = filter_upstream(&app, alloc, &mut session);
     release(session);
     answer
 }
@@ -135,96 +142,147 @@ fn filter_upstream<A: ProxyHttp>(
     Ok((goes_on, session.seen.wrote.len()))
 }
 
-pub(crate) fn request_body_filter<A: ProxyHttp>(
-    app: &A,
+pub(crate) fn request_body_filter<A: ProxyHttp + Drop>(
+    app: A,
     alloc: Global,
     piece: &mut Option<Bytes>,
 ) -> Result<()> {
-    let mut session = session_of(app, alloc, &Method::GET)?;
+    let mut session = session_of(&app, alloc, &Method::GET)?;
     let mut ctx = app.new_ctx();
     let answer = app.request_body_filter(alloc, &mut session, piece, true, &mut ctx);
     release(session);
     answer
 }
 
-pub(crate) fn upstream_response_body_filter<A: ProxyHttp>(
-    app: &A,
+pub(crate) fn upstream_response_body_filter<A: ProxyHttp + Drop>(
+    app: A,
     alloc: Global,
     piece: &mut Option<Bytes>,
 ) -> Result<Option<u64>> {
-    let mut session = session_of(app, alloc, &Method::GET)?;
+    let mut session = session_of(&app, alloc, &Method::GET)?;
     let mut ctx = app.new_ctx();
     let answer = app.upstream_response_body_filter(alloc, &mut session, piece, true, &mut ctx);
     release(session);
     answer
 }
 
-pub(crate) fn response_body_filter<A: ProxyHttp>(
-    app: &A,
+pub(crate) fn response_body_filter<A: ProxyHttp + Drop>(
+    app: A,
     alloc: Global,
     piece: &mut Option<Bytes>,
 ) -> Result<Option<u64>> {
-    let mut session = session_of(app, alloc, &Method::GET)?;
+    let mut session = session_of(&app, alloc, &Method::GET)?;
     let mut ctx = app.new_ctx();
     let answer = app.response_body_filter(alloc, &mut session, piece, true, &mut ctx);
     release(session);
     answer
 }
 
-pub(crate) fn upstream_request_filter<A: ProxyHttp>(
-    app: &A,
-    alloc: Global,
-    head: &mut RequestHeader,
-) -> Result<()> {
-    let mut session = session_of(app, alloc, &Method::GET)?;
-    let mut ctx = app.new_ctx();
-    let answer = app.upstream_request_filter(alloc, &mut session, head, &mut ctx);
+/// What became of a head: the status of a response's, and whether it has the field Via.
+#[derive(Clone, Copy, Debug, PartialEq, Eq)]
+pub(crate) struct Told {
+    pub(crate) status: u16,
+    pub(crate) via: bool,
+}
+
+fn of_request(head: RequestHeader) -> bool {
+    head.headers().contains_key(VIA)
+}
+
+fn of_response(head: ResponseHeader) -> Told {
+    Told {
+        status: head.status(),
+        via: head.headers().contains_key(VIA),
+    }
+}
+
+/// Whether the head that goes upstream has the field Via.
+pub(crate) fn upstream_request_filter<A: ProxyHttp + Drop>(app: A, alloc: Global) -> Result<bool> {
+    let mut session = session_of(&app, alloc, &Method::GET)?;
+    let answer = filter_request_head(&app, alloc, &mut session);
     release(session);
     answer
 }
 
-pub(crate) fn upstream_response_filter<A: ProxyHttp>(
+fn filter_request_head<A: ProxyHttp>(
     app: &A,
     alloc: Global,
-    head: &mut ResponseHeader,
-) -> Result<()> {
-    let mut session = session_of(app, alloc, &Method::GET)?;
+    session: &mut Session<A::Modules>,
+) -> Result<bool>
+    requires { IsReady session.old.seen }
+{
+    let mut head = RequestHeader::build(alloc, &Method::GET, b"/b")?;
     let mut ctx = app.new_ctx();
-    let answer = app.upstream_response_filter(alloc, &mut session, head, &mut ctx);
+    let left = app.upstream_request_filter(alloc, session, &mut head, &mut ctx);
+    let via = of_request(head);
+    left?;
+    Ok(via)
+}
+
+/// What becomes of a head with the status 204.
+pub(crate) fn upstream_response_filter<A: ProxyHttp + Drop>(app: A, alloc: Global) -> Result<Told> {
+    let mut session = session_of(&app, alloc, &Method::GET)?;
+    let answer = filter_upstream_head(&app, alloc, &mut session);
     release(session);
     answer
 }
 
-pub(crate) fn response_filter<A: ProxyHttp>(
+fn filter_upstream_head<A: ProxyHttp>(
     app: &A,
     alloc: Global,
-    head: &mut ResponseHeader,
-) -> Result<()> {
-    let mut session = session_of(app, alloc, &Method::GET)?;
+    session: &mut Session<A::Modules>,
+) -> Result<Told>
+    requires { IsReady session.old.seen }
+{
+    let mut head = ResponseHeader::build(alloc, 204)?;
     let mut ctx = app.new_ctx();
-    let answer = app.response_filter(alloc, &mut session, head, &mut ctx);
+    let left = app.upstream_response_filter(alloc, session, &mut head, &mut ctx);
+    let told = of_response(head);
+    left?;
+    Ok(told)
+}
+
+/// What becomes of a head with the status 204.
+pub(crate) fn response_filter<A: ProxyHttp + Drop>(app: A, alloc: Global) -> Result<Told> {
+    let mut session = session_of(&app, alloc, &Method::GET)?;
+    let answer = filter_head(&app, alloc, &mut session);
     release(session);
     answer
 }
 
-pub(crate) fn upstream_response_trailer_filter<A: ProxyHttp>(
+fn filter_head<A: ProxyHttp>(
     app: &A,
+    alloc: Global,
+    session: &mut Session<A::Modules>,
+) -> Result<Told>
+    requires { IsReady session.old.seen }
+{
+    let mut head = ResponseHeader::build(alloc, 204)?;
+    let mut ctx = app.new_ctx();
+    let left = app.response_filter(alloc, session, &mut head, &mut ctx);
+    let told = of_response(head);
+    left?;
+    Ok(told)
+}
+
+pub(crate) fn upstream_response_trailer_filter<A: ProxyHttp + Drop>(
+    app: A,
     alloc: Global,
     trailers: &mut HeaderMap,
 ) -> Result<()> {
-    let mut session = session_of(app, alloc, &Method::GET)?;
+    let mut session = session_of(&app, alloc, &Method::GET)?;
     let mut ctx = app.new_ctx();
     let answer = app.upstream_response_trailer_filter(alloc, &mut session, trailers, &mut ctx);
     release(session);
     answer
 }
 
-pub(crate) fn response_trailer_filter<A: ProxyHttp>(
-    app: &A,
+pub(crate) fn response_trailer_filter<A: ProxyHttp + Drop>(
+    app: A,
     alloc: Global,
     trailers: &mut HeaderMap,
 ) -> Result<Option<Bytes>> {
-    let mut session = session_of(app, alloc, &Method::GET)?;
+    let mut session = session_of(&app, alloc, &Method::GET)?;
     let mut ctx = app.new_ctx();
     let answer = app.response_trailer_filter(alloc, &mut session, trailers, &mut ctx);
     release(session);
@@ -232,8 +290,11 @@ pub(crate) fn response_trailer_filter<A: ProxyHttp>(
 }
 
 /// How many messages go to the upstream and to the client in front of theirs.
-pub(crate) fn custom_forwarding<A: ProxyHttp>(app: &A, alloc: Global) -> Result<(usize, usize)> {
-    let mut session = session_of(app, alloc, &Method::GET)?;
+pub(crate) fn custom_forwarding<A: ProxyHttp + Drop>(
+    app: A,
+    alloc: Global,
+) -> Result<(usize, usize)> {
+    let mut session = session_of(&app, alloc, &Method::GET)?;
     let mut ctx = app.new_ctx();
     let answer = app.custom_forwarding(alloc, &mut session, &mut ctx);
     release(session);
@@ -241,12 +302,12 @@ pub(crate) fn custom_forwarding<A: ProxyHttp>(app: &A, alloc: Global) -> Result<
     Ok((injected.to_upstream.len(), injected.to_downstream.len()))
 }
 
-pub(crate) fn downstream_message<A: ProxyHttp>(
-    app: &A,
+pub(crate) fn downstream_message<A: ProxyHttp + Drop>(
+    app: A,
     alloc: Global,
     message: Bytes,
 ) -> Result<Option<Bytes>> {
-    let mut session = session_of(app, alloc, &Method::GET)?;
+    let mut session = session_of(&app, alloc, &Method::GET)?;
     let mut ctx = app.new_ctx();
     let answer = app.downstream_custom_message_proxy_filter(
         alloc,
@@ -259,12 +320,12 @@ pub(crate) fn downstream_message<A: ProxyHttp>(
     answer
 }
 
-pub(crate) fn upstream_message<A: ProxyHttp>(
-    app: &A,
+pub(crate) fn upstream_message<A: ProxyHttp + Drop>(
+    app: A,
     alloc: Global,
     message: Bytes,
 ) -> Result<Option<Bytes>> {
-    let mut session = session_of(app, alloc, &Method::GET)?;
+    let mut session = session_of(&app, alloc, &Method::GET)?;
     let mut ctx = app.new_ctx();
     let answer = app.upstream_custom_message_proxy_filter(
         alloc,
@@ -278,8 +339,8 @@ pub(crate) fn upstream_message<A: ProxyHttp>(
 }
 
 /// The mark behind the call.
-pub(crate) fn logging<A: ProxyHttp>(app: &A, alloc: Global, error: &Error) -> Result<u64> {
-    let mut session = session_of(app, alloc, &Method::GET)?;
+pub(crate) fn logging<A: ProxyHttp + Drop>(app: A, alloc: Global, error: &Error) -> Result<u64> {
+    let mut session = session_of(&app, alloc, &Method::GET)?;
     let mut ctx = app.new_ctx();
     app.logging(&mut session, Some(error), &mut ctx);
     let answer = app.mark(&ctx);
@@ -288,12 +349,12 @@ pub(crate) fn logging<A: ProxyHttp>(app: &A, alloc: Global, error: &Error) -> Re
 }
 
 /// The mark behind the call.
-pub(crate) fn on_connection_reuse<A: ProxyHttp>(
-    app: &A,
+pub(crate) fn on_connection_reuse<A: ProxyHttp + Drop>(
+    app: A,
     alloc: Global,
     previous: A::Kept,
 ) -> Result<u64> {
-    let mut session = session_of(app, alloc, &Method::GET)?;
+    let mut session = session_of(&app, alloc, &Method::GET)?;
     let mut ctx = app.new_ctx();
     app.on_connection_reuse(&mut session, &mut ctx, previous);
     let answer = app.mark(&ctx);
@@ -301,28 +362,28 @@ pub(crate) fn on_connection_reuse<A: ProxyHttp>(
     Ok(answer)
 }
 
-pub(crate) fn error_while_proxy<A: ProxyHttp>(
-    app: &A,
+pub(crate) fn error_while_proxy<A: ProxyHttp + Drop>(
+    app: A,
     alloc: Global,
     peer: &Peer,
     method: &Method,
     error: Error,
     reused: bool,
 ) -> Result<Error> {
-    let mut session = session_of(app, alloc, method)?;
+    let mut session = session_of(&app, alloc, method)?;
     let mut ctx = app.new_ctx();
     let answer = app.error_while_proxy(peer, &mut session, error, &mut ctx, reused);
     release(session);
     Ok(answer)
 }
 
-pub(crate) fn fail_to_connect<A: ProxyHttp>(
-    app: &A,
+pub(crate) fn fail_to_connect<A: ProxyHttp + Drop>(
+    app: A,
     alloc: Global,
     peer: &Peer,
     error: Error,
 ) -> Result<Error> {
-    let mut session = session_of(app, alloc, &Method::GET)?;
+    let mut session = session_of(&app, alloc, &Method::GET)?;
     let mut ctx = app.new_ctx();
     let answer = app.fail_to_connect(&mut session, peer, &mut ctx, error);
     release(session);
@@ -330,13 +391,13 @@ pub(crate) fn fail_to_connect<A: ProxyHttp>(
 }
 
 /// What it answers, and how many tasks it queued.
-pub(crate) fn fail_to_proxy<A: ProxyHttp>(
-    app: &A,
+pub(crate) fn fail_to_proxy<A: ProxyHttp + Drop>(
+    app: A,
     alloc: Global,
     error: &Error,
 ) -> Result<(FailToProxy, usize)> {
-    let mut session = session_of(app, alloc, &Method::GET)?;
-    let answer = fail(app, alloc, &mut session, error);
+    let mut session = session_of(&app, alloc, &Method::GET)?;
+    let answer = fail(&app, alloc, &mut session, error);
     release(session);
     answer
 }
@@ -354,26 +415,22 @@ fn fail<A: ProxyHttp>(
     Ok((told, session.seen.wrote.len()))
 }
 
-/// The head of the answer to a purge that found something.
-pub(crate) fn purge_response_filter<A: ProxyHttp>(
-    app: &A,
-    alloc: Global,
-) -> Result<ResponseHeader> {
-    let session = session_of(app, alloc, &Method::GET)?;
-    let answer = filter_purge(app, alloc, &session);
+/// What becomes of the answer to a purge that found something.
+pub(crate) fn purge_response_filter<A: ProxyHttp + Drop>(app: A, alloc: Global) -> Result<Told> {
+    let session = session_of(&app, alloc, &Method::GET)?;
+    let answer = filter_purge(&app, alloc, &session);
     release(session);
     answer
 }
 
-fn filter_purge<A: ProxyHttp>(
-    app: &A,
-    alloc: Global,
-    session: &Session<A::Modules>,
-) -> Result<ResponseHeader>
+fn filter_purge<A: ProxyHttp>(app: &A, alloc: Global, session: &Session<A::Modules>) -> Result<Told>
     requires { IsReady session.now.seen }
 {
+    let mut head = generated_head(alloc, 200, 0)?;
     let mut ctx = app.new_ctx();
-    let mut answer = generated_head(alloc, 200, 0)?;
-    app.purge_response_filter(alloc, session, &mut ctx, &PurgeStatus::Found, &mut answer)?;
-    Ok(answer)
+    let found = PurgeStatus::Found;
+    let left = app.purge_response_filter(alloc, session, &mut ctx, &found, &mut head);
+    let told = of_response(head);
+    left?;
+    Ok(told)
 }

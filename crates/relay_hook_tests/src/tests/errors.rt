@@ -62,7 +62,7 @@ fn error_of(etype: ErrorType, esource: ErrorSource) -> Error {
 /// The status with which the error is answered, and how many tasks were queued.
 fn answer_to(alloc: Global, etype: ErrorType, side: ErrorSource) -> Result<(u16, usize)> {
     let app = Defaults::new(peer());
-    let (told, queued) = calls::fail_to_proxy(&app, alloc, &error_of(etype, side))?;
+    let (told, queued) = calls::fail_to_proxy(app, alloc, &error_of(etype, side))?;
     Ok((told.error_code, queued))
 }
 
@@ -104,7 +104,7 @@ const MARKS: [(bool, bool, RetryType, bool); 12] = [
 fn marked(alloc: Global, repeats: bool, reused: bool, error: Error) -> Result<Error> {
     let app = Defaults::new(peer());
     let method = if repeats { Method::GET } else { Method::POST };
-    calls::error_while_proxy(&app, alloc, &peer(), &method, error, reused)
+    calls::error_while_proxy(app, alloc, &peer(), &method, error, reused)
 }
 
 #[test]
