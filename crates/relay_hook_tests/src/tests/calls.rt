@@ -25,6 +25,14 @@ fn session_of<A: ProxyHttp>(app: &A, alloc: Global, method: &Method) -> Result<S
 /// Lets go of a value. To drop a session is dear to prove, so no other place does.
 fn release<T: Drop>(_value: T) {}
 
+fn peer() -> Peer {
+    Peer {
+        address: Bytes::from_static(b"h"),
+        tls: true,
+        allows_h1: true,
+    }
+}
+
 /// What an application says of a request and of an error that it is only shown.
 #[derive(Clone, Copy, Debug, PartialEq, Eq)]
 pub(crate) struct Answers {
@@ -57,12 +65,18 @@ pub(crate) fn answers_of<A: ProxyHttp + Drop>(
     Ok(answers)
 }
 
-pub(crate) fn request_summary<A: ProxyHttp + Drop>(app: A, alloc: Global) -> Result<Vec<u8>> {
+/// Whether the summary of a POST is that text.
+pub(crate) fn request_summary<A: ProxyHttp + Drop>(
+    app: A,
+    alloc: Global,
+    want: &[u8],
+) -> Result<bool> {
     let session = session_of(&app, alloc, &Method::POST)?;
     let ctx = app.new_ctx();
     let answer = app.request_summary(alloc, &session, &ctx);
     release(session);
-    answer
+    let text = answer?;
+    Ok(text.as_slice() == want)
 }
 
 pub(crate) fn early_request_filter<A: ProxyHttp + Drop>(app: A, alloc: Global) -> Result<()> {
@@ -73,22 +87,20 @@ pub(crate) fn early_request_filter<A: ProxyHttp + Drop>(app: A, alloc: Global) -
     answer
 }
 
-pub(crate) fn upstream_peer<A: ProxyHttp + Drop>(app: A, alloc: Global) -> Result<Peer> {
+/// Whether the peer is the one with the address `h`.
+pub(crate) fn upstream_peer<A: ProxyHttp + Drop>(app: A, alloc: Global) -> Result<bool> {
     let mut session = session_of(&app, alloc, &Method::GET)?;
     let mut ctx = app.new_ctx();
     let answer = app.upstream_peer(alloc, &mut session, &mut ctx);
     release(session);
-    answer
+    let peer = answer?;
+    Ok(peer.address.as_slice() == b"h".as_slice())
 }
 
-pub(crate) fn connected_to_upstream<A: ProxyHttp + Drop>(
-    app: A,
-    alloc: Global,
-    peer: &Peer,
-) -> Result<()> {
+pub(crate) fn connected_to_upstream<A: ProxyHttp + Drop>(app: A, alloc: Global) -> Result<()> {
     let mut session = session_of(&app, alloc, &Method::GET)?;
     let mut ctx = app.new_ctx();
-    let answer = app.connected_to_upstream(alloc, &mut session, true, peer, &mut ctx);
+    let answer = app.connected_to_upstream(alloc, &mut session, true, &peer(), &mut ctx);
     release(session);
     answer
 }
@@ -142,40 +154,55 @@ fn filter_upstream<A: ProxyHttp>(
     Ok((goes_on, session.seen.wrote.len()))
 }
 
+/// The first byte of a piece.
+fn first_of(piece: Option<Bytes>) -> Option<u8> {
+    match piece {
+        Some(bytes) => bytes.as_slice().first().copied(),
+        None => None,
+    }
+}
+
+/// The first byte of what is left of the piece `hi`.
 pub(crate) fn request_body_filter<A: ProxyHttp + Drop>(
     app: A,
     alloc: Global,
-    piece: &mut Option<Bytes>,
-) -> Result<()> {
+) -> Result<Option<u8>> {
     let mut session = session_of(&app, alloc, &Method::GET)?;
     let mut ctx = app.new_ctx();
-    let answer = app.request_body_filter(alloc, &mut session, piece, true, &mut ctx);
+    let mut piece = Some(Bytes::from_static(b"hi"));
+    let answer = app.request_body_filter(alloc, &mut session, &mut piece, true, &mut ctx);
     release(session);
-    answer
+    let first = first_of(piece);
+    answer?;
+    Ok(first)
 }
 
+/// The delay, and the first byte of what is left of the piece `hi`.
 pub(crate) fn upstream_response_body_filter<A: ProxyHttp + Drop>(
     app: A,
     alloc: Global,
-    piece: &mut Option<Bytes>,
-) -> Result<Option<u64>> {
+) -> Result<(Option<u64>, Option<u8>)> {
     let mut session = session_of(&app, alloc, &Method::GET)?;
     let mut ctx = app.new_ctx();
-    let answer = app.upstream_response_body_filter(alloc, &mut session, piece, true, &mut ctx);
+    let mut piece = Some(Bytes::from_static(b"hi"));
+    let answer = app.upstream_response_body_filter(alloc, &mut session, &mut piece, true, &mut ctx);
     release(session);
-    answer
+    let first = first_of(piece);
+    Ok((answer?, first))
 }
 
+/// The delay, and the first byte of what is left of the piece `hi`.
 pub(crate) fn response_body_filter<A: ProxyHttp + Drop>(
     app: A,
     alloc: Global,
-    piece: &mut Option<Bytes>,
-) -> Result<Option<u64>> {
+) -> Result<(Option<u64>, Option<u8>)> {
     let mut session = session_of(&app, alloc, &Method::GET)?;
     let mut ctx = app.new_ctx();
-    let answer = app.response_body_filter(alloc, &mut session, piece, true, &mut ctx);
+    let mut piece = Some(Bytes::from_static(b"hi"));
+    let answer = app.response_body_filter(alloc, &mut session, &mut piece, true, &mut ctx);
     release(session);
-    answer
+    let first = first_of(piece);
+    Ok((answer?, first))
 }
 
 /// What became of a head: the status of a response's, and whether it has the field Via.
@@ -265,28 +292,31 @@ fn filter_head<A: ProxyHttp>(
     Ok(told)
 }
 
+/// How many fields are left of none.
 pub(crate) fn upstream_response_trailer_filter<A: ProxyHttp + Drop>(
     app: A,
     alloc: Global,
-    trailers: &mut HeaderMap,
-) -> Result<()> {
+) -> Result<usize> {
     let mut session = session_of(&app, alloc, &Method::GET)?;
     let mut ctx = app.new_ctx();
-    let answer = app.upstream_response_trailer_filter(alloc, &mut session, trailers, &mut ctx);
+    let mut trailers = HeaderMap::new(alloc);
+    let answer = app.upstream_response_trailer_filter(alloc, &mut session, &mut trailers, &mut ctx);
     release(session);
-    answer
+    let count = trailers.len();
+    release(trailers);
+    answer?;
+    Ok(count)
 }
 
-pub(crate) fn response_trailer_filter<A: ProxyHttp + Drop>(
-    app: A,
-    alloc: Global,
-    trailers: &mut HeaderMap,
-) -> Result<Option<Bytes>> {
+/// Whether bytes end the body in the place of trailer fields.
+pub(crate) fn response_trailer_filter<A: ProxyHttp + Drop>(app: A, alloc: Global) -> Result<bool> {
     let mut session = session_of(&app, alloc, &Method::GET)?;
     let mut ctx = app.new_ctx();
-    let answer = app.response_trailer_filter(alloc, &mut session, trailers, &mut ctx);
+    let mut trailers = HeaderMap::new(alloc);
+    let answer = app.response_trailer_filter(alloc, &mut session, &mut trailers, &mut ctx);
     release(session);
-    answer
+    release(trailers);
+    Ok(answer?.is_some())
 }
 
 /// How many messages go to the upstream and to the client in front of theirs.
@@ -302,13 +332,11 @@ pub(crate) fn custom_forwarding<A: ProxyHttp + Drop>(
     Ok((injected.to_upstream.len(), injected.to_downstream.len()))
 }
 
-pub(crate) fn downstream_message<A: ProxyHttp + Drop>(
-    app: A,
-    alloc: Global,
-    message: Bytes,
-) -> Result<Option<Bytes>> {
+/// The first byte of what goes on of the message `m` of a custom client.
+pub(crate) fn downstream_message<A: ProxyHttp + Drop>(app: A, alloc: Global) -> Result<Option<u8>> {
     let mut session = session_of(&app, alloc, &Method::GET)?;
     let mut ctx = app.new_ctx();
+    let message = Bytes::from_static(b"m");
     let answer = app.downstream_custom_message_proxy_filter(
         alloc,
         &mut session,
@@ -317,16 +345,14 @@ pub(crate) fn downstream_message<A: ProxyHttp + Drop>(
         true,
     );
     release(session);
-    answer
+    Ok(first_of(answer?))
 }
 
-pub(crate) fn upstream_message<A: ProxyHttp + Drop>(
-    app: A,
-    alloc: Global,
-    message: Bytes,
-) -> Result<Option<Bytes>> {
+/// The first byte of what goes on of the message `m` of a custom upstream.
+pub(crate) fn upstream_message<A: ProxyHttp + Drop>(app: A, alloc: Global) -> Result<Option<u8>> {
     let mut session = session_of(&app, alloc, &Method::GET)?;
     let mut ctx = app.new_ctx();
+    let message = Bytes::from_static(b"m");
     let answer = app.upstream_custom_message_proxy_filter(
         alloc,
         &mut session,
@@ -335,7 +361,7 @@ pub(crate) fn upstream_message<A: ProxyHttp + Drop>(
         true,
     );
     release(session);
-    answer
+    Ok(first_of(answer?))
 }
 
 /// The mark behind the call.
@@ -362,17 +388,18 @@ pub(crate) fn on_connection_reuse<A: ProxyHttp + Drop>(
     Ok(answer)
 }
 
+/// The error of an attempt behind the hook, for GET, which may be repeated, or for POST.
 pub(crate) fn error_while_proxy<A: ProxyHttp + Drop>(
     app: A,
     alloc: Global,
-    peer: &Peer,
-    method: &Method,
+    repeats: bool,
     error: Error,
     reused: bool,
 ) -> Result<Error> {
-    let mut session = session_of(&app, alloc, method)?;
+    let method = if repeats { Method::GET } else { Method::POST };
+    let mut session = session_of(&app, alloc, &method)?;
     let mut ctx = app.new_ctx();
-    let answer = app.error_while_proxy(peer, &mut session, error, &mut ctx, reused);
+    let answer = app.error_while_proxy(&peer(), &mut session, error, &mut ctx, reused);
     release(session);
     Ok(answer)
 }
@@ -380,12 +407,11 @@ pub(crate) fn error_while_proxy<A: ProxyHttp + Drop>(
 pub(crate) fn fail_to_connect<A: ProxyHttp + Drop>(
     app: A,
     alloc: Global,
-    peer: &Peer,
     error: Error,
 ) -> Result<Error> {
     let mut session = session_of(&app, alloc, &Method::GET)?;
     let mut ctx = app.new_ctx();
-    let answer = app.fail_to_connect(&mut session, peer, &mut ctx, error);
+    let answer = app.fail_to_connect(&mut session, &peer(), &mut ctx, error);
     release(session);
     Ok(answer)
 }

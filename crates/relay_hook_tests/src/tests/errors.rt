@@ -7,9 +7,6 @@ use relay_hooks::Defaults;
 use relay_hooks::defaults::is_idempotent;
 use relay_tasks::{Error, ErrorSource, ErrorType, Peer, Result, RetryType};
 use std::alloc::Global;
-use std::test::Fail as Failed;
-
-type Checked = std::result::Result<(), Failed>;
 
 /// Each side.
 const SIDES: [ErrorSource; 4] = [
@@ -67,7 +64,7 @@ fn answer_to(alloc: Global, etype: ErrorType, side: ErrorSource) -> Result<(u16,
 }
 
 #[test]
-fn answers_each_kind_by_its_side(rt: HostRuntime) -> Checked {
+fn answers_each_kind_by_its_side(rt: HostRuntime) {
     let alloc = rt.alloc();
     for (etype, up, down, own) in ANSWERS {
         let wants = [up, down, own, own];
@@ -80,7 +77,6 @@ fn answers_each_kind_by_its_side(rt: HostRuntime) -> Checked {
             );
         }
     }
-    Ok(())
 }
 
 /// Whether the method may be repeated and the link had been used before, the mark before, and
@@ -102,13 +98,11 @@ const MARKS: [(bool, bool, RetryType, bool); 12] = [
 
 /// The error behind the default, for GET or for POST.
 fn marked(alloc: Global, repeats: bool, reused: bool, error: Error) -> Result<Error> {
-    let app = Defaults::new(peer());
-    let method = if repeats { Method::GET } else { Method::POST };
-    calls::error_while_proxy(app, alloc, &peer(), &method, error, reused)
+    calls::error_while_proxy(Defaults::new(peer()), alloc, repeats, error, reused)
 }
 
 #[test]
-fn marks_each_kind_by_method_and_reuse(rt: HostRuntime) -> Checked {
+fn marks_each_kind_by_method_and_reuse(rt: HostRuntime) {
     let alloc = rt.alloc();
     for (etype, _, _, _) in ANSWERS {
         for side in SIDES {
@@ -121,7 +115,6 @@ fn marks_each_kind_by_method_and_reuse(rt: HostRuntime) -> Checked {
             }
         }
     }
-    Ok(())
 }
 
 #[test]

@@ -1,8 +1,7 @@
 //! The application of a script, with one rule each.
 use crate::tests::calls;
 use bytes::Bytes;
-use http::Method;
-use http_header::{HeaderMap, HeaderValue, VIA};
+use http_header::{HeaderValue, VIA};
 use relay_script::{Action, CheckedRules, Rule};
 use relay_scripted::ScriptProxy;
 use relay_tasks::{Error, ErrorType, Fail, Hook, MessageList, Peer, Result, RetryType};
@@ -60,31 +59,26 @@ fn fails_before_the_request_goes_on(rt: HostRuntime) -> Checked {
     let app = failing(alloc, Hook::EarlyRequestFilter)?;
     assert_eq!(rt; calls::early_request_filter(app, alloc), Err(refused()));
     let app = failing(alloc, Hook::UpstreamPeer)?;
-    assert!(rt; calls::upstream_peer(app, alloc).is_err());
+    assert_eq!(rt; calls::upstream_peer(app, alloc), Err(refused()));
     let app = failing(alloc, Hook::ConnectedToUpstream)?;
-    assert_eq!(rt;
-        calls::connected_to_upstream(app, alloc, &peer()),
-        Err(refused())
-    );
+    assert_eq!(rt; calls::connected_to_upstream(app, alloc), Err(refused()));
     Ok(())
 }
 
 #[test]
 fn fails_behind_it(rt: HostRuntime) -> Checked {
     let alloc = rt.alloc();
-    let mut trailers = HeaderMap::new(alloc);
     let app = failing(alloc, Hook::UpstreamResponseTrailerFilter)?;
-    let left = calls::upstream_response_trailer_filter(app, alloc, &mut trailers);
-    assert_eq!(rt; left, Err(refused()));
+    assert_eq!(rt;
+        calls::upstream_response_trailer_filter(app, alloc),
+        Err(refused())
+    );
     let app = failing(alloc, Hook::ResponseTrailerFilter)?;
-    let left = calls::response_trailer_filter(app, alloc, &mut trailers);
-    assert_eq!(rt; left, Err(refused()));
+    assert_eq!(rt; calls::response_trailer_filter(app, alloc), Err(refused()));
     let app = failing(alloc, Hook::DownstreamCustomMessageProxyFilter)?;
-    let left = calls::downstream_message(app, alloc, Bytes::from_static(b"m"));
-    assert_eq!(rt; left, Err(refused()));
+    assert_eq!(rt; calls::downstream_message(app, alloc), Err(refused()));
     let app = failing(alloc, Hook::UpstreamCustomMessageProxyFilter)?;
-    let left = calls::upstream_message(app, alloc, Bytes::from_static(b"m"));
-    assert_eq!(rt; left, Err(refused()));
+    assert_eq!(rt; calls::upstream_message(app, alloc), Err(refused()));
     Ok(())
 }
 
@@ -140,50 +134,40 @@ fn changes_heads(rt: HostRuntime) -> Checked {
 #[test]
 fn changes_pieces(rt: HostRuntime) -> Checked {
     let alloc = rt.alloc();
-    let text = Action::Text(Bytes::from_static(b"ho"));
+    let text = Action::Text(Bytes::from_static(b"no"));
     let app = app_of(alloc, Hook::UpstreamResponseBodyFilter, text)?;
-    let mut piece = Some(Bytes::from_static(b"hi"));
-    assert_eq!(rt;
-        calls::upstream_response_body_filter(app, alloc, &mut piece),
-        Ok(None)
-    );
-    assert_eq!(rt; piece, Some(Bytes::from_static(b"ho")));
+    let changed = calls::upstream_response_body_filter(app, alloc);
+    assert_eq!(rt; changed, Ok((None, Some(b'n'))));
     let app = app_of(alloc, Hook::ResponseBodyFilter, Action::Drop)?;
-    assert_eq!(rt;
-        calls::response_body_filter(app, alloc, &mut piece),
-        Ok(None)
-    );
-    assert_eq!(rt; piece, None);
+    assert_eq!(rt; calls::response_body_filter(app, alloc), Ok((None, None)));
     let app = app_of(alloc, Hook::RequestBodyFilter, Action::Drop)?;
-    let mut sent = Some(Bytes::from_static(b"hi"));
-    calls::request_body_filter(app, alloc, &mut sent)?;
-    assert_eq!(rt; sent, None);
+    assert_eq!(rt; calls::request_body_filter(app, alloc), Ok(None));
     Ok(())
 }
 
-#[test]
-fn injects_messages(rt: HostRuntime) -> Checked {
-    let alloc = rt.alloc();
+/// The application that puts one message in front of those to the upstream.
+fn injecting(alloc: Global) -> Result<ScriptProxy> {
     let mut up = MessageList::new(alloc);
     up.push(Bytes::from_static(b"m"))?;
     let down = MessageList::new(alloc);
-    let app = app_of(alloc, Hook::CustomForwarding, Action::Inject { up, down })?;
-    assert_eq!(rt; calls::custom_forwarding(app, alloc), Ok((1, 0)));
-    Ok(())
+    app_of(alloc, Hook::CustomForwarding, Action::Inject { up, down })
+}
+
+/// The application that marks errors for another attempt.
+fn marking(alloc: Global, hook: Hook) -> Result<ScriptProxy> {
+    app_of(alloc, hook, Action::Retry(RetryType::Decided(true)))
 }
 
 #[test]
-fn marks_errors(rt: HostRuntime) -> Checked {
+fn injects_messages_and_marks_errors(rt: HostRuntime) -> Checked {
     let alloc = rt.alloc();
+    let app = injecting(alloc)?;
+    assert_eq!(rt; calls::custom_forwarding(app, alloc), Ok((1, 0)));
     let error = Error::new_up(ErrorType::ReadError);
-    let on = Action::Retry(RetryType::Decided(true));
-    let app = app_of(alloc, Hook::ErrorWhileProxy, on)?;
-    let marked = calls::error_while_proxy(app, alloc, &peer(), &Method::POST, error, false)?;
-    assert!(rt; marked.retry());
-    let on = Action::Retry(RetryType::Decided(true));
-    let app = app_of(alloc, Hook::FailToConnect, on)?;
-    let marked = calls::fail_to_connect(app, alloc, &peer(), error)?;
-    assert!(rt; marked.retry());
+    let app = marking(alloc, Hook::ErrorWhileProxy)?;
+    assert!(rt; calls::error_while_proxy(app, alloc, false, error, false)?.retry());
+    let app = marking(alloc, Hook::FailToConnect)?;
+    assert!(rt; calls::fail_to_connect(app, alloc, error)?.retry());
     Ok(())
 }
 
@@ -196,7 +180,6 @@ fn counts_calls_without_rules(rt: HostRuntime) -> Checked {
     let app = saying(alloc, Hook::IsPurge)?;
     assert_eq!(rt; calls::on_connection_reuse(app, alloc, 5), Ok(1));
     let app = saying(alloc, Hook::IsPurge)?;
-    let (told, queued) = calls::fail_to_proxy(app, alloc, &error)?;
-    assert_eq!(rt; (told.error_code, queued), (502, 1));
+    assert_eq!(rt; calls::fail_to_proxy(app, alloc, &error)?.1, 1);
     Ok(())
 }
