@@ -1,7 +1,7 @@
 -- Setting or removing a field keeps the names of a field list apart, and the values of other names.
-use Rattle.std.proofs.Common.{◌≡◌, ℕ, ◌≢◌, List, [], ◌∷◌, sym, subst, Option, Some, None, MatchOption}
+use Rattle.std.proofs.Common.{ℕ, List, [], ◌∷◌, sym, subst, Option, Some, None, MatchOption}
 use Rattle.http_header.specs.FieldValue.{FieldValue}
-use Rattle.http_header.specs.HeaderMap.{IsUnique, entry_at, index_of, insert, remove, remove_at, update}
+use Rattle.http_header.specs.HeaderMap.{IsUnique, index_of, insert, remove, remove_at, update}
 use Rattle.http_header.specs.Places.{IsAbsent, IsAt}
 use Rattle.http_header.proofs.BucketsLemmas.{IsUnique-push, IsUnique-swap_remove, IsUnique-with_values}
 use Rattle.http_header.proofs.PlacesLemmas.{index_of_cases}

@@ -115,11 +115,10 @@ did_default rules peer st hook.RequestFilter input did wrote free making does =
 did_default rules peer st hook.RequestBodyFilter input did wrote free making does =
     (does.0 ∙ filtered_free rules hook.RequestBodyFilter input free, does.1)
 did_default rules peer st hook.ProxyUpstreamFilter input did wrote free making does =
-    let alone = reply_free rules hook.ProxyUpstreamFilter false _ did wrote free does in
-    (
+    let alone = reply_free rules hook.ProxyUpstreamFilter false _ did wrote free does in (
       alone.0
-      ∙ answered_free rules hook.ProxyUpstreamFilter _ free
-      ∙ says_free rules hook.ProxyUpstreamFilter true free,
+          ∙ answered_free rules hook.ProxyUpstreamFilter _ free
+          ∙ says_free rules hook.ProxyUpstreamFilter true free,
       alone.1,
     )
 did_default rules peer st hook.UpstreamRequestFilter input did wrote free making does =
@@ -128,9 +127,11 @@ did_default rules peer st hook.UpstreamResponseFilter input did wrote free makin
     (does.0 ∙ filtered_free rules hook.UpstreamResponseFilter input free, does.1)
 did_default rules peer st hook.ResponseFilter input did wrote free making does =
     (does.0 ∙ filtered_free rules hook.ResponseFilter input free, does.1)
-did_default rules peer st hook.CustomForwarding input did wrote free making does =
-    (does.0 ∙ ap (λ (sent : Outcome Injected). forwarded sent)
-    (run_free on_injected hook.CustomForwarding rules no_messages free), does.1)
+did_default rules peer st hook.CustomForwarding input did wrote free making does = (
+  does.0 ∙ ap (λ (sent : Outcome Injected). forwarded sent)
+      (run_free on_injected hook.CustomForwarding rules no_messages free),
+  does.1,
+)
 did_default rules peer st hook.DownstreamCustomMessageProxyFilter input did wrote free making does =
     (does.0 ∙ answered_free rules hook.DownstreamCustomMessageProxyFilter input free, does.1)
 did_default rules peer st hook.UpstreamCustomMessageProxyFilter input did wrote free making does =
@@ -144,13 +145,12 @@ did_default rules peer st hook.ResponseBodyFilter input did wrote free making do
 did_default rules peer st hook.ResponseTrailerFilter input did wrote free making does =
     (does.0 ∙ filtered_free rules hook.ResponseTrailerFilter input free, does.1)
 did_default rules peer st hook.Logging input did wrote free making does = does
-did_default rules peer st hook.PersistConnectionContext input did wrote free making does =
-    (
-      does.0
+did_default rules peer st hook.PersistConnectionContext input did wrote free making does = (
+  does.0
       ∙ ap (λ (kept : Option ℕ). goes_on (item.Kept (is_some kept)))
       (apply_free on_kept hook.PersistConnectionContext rules None free),
-      does.1,
-    )
+  does.1,
+)
 did_default rules peer st hook.OnConnectionReuse input did wrote free making does = does
 did_default rules peer st hook.SuppressErrorLog input did wrote free making does =
     (does.0 ∙ says_free rules hook.SuppressErrorLog false free, does.1)

@@ -11,7 +11,7 @@ use Rattle.relay_tasks.specs.declared.error.Fail.TheVariants as fail
 use Rattle.relay_tasks.specs.declared.hook.Hook.{Hook}
 use Rattle.relay_tasks.specs.declared.task.HttpTask.{HttpTask}
 use Rattle.relay_h1.specs.ClientHead.{is_informational}
-use Rattle.relay_session.specs.Generated.{IsFaultOrMemory, answer_tasks, generated_head}
+use Rattle.relay_session.specs.Generated.{IsFaultOrMemory, IsKeptFault, answer_tasks, generated_head}
 use Rattle.relay_session.specs.Reading.{with_head}
 use Rattle.relay_session.specs.Response.{GoesOnWith, has_head}
 use Rattle.relay_session.specs.declared.task_text.Place.{Place}
@@ -105,10 +105,16 @@ lone_answer_whole code final = rw (final_head code final)
 -- ---- its failure
 
 -- a failure that is not out of memory is the fault of a write that failed before
-pub write_fault : (output : Outgoing) (error : Error) → IsFaultOrMemory output (fail.Error error)
+write_fault : (output : Outgoing) (error : Error) → IsFaultOrMemory output (fail.Error error)
     → IsWriteFault error
 write_fault (outgoing.Open queue) error is = absurd cc
 write_fault (outgoing.Broken fault) error is = record { fault = fault; is = cc }
+
+-- and it is the one that is kept
+kept_fault : (output : Outgoing) (error : Error) → IsFaultOrMemory output (fail.Error error)
+    → IsKeptFault output (fail.Error error)
+kept_fault (outgoing.Open queue) error is = absurd cc
+kept_fault (outgoing.Broken fault) error is = is
 
 -- ---- the call
 
@@ -162,6 +168,11 @@ answers_with code (Ok done) old new final may notes =
       untouched = ap (λ (s : Seen). s.touched) notes.rest ∙ may.ready.untouched;
       keepalive = ap (λ (s : Seen). s.keepalive) notes.rest;
     }
-answers_with code (Err (fail.Error error)) old new final may failed =
-    (write_fault old.downstream.writing.output error failed.0, failed.1)
+answers_with code (Err (fail.Error error)) old new final may failed = (
+  record {
+    is_fault = write_fault old.downstream.writing.output error failed.0;
+    is_kept = kept_fault old.downstream.writing.output error failed.0;
+  },
+  failed.1,
+)
 answers_with code (Err fail.OutOfMemory) old new final may same = same

@@ -1,6 +1,6 @@
 //! The application of a script: each hook does what its rules say, and where none stands for it what
 //! it does by default.
-ghost use Rattle.std.specs.Prelude.{◌≡◌, Some, IfOk, is_some};
+ghost use Rattle.std.specs.Prelude.{◌≡◌, Some, IfErr, IfOk, is_some};
 ghost use Rattle.relay_tasks.specs.declared.hook.Hook.TheVariants as hook;
 ghost use Rattle.relay_tasks.specs.declared.log.Item.TheVariants as item;
 ghost use Rattle.relay_links.specs.Count.{up};
@@ -46,9 +46,11 @@ fn count(ctx: &mut u64)
 }
 
 impl ProxyHttp for ScriptProxy {
-    ghost use Rattle.relay_hooks.specs.Call.{Asked, MadeModules, only};
-    ghost use Rattle.relay_hooks.specs.Session.{IsReady, moment, request_head};
-    ghost use Rattle.relay_scripted.specs.Decision.{kept_by};
+    ghost use Rattle.relay_hooks.specs.Call.{Asked, MadeModules, answered, only};
+    ghost use Rattle.relay_hooks.specs.Laws.{AnswersOnNo, AnswersOnYes};
+    ghost use Rattle.relay_hooks.specs.Session.{IsReady, MayAnswer, moment, request_head};
+    ghost use Rattle.relay_scripted.specs.Decision.{failure_of, kept_by, reply_of};
+    ghost use Rattle.relay_scripted.specs.Reply.{FailsAs};
     ghost use Rattle.relay_scripted.specs.Scripted.{IsScripted};
 
     type CTX = u64;
@@ -108,7 +110,15 @@ impl ProxyHttp for ScriptProxy {
         _alloc: Global,
         session: &mut Session<ScriptModules>,
         ctx: &mut u64,
-    ) -> Result<bool> {
+    ) -> Result<bool>
+        requires { MayAnswer session.old.seen }
+        ensures allowed { Asked (IsScripted self.now.rules self.now.peer) hook.RequestFilter
+            (item.Request (request_head session.old.seen)) (moment session.old.seen ctx.old)
+            (answered item.Answer result) (moment session.new.seen ctx.new) }
+        ensures answers { AnswersOnYes result session.old.seen session.new.seen }
+        ensures fails { IfErr result (FailsAs (reply_of self.now.rules hook.RequestFilter)
+            (failure_of self.now.rules hook.RequestFilter) session.old.seen.downstream.writing.output) }
+    {
         count(ctx);
         match reply_of(&self.rules, Hook::RequestFilter) {
             Reply::Status(code) => {
@@ -139,7 +149,15 @@ impl ProxyHttp for ScriptProxy {
         _alloc: Global,
         session: &mut Session<ScriptModules>,
         ctx: &mut u64,
-    ) -> Result<bool> {
+    ) -> Result<bool>
+        requires { MayAnswer session.old.seen }
+        ensures allowed { Asked (IsScripted self.now.rules self.now.peer) hook.ProxyUpstreamFilter
+            (item.Request (request_head session.old.seen)) (moment session.old.seen ctx.old)
+            (answered item.Answer result) (moment session.new.seen ctx.new) }
+        ensures answers { AnswersOnNo result session.old.seen session.new.seen }
+        ensures fails { IfErr result (FailsAs (reply_of self.now.rules hook.ProxyUpstreamFilter)
+            (failure_of self.now.rules hook.ProxyUpstreamFilter) session.old.seen.downstream.writing.output) }
+    {
         count(ctx);
         match reply_of(&self.rules, Hook::ProxyUpstreamFilter) {
             Reply::Status(status) => {
@@ -233,7 +251,11 @@ impl ProxyHttp for ScriptProxy {
         ctx: &mut u64,
     ) -> Result<Option<u64>> {
         count(ctx);
-        run_rules(self.rules.as_slice(), Hook::UpstreamResponseBodyFilter, body)?;
+        run_rules(
+            self.rules.as_slice(),
+            Hook::UpstreamResponseBodyFilter,
+            body,
+        )?;
         Ok(None)
     }
 
@@ -283,11 +305,7 @@ impl ProxyHttp for ScriptProxy {
         count(ctx);
     }
 
-    fn persist_connection_context(
-        &self,
-        session: &Session<ScriptModules>,
-        ctx: &u64,
-    ) -> Option<u64>
+    fn persist_connection_context(&self, session: &Session<ScriptModules>, ctx: &u64) -> Option<u64>
         requires { IsReady session.now.seen }
         ensures allowed { Asked (IsScripted self.now.rules self.now.peer)
             hook.PersistConnectionContext (item.Request (request_head session.now.seen))
