@@ -1,5 +1,5 @@
-//! The application of a script: each hook does what its rules say, and where none stands for it what
-//! it does by default.
+//! The application of a script: each hook does what its rules say, and where none stands for it
+//! what it does by default.
 ghost use Rattle.std.specs.Prelude.{◌≡◌, Some, IfErr, IfOk, is_some};
 ghost use Rattle.relay_tasks.specs.declared.hook.Hook.TheVariants as hook;
 ghost use Rattle.relay_tasks.specs.declared.log.Item.TheVariants as item;
@@ -117,7 +117,8 @@ impl ProxyHttp for ScriptProxy {
             (answered item.Answer result) (moment session.new.seen ctx.new) }
         ensures answers { AnswersOnYes result session.old.seen session.new.seen }
         ensures fails { IfErr result (FailsAs (reply_of self.now.rules hook.RequestFilter)
-            (failure_of self.now.rules hook.RequestFilter) session.old.seen.downstream.writing.output) }
+            (failure_of self.now.rules hook.RequestFilter)
+            session.old.seen.downstream.writing.output) }
     {
         count(ctx);
         match reply_of(&self.rules, Hook::RequestFilter) {
@@ -156,7 +157,8 @@ impl ProxyHttp for ScriptProxy {
             (answered item.Answer result) (moment session.new.seen ctx.new) }
         ensures answers { AnswersOnNo result session.old.seen session.new.seen }
         ensures fails { IfErr result (FailsAs (reply_of self.now.rules hook.ProxyUpstreamFilter)
-            (failure_of self.now.rules hook.ProxyUpstreamFilter) session.old.seen.downstream.writing.output) }
+            (failure_of self.now.rules hook.ProxyUpstreamFilter)
+            session.old.seen.downstream.writing.output) }
     {
         count(ctx);
         match reply_of(&self.rules, Hook::ProxyUpstreamFilter) {
