@@ -31,12 +31,6 @@ fn changes_one_thing(rt: HostRuntime) {
         status: 204,
         via: true,
     };
-    assert_eq!(rt;
-        calls::response_filter(App::new(Tag), rt.alloc()),
-        Ok(tagged)
-    );
-    assert_eq!(rt;
-        calls::request_filter(App::new(Tag), rt.alloc()),
-        Ok((false, 0))
-    );
+    assert!(rt; calls::response_filter(App::new(Tag), rt.alloc()) == Ok(tagged));
+    assert!(rt; calls::request_filter(App::new(Tag), rt.alloc()) == Ok((false, 0)));
 }
