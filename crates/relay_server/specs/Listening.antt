@@ -1,5 +1,5 @@
 -- At which ports a poller listens.
-use Rattle.std.specs.Prelude.{◌≡◌, ◌⊎◌, ◌×◌, ℕ, List, [], ◌∷◌, Option}
+use Rattle.std.specs.Prelude.{◌≡◌, ◌⊎◌, ℕ, List, [], ◌∷◌, Option}
 use Rattle.relay_links.specs.Told.{more}
 use Rattle.relay_server.specs.declared.poller.Listening.{Listening}
 use Rattle.relay_server.specs.declared.poller.Listening.TheVariants as listening
@@ -9,8 +9,8 @@ abbrev pub listened : Listening → Option (List ℕ) → ℕ → Option (List �
 listened listening.Ready ports port = more ports (port ∷ [])
 listened listening.Failed ports port = ports
 
--- a server listens at the port that it was asked to listen at, and at no other; or at none more, and
--- then it serves nobody
+-- a server listens at the port that it was asked to listen at, and at no other; or at none more,
+-- and then it serves nobody
 abbrev pub ListensAt : Option (List ℕ) → Option (List ℕ) → ℕ → ℕ → Type 0
 ListensAt before after port served =
     (after ≡ more before (port ∷ [])) ⊎ ((after ≡ before) × (served ≡ 0))

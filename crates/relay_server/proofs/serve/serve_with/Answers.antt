@@ -1,5 +1,5 @@
 -- From no request under way to none again.
-use Rattle.std.proofs.Common.{arith}
+use Rattle.std.proofs.Common.{◌∙◌, arith, inl, inr}
 use Rattle.relay_server.specs.Serving.{books}
 use Rattle.relay_server.specs.Serving.HaveEnded.{none}
 use Rattle.relay_server.proofs.ServingLemmas.{first_serves}
@@ -25,3 +25,26 @@ returns-clause-requests g c =
     g.O.Stream.ByteLink.state before c.in-Ok.floor c.in-Ok.ensures in
     (c.give_all_up.ensures.goes.serves before
     (c.serve_floor-stop.ensures.goes.serves before first)).ended
+
+-- giving all up leaves the ports, and counts no request
+pub returns-clause-listens : goal.returns-clause-listens
+returns-clause-listens g c =
+    let before = books g.K.Connector.returned g.K.Connector.fault_count c.args.proxy.now in
+    let first = first_serves g.K.Byte.ByteLink.state g.K.Byte.ByteLink.start
+    g.O.Stream.ByteLink.state before c.in-Ok.floor c.in-Ok.ensures in
+    let stays = c.give_all_up.ensures.uncounted before
+    (c.serve_floor-stop.ensures.goes.serves before first) in
+    elim c.serve_floor-stop.ensures.listens [
+      | inl there ↦ inl (c.give_all_up.ensures.ports ∙ there)
+      | inr still ↦ inr (
+        c.give_all_up.ensures.ports ∙ still.0,
+        omega (
+          arith,
+          stays,
+          still.1,
+          c.requests_ended.ensures,
+          c.requests_ended-before.ensures,
+          c.end_of-2.ensures.served,
+        ),
+      )
+    ]
