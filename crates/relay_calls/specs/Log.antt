@@ -1,11 +1,13 @@
 -- The log of a request: what stands behind a call, a log that walks from one standing to another with
 -- each call allowed, and its parts by direction.
-use Rattle.std.specs.Prelude.{◌≡◌, Bool, true, false, List, [], ◌∷◌, None, unwrap_or, filter}
+use Rattle.std.specs.Prelude.{◌≡◌, ℕ, Bool, true, false, List, [], ◌∷◌, None, unwrap_or, filter}
 use Rattle.relay_tasks.specs.declared.hook.Hook.{Hook}
 use Rattle.relay_tasks.specs.declared.hook.Hook.TheVariants as hook
 use Rattle.relay_tasks.specs.declared.log.LogEntry.{LogEntry}
 use Rattle.relay_modules.specs.Module.{ModuleCall, Tells}
-use Rattle.relay_hooks.specs.Standing.{Standing}
+use Rattle.relay_modules.specs.declared.seen.Seen.{Seen}
+use Rattle.relay_hooks.specs.Standing.{Standing, standing}
+use Rattle.relay_hooks.specs.Session.{moment}
 
 -- ---- whose call it is
 
@@ -98,6 +100,12 @@ AllowsBy false app modules st e = app st e
 abbrev pub IsAllowed : (Standing → LogEntry → Type 0) → (ModuleCall → Type 0) → Standing → LogEntry
     → Type 0
 IsAllowed app modules st e = AllowsBy (is_module e.hook) app modules st e
+
+-- a log that walked up to the session as it was walks up to the session as it is
+abbrev pub WalksOn : (Standing → LogEntry → Type 0) → Seen → ℕ → Seen → ℕ → Type 0
+WalksOn allows old before new after =
+    (from : Standing) → Walk allows from old.log (standing None false (moment old before))
+    → Walk allows from new.log (standing None false (moment new after))
 
 -- ---- its parts
 

@@ -1,7 +1,7 @@
 //! The filters of the modules that run while a message is relayed, each called and entered.
 //!
-//! `mark` is that of the context, which the call leaves. A call may be out of memory as with the filters
-//! of an application.
+//! A call leaves the context, and its entry has its mark. It may be out of memory as with the filters of
+//! an application.
 ghost use Rattle.std.specs.Prelude.{◌≡◌, IsSome};
 ghost use Rattle.relay_session.specs.Reading.{head_of};
 ghost use Rattle.relay_h1.specs.ClientHead.{is_informational};
@@ -14,27 +14,30 @@ use crate::entry::{Outcome, begin, log_call};
 use crate::item::{head_item, nothing, piece_item, piece_or, trailers_item};
 use bytes::Bytes;
 use http_header::HeaderMap;
-use relay_hooks::{HttpModule, Session};
+use relay_hooks::{HttpModule, ProxyHttp, Session};
 use relay_tasks::{Fail, Hook, ResponseHeader, Result};
 
 /// Calls the modules' filter of the pieces of the request's body; `end` says that the body ends with
 /// the piece.
 ///
 /// The error of the filter, which stands in its entry; what it left stays.
-pub fn call_module_request_body<M: HttpModule>(
-    session: &mut Session<M>,
-    mark: u64,
+pub fn call_module_request_body<SV: ProxyHttp>(
+    app: &SV,
+    session: &mut Session<SV::Modules>,
+    ctx: &SV::CTX,
     body: &mut Option<Bytes>,
     end: bool,
 ) -> Result<()>
     requires { IsSome (head_of session.old.seen.downstream.reading) }
     ensures calls { Enters (called (λ error. request_body body.old body.new end error) result)
-        (CallsModule (M.allows session.old.modules) session.old.seen mark session.new.seen)
+        (CallsModule (SV.Modules.allows session.old.modules) session.old.seen
+        (SV.mark_of app.now ctx.now) session.new.seen)
         session.old.seen session.new.seen }
-    ensures narrows { (call : ModuleCall) → M.allows session.new.modules call
-        → M.allows session.old.modules call }
+    ensures narrows { (call : ModuleCall) → SV.Modules.allows session.new.modules call
+        → SV.Modules.allows session.old.modules call }
 {
     let input = piece_item(body, end)?;
+    let mark = app.mark(ctx);
     let begun = begin(&mut session.seen, Hook::ModuleRequestBody, mark, input);
     let answer = session.modules.request_body_filter(body, end);
     let error = error_of(&answer)?;
@@ -52,21 +55,24 @@ pub fn call_module_request_body<M: HttpModule>(
 /// head.
 ///
 /// The error of the filter, which stands in its entry; what it left stays.
-pub fn call_module_response_header<M: HttpModule>(
-    session: &mut Session<M>,
-    mark: u64,
+pub fn call_module_response_header<SV: ProxyHttp>(
+    app: &SV,
+    session: &mut Session<SV::Modules>,
+    ctx: &SV::CTX,
     head: &mut ResponseHeader,
     end: bool,
 ) -> Result<()>
     requires { IsSome (head_of session.old.seen.downstream.reading) }
     ensures calls { Enters (called (λ error. response_header head.old head.new end error) result)
-        (CallsModule (M.allows session.old.modules) session.old.seen mark session.new.seen)
+        (CallsModule (SV.Modules.allows session.old.modules) session.old.seen
+        (SV.mark_of app.now ctx.now) session.new.seen)
         session.old.seen session.new.seen }
-    ensures narrows { (call : ModuleCall) → M.allows session.new.modules call
-        → M.allows session.old.modules call }
+    ensures narrows { (call : ModuleCall) → SV.Modules.allows session.new.modules call
+        → SV.Modules.allows session.old.modules call }
     ensures kind { is_informational head.new.status ≡ is_informational head.old.status }
 {
     let input = head_item(head, end)?;
+    let mark = app.mark(ctx);
     let begun = begin(&mut session.seen, Hook::ModuleResponseHeader, mark, input);
     let answer = session.modules.response_header_filter(head, end);
     let error = error_of(&answer)?;
@@ -84,20 +90,23 @@ pub fn call_module_response_header<M: HttpModule>(
 /// the piece.
 ///
 /// The error of the filter, which stands in its entry; what it left stays.
-pub fn call_module_response_body<M: HttpModule>(
-    session: &mut Session<M>,
-    mark: u64,
+pub fn call_module_response_body<SV: ProxyHttp>(
+    app: &SV,
+    session: &mut Session<SV::Modules>,
+    ctx: &SV::CTX,
     body: &mut Option<Bytes>,
     end: bool,
 ) -> Result<()>
     requires { IsSome (head_of session.old.seen.downstream.reading) }
     ensures calls { Enters (called (λ error. response_body body.old body.new end error) result)
-        (CallsModule (M.allows session.old.modules) session.old.seen mark session.new.seen)
+        (CallsModule (SV.Modules.allows session.old.modules) session.old.seen
+        (SV.mark_of app.now ctx.now) session.new.seen)
         session.old.seen session.new.seen }
-    ensures narrows { (call : ModuleCall) → M.allows session.new.modules call
-        → M.allows session.old.modules call }
+    ensures narrows { (call : ModuleCall) → SV.Modules.allows session.new.modules call
+        → SV.Modules.allows session.old.modules call }
 {
     let input = piece_item(body, end)?;
+    let mark = app.mark(ctx);
     let begun = begin(&mut session.seen, Hook::ModuleResponseBody, mark, input);
     let answer = session.modules.response_body_filter(body, end);
     let error = error_of(&answer)?;
@@ -115,19 +124,22 @@ pub fn call_module_response_body<M: HttpModule>(
 /// in their place.
 ///
 /// The error of the filter, which stands in its entry; what it left stays.
-pub fn call_module_response_trailer<M: HttpModule>(
-    session: &mut Session<M>,
-    mark: u64,
+pub fn call_module_response_trailer<SV: ProxyHttp>(
+    app: &SV,
+    session: &mut Session<SV::Modules>,
+    ctx: &SV::CTX,
     trailers: &mut Option<HeaderMap>,
 ) -> Result<Option<Bytes>>
     requires { IsSome (head_of session.old.seen.downstream.reading) }
     ensures calls { Enters (replied (λ answer error. response_trailer trailers.old trailers.new answer error) result)
-        (CallsModule (M.allows session.old.modules) session.old.seen mark session.new.seen)
+        (CallsModule (SV.Modules.allows session.old.modules) session.old.seen
+        (SV.mark_of app.now ctx.now) session.new.seen)
         session.old.seen session.new.seen }
-    ensures narrows { (call : ModuleCall) → M.allows session.new.modules call
-        → M.allows session.old.modules call }
+    ensures narrows { (call : ModuleCall) → SV.Modules.allows session.new.modules call
+        → SV.Modules.allows session.old.modules call }
 {
     let input = trailers_item(trailers)?;
+    let mark = app.mark(ctx);
     let begun = begin(&mut session.seen, Hook::ModuleResponseTrailer, mark, input);
     let reply = reply_of(session.modules.response_trailer_filter(trailers))?;
     let error = reply.error;
@@ -147,18 +159,21 @@ pub fn call_module_response_trailer<M: HttpModule>(
 /// Calls the modules' filter of the end of a response. Bytes that it answers end the body.
 ///
 /// The error of the filter, which stands in its entry.
-pub fn call_module_response_done<M: HttpModule>(
-    session: &mut Session<M>,
-    mark: u64,
+pub fn call_module_response_done<SV: ProxyHttp>(
+    app: &SV,
+    session: &mut Session<SV::Modules>,
+    ctx: &SV::CTX,
 ) -> Result<Option<Bytes>>
     requires { IsSome (head_of session.old.seen.downstream.reading) }
     ensures calls { Enters (replied response_done result)
-        (CallsModule (M.allows session.old.modules) session.old.seen mark session.new.seen)
+        (CallsModule (SV.Modules.allows session.old.modules) session.old.seen
+        (SV.mark_of app.now ctx.now) session.new.seen)
         session.old.seen session.new.seen }
-    ensures narrows { (call : ModuleCall) → M.allows session.new.modules call
-        → M.allows session.old.modules call }
+    ensures narrows { (call : ModuleCall) → SV.Modules.allows session.new.modules call
+        → SV.Modules.allows session.old.modules call }
 {
     let input = nothing();
+    let mark = app.mark(ctx);
     let begun = begin(&mut session.seen, Hook::ModuleResponseDone, mark, input);
     let reply = reply_of(session.modules.response_done_filter())?;
     let error = reply.error;
