@@ -1,5 +1,5 @@
-//! The hooks before an attempt: a context, modules, and the filters that may answer the request
-//! themselves (RFC 9110, section 3.7).
+//! The hooks before an attempt: the context of the request, and the filters that may answer the
+//! request themselves (RFC 9110, section 3.7).
 //!
 //! A call may be out of memory before it is made, and behind it: then the log is as before.
 ghost use Rattle.std.specs.Prelude.{◌≡◌, None, IsSome, IsOkUnless, true, false};
@@ -8,10 +8,10 @@ ghost use Rattle.relay_hooks.specs.Call.{answered, changed};
 ghost use Rattle.relay_hooks.specs.Laws.{AnswersOnYes, AnswersOnNo};
 ghost use Rattle.relay_hooks.specs.Session.{request_head, is_answered};
 ghost use Rattle.relay_calls.specs.Calls.{Calls, CallsOf, Enters};
-ghost use Rattle.relay_phases.specs.Looks.{Looks, MakesContext, MakesModules};
+ghost use Rattle.relay_phases.specs.Looks.{Looks, MakesContext};
 
 use crate::item::begin_with_head;
-use crate::settled::{changed, failed, only, said};
+use crate::settled::{changed, only, said};
 use relay_calls::{Told, begin, log_call, nothing};
 use relay_hooks::{ProxyHttp, Session};
 use relay_tasks::{Fail, Hook, Item, Result};
@@ -83,62 +83,6 @@ pub fn call_early_request_filter<SV: ProxyHttp>(
     let outcome = changed(nothing(), &answer)?;
     log_call(&mut session.seen, begun, outcome, app.mark(ctx))?;
     answer
-}
-
-/// Asks whether the request may have subrequests.
-///
-/// Fails out of memory alone.
-pub fn call_allow_spawning_subrequest<SV: ProxyHttp>(
-    app: &SV,
-    session: &mut Session<SV::Modules>,
-    ctx: &SV::CTX,
-) -> Result<bool>
-    requires { IsSome (head_of session.old.seen.downstream.reading) }
-    ensures calls { Enters (answered Item.Answer result)
-        (Looks (SV.allows app.now) Hook.AllowSpawningSubrequest
-        (Item.Request (request_head session.old.seen)) (SV.mark_of app.now ctx.now)
-        session.old.seen session.new.seen) session.old.seen session.new.seen }
-    ensures memory { IsOkUnless result Fail.OutOfMemory }
-    ensures modules { session.new.modules ≡ session.old.modules }
-{
-    let mark = app.mark(ctx);
-    let begun = begin_with_head(&mut session.seen, Hook::AllowSpawningSubrequest, mark)?;
-    let say = app.allow_spawning_subrequest(session, ctx);
-    log_call(&mut session.seen, begun, only(Item::Answer(say)), mark)?;
-    Ok(say)
-}
-
-/// As `call_allow_spawning_subrequest`, and makes the modules of the request behind it. That call has
-/// no entry of its own.
-///
-/// The error of that call, which stands in the entry of the question; the modules are then those before.
-pub fn make_modules<SV: ProxyHttp>(
-    app: &SV,
-    session: &mut Session<SV::Modules>,
-    ctx: &SV::CTX,
-) -> Result<bool>
-    requires { IsSome (head_of session.old.seen.downstream.reading) }
-    ensures calls { MakesModules (Looks (SV.allows app.now) Hook.AllowSpawningSubrequest
-        (Item.Request (request_head session.old.seen)) (SV.mark_of app.now ctx.now)
-        session.old.seen session.new.seen) result session.old.seen session.new.seen }
-{
-    let mark = app.mark(ctx);
-    let begun = begin_with_head(&mut session.seen, Hook::AllowSpawningSubrequest, mark)?;
-    let say = app.allow_spawning_subrequest(session, ctx);
-    let alloc = session.seen.alloc;
-    match app.init_downstream_modules(alloc) {
-        Ok(modules) => {
-            session.modules = modules;
-            log_call(&mut session.seen, begun, only(Item::Answer(say)), mark)?;
-            Ok(say)
-        }
-        Err(Fail::Error(error)) => {
-            let outcome = failed(Item::Answer(say), error);
-            log_call(&mut session.seen, begun, outcome, mark)?;
-            Err(Fail::Error(error))
-        }
-        Err(Fail::OutOfMemory) => Err(Fail::OutOfMemory),
-    }
 }
 
 /// Calls the filter that may answer the request itself, with true, before it may be a purge.

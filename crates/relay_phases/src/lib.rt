@@ -7,6 +7,7 @@ mod before;
 mod ending;
 mod item;
 mod message;
+mod modules;
 mod purge;
 mod settled;
 #[cfg(test)]
@@ -18,8 +19,8 @@ pub use attempt::{
     call_upstream_request_filter,
 };
 pub use before::{
-    call_allow_spawning_subrequest, call_early_request_filter, call_new_ctx,
-    call_on_connection_reuse, call_proxy_upstream_filter, call_request_filter, make_modules,
+    call_early_request_filter, call_new_ctx, call_on_connection_reuse, call_proxy_upstream_filter,
+    call_request_filter,
 };
 pub use ending::{
     call_fail_to_proxy, call_logging, call_persist_connection_context, call_request_summary,
@@ -28,4 +29,5 @@ pub use ending::{
 pub use message::{
     call_downstream_custom_message_proxy_filter, call_upstream_custom_message_proxy_filter,
 };
+pub use modules::{call_allow_spawning_subrequest, call_module_request_header, make_modules};
 pub use purge::{call_is_purge, call_purge_action, call_purge_response_filter};

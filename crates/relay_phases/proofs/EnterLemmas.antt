@@ -1,0 +1,57 @@
+-- A call that was made and entered stands in the log.
+use Rattle.std.proofs.Common.{◌≡◌, ℕ, Bool, List, [], ◌∷◌, ◌++◌, Option, Some, None, Result, Ok, Err, refl, sym, ap, subst, ◌∙◌}
+use Rattle.relay_tasks.specs.declared.error.Error.{Error}
+use Rattle.relay_tasks.specs.declared.error.Fail.{Fail}
+use Rattle.relay_tasks.specs.declared.hook.Hook.{Hook}
+use Rattle.relay_tasks.specs.declared.log.Item.{Item}
+use Rattle.relay_tasks.specs.declared.log.LogEntry.{LogEntry}
+use Rattle.relay_tasks.specs.declared.peer.Peer.{Peer}
+use Rattle.relay_modules.specs.Seen.{view_of}
+use Rattle.relay_modules.specs.declared.seen.Seen.{Seen}
+use Rattle.relay_hooks.specs.Standing.{Standing}
+use Rattle.relay_hooks.specs.Call.{Left, AskedOf, entry}
+use Rattle.relay_hooks.specs.Session.{moment}
+use Rattle.relay_calls.specs.Calls.{CallsOf, Enters}
+use Rattle.relay_calls.specs.Entry.{cleared, told, with_entry}
+use Rattle.relay_calls.specs.declared.entry.Begun.{Begun}
+use Rattle.relay_calls.specs.declared.entry.Outcome.{Outcome}
+use Rattle.relay_phases.specs.Settled.{left_of}
+
+-- the call of a hook that kept its law and answered what the application allows was entered behind it
+pub entered : (peer : Option Peer) (reused : Bool) (law : Seen → Seen → Type 0)
+    (allows : Standing → LogEntry → Type 0) (which : Hook) (input : Item) (old returned new : Seen)
+    (before after : ℕ) (answer : Option Left) (begun : Begun) (outcome : Outcome)
+    → begun ≡ record { hook = which; mark = before; input = input; view = view_of old }
+    → answer ≡ Some (left_of outcome)
+    → law (cleared old) returned
+    → returned.log ≡ old.log
+    → AskedOf peer reused allows which input (moment (cleared old) before) answer
+        (moment returned after)
+    → new ≡ with_entry returned (told begun outcome (moment returned after))
+    → Enters answer (CallsOf peer reused law allows which input old before new after) old new
+entered peer reused law allows which input old returned new before after answer begun outcome is_begun
+    is_answer lawful stays allowed is_new =
+    let e : LogEntry =
+        entry which input (moment (cleared old) before) (left_of outcome) (moment returned after) in
+    let is_entry : told begun outcome (moment returned after) ≡ e =
+        ap (λ b. told b outcome (moment returned after)) is_begun in
+    let grows : new.log ≡ returned.log ++ e ∷ [] =
+        ap (λ seen. seen.log) is_new ∙ ap (λ last. returned.log ++ last ∷ []) is_entry in
+    let log : new.log ≡ old.log ++ e ∷ [] = grows ∙ ap (λ before. before ++ e ∷ []) stays in
+    let rest : new ≡ record returned { log = new.log; wrote = [] } =
+        is_new
+        ∙ ap (λ log. record returned { log = log; wrote = [] }) (sym (ap (λ seen. seen.log) is_new)) in
+    let is_allowed : AskedOf peer reused allows which input (moment (cleared old) before)
+        (Some (left_of outcome)) (moment returned after) =
+        subst (λ left. AskedOf peer reused allows which input (moment (cleared old) before) left
+            (moment returned after)) is_answer allowed in
+    subst
+      (λ left. Enters left (CallsOf peer reused law allows which input old before new after) old new)
+      (sym is_answer)
+      (record {
+        returned = returned;
+        lawful = lawful;
+        allowed = is_allowed;
+        log = log;
+        rest = rest;
+      })
