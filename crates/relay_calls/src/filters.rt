@@ -10,7 +10,7 @@ ghost use Rattle.relay_calls.specs.Calls.{Calls, Enters};
 
 use crate::answer::{delay_of, error_of, reply_of};
 use crate::entry::{Outcome, begin, log_call};
-use crate::item::{fields_item, head_item, piece_item, piece_or};
+use crate::item::{fields_item, head_item, piece_item, trailed_item};
 use bytes::Bytes;
 use http_header::HeaderMap;
 use relay_hooks::{ProxyHttp, Session};
@@ -262,7 +262,7 @@ pub fn call_response_trailer_filter<SV: ProxyHttp>(
     let alloc = session.seen.alloc;
     let reply = reply_of(app.response_trailer_filter(alloc, session, trailers, ctx))?;
     let error = reply.error;
-    let left = piece_or(&reply.bytes, fields_item(trailers)?)?;
+    let left = trailed_item(trailers, &reply.bytes)?;
     let outcome = Outcome {
         output: left.item,
         error,

@@ -1,6 +1,7 @@
 //! What filters are given and leave, copied for the log. A copy of bytes shares them.
-ghost use Rattle.std.specs.Prelude.{◌≡◌, Some, IfOk, IsOkUnless};
+ghost use Rattle.std.specs.Prelude.{◌≡◌, true, Some, IfOk, IsOkUnless};
 ghost use Rattle.relay_modules.specs.Module.{piece_or};
+ghost use Rattle.relay_hooks.specs.Call.{trailed};
 
 use crate::entry::Told;
 use bytes::Bytes;
@@ -56,15 +57,34 @@ pub fn trailers_item(trailers: &Option<HeaderMap>) -> Result<Told>
     })
 }
 
-/// The last piece that an answer makes, or else what stands in its place.
+/// The bytes that a filter answered, as the last piece of the body.
+fn last_piece(bytes: &Bytes) -> Result<Told>
+    ensures ok { IfOk result (λ told. told.item ≡ Item.Piece (Some bytes.now) true) }
+    ensures memory { IsOkUnless result Fail.OutOfMemory }
+{
+    Ok(Told {
+        item: Item::Piece(Some(bytes.clone()?), true),
+    })
+}
+
+/// Trailer fields, or in their place the bytes that their filter answered.
+pub fn trailed_item(fields: &HeaderMap, bytes: &Option<Bytes>) -> Result<Told>
+    ensures ok { IfOk result (λ told. told.item ≡ trailed fields.now bytes.now) }
+    ensures memory { IsOkUnless result Fail.OutOfMemory }
+{
+    match bytes {
+        Some(bytes) => last_piece(bytes),
+        None => fields_item(fields),
+    }
+}
+
+/// The bytes that a filter answered, or else what stands in their place.
 pub fn piece_or(bytes: &Option<Bytes>, other: Told) -> Result<Told>
     ensures ok { IfOk result (λ told. told.item ≡ piece_or bytes.now other.item) }
     ensures memory { IsOkUnless result Fail.OutOfMemory }
 {
     match bytes {
-        Some(bytes) => Ok(Told {
-            item: Item::Piece(Some(bytes.clone()?), true),
-        }),
+        Some(bytes) => last_piece(bytes),
         None => Ok(other),
     }
 }
