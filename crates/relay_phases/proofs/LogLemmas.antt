@@ -1,9 +1,11 @@
 -- Each law of a hook leaves the log.
-use Rattle.std.proofs.Common.{◌≡◌, Bool, true, false, Result, Ok, Err, Option, Some, None, ◌⊎◌, inl, inr, ap}
+use Rattle.std.proofs.Common.{◌≡◌, Bool, true, false, Result, Ok, Err, Option, Some, None, ◌⊎◌, inl, inr, sym, ap, is_some, true≢false}
 use Rattle.relay_tasks.specs.declared.error.Error.{Error}
 use Rattle.relay_tasks.specs.declared.error.Fail.{Fail}
 use Rattle.relay_tasks.specs.declared.error.Fail.TheVariants as fail
 use Rattle.relay_modules.specs.declared.seen.Seen.{Seen}
+use Rattle.relay_tasks.specs.declared.log.Item.{Item}
+use Rattle.relay_hooks.specs.Call.{Left, changed}
 use Rattle.relay_hooks.specs.Session.{Leaves, Queues}
 use Rattle.relay_hooks.specs.Laws.{LeavesUnless, AnswersOnYes, AnswersOnNo, AnswersOnce}
 
@@ -46,3 +48,10 @@ AnswersOnce-log (Ok value) old new (inl leaves) = Leaves-log old new leaves
 AnswersOnce-log (Ok value) old new (inr (queues, open_to, once)) = Queues-log old new queues
 AnswersOnce-log (Err (fail.Error error)) old new law = Leaves-log old new law
 AnswersOnce-log (Err fail.OutOfMemory) old new law = law
+
+-- a hook that queues nothing, wherever what it left is told
+pub leaves_told : (output : Item) (left : Left) (answer : Result Unit Fail) (old new : Seen)
+    → changed output answer ≡ Some left → LeavesUnless answer old new → Leaves old new
+leaves_told output left (Ok done) old new is law = law
+leaves_told output left (Err (fail.Error error)) old new is law = law
+leaves_told output left (Err fail.OutOfMemory) old new is law = absurd (true≢false (sym (ap is_some is)))

@@ -10,7 +10,7 @@ ghost use Rattle.relay_phases.specs.Looks.{Looks};
 
 use crate::item::{begin_with_head, error_item, peer_item, request_item};
 use crate::settled::{changed, only, settle};
-use relay_calls::{begin, log_call, nothing};
+use relay_calls::{begin, log_call};
 use relay_hooks::{ProxyHttp, ProxyWarnLogContext, Session};
 use relay_tasks::{Error, Fail, Hook, Injected, Item, Peer, RequestHeader, Result};
 
@@ -83,7 +83,7 @@ pub fn call_connected_to_upstream<SV: ProxyHttp>(
     let begun = begin(&mut session.seen, Hook::ConnectedToUpstream, mark, input);
     let alloc = session.seen.alloc;
     let answer = app.connected_to_upstream(alloc, session, reused, peer, ctx);
-    let outcome = changed(nothing(), &answer)?;
+    let outcome = changed(Item::Nothing, &answer)?;
     log_call(&mut session.seen, begun, outcome, app.mark(ctx))?;
     answer
 }
@@ -108,7 +108,8 @@ pub fn call_upstream_request_filter<SV: ProxyHttp>(
     let begun = begin(&mut session.seen, Hook::UpstreamRequestFilter, mark, input);
     let alloc = session.seen.alloc;
     let answer = app.upstream_request_filter(alloc, session, head, ctx);
-    let outcome = changed(request_item(head)?, &answer)?;
+    let made = request_item(head)?;
+    let outcome = changed(made.item, &answer)?;
     log_call(&mut session.seen, begun, outcome, app.mark(ctx))?;
     answer
 }

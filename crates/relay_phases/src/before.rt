@@ -80,7 +80,7 @@ pub fn call_early_request_filter<SV: ProxyHttp>(
     let begun = begin_with_head(&mut session.seen, Hook::EarlyRequestFilter, app.mark(ctx))?;
     let alloc = session.seen.alloc;
     let answer = app.early_request_filter(alloc, session, ctx);
-    let outcome = changed(nothing(), &answer)?;
+    let outcome = changed(Item::Nothing, &answer)?;
     log_call(&mut session.seen, begun, outcome, app.mark(ctx))?;
     answer
 }

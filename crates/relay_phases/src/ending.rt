@@ -11,7 +11,7 @@ ghost use Rattle.relay_calls.specs.Calls.{Calls, CallsOf, Enters};
 ghost use Rattle.relay_phases.specs.Looks.{Looks};
 
 use crate::item::{begin_with_head, error_item, failure_item};
-use crate::settled::{only, settle, told};
+use crate::settled::{only, told};
 use bytes::Bytes;
 use relay_calls::{begin, log_call};
 use relay_hooks::{FailToProxy, ProxyHttp, Session};

@@ -2,6 +2,7 @@
 //!
 //! A call may be out of memory before it is made, and behind it: then the log is as before.
 ghost use Rattle.std.specs.Prelude.{◌≡◌, Some, IsSome};
+ghost use Rattle.relay_tasks.specs.declared.log.Item.TheVariants as item;
 ghost use Rattle.relay_session.specs.Reading.{head_of};
 ghost use Rattle.relay_hooks.specs.Call.{answered};
 ghost use Rattle.relay_calls.specs.Calls.{Calls, Enters};
@@ -25,9 +26,9 @@ pub fn call_downstream_custom_message_proxy_filter<SV: ProxyHttp>(
     final_hop: bool,
 ) -> Result<Option<Bytes>>
     requires { IsSome (head_of session.old.seen.downstream.reading) }
-    ensures calls { Enters (answered (λ left. Item.Message left final_hop) result)
+    ensures calls { Enters (answered (λ left. item.Message left final_hop) result)
         (Calls (SV.allows app.now) Hook.DownstreamCustomMessageProxyFilter
-        (Item.Message (Some message) final_hop) session.old.seen (SV.mark_of app.now ctx.old)
+        (item.Message (Some message) final_hop) session.old.seen (SV.mark_of app.now ctx.old)
         session.new.seen (SV.mark_of app.now ctx.new)) session.old.seen session.new.seen }
 {
     let input = message_item(&message, final_hop)?;
@@ -54,9 +55,9 @@ pub fn call_upstream_custom_message_proxy_filter<SV: ProxyHttp>(
     final_hop: bool,
 ) -> Result<Option<Bytes>>
     requires { IsSome (head_of session.old.seen.downstream.reading) }
-    ensures calls { Enters (answered (λ left. Item.Message left final_hop) result)
+    ensures calls { Enters (answered (λ left. item.Message left final_hop) result)
         (Calls (SV.allows app.now) Hook.UpstreamCustomMessageProxyFilter
-        (Item.Message (Some message) final_hop) session.old.seen (SV.mark_of app.now ctx.old)
+        (item.Message (Some message) final_hop) session.old.seen (SV.mark_of app.now ctx.old)
         session.new.seen (SV.mark_of app.now ctx.new)) session.old.seen session.new.seen }
 {
     let input = message_item(&message, final_hop)?;

@@ -86,7 +86,8 @@ pub fn call_module_request_header<M: HttpModule>(session: &mut Session<M>, mark:
 {
     let begun = begin_with_head(&mut session.seen, Hook::ModuleRequestHeader, mark)?;
     let answer = session.filter_request_header();
-    let outcome = changed(request_item(session.seen.req_header())?, &answer)?;
+    let made = request_item(session.seen.req_header())?;
+    let outcome = changed(made.item, &answer)?;
     log_call(&mut session.seen, begun, outcome, mark)?;
     answer
 }

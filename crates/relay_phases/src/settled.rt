@@ -2,12 +2,12 @@
 //!
 //! A value that is held while a later call may fail stands in a struct: an enum there would be a case
 //! for each of its variants in the proof of each caller.
-ghost use Rattle.std.specs.Prelude.{◌≡◌, Some, None, Err, IfOk, OnErr, IsOkUnless};
+ghost use Rattle.std.specs.Prelude.{◌≡◌, Some, None, Err, IfOk, OnErr, IsOkUnless, false};
 ghost use Rattle.relay_hooks.specs.Call.{answered, changed, only, failed};
 ghost use Rattle.relay_phases.specs.Settled.{handed, left_of};
 
 use bytes::Bytes;
-use relay_calls::{Outcome, Told, error_of};
+use relay_calls::Outcome;
 use relay_hooks::FailToProxy;
 use relay_tasks::{Error, Fail, Injected, Item, Peer, Result, copy_piece};
 
@@ -64,20 +64,18 @@ pub(crate) fn failed(output: Item, error: Error) -> Outcome
     }
 }
 
-/// A call that changed an argument to this, and that answered nothing or an error. Fails out of memory
-/// alone, where the hook did.
-pub(crate) fn changed(output: Told, answer: &Result<()>) -> Result<Outcome>
-    ensures ok { IfOk result (λ outcome. changed output.item answer.now
-        ≡ Some (left_of outcome)) }
+/// A call that left this and answered nothing, or an error. Fails out of memory alone, where the hook
+/// did.
+pub(crate) fn changed(output: Item, answer: &Result<()>) -> Result<Outcome>
+    ensures ok { IfOk result (λ outcome. changed output answer.now ≡ Some (left_of outcome)) }
     ensures err { OnErr result (answer.now ≡ Err Fail.OutOfMemory) }
     ensures memory { IsOkUnless result Fail.OutOfMemory }
 {
-    let error = error_of(answer)?;
-    Ok(Outcome {
-        output: output.item,
-        error,
-        delay: None,
-    })
+    match answer {
+        Ok(()) => Ok(only(output)),
+        Err(Fail::Error(error)) => Ok(failed(output, *error)),
+        Err(Fail::OutOfMemory) => Err(Fail::OutOfMemory),
+    }
 }
 
 /// A call that answered whether something is so. Fails out of memory alone, where the hook did.
