@@ -1,5 +1,5 @@
 -- A call that was entered takes a log on that walks.
-use Rattle.std.proofs.Common.{◌≡◌, ℕ, Bool, true, false, Option, Some, None, List, [], ◌∷◌, ◌++◌, refl, sym, ap, subst, ◌∙◌, unwrap_or, true≢false}
+use Rattle.std.proofs.Common.{◌≡◌, ℕ, Bool, true, false, Option, Some, None, List, [], ◌∷◌, refl, sym, ap, subst, ◌∙◌, unwrap_or, true≢false}
 use Rattle.relay_tasks.specs.Head.{RequestHead, new_request}
 use Rattle.relay_tasks.specs.declared.hook.Hook.{Hook}
 use Rattle.relay_tasks.specs.declared.log.Item.{Item}
@@ -22,8 +22,8 @@ use Rattle.relay_calls.proofs.LogLemmas.{Views-same, Walk-append}
 -- ---- whose call it is
 
 -- a call of the application's is allowed by it
-AllowsBy-app : (is_modules : Bool) (app : Standing → LogEntry → Type 0) (modules : ModuleCall → Type 0)
-    (st : Standing) (e : LogEntry) → is_modules ≡ false → app st e
+AllowsBy-app : (is_modules : Bool) (app : Standing → LogEntry → Type 0)
+    (modules : ModuleCall → Type 0) (st : Standing) (e : LogEntry) → is_modules ≡ false → app st e
     → AllowsBy is_modules app modules st e
 AllowsBy-app true app modules st e is_app allowed = absurd (true≢false is_app)
 AllowsBy-app false app modules st e is_app allowed = allowed
@@ -66,8 +66,9 @@ told_head-stands true left before untouched = refl
 told_head-stands false left before untouched = untouched refl
 
 module _ (app : Standing → LogEntry → Type 0) (modules : ModuleCall → Type 0) (peer : Option Peer)
-    (reused : Bool) (which : Hook) (input : Item) (old : Seen) (before : ℕ) (new : Seen) (behind : ℕ)
-    (left : Left) (call : CallsOf peer reused Leaves app which input old before new behind left) where
+    (reused : Bool) (which : Hook) (input : Item) (old : Seen) (before : ℕ) (new : Seen)
+    (behind : ℕ) (left : Left)
+    (call : CallsOf peer reused Leaves app which input old before new behind left) where
   -- its entry
   abbrev entered : LogEntry
   entered = entry which input (moment (cleared old) before) left (moment call.returned behind)
@@ -81,14 +82,14 @@ module _ (app : Standing → LogEntry → Type 0) (modules : ModuleCall → Type
         head =
             ap request_head call.rest
             ∙ told_head-stands call.returned.touched (request_head call.returned) (request_head old)
-                (λ h. ap (λ (r : Reading). unwrap_or (head_of r) (new_request [] []))
-                  (call.lawful.request.untouched h));
+            (λ h. ap (λ (r : Reading). unwrap_or (head_of r) (new_request [] []))
+            (call.lawful.request.untouched h));
         keepalive = ap (λ (s : Seen). s.keepalive) call.rest;
         final_head =
             subst (λ (s : Seen). has_head old.downstream.writing.place ≡ true
-              → has_head s.downstream.writing.place ≡ true) (sym call.rest)
+            → has_head s.downstream.writing.place ≡ true) (sym call.rest)
             (subst (λ (s : Seen). has_head old.downstream.writing.place ≡ true
-              → has_head s.downstream.writing.place ≡ true) (sym call.lawful.rest) (λ h. h));
+            → has_head s.downstream.writing.place ≡ true) (sym call.lawful.rest) (λ h. h));
         upgraded = λ h. h;
       }
 
@@ -96,30 +97,31 @@ module _ (app : Standing → LogEntry → Type 0) (modules : ModuleCall → Type
   pub CallsOf-walks : is_module which ≡ false
       → Walk (IsAllowed app modules) (standing peer reused (moment old before)) (entered ∷ [])
       (standing peer reused (moment new behind))
-  CallsOf-walks is_app =
-      ( standing peer reused (moment old before)
-      , Views-same _
-      , record {
-          mark = refl;
-          view = refl;
-          by_module = LeavesIf-app _ _ _ is_app;
-        }
-      , AllowsBy-app _ app modules _ _ is_app call.allowed
-      , Views-behind)
+  CallsOf-walks is_app = (
+    standing peer reused (moment old before),
+    Views-same _,
+    record {
+      mark = refl;
+      view = refl;
+      by_module = LeavesIf-app _ _ _ is_app;
+    },
+    AllowsBy-app _ app modules _ _ is_app call.allowed,
+    Views-behind,
+  )
 
 -- a log that walked up to the call walks on past it
-pub Calls-walks : (app : Standing → LogEntry → Type 0) (modules : ModuleCall → Type 0) (which : Hook)
-    (input : Item) (old : Seen) (before : ℕ) (new : Seen) (behind : ℕ) (left : Left)
+pub Calls-walks : (app : Standing → LogEntry → Type 0) (modules : ModuleCall → Type 0)
+    (which : Hook) (input : Item) (old : Seen) (before : ℕ) (new : Seen) (behind : ℕ) (left : Left)
     → is_module which ≡ false → Calls app which input old before new behind left
     → WalksOn (IsAllowed app modules) old before new behind
 Calls-walks app modules which input old before new behind left is_app call from walked =
     subst
-      (λ (es : List LogEntry).
-        Walk (IsAllowed app modules) from es (standing None false (moment new behind)))
-      (sym call.log)
-      (Walk-append (IsAllowed app modules) old.log _ from (standing None false (moment old before))
-        (standing None false (moment new behind)) walked
-        (CallsOf-walks app modules None false which input old before new behind left call is_app))
+    (λ (es : List LogEntry).
+    Walk (IsAllowed app modules) from es (standing None false (moment new behind)))
+    (sym call.log)
+    (Walk-append (IsAllowed app modules) old.log _ from (standing None false (moment old before))
+    (standing None false (moment new behind)) walked
+    (CallsOf-walks app modules None false which input old before new behind left call is_app))
 
 -- ---- a call of the modules'
 
@@ -128,28 +130,29 @@ CallsModule-walk : (app : Standing → LogEntry → Type 0) (modules : ModuleCal
     (mark : ℕ) (new : Seen) (call : ModuleCall) → CallsModule modules old mark new call
     → Walk (IsAllowed app modules) (standing None false (moment old mark))
     (module_entry call (moment (cleared old) mark) ∷ []) (standing None false (moment new mark))
-CallsModule-walk app modules old mark new call made =
-    ( standing None false (moment old mark)
-    , Views-same _
-    , record {
-        mark = refl;
-        view = refl;
-        by_module =
-            LeavesIf-modules _ _ _
-            (record { mark = refl; keepalive = refl; wrote = refl; delay = refl });
-      }
-    , AllowsBy-modules _ app modules _ _ call (is_module-hook_of call)
+CallsModule-walk app modules old mark new call made = (
+  standing None false (moment old mark),
+  Views-same _,
+  record {
+    mark = refl;
+    view = refl;
+    by_module =
+        LeavesIf-modules _ _ _
+        (record { mark = refl; keepalive = refl; wrote = refl; delay = refl });
+  },
+  AllowsBy-modules _ app modules _ _ call (is_module-hook_of call)
       (record { hook = refl; input = refl; output = refl; error = refl })
-      made.allowed
-    , record {
-        mark = refl;
-        head = ap request_head made.rest;
-        keepalive = ap (λ (s : Seen). s.keepalive) made.rest;
-        final_head =
-            subst (λ (s : Seen). has_head old.downstream.writing.place ≡ true
-              → has_head s.downstream.writing.place ≡ true) (sym made.rest) (λ h. h);
-        upgraded = λ h. h;
-      })
+      made.allowed,
+  record {
+    mark = refl;
+    head = ap request_head made.rest;
+    keepalive = ap (λ (s : Seen). s.keepalive) made.rest;
+    final_head =
+        subst (λ (s : Seen). has_head old.downstream.writing.place ≡ true
+        → has_head s.downstream.writing.place ≡ true) (sym made.rest) (λ h. h);
+    upgraded = λ h. h;
+  },
+)
 
 -- a log that walked up to the call walks on past it
 pub CallsModule-walks : (app : Standing → LogEntry → Type 0) (modules : ModuleCall → Type 0)
@@ -157,12 +160,12 @@ pub CallsModule-walks : (app : Standing → LogEntry → Type 0) (modules : Modu
     → CallsModule modules old mark new call → WalksOn (IsAllowed app modules) old mark new mark
 CallsModule-walks app modules old mark new call made from walked =
     subst
-      (λ (es : List LogEntry).
-        Walk (IsAllowed app modules) from es (standing None false (moment new mark)))
-      (sym made.log)
-      (Walk-append (IsAllowed app modules) old.log _ from (standing None false (moment old mark))
-        (standing None false (moment new mark)) walked
-        (CallsModule-walk app modules old mark new call made))
+    (λ (es : List LogEntry).
+    Walk (IsAllowed app modules) from es (standing None false (moment new mark)))
+    (sym made.log)
+    (Walk-append (IsAllowed app modules) old.log _ from (standing None false (moment old mark))
+    (standing None false (moment new mark)) walked
+    (CallsModule-walk app modules old mark new call made))
 
 -- ---- where it was entered
 

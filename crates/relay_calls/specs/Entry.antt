@@ -1,5 +1,5 @@
 -- A call on its way into the log.
-use Rattle.std.specs.Prelude.{◌≡◌, ◌++◌, ◌∷◌, [], ℕ, false}
+use Rattle.std.specs.Prelude.{◌++◌, ◌∷◌, [], false}
 use Rattle.relay_tasks.specs.declared.log.LogEntry.{LogEntry}
 use Rattle.relay_modules.specs.declared.seen.Seen.{Seen}
 use Rattle.relay_hooks.specs.Standing.{Moment}

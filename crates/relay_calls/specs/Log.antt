@@ -1,5 +1,5 @@
--- The log of a request: what stands behind a call, a log that walks from one standing to another with
--- each call allowed, and its parts by direction.
+-- The log of a request: what stands behind a call, a log that walks from one standing to another
+-- with each call allowed, and its parts by direction.
 use Rattle.std.specs.Prelude.{◌≡◌, ℕ, Bool, true, false, List, [], ◌∷◌, None, unwrap_or, filter}
 use Rattle.relay_tasks.specs.declared.hook.Hook.{Hook}
 use Rattle.relay_tasks.specs.declared.hook.Hook.TheVariants as hook
@@ -55,7 +55,8 @@ after st e = record st {
   keepalive = e.keepalive;
 }
 
--- a filter of the modules leaves the mark and the keepalive flag, queues nothing, and asks for no delay
+-- a filter of the modules leaves the mark and the keepalive flag, queues nothing, and asks for no
+-- delay
 pub record LeavesRest (st : Standing) (e : LogEntry) : Type 0 where
   pub mark : e.mark_after ≡ st.mark
   pub keepalive : e.keepalive ≡ st.keepalive
@@ -73,8 +74,8 @@ pub record Fits (st : Standing) (e : LogEntry) : Type 0 where
   pub view : e.view ≡ st.view
   pub by_module : LeavesIf (is_module e.hook) st e
 
--- between two calls the view may change, as may the attempt's peer; a final head that was queued, and
--- an upgrade, stay so
+-- between two calls the view may change, as may the attempt's peer; a final head that was queued,
+-- and an upgrade, stay so
 pub record Views (from to : Standing) : Type 0 where
   pub mark : to.mark ≡ from.mark
   pub head : to.head ≡ from.head
@@ -82,8 +83,8 @@ pub record Views (from to : Standing) : Type 0 where
   pub final_head : from.view.final_head ≡ true → to.view.final_head ≡ true
   pub upgraded : from.view.upgraded ≡ true → to.view.upgraded ≡ true
 
--- the calls lead from one standing to the other: each fits where it stands and is allowed there, and
--- the next begins at its mark
+-- the calls lead from one standing to the other: each fits where it stands and is allowed there,
+-- and the next begins at its mark
 abbrev pub Walk : (Standing → LogEntry → Type 0) → Standing → List LogEntry → Standing → Type 0
 Walk allows from [] to = Views from to
 Walk allows from (e ∷ es) to =

@@ -32,8 +32,8 @@ left_by call = record { output = output_of call; error = error_of call; delay = 
 abbrev pub module_entry : ModuleCall → Moment → LogEntry
 module_entry call at = entry (hook_of call) (input_of call) at (left_by call) at
 
--- the modules were called once: the log gained the entry of a call that they allow, and no other. Of
--- the session nothing else has changed, but that the call was begun
+-- the modules were called once: the log gained the entry of a call that they allow, and no other.
+-- Of the session nothing else has changed, but that the call was begun
 pub record CallsModule (allows : ModuleCall → Type 0) (old : Seen) (mark : ℕ) (new : Seen)
     (call : ModuleCall) : Type 0 where
   pub allowed : allows call

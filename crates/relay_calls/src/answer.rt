@@ -1,12 +1,13 @@
-//! The answer of a filter, taken apart: its error, and what it answered beside. Out of memory is split
-//! off, since such a call has no entry.
+//! The answer of a filter, taken apart: its error, and what it answered beside. Out of memory is
+//! split off, since such a call has no entry.
 ghost use Rattle.std.specs.Prelude.{◌≡◌};
 ghost use Rattle.relay_calls.specs.Calls.{outcome_of, delay_of, reply_of};
 
 use bytes::Bytes;
 use relay_tasks::{Error, Fail, Result};
 
-/// What a filter of trailer fields answered: the bytes that end the body in their place, or its error.
+/// What a filter of trailer fields answered: the bytes that end the body in their place, or its
+/// error.
 #[derive(Drop)]
 pub struct Reply {
     pub bytes: Option<Bytes>,

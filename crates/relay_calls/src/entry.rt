@@ -35,8 +35,8 @@ pub struct Told {
     pub item: Item,
 }
 
-/// Begins a call of that hook, with that mark and input: the head counts as untouched, and nothing as
-/// queued.
+/// Begins a call of that hook, with that mark and input: the head counts as untouched, and nothing
+/// as queued.
 pub fn begin(seen: &mut Seen, hook: Hook, mark: u64, input: Told) -> Begun
     ensures seen { seen.new ≡ cleared seen.old }
     ensures begun { result ≡ record {
@@ -56,8 +56,8 @@ pub fn begin(seen: &mut Seen, hook: Hook, mark: u64, input: Told) -> Begun
     }
 }
 
-/// Enters the call that was made at the end of the log, with the tasks that were noted as queued, of
-/// which none is noted then.
+/// Enters the call that was made at the end of the log, with the tasks that were noted as queued,
+/// of which none is noted then.
 ///
 /// Fails out of memory alone, and then the log is as before.
 pub fn log_call(seen: &mut Seen, begun: Begun, outcome: Outcome, mark: u64) -> Result<()>

@@ -1,12 +1,14 @@
 //! The filters of an application that run while a message is relayed, each called and entered.
 //!
-//! Each call copies what the filter is given before it is made, and what the filter left behind it. So
-//! it may be out of memory with no call made, and behind a call: then the log is as before.
+//! Each call copies what the filter is given before it is made, and what the filter left behind it.
+//! So it may be out of memory with no call made, and behind a call: then the log is as before.
 ghost use Rattle.std.specs.Prelude.{◌≡◌, Some, IsSome};
+ghost use Rattle.relay_tasks.specs.declared.log.Item.TheVariants as item;
 ghost use Rattle.relay_session.specs.Reading.{head_of};
 ghost use Rattle.relay_hooks.specs.Call.{changed, delayed, ended_by};
 ghost use Rattle.relay_hooks.specs.Laws.{KeepsKindUnless};
 ghost use Rattle.relay_calls.specs.Calls.{Calls, Enters};
+ghost use Rattle.relay_calls.specs.Log.{IsAllowed, WalksOn};
 
 use crate::answer::{delay_of, error_of, reply_of};
 use crate::entry::{Outcome, begin, log_call};
@@ -16,7 +18,8 @@ use http_header::HeaderMap;
 use relay_hooks::{ProxyHttp, Session};
 use relay_tasks::{Fail, Hook, ResponseHeader, Result};
 
-/// Calls the filter of the pieces of the request's body; `end` says that the body ends with the piece.
+/// Calls the filter of the pieces of the request's body; `end` says that the body ends with the
+/// piece.
 ///
 /// The error of the filter, which stands in its entry; what it left stays.
 pub fn call_request_body_filter<SV: ProxyHttp>(
@@ -27,8 +30,12 @@ pub fn call_request_body_filter<SV: ProxyHttp>(
     end: bool,
 ) -> Result<()>
     requires { IsSome (head_of session.old.seen.downstream.reading) }
-    ensures calls { Enters (changed (Item.Piece body.new end) result)
-        (Calls (SV.allows app.now) Hook.RequestBodyFilter (Item.Piece body.old end)
+    ensures calls { Enters (changed (item.Piece body.new end) result)
+        (Calls (SV.allows app.now) Hook.RequestBodyFilter (item.Piece body.old end)
+        session.old.seen (SV.mark_of app.now ctx.old)
+        session.new.seen (SV.mark_of app.now ctx.new)) session.old.seen session.new.seen }
+    ensures walks { Enters (changed (item.Piece body.new end) result)
+        (λ _. WalksOn (IsAllowed (SV.allows app.now) (SV.Modules.allows session.old.modules))
         session.old.seen (SV.mark_of app.now ctx.old)
         session.new.seen (SV.mark_of app.now ctx.new)) session.old.seen session.new.seen }
 {
@@ -52,8 +59,8 @@ pub fn call_request_body_filter<SV: ProxyHttp>(
     answer
 }
 
-/// Calls the filter of the heads as they came from the upstream; `end` says that the response ends with
-/// the head.
+/// Calls the filter of the heads as they came from the upstream; `end` says that the response ends
+/// with the head.
 ///
 /// The error of the filter, which stands in its entry; what it left stays.
 pub fn call_upstream_response_filter<SV: ProxyHttp>(
@@ -64,8 +71,8 @@ pub fn call_upstream_response_filter<SV: ProxyHttp>(
     end: bool,
 ) -> Result<()>
     requires { IsSome (head_of session.old.seen.downstream.reading) }
-    ensures calls { Enters (changed (Item.Response head.new end) result)
-        (Calls (SV.allows app.now) Hook.UpstreamResponseFilter (Item.Response head.old end)
+    ensures calls { Enters (changed (item.Response head.new end) result)
+        (Calls (SV.allows app.now) Hook.UpstreamResponseFilter (item.Response head.old end)
         session.old.seen (SV.mark_of app.now ctx.old)
         session.new.seen (SV.mark_of app.now ctx.new)) session.old.seen session.new.seen }
     ensures kind { KeepsKindUnless result head.old head.new }
@@ -90,7 +97,8 @@ pub fn call_upstream_response_filter<SV: ProxyHttp>(
     answer
 }
 
-/// Calls the filter of the heads that go to the client; `end` says that the response ends with the head.
+/// Calls the filter of the heads that go to the client; `end` says that the response ends with the
+/// head.
 ///
 /// The error of the filter, which stands in its entry; what it left stays.
 pub fn call_response_filter<SV: ProxyHttp>(
@@ -101,8 +109,8 @@ pub fn call_response_filter<SV: ProxyHttp>(
     end: bool,
 ) -> Result<()>
     requires { IsSome (head_of session.old.seen.downstream.reading) }
-    ensures calls { Enters (changed (Item.Response head.new end) result)
-        (Calls (SV.allows app.now) Hook.ResponseFilter (Item.Response head.old end)
+    ensures calls { Enters (changed (item.Response head.new end) result)
+        (Calls (SV.allows app.now) Hook.ResponseFilter (item.Response head.old end)
         session.old.seen (SV.mark_of app.now ctx.old)
         session.new.seen (SV.mark_of app.now ctx.new)) session.old.seen session.new.seen }
     ensures kind { KeepsKindUnless result head.old head.new }
@@ -127,8 +135,8 @@ pub fn call_response_filter<SV: ProxyHttp>(
     answer
 }
 
-/// Calls the filter of the pieces of the response's body as they came from the upstream; `end` says that the body
-/// ends with the piece. It answers the filter's delay in milliseconds, or none.
+/// Calls the filter of the pieces of the response's body as they came from the upstream; `end` says
+/// that the body ends with the piece. It answers the filter's delay in milliseconds, or none.
 ///
 /// The error of the filter, which stands in its entry; what it left stays.
 pub fn call_upstream_response_body_filter<SV: ProxyHttp>(
@@ -139,8 +147,8 @@ pub fn call_upstream_response_body_filter<SV: ProxyHttp>(
     end: bool,
 ) -> Result<Option<u64>>
     requires { IsSome (head_of session.old.seen.downstream.reading) }
-    ensures calls { Enters (delayed (Item.Piece body.new end) result)
-        (Calls (SV.allows app.now) Hook.UpstreamResponseBodyFilter (Item.Piece body.old end)
+    ensures calls { Enters (delayed (item.Piece body.new end) result)
+        (Calls (SV.allows app.now) Hook.UpstreamResponseBodyFilter (item.Piece body.old end)
         session.old.seen (SV.mark_of app.now ctx.old)
         session.new.seen (SV.mark_of app.now ctx.new)) session.old.seen session.new.seen }
 {
@@ -164,8 +172,8 @@ pub fn call_upstream_response_body_filter<SV: ProxyHttp>(
     answer
 }
 
-/// Calls the filter of the pieces of the response's body that go to the client; `end` says that the body
-/// ends with the piece. It answers the filter's delay in milliseconds, or none.
+/// Calls the filter of the pieces of the response's body that go to the client; `end` says that the
+/// body ends with the piece. It answers the filter's delay in milliseconds, or none.
 ///
 /// The error of the filter, which stands in its entry; what it left stays.
 pub fn call_response_body_filter<SV: ProxyHttp>(
@@ -176,8 +184,8 @@ pub fn call_response_body_filter<SV: ProxyHttp>(
     end: bool,
 ) -> Result<Option<u64>>
     requires { IsSome (head_of session.old.seen.downstream.reading) }
-    ensures calls { Enters (delayed (Item.Piece body.new end) result)
-        (Calls (SV.allows app.now) Hook.ResponseBodyFilter (Item.Piece body.old end)
+    ensures calls { Enters (delayed (item.Piece body.new end) result)
+        (Calls (SV.allows app.now) Hook.ResponseBodyFilter (item.Piece body.old end)
         session.old.seen (SV.mark_of app.now ctx.old)
         session.new.seen (SV.mark_of app.now ctx.new)) session.old.seen session.new.seen }
 {
@@ -211,8 +219,9 @@ pub fn call_upstream_response_trailer_filter<SV: ProxyHttp>(
     trailers: &mut HeaderMap,
 ) -> Result<()>
     requires { IsSome (head_of session.old.seen.downstream.reading) }
-    ensures calls { Enters (changed (Item.Trailers (Some trailers.new)) result)
-        (Calls (SV.allows app.now) Hook.UpstreamResponseTrailerFilter (Item.Trailers (Some trailers.old))
+    ensures calls { Enters (changed (item.Trailers (Some trailers.new)) result)
+        (Calls (SV.allows app.now) Hook.UpstreamResponseTrailerFilter
+        (item.Trailers (Some trailers.old))
         session.old.seen (SV.mark_of app.now ctx.old)
         session.new.seen (SV.mark_of app.now ctx.new)) session.old.seen session.new.seen }
 {
@@ -236,8 +245,8 @@ pub fn call_upstream_response_trailer_filter<SV: ProxyHttp>(
     answer
 }
 
-/// Calls the filter of the trailer fields that go to the client. Bytes that it answers end the body in
-/// their place.
+/// Calls the filter of the trailer fields that go to the client. Bytes that it answers end the body
+/// in their place.
 ///
 /// The error of the filter, which stands in its entry; what it left stays.
 pub fn call_response_trailer_filter<SV: ProxyHttp>(
@@ -248,7 +257,7 @@ pub fn call_response_trailer_filter<SV: ProxyHttp>(
 ) -> Result<Option<Bytes>>
     requires { IsSome (head_of session.old.seen.downstream.reading) }
     ensures calls { Enters (ended_by trailers.new result)
-        (Calls (SV.allows app.now) Hook.ResponseTrailerFilter (Item.Trailers (Some trailers.old))
+        (Calls (SV.allows app.now) Hook.ResponseTrailerFilter (item.Trailers (Some trailers.old))
         session.old.seen (SV.mark_of app.now ctx.old)
         session.new.seen (SV.mark_of app.now ctx.new)) session.old.seen session.new.seen }
 {

@@ -15,7 +15,9 @@ pub use filters::{
     call_response_trailer_filter, call_upstream_response_body_filter,
     call_upstream_response_filter, call_upstream_response_trailer_filter,
 };
-pub use item::{fields_item, head_item, nothing, piece_item, piece_or, trailed_item, trailers_item};
+pub use item::{
+    fields_item, head_item, nothing, piece_item, piece_or, trailed_item, trailers_item,
+};
 pub use modules::{
     call_module_request_body, call_module_response_body, call_module_response_done,
     call_module_response_header, call_module_response_trailer,

@@ -1,12 +1,13 @@
 //! The filters of the modules that run while a message is relayed, each called and entered.
 //!
-//! A call leaves the context, and its entry has its mark. It may be out of memory as with the filters of
-//! an application.
+//! A call leaves the context, and its entry has its mark. It may be out of memory as with the
+//! filters of an application.
 ghost use Rattle.std.specs.Prelude.{◌≡◌, IsSome};
 ghost use Rattle.relay_session.specs.Reading.{head_of};
 ghost use Rattle.relay_h1.specs.ClientHead.{is_informational};
 ghost use Rattle.relay_modules.specs.Module.{ModuleCall, request_body, response_header, response_body, response_trailer, response_done};
 ghost use Rattle.relay_calls.specs.Calls.{Enters};
+ghost use Rattle.relay_calls.specs.Log.{IsAllowed, WalksOn};
 ghost use Rattle.relay_calls.specs.Modules.{CallsModule, called, replied};
 
 use crate::answer::{error_of, reply_of};
@@ -17,8 +18,8 @@ use http_header::HeaderMap;
 use relay_hooks::{HttpModule, ProxyHttp, Session};
 use relay_tasks::{Fail, Hook, ResponseHeader, Result};
 
-/// Calls the modules' filter of the pieces of the request's body; `end` says that the body ends with
-/// the piece.
+/// Calls the modules' filter of the pieces of the request's body; `end` says that the body ends
+/// with the piece.
 ///
 /// The error of the filter, which stands in its entry; what it left stays.
 pub fn call_module_request_body<SV: ProxyHttp>(
@@ -33,6 +34,10 @@ pub fn call_module_request_body<SV: ProxyHttp>(
         (CallsModule (SV.Modules.allows session.old.modules) session.old.seen
         (SV.mark_of app.now ctx.now) session.new.seen)
         session.old.seen session.new.seen }
+    ensures walks { Enters (called (λ error. request_body body.old body.new end error) result)
+        (λ _. WalksOn (IsAllowed (SV.allows app.now) (SV.Modules.allows session.old.modules))
+        session.old.seen (SV.mark_of app.now ctx.now)
+        session.new.seen (SV.mark_of app.now ctx.now)) session.old.seen session.new.seen }
     ensures narrows { (call : ModuleCall) → SV.Modules.allows session.new.modules call
         → SV.Modules.allows session.old.modules call }
 {
@@ -51,8 +56,8 @@ pub fn call_module_request_body<SV: ProxyHttp>(
     answer
 }
 
-/// Calls the modules' filter of the heads of the response; `end` says that the response ends with the
-/// head.
+/// Calls the modules' filter of the heads of the response; `end` says that the response ends with
+/// the head.
 ///
 /// The error of the filter, which stands in its entry; what it left stays.
 pub fn call_module_response_header<SV: ProxyHttp>(
@@ -86,8 +91,8 @@ pub fn call_module_response_header<SV: ProxyHttp>(
     answer
 }
 
-/// Calls the modules' filter of the pieces of the response's body; `end` says that the body ends with
-/// the piece.
+/// Calls the modules' filter of the pieces of the response's body; `end` says that the body ends
+/// with the piece.
 ///
 /// The error of the filter, which stands in its entry; what it left stays.
 pub fn call_module_response_body<SV: ProxyHttp>(
@@ -120,8 +125,8 @@ pub fn call_module_response_body<SV: ProxyHttp>(
     answer
 }
 
-/// Calls the modules' filter of the trailer fields of the response. Bytes that it answers end the body
-/// in their place.
+/// Calls the modules' filter of the trailer fields of the response. Bytes that it answers end the
+/// body in their place.
 ///
 /// The error of the filter, which stands in its entry; what it left stays.
 pub fn call_module_response_trailer<SV: ProxyHttp>(
@@ -131,7 +136,8 @@ pub fn call_module_response_trailer<SV: ProxyHttp>(
     trailers: &mut Option<HeaderMap>,
 ) -> Result<Option<Bytes>>
     requires { IsSome (head_of session.old.seen.downstream.reading) }
-    ensures calls { Enters (replied (λ answer error. response_trailer trailers.old trailers.new answer error) result)
+    ensures calls { Enters (replied
+        (λ answer error. response_trailer trailers.old trailers.new answer error) result)
         (CallsModule (SV.Modules.allows session.old.modules) session.old.seen
         (SV.mark_of app.now ctx.now) session.new.seen)
         session.old.seen session.new.seen }

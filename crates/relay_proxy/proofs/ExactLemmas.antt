@@ -190,7 +190,7 @@ exact_unrelayed s p w OutOfMemory ends e cause = inl (inr refl)
 -- ---- a request that had a link
 
 -- no head that switches protocols is told of, where none was before and none comes
-final_stays : (told : reading.Told) (tasks : List HttpTask) → list_any is_switch tasks ≡ false
+final_stays : (told : reading.ToldResponse) (tasks : List HttpTask) → list_any is_switch tasks ≡ false
     → ((h : ResponseHead) → told.final ≡ Some h → h.status ≢ 101)
     → (h : ResponseHead) → (told_behind told tasks).final ≡ Some h → h.status ≢ 101
 final_stays told [] none before h is = before h is
@@ -205,7 +205,7 @@ final_stays told (one ∷ tasks) none before h is =
     same_status : {n : ℕ} → n ≡ 101 → (n == 101) ≡ true
     same_status {n} is = rw is refl
 
-    headed : (told : reading.Told) (head : ResponseHead) (informs : Bool)
+    headed : (told : reading.ToldResponse) (head : ResponseHead) (informs : Bool)
         → is_informational head.status ≡ informs → (head.status == 101) ≡ false
         → ((h : ResponseHead) → told.final ≡ Some h → h.status ≢ 101)
         → (h : ResponseHead) → (with_head told head).final ≡ Some h → h.status ≢ 101
@@ -215,7 +215,7 @@ final_stays told (one ∷ tasks) none before h is =
         let this : head ≡ h = cc in
         λ switch. not_both (same_status (ap (λ (r : ResponseHead). r.status) this ∙ switch)) stays
 
-    one_more : (told : reading.Told) (one : HttpTask) → is_switch one ≡ false
+    one_more : (told : reading.ToldResponse) (one : HttpTask) → is_switch one ≡ false
         → ((h : ResponseHead) → told.final ≡ Some h → h.status ≢ 101)
         → (h : ResponseHead) → (with_task told one).final ≡ Some h → h.status ≢ 101
     one_more told (task.Header head end) stays before h is =

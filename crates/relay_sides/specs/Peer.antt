@@ -52,16 +52,16 @@ handed method task.Done = task.Done
 handed method (task.Failed error) = task.Failed error
 
 -- what tasks tell behind what was told
-abbrev pub told_behind : reading.Told → List HttpTask → reading.Told
+abbrev pub told_behind : reading.ToldResponse → List HttpTask → reading.ToldResponse
 told_behind told [] = told
 told_behind told (task ∷ tasks) = told_behind (with_task told task) tasks
 
 -- what the tasks of a response tell
-abbrev pub told_of : List HttpTask → reading.Told
+abbrev pub told_of : List HttpTask → reading.ToldResponse
 told_of tasks = told_behind untold tasks
 
 -- a piece of the body stands behind the final head
-abbrev pub StandsBehind : reading.Told → HttpTask → Type 0
+abbrev pub StandsBehind : reading.ToldResponse → HttpTask → Type 0
 StandsBehind told (task.Header head end) = Unit {0}
 StandsBehind told (task.Body piece end) = is_some told.final ≡ true
 StandsBehind told (task.UpgradedBody piece end) = Unit {0}
@@ -70,7 +70,7 @@ StandsBehind told task.Done = Unit {0}
 StandsBehind told (task.Failed error) = Unit {0}
 
 -- the tasks follow what was told: one final head behind those that inform, then its body
-abbrev pub Follow : reading.Told → List HttpTask → Type 0
+abbrev pub Follow : reading.ToldResponse → List HttpTask → Type 0
 Follow told [] = Unit {0}
 Follow told (task ∷ tasks) =
     IsResponseTask told task × StandsBehind told task × Follow (with_task told task) tasks
@@ -171,9 +171,9 @@ pub data PeerBlames (start : LinkStart) (link : LinkState) (head : RequestHead) 
     (e : Error) : Type 0 where
   link_failed : (fault : Fault) → e ≡ fault_error fault → Rose start.faults link.faults
       → PeerBlames start link head q e
-  is_cut_off : (told : reading.Told) → link.ended ≡ true → e ≡ cut_off_error q.got
+  is_cut_off : (told : reading.ToldResponse) → link.ended ≡ true → e ≡ cut_off_error q.got
       → Tasks head.method false q.got true (says told cut_off) → PeerBlames start link head q e
-  is_broken : (why : Context) (closed : Bool) (came : List ℕ) (told : reading.Told)
+  is_broken : (why : Context) (closed : Bool) (came : List ℕ) (told : reading.ToldResponse)
       → e ≡ refused_from Upstream why → IsFrontOf came q.got
       → Tasks head.method false came closed (says told broken) → PeerBlames start link head q e
   switches : (informed : List ResponseHead) (final : ResponseHead) (framing : Framing) (len : ℕ)

@@ -73,7 +73,7 @@ impl<L> PeerSide<L> {
         ensures request { (sent : Sent) (taken : List ℕ)
             → SentSoFar sent taken self.now.client.request → result ≡ true
             → IsSentWhole sent taken }
-        ensures response { (method given : List ℕ) (closed : Bool) (told : reading.Told)
+        ensures response { (method given : List ℕ) (closed : Bool) (told : reading.ToldResponse)
             → ReadSoFar method closed given told self.now.client.response → result ≡ true
             → IsReadWhole method closed given told }
     {
