@@ -1,7 +1,5 @@
 -- A call that was made and entered stands in the log.
-use Rattle.std.proofs.Common.{◌≡◌, ℕ, Bool, List, [], ◌∷◌, ◌++◌, Option, Some, None, Result, Ok, Err, refl, sym, ap, subst, ◌∙◌}
-use Rattle.relay_tasks.specs.declared.error.Error.{Error}
-use Rattle.relay_tasks.specs.declared.error.Fail.{Fail}
+use Rattle.std.proofs.Common.{◌≡◌, ℕ, Bool, [], ◌∷◌, ◌++◌, Option, Some, sym, ap, subst, ◌∙◌}
 use Rattle.relay_tasks.specs.declared.hook.Hook.{Hook}
 use Rattle.relay_tasks.specs.declared.log.Item.{Item}
 use Rattle.relay_tasks.specs.declared.log.LogEntry.{LogEntry}
@@ -26,32 +24,32 @@ pub entered : (peer : Option Peer) (reused : Bool) (law : Seen → Seen → Type
     → law (cleared old) returned
     → returned.log ≡ old.log
     → AskedOf peer reused allows which input (moment (cleared old) before) answer
-        (moment returned after)
+    (moment returned after)
     → new ≡ with_entry returned (told begun outcome (moment returned after))
     → Enters answer (CallsOf peer reused law allows which input old before new after) old new
 entered peer reused law allows which input old returned new before after answer begun outcome is_begun
     is_answer lawful stays allowed is_new =
     let e : LogEntry =
-        entry which input (moment (cleared old) before) (left_of outcome) (moment returned after) in
+    entry which input (moment (cleared old) before) (left_of outcome) (moment returned after) in
     let is_entry : told begun outcome (moment returned after) ≡ e =
-        ap (λ b. told b outcome (moment returned after)) is_begun in
+    ap (λ b. told b outcome (moment returned after)) is_begun in
     let grows : new.log ≡ returned.log ++ e ∷ [] =
-        ap (λ seen. seen.log) is_new ∙ ap (λ last. returned.log ++ last ∷ []) is_entry in
+    ap (λ seen. seen.log) is_new ∙ ap (λ last. returned.log ++ last ∷ []) is_entry in
     let log : new.log ≡ old.log ++ e ∷ [] = grows ∙ ap (λ before. before ++ e ∷ []) stays in
     let rest : new ≡ record returned { log = new.log; wrote = [] } =
-        is_new
-        ∙ ap (λ log. record returned { log = log; wrote = [] }) (sym (ap (λ seen. seen.log) is_new)) in
+    is_new
+    ∙ ap (λ log. record returned { log = log; wrote = [] }) (sym (ap (λ seen. seen.log) is_new)) in
     let is_allowed : AskedOf peer reused allows which input (moment (cleared old) before)
-        (Some (left_of outcome)) (moment returned after) =
-        subst (λ left. AskedOf peer reused allows which input (moment (cleared old) before) left
-            (moment returned after)) is_answer allowed in
+    (Some (left_of outcome)) (moment returned after) =
+    subst (λ left. AskedOf peer reused allows which input (moment (cleared old) before) left
+    (moment returned after)) is_answer allowed in
     subst
-      (λ left. Enters left (CallsOf peer reused law allows which input old before new after) old new)
-      (sym is_answer)
-      (record {
-        returned = returned;
-        lawful = lawful;
-        allowed = is_allowed;
-        log = log;
-        rest = rest;
-      })
+    (λ left. Enters left (CallsOf peer reused law allows which input old before new after) old new)
+    (sym is_answer)
+    (record {
+      returned = returned;
+      lawful = lawful;
+      allowed = is_allowed;
+      log = log;
+      rest = rest;
+    })

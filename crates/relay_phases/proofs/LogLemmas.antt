@@ -1,6 +1,5 @@
 -- Each law of a hook leaves the log.
-use Rattle.std.proofs.Common.{◌≡◌, Bool, true, false, Result, Ok, Err, Option, Some, None, ◌⊎◌, inl, inr, sym, ap, is_some, true≢false}
-use Rattle.relay_tasks.specs.declared.error.Error.{Error}
+use Rattle.std.proofs.Common.{◌≡◌, Bool, true, false, Result, Ok, Err, Some, inl, inr, sym, ap, is_some, true≢false}
 use Rattle.relay_tasks.specs.declared.error.Fail.{Fail}
 use Rattle.relay_tasks.specs.declared.error.Fail.TheVariants as fail
 use Rattle.relay_modules.specs.declared.seen.Seen.{Seen}

@@ -1,5 +1,5 @@
 -- The filter of the modules for the head of a request, which stands in the log.
-use Rattle.std.proofs.Common.{◌≡◌, ℕ, Bool, true, false, List, [], ◌∷◌, ◌++◌, Option, Some, None, Result, Ok, Err, refl, sym, ap, subst, ◌∙◌, unwrap_or, is_some, true≢false}
+use Rattle.std.proofs.Common.{◌≡◌, ℕ, List, [], ◌∷◌, ◌++◌, Option, Some, None, Result, Ok, Err, refl, sym, ap, subst, ◌∙◌, unwrap_or, is_some, true≢false}
 use Rattle.relay_tasks.specs.Head.{RequestHead, new_request}
 use Rattle.relay_tasks.specs.declared.error.Error.{Error}
 use Rattle.relay_tasks.specs.declared.error.Fail.{Fail}
@@ -51,7 +51,7 @@ told_is : (which : Hook) (input : Item) (old : Seen) (mark : ℕ) (begun : Begun
 told_is which input old mark begun outcome left m m' is_begun is_left is_moment =
     ap (λ b. told b outcome m) is_begun
     ∙ (ap (λ l. entry which input (moment (cleared old) mark) l m) (sym is_left)
-      ∙ ap (λ n. entry which input (moment (cleared old) mark) left n) is_moment)
+    ∙ ap (λ n. entry which input (moment (cleared old) mark) left n) is_moment)
 
 -- the call of a filter that did not want memory
 stands : (allows : ModuleCall → Type 0) (old returned new : Seen) (mark : ℕ) (error : Option Error)
@@ -70,30 +70,30 @@ stands : (allows : ModuleCall → Type 0) (old returned new : Seen) (mark : ℕ)
 stands allows old returned new mark error begun outcome head filters shown is_begun is_left is_new =
     let after : RequestHead = filters.after in
     let is_before : request_head old ≡ filters.before =
-        ap (λ (o : Option RequestHead). unwrap_or o (new_request [] [])) filters.stood in
+    ap (λ (o : Option RequestHead). unwrap_or o (new_request [] [])) filters.stood in
     let is_shown : Some head ≡ Some after =
-        sym shown
-        ∙ (ap (λ (s : Seen). head_of s.downstream.reading) filters.rest
-          ∙ head_of-with_head old.downstream.reading filters.before after filters.stood) in
+    sym shown
+    ∙ (ap (λ (s : Seen). head_of s.downstream.reading) filters.rest
+    ∙ head_of-with_head old.downstream.reading filters.before after filters.stood) in
     let is_head : head ≡ after =
-        ap (λ (o : Option RequestHead). unwrap_or o head) is_shown in
+    ap (λ (o : Option RequestHead). unwrap_or o head) is_shown in
     let e : LogEntry =
-        entry hook.ModuleRequestHeader (item.Request (request_head old)) (moment (cleared old) mark)
-        (left_by (request_header (request_head old) after error))
-        (moment (with_touched (cleared old) after) mark) in
+    entry hook.ModuleRequestHeader (item.Request (request_head old)) (moment (cleared old) mark)
+    (left_by (request_header (request_head old) after error))
+    (moment (with_touched (cleared old) after) mark) in
     let is_entry : told begun outcome (moment returned mark) ≡ e =
-        told_is hook.ModuleRequestHeader (item.Request (request_head old)) old mark begun outcome
-        (left_by (request_header (request_head old) after error)) (moment returned mark)
-        (moment (with_touched (cleared old) after) mark) is_begun
-        (ap (λ (h : RequestHead). record { output = item.Request h; error = error; delay = None })
-          (sym is_head)
-          ∙ is_left)
-        (ap (λ (s : Seen). moment s mark) filters.rest) in
+    told_is hook.ModuleRequestHeader (item.Request (request_head old)) old mark begun outcome
+    (left_by (request_header (request_head old) after error)) (moment returned mark)
+    (moment (with_touched (cleared old) after) mark) is_begun
+    (ap (λ (h : RequestHead). record { output = item.Request h; error = error; delay = None })
+    (sym is_head)
+    ∙ is_left)
+    (ap (λ (s : Seen). moment s mark) filters.rest) in
     let grows : new.log ≡ returned.log ++ e ∷ [] =
-        ap (λ (s : Seen). s.log) is_new
-        ∙ ap (λ (last : LogEntry). returned.log ++ last ∷ []) is_entry in
+    ap (λ (s : Seen). s.log) is_new
+    ∙ ap (λ (last : LogEntry). returned.log ++ last ∷ []) is_entry in
     let log : new.log ≡ old.log ++ e ∷ [] =
-        grows ∙ ap (λ (s : Seen). s.log ++ e ∷ []) filters.rest in
+    grows ∙ ap (λ (s : Seen). s.log ++ e ∷ []) filters.rest in
     record {
       head = after;
       allowed =
@@ -103,8 +103,8 @@ stands allows old returned new mark error begun outcome head filters shown is_be
       rest =
           is_new
           ∙ (ap (λ (l : List LogEntry). record returned { log = l; wrote = [] })
-            (sym (ap (λ (s : Seen). s.log) is_new))
-            ∙ ap (λ (s : Seen). record s { log = new.log; wrote = [] }) filters.rest);
+          (sym (ap (λ (s : Seen). s.log) is_new))
+          ∙ ap (λ (s : Seen). record s { log = new.log; wrote = [] }) filters.rest);
     }
 
 -- the call of the filter was entered behind it

@@ -1,5 +1,5 @@
 -- Logs that come in order, and logs that do not.
-use Rattle.std.specs.Prelude.{Bool, true, false, List, [], ◌∷◌, ◌++◌, Option, Some, None}
+use Rattle.std.specs.Prelude.{Bool, true, false, List, [], ◌∷◌, ◌++◌, None}
 use Rattle.relay_tasks.specs.Error.{new_error}
 use Rattle.relay_tasks.specs.declared.error.Error.{Error}
 use Rattle.relay_tasks.specs.declared.error.ErrorSource.TheVariants.{Upstream}

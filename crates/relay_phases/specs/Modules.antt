@@ -31,8 +31,8 @@ pub record CallsOnHead (allows : ModuleCall → Type 0) (old : Seen) (mark : ℕ
   pub log : new.log
       ≡ old.log
       ++ entry hook.ModuleRequestHeader (item.Request (request_head old))
-          (moment (cleared old) mark) (left_by (request_header (request_head old) head error))
-          (moment (with_touched (cleared old) head) mark) ∷ []
+      (moment (cleared old) mark) (left_by (request_header (request_head old) head error))
+      (moment (with_touched (cleared old) head) mark) ∷ []
   pub rest : new ≡ record (with_touched (cleared old) head) { log = new.log }
 
 -- the error of an answer, or none where it was out of memory

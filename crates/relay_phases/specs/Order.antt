@@ -6,7 +6,7 @@
 -- to it is got, the head goes out, and filters run while the messages are relayed. An error of an attempt
 -- is looked at by its hook and may lead to a further attempt; else it is final, and the client is
 -- answered. Each request ends with `logging`.
-use Rattle.std.specs.Prelude.{◌≡◌, ℕ, Bool, true, false, ◌&&◌, not, ◌==◌, List, [], ◌∷◌, ◌++◌, Option, Some, None, is_none, if◌then◌else◌}
+use Rattle.std.specs.Prelude.{◌≡◌, ℕ, Bool, true, false, ◌&&◌, not, ◌==◌, List, [], ◌∷◌, Option, Some, None, is_none, if◌then◌else◌}
 use Rattle.relay_tasks.specs.Error.{may_retry}
 use Rattle.relay_tasks.specs.declared.hook.Hook.{Hook}
 use Rattle.relay_tasks.specs.declared.hook.Hook.TheVariants as hook
