@@ -1,5 +1,5 @@
 -- A call that was made and entered stands in the log.
-use Rattle.std.proofs.Common.{◌≡◌, ℕ, Bool, [], ◌∷◌, ◌++◌, Option, Some, sym, ap, subst, ◌∙◌}
+use Rattle.std.proofs.Common.{◌≡◌, ℕ, Bool, [], ◌∷◌, ◌++◌, Option, Some, refl, sym, ap, subst, ◌∙◌}
 use Rattle.relay_tasks.specs.declared.hook.Hook.{Hook}
 use Rattle.relay_tasks.specs.declared.log.Item.{Item}
 use Rattle.relay_tasks.specs.declared.log.LogEntry.{LogEntry}
@@ -8,11 +8,12 @@ use Rattle.relay_modules.specs.Seen.{view_of}
 use Rattle.relay_modules.specs.declared.seen.Seen.{Seen}
 use Rattle.relay_hooks.specs.Standing.{Standing}
 use Rattle.relay_hooks.specs.Call.{Left, AskedOf, entry}
-use Rattle.relay_hooks.specs.Session.{moment}
-use Rattle.relay_calls.specs.Calls.{CallsOf, Enters}
+use Rattle.relay_hooks.specs.Session.{Leaves, moment}
+use Rattle.relay_calls.specs.Calls.{Calls, CallsOf, Enters}
 use Rattle.relay_calls.specs.Entry.{cleared, told, with_entry}
 use Rattle.relay_calls.specs.declared.entry.Begun.{Begun}
 use Rattle.relay_calls.specs.declared.entry.Outcome.{Outcome}
+use Rattle.relay_phases.specs.Looks.{Looks, Stays}
 use Rattle.relay_phases.specs.Settled.{left_of}
 
 -- the call of a hook that kept its law and answered what the application allows was entered behind it
@@ -53,3 +54,25 @@ entered peer reused law allows which input old returned new before after answer 
       log = log;
       rest = rest;
     })
+
+-- a hook that left its session as it was kept every law of a hook that queues nothing
+Stays-leaves : (old new : Seen) → Stays old new → Leaves old new
+Stays-leaves old new same =
+    subst (λ (s : Seen). Leaves old s) (sym same)
+    (record {
+      request = record { head = λ h. h; but_head = λ head. refl; untouched = λ h. refl };
+      rest = refl;
+    })
+
+-- the call of a hook that only looks is one of a hook that queues nothing
+pub Looks-calls : (allows : Standing → LogEntry → Type 0) (which : Hook) (input : Item) (mark : ℕ)
+    (old new : Seen) (left : Left) → Looks allows which input mark old new left
+    → Calls allows which input old mark new mark left
+Looks-calls allows which input mark old new left looks =
+    record {
+      returned = looks.returned;
+      lawful = Stays-leaves (cleared old) looks.returned looks.lawful;
+      allowed = looks.allowed;
+      log = looks.log;
+      rest = looks.rest;
+    }
