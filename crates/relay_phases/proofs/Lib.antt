@@ -1,0 +1,4 @@
+pub mod OrderLemmas
+pub mod LogLemmas
+pub mod EnterLemmas
+pub mod ModulesLemmas

@@ -1,0 +1,5 @@
+pub mod Order
+pub mod Looks
+pub mod Modules
+pub mod Settled
+pub mod Examples

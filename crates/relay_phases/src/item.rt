@@ -1,0 +1,83 @@
+//! What hooks are given, copied for the log, and the beginning of a call.
+ghost use Rattle.std.specs.Prelude.{◌≡◌, Some, None, IsSome, IfOk, OnOk, OnErr, IsOkUnless};
+ghost use Rattle.relay_session.specs.Reading.{head_of};
+ghost use Rattle.relay_modules.specs.Seen.{view_of};
+ghost use Rattle.relay_hooks.specs.Call.{failure};
+ghost use Rattle.relay_hooks.specs.Session.{request_head};
+ghost use Rattle.relay_calls.specs.Entry.{cleared};
+
+use bytes::Bytes;
+use relay_calls::{Begun, Told, begin};
+use relay_modules::Seen;
+use relay_tasks::{Error, Fail, Hook, Item, Peer, RequestHeader, Result};
+
+/// A head of a request.
+pub(crate) fn request_item(head: &RequestHeader) -> Result<Told>
+    ensures ok { IfOk result (λ told. told.item ≡ Item.Request head.now) }
+    ensures memory { IsOkUnless result Fail.OutOfMemory }
+{
+    Ok(Told {
+        item: Item::Request(head.copy()?),
+    })
+}
+
+/// A peer; `reused` says that its link had been used before.
+pub(crate) fn peer_item(peer: &Peer, reused: bool) -> Result<Told>
+    ensures ok { IfOk result (λ told. told.item ≡ Item.Addressed peer.now reused) }
+    ensures memory { IsOkUnless result Fail.OutOfMemory }
+{
+    Ok(Told {
+        item: Item::Addressed(peer.copy()?, reused),
+    })
+}
+
+/// A message; `final_hop` says that it goes on to no custom link.
+pub(crate) fn message_item(message: &Bytes, final_hop: bool) -> Result<Told>
+    ensures ok { IfOk result (λ told. told.item ≡ Item.Message (Some message.now) final_hop) }
+    ensures memory { IsOkUnless result Fail.OutOfMemory }
+{
+    Ok(Told {
+        item: Item::Message(Some(message.clone()?), final_hop),
+    })
+}
+
+/// An error.
+pub(crate) fn error_item(error: Error) -> Told
+    ensures { result.item ≡ Item.Failure error }
+{
+    Told {
+        item: Item::Failure(error),
+    }
+}
+
+/// An error, or nothing for none.
+pub(crate) fn failure_item(error: Option<Error>) -> Told
+    ensures { result.item ≡ failure error }
+{
+    match error {
+        Some(error) => error_item(error),
+        None => Told {
+            item: Item::Nothing,
+        },
+    }
+}
+
+/// Begins a call of a hook that is given the session and its context alone: its input is the request's
+/// head.
+///
+/// Fails out of memory alone, and then nothing has changed.
+pub(crate) fn begin_with_head(seen: &mut Seen, hook: Hook, mark: u64) -> Result<Begun>
+    requires { IsSome (head_of seen.old.downstream.reading) }
+    ensures begun { IfOk result (λ begun. begun ≡ record {
+      hook = hook;
+      mark = mark;
+      input = Item.Request (request_head seen.old);
+      view = view_of seen.old;
+    }) }
+    ensures seen { OnOk result (seen.new ≡ cleared seen.old) }
+    ensures memory { IsOkUnless result Fail.OutOfMemory }
+    ensures err { OnErr result (seen.new ≡ seen.old) }
+{
+    let input = request_item(seen.req_header())?;
+    Ok(begin(seen, hook, mark, input))
+}
