@@ -100,6 +100,7 @@ always_limit script client connector schedule processed fresh offered named outc
             connect_faults = omega arith;
           };
           order = is_nothing refl refl;
+          untouched = λ _. refl;
           ends = rw (outcome, attempts) (record { got = refl; sent = refl }, refl);
         };
         exact = rw outcome (record {
