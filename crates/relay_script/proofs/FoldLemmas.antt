@@ -3,7 +3,7 @@ use Rattle.std.proofs.Common.{◌≡◌, ℕ, suc, ◌+◌, ◌<◌, true, false
 use Rattle.std.specs.Prelude.{Bool, ◌&&◌}
 use Rattle.relay_tasks.specs.declared.hook.Hook.{Hook}
 use Rattle.relay_script.specs.Fold.{Keeps, Outcome, goes_on, run_rules}
-use Rattle.relay_script.specs.Hooks.{same_hook}
+use Rattle.relay_tasks.specs.Hooks.{same_hook}
 use Rattle.relay_script.specs.declared.rule.Action.{Action}
 use Rattle.relay_script.specs.declared.rule.Rule.{Rule}
 

@@ -4,7 +4,7 @@ use Rattle.relay_tasks.specs.declared.error.Error.{Error}
 use Rattle.relay_tasks.specs.declared.error.Fail.{Fail}
 use Rattle.relay_tasks.specs.declared.error.Fail.TheVariants as fail
 use Rattle.relay_tasks.specs.declared.hook.Hook.{Hook}
-use Rattle.relay_script.specs.Hooks.{same_hook}
+use Rattle.relay_tasks.specs.Hooks.{same_hook}
 use Rattle.relay_script.specs.declared.rule.Action.{Action}
 use Rattle.relay_script.specs.declared.rule.Rule.{Rule}
 

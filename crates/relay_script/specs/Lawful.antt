@@ -3,7 +3,7 @@ use Rattle.std.specs.Prelude.{ℕ, ◌+◌, Bool, true, false, not, ◌==◌, �
 use Rattle.std.specs.List.{list_any}
 use Rattle.relay_tasks.specs.declared.hook.Hook.{Hook}
 use Rattle.relay_tasks.specs.declared.hook.Hook.TheVariants as hook
-use Rattle.relay_script.specs.Hooks.{same_hook}
+use Rattle.relay_tasks.specs.Hooks.{same_hook}
 use Rattle.relay_script.specs.Table.{may_stand}
 use Rattle.relay_script.specs.declared.check.RuleError.{RuleError}
 use Rattle.relay_script.specs.declared.check.RuleFault.{RuleFault}

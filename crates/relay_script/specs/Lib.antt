@@ -1,5 +1,4 @@
 pub mod Actions
 pub mod Fold
-pub mod Hooks
 pub mod Lawful
 pub mod Table

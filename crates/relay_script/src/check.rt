@@ -1,6 +1,6 @@
 //! The conditions on rules, which a script keeps or is refused.
 ghost use Rattle.std.specs.Prelude.{◌≡◌};
-ghost use Rattle.relay_script.specs.Hooks.{same_hook};
+ghost use Rattle.relay_tasks.specs.Hooks.{same_hook};
 ghost use Rattle.relay_script.specs.Lawful.{verdict_of, fault_of, has_answer, count_on, is_crowded, frames, has_code, says_end, keeps_framing, is_final_code};
 ghost use Rattle.relay_script.specs.Table.{may_stand, filters_head, filters_response, filters_body, may_fail, may_say};
 

@@ -1,6 +1,6 @@
 //! Rules: what a script does at a hook.
 ghost use Rattle.std.specs.Prelude.{◌≡◌, IfOk, IsOkUnless};
-ghost use Rattle.relay_script.specs.Hooks.{same_hook};
+ghost use Rattle.relay_tasks.specs.Hooks.{same_hook};
 
 use bytes::Bytes;
 use http_header::{HeaderName, HeaderValue};

@@ -13,7 +13,7 @@ use Rattle.relay_hooks.specs.DefaultLaw.{IsDefaultWrote, default_output, marked,
 use Rattle.relay_hooks.specs.Standing.{Standing}
 use Rattle.relay_script.specs.Actions.{on_error, on_failure, on_injected, on_kept, on_piece, on_request, on_response, on_said}
 use Rattle.relay_script.specs.Fold.{Outcome, apply_rules, goes_on, run_rules}
-use Rattle.relay_script.specs.Hooks.{same_hook}
+use Rattle.relay_tasks.specs.Hooks.{same_hook}
 use Rattle.relay_script.specs.declared.rule.Action.{Action}
 use Rattle.relay_script.specs.declared.rule.Rule.{Rule}
 use Rattle.relay_script.proofs.FoldLemmas.{both_true}

@@ -24,7 +24,7 @@ use Rattle.relay_hooks.specs.declared.purge.PurgeStatus.TheVariants as status
 use Rattle.relay_hooks.proofs.PurgeLemmas.{purge_head-bodiless}
 use Rattle.relay_script.specs.Actions.{has_room, informs, is_status, on_response}
 use Rattle.relay_script.specs.Fold.{Answers, Outcome, followed, run_rules}
-use Rattle.relay_script.specs.Hooks.{same_hook}
+use Rattle.relay_tasks.specs.Hooks.{same_hook}
 use Rattle.relay_script.specs.Lawful.{are_lawful, frames, keeps_framing}
 use Rattle.relay_script.specs.declared.rule.Action.{Action}
 use Rattle.relay_script.specs.declared.rule.Action.TheVariants as action

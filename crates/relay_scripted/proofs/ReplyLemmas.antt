@@ -25,7 +25,7 @@ use Rattle.relay_hooks.specs.DefaultLaw.{lone_answer}
 use Rattle.relay_hooks.specs.Session.{MayAnswer, Queues}
 use Rattle.relay_script.proofs.FoldLemmas.{both_true}
 use Rattle.relay_script.specs.Fold.{apply_rules}
-use Rattle.relay_script.specs.Hooks.{same_hook}
+use Rattle.relay_tasks.specs.Hooks.{same_hook}
 use Rattle.relay_script.specs.Lawful.{has_code, is_final_code}
 use Rattle.relay_script.specs.declared.rule.Action.{Action}
 use Rattle.relay_script.specs.declared.rule.Action.TheVariants as action

@@ -7,7 +7,7 @@ use Rattle.relay_tasks.specs.declared.log.LogEntry.{LogEntry}
 use Rattle.relay_tasks.specs.declared.peer.Peer.{Peer}
 use Rattle.relay_hooks.specs.DefaultLaw.{IsDefault}
 use Rattle.relay_hooks.specs.Standing.{Standing}
-use Rattle.relay_script.specs.Hooks.{same_hook}
+use Rattle.relay_tasks.specs.Hooks.{same_hook}
 use Rattle.relay_script.specs.declared.rule.Rule.{Rule}
 use Rattle.relay_scripted.specs.Scripted.{IsScripted}
 

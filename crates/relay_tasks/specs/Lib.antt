@@ -2,4 +2,5 @@ pub mod Context
 pub mod Error
 pub mod Fields
 pub mod Head
+pub mod Hooks
 pub mod Task

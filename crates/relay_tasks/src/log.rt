@@ -6,8 +6,8 @@ use crate::error::{Error, Fail, Result};
 use crate::hook::Hook;
 use crate::message::Injected;
 use crate::peer::{Peer, PurgeAction, Purged};
-use crate::request::RequestHeader;
-use crate::response::ResponseHeader;
+use crate::request::SharedRequest;
+use crate::response::SharedResponse;
 use crate::task_list::TaskList;
 use bytes::Bytes;
 use http_header::HeaderMap;
@@ -18,8 +18,8 @@ use std::marker::Model;
 #[derive(Drop)]
 pub enum Item {
     Nothing,
-    Request(RequestHeader),
-    Response(ResponseHeader, bool),
+    Request(SharedRequest),
+    Response(SharedResponse, bool),
     Piece(Option<Bytes>, bool),
     Trailers(Option<HeaderMap>),
     Message(Option<Bytes>, bool),
@@ -56,11 +56,14 @@ pub struct LogEntry {
     pub output: Item,
     pub wrote: TaskList,
     pub error: Option<Error>,
-    pub head: Option<RequestHeader>,
+    pub head: Option<SharedRequest>,
     pub keepalive: bool,
     pub delay: Option<u64>,
     pub view: View,
 }
+
+/// How many entries a log makes room for with the first: those of a small exchange.
+const FIRST_ROOM: usize = 16;
 
 /// The calls of a request in order. A contract sees the list of the entries.
 #[derive(Drop)]
@@ -93,6 +96,9 @@ impl PhaseLog {
         ensures memory { IsOkUnless result Fail.OutOfMemory }
         ensures err { OnErr result (self.new ≡ self.old) }
     {
+        if self.entries.capacity() == 0 {
+            self.entries.reserve(FIRST_ROOM)?;
+        }
         self.entries.push(entry).map_err(AllocError::from)?;
         Ok(())
     }

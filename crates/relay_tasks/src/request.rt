@@ -5,6 +5,7 @@ ghost use Rattle.relay_tasks.specs.Error.{refused, IsMemoryOr};
 
 use crate::context::Context;
 use crate::error::{Error, ErrorType, Fail, Result};
+use crate::fields::{append_field, insert_field};
 use crate::target::{is_raw_target, sent_target};
 use http::{Method, Version};
 use http_header::{HeaderMap, HeaderName, HeaderValue};
@@ -12,11 +13,28 @@ use http_uri::Uri;
 use std::alloc::{AllocError, Global};
 use std::marker::Model;
 use std::str;
+use std::sync::Arc;
 
 /// The head of a request: a method, a version, a raw target, the URI that was set last, if the
 /// target was set by one, and a field list.
+///
+/// A head that was shared keeps what it gave until it is changed, so that it need not be copied
+/// for each who asks.
 #[derive(Drop)]
 pub struct RequestHeader {
+    parts: RequestParts,
+    shared: Option<SharedRequest>,
+}
+
+/// A head of a request that nobody changes, so that many may hold it.
+#[derive(Drop)]
+pub struct SharedRequest {
+    parts: Arc<RequestParts>,
+}
+
+/// What a head of a request consists of.
+#[derive(Drop)]
+struct RequestParts {
     method: Method,
     version: Version,
     target: Vec<u8>,
@@ -26,20 +44,41 @@ pub struct RequestHeader {
 }
 
 impl Model for RequestHeader {
+    ghost use Rattle.std.specs.Prelude.{◌≡◌};
+    ghost use Rattle.std.specs.Option.{ForSome};
+    ghost use Rattle.relay_tasks.specs.Head.{RequestHead};
+
+    ghost Value = { RequestHead };
+
+    ghost view = { λ r. r.parts };
+
+    ghost invariant = { λ r. ForSome r.shared (λ shared. shared ≡ r.parts) };
+}
+
+impl Model for SharedRequest {
+    ghost use Rattle.std.specs.Arc.{arc_value};
+    ghost use Rattle.relay_tasks.specs.Head.{RequestHead};
+
+    ghost Value = { RequestHead };
+
+    ghost view = { λ s. arc_value s.parts };
+}
+
+impl Model for RequestParts {
     ghost use Rattle.relay_tasks.specs.Head.{RequestHead, IsSendable};
 
     ghost Value = { RequestHead };
 
-    ghost view = { λ r. record {
-      method = r.method;
-      version = r.version;
-      target = r.target.items;
-      uri = r.uri;
-      fields = r.headers;
-      ends = r.ends;
+    ghost view = { λ p. record {
+      method = p.method;
+      version = p.version;
+      target = p.target.items;
+      uri = p.uri;
+      fields = p.headers;
+      ends = p.ends;
     } };
 
-    ghost invariant = { λ r. IsSendable r.target.items };
+    ghost invariant = { λ p. IsSendable p.target.items };
 }
 
 impl RequestHeader {
@@ -60,13 +99,17 @@ impl RequestHeader {
         }
         let method = method.clone()?;
         let target = Vec::from_slice(alloc, target)?;
-        Ok(RequestHeader {
+        let parts = RequestParts {
             method,
             version: Version::HTTP_11,
             target,
             uri: None,
             headers: HeaderMap::new(alloc),
             ends: true,
+        };
+        Ok(RequestHeader {
+            parts,
+            shared: None,
         })
     }
 
@@ -74,35 +117,37 @@ impl RequestHeader {
     pub fn method(&self) -> &Method
         ensures { result.now ≡ self.now.method }
     {
-        &self.method
+        &self.parts.method
     }
 
     /// Sets the method.
     pub fn set_method(&mut self, method: Method)
         ensures { self.new ≡ record self.old { method = method } }
     {
-        self.method = method;
+        self.shared = None;
+        self.parts.method = method;
     }
 
     /// The version.
     pub fn version(&self) -> Version
         ensures { result ≡ self.now.version }
     {
-        self.version
+        self.parts.version
     }
 
     /// Sets the version.
     pub fn set_version(&mut self, version: Version)
         ensures { self.new ≡ record self.old { version = version } }
     {
-        self.version = version;
+        self.shared = None;
+        self.parts.version = version;
     }
 
     /// The URI that `set_uri` gave last, and none after `set_raw_path`.
     pub fn uri(&self) -> Option<&Uri>
         ensures { option_copied result ≡ self.now.uri }
     {
-        self.uri.as_ref()
+        self.parts.uri.as_ref()
     }
 
     /// Sets the URI. The raw target becomes its path and query, `/` where it has none.
@@ -112,9 +157,10 @@ impl RequestHeader {
         ensures memory { IsOkUnless result Fail.OutOfMemory }
         ensures err { OnErr result (self.new ≡ self.old) }
     {
-        let target = sent_target(*self.target.allocator(), &uri)?;
-        self.target = target;
-        self.uri = Some(uri);
+        let target = sent_target(*self.parts.target.allocator(), &uri)?;
+        self.shared = None;
+        self.parts.target = target;
+        self.parts.uri = Some(uri);
         Ok(())
     }
 
@@ -134,9 +180,10 @@ impl RequestHeader {
                 Context::HeadGrammar,
             )));
         }
-        let target = Vec::from_slice(*self.target.allocator(), target)?;
-        self.target = target;
-        self.uri = None;
+        let target = Vec::from_slice(*self.parts.target.allocator(), target)?;
+        self.shared = None;
+        self.parts.target = target;
+        self.parts.uri = None;
         Ok(())
     }
 
@@ -145,21 +192,21 @@ impl RequestHeader {
         ensures value { result.now ≡ self.now.target }
         ensures valid { IsSendable result.now }
     {
-        self.target.as_slice()
+        self.parts.target.as_slice()
     }
 
     /// Whether the raw target is UTF-8.
     pub fn raw_path_is_utf8(&self) -> bool
         ensures { IsTrue result ↔ IsUtf8 self.now.target }
     {
-        str::from_utf8(self.target.as_slice()).is_ok()
+        str::from_utf8(self.parts.target.as_slice()).is_ok()
     }
 
     /// The field list.
     pub fn headers(&self) -> &HeaderMap
         ensures { result.now ≡ self.now.fields }
     {
-        &self.headers
+        &self.parts.headers
     }
 
     /// Puts the value in place of all those under the name. Refused exactly where the list is
@@ -172,8 +219,8 @@ impl RequestHeader {
         ensures causes { IfErr result (IsMemoryOr (refused Context.HeadTooLong)) }
         ensures err { OnErr result (self.new ≡ self.old) }
     {
-        self.headers.insert(name, value)?;
-        Ok(())
+        self.shared = None;
+        insert_field(&mut self.parts.headers, name, value)
     }
 
     /// Adds the value after those under the name. Refused exactly where the list is full; the
@@ -186,8 +233,8 @@ impl RequestHeader {
         ensures causes { IfErr result (IsMemoryOr (refused Context.HeadTooLong)) }
         ensures err { OnErr result (self.new ≡ self.old) }
     {
-        self.headers.append(name, value)?;
-        Ok(())
+        self.shared = None;
+        append_field(&mut self.parts.headers, name, value)
     }
 
     /// Removes all values under the name, and hands back the first.
@@ -196,14 +243,16 @@ impl RequestHeader {
         ensures after { self.new
             ≡ record self.old { fields = remove self.old.fields name.now } }
     {
-        self.headers.remove(name)
+        self.shared = None;
+        self.parts.headers.remove(name)
     }
 
     /// Sets whether an HTTP/2 stream ends with its body.
     pub fn set_send_end_stream(&mut self, on: bool)
         ensures { self.new ≡ record self.old { ends = on } }
     {
-        self.ends = on;
+        self.shared = None;
+        self.parts.ends = on;
     }
 
     /// Whether the stream ends with its body; none unless the version is HTTP/2.
@@ -211,8 +260,8 @@ impl RequestHeader {
         ensures h2 { self.now.version ≡ Version.HTTP_2 → result ≡ Some self.now.ends }
         ensures others { ¬ (self.now.version ≡ Version.HTTP_2) → result ≡ None }
     {
-        if self.version == Version::HTTP_2 {
-            Some(self.ends)
+        if self.parts.version == Version::HTTP_2 {
+            Some(self.parts.ends)
         } else {
             None
         }
@@ -223,19 +272,106 @@ impl RequestHeader {
         ensures ok { IfOk result (λ copy. copy ≡ self.now) }
         ensures memory { IsOkUnless result Fail.OutOfMemory }
     {
-        let method = self.method.clone()?;
-        let target = self.target.clone()?;
-        let uri = copy_uri(&self.uri)?;
-        let headers = self.headers.clone()?;
+        let parts = copy_parts(&self.parts)?;
         Ok(RequestHeader {
-            method,
-            version: self.version,
-            target,
-            uri,
-            headers,
-            ends: self.ends,
+            parts,
+            shared: None,
         })
     }
+
+    /// This head as it stands, to be held by many. Its parts are copied by the first call behind a
+    /// change, and by no other.
+    pub fn share(&mut self) -> Result<SharedRequest>
+        ensures ok { IfOk result (λ shared. shared ≡ self.old) }
+        ensures memory { IsOkUnless result Fail.OutOfMemory }
+        ensures same { self.new ≡ self.old }
+    {
+        let kept = match self.shared.take() {
+            Some(kept) => kept,
+            None => share_parts(&self.parts)?,
+        };
+        let shared = kept.copy()?;
+        self.shared = Some(kept);
+        Ok(shared)
+    }
+}
+
+impl SharedRequest {
+    ghost use Rattle.relay_tasks.specs.Head.{IsSendable};
+
+    /// The method.
+    pub fn method(&self) -> &Method
+        ensures { result.now ≡ self.now.method }
+    {
+        &self.parts.method
+    }
+
+    /// The version.
+    pub fn version(&self) -> Version
+        ensures { result ≡ self.now.version }
+    {
+        self.parts.version
+    }
+
+    /// The URI that `set_uri` gave last, and none after `set_raw_path`.
+    pub fn uri(&self) -> Option<&Uri>
+        ensures { option_copied result ≡ self.now.uri }
+    {
+        self.parts.uri.as_ref()
+    }
+
+    /// The raw target, as it stands in the request line.
+    pub fn raw_path(&self) -> &[u8]
+        ensures value { result.now ≡ self.now.target }
+        ensures valid { IsSendable result.now }
+    {
+        self.parts.target.as_slice()
+    }
+
+    /// The field list.
+    pub fn headers(&self) -> &HeaderMap
+        ensures { result.now ≡ self.now.fields }
+    {
+        &self.parts.headers
+    }
+
+    /// The same head for one more holder. None of its parts is copied.
+    pub fn copy(&self) -> Result<SharedRequest>
+        ensures ok { IfOk result (λ copy. copy ≡ self.now) }
+        ensures memory { IsOkUnless result Fail.OutOfMemory }
+    {
+        let parts = self.parts.clone()?;
+        Ok(SharedRequest { parts })
+    }
+}
+
+/// A copy of the parts, to be held by many.
+fn share_parts(parts: &RequestParts) -> Result<SharedRequest>
+    ensures ok { IfOk result (λ shared. shared ≡ parts.now) }
+    ensures memory { IsOkUnless result Fail.OutOfMemory }
+{
+    let alloc = *parts.target.allocator();
+    let parts = Arc::new(alloc, copy_parts(parts)?).map_err(AllocError::from)?;
+    Ok(SharedRequest { parts })
+}
+
+/// Equal parts.
+fn copy_parts(parts: &RequestParts) -> Result<RequestParts>
+    ensures ok { IfOk result (λ copy. copy ≡ parts.now) }
+    ensures memory { IsOkUnless result Fail.OutOfMemory }
+{
+    let method = parts.method.clone()?;
+    let target = parts.target.clone()?;
+    let uri = copy_uri(&parts.uri)?;
+    let headers = parts.headers.clone()?;
+    Ok(RequestParts {
+        method,
+        version: parts.version,
+        target,
+        uri,
+        headers,
+        ends: parts.ends,
+    })
 }
 
 fn copy_uri(uri: &Option<Uri>) -> std::result::Result<Option<Uri>, AllocError>

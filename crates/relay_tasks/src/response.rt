@@ -5,31 +5,70 @@ ghost use Rattle.relay_tasks.specs.Error.{refused, IsMemoryOr};
 
 use crate::context::Context;
 use crate::error::{Error, ErrorType, Fail, Result};
+use crate::fields::{append_field, insert_field};
 use http::Version;
 use http_header::{HeaderMap, HeaderName, HeaderValue};
-use std::alloc::Global;
+use std::alloc::{AllocError, Global};
 use std::marker::Model;
+use std::sync::Arc;
 
 /// The head of a response: a status from 100 to 999, a version and a field list.
+///
+/// A head that was shared keeps what it gave until it is changed, so that it need not be copied
+/// for each who asks.
 #[derive(Drop)]
 pub struct ResponseHeader {
+    parts: ResponseParts,
+    shared: Option<SharedResponse>,
+}
+
+/// A head of a response that nobody changes, so that many may hold it.
+#[derive(Drop)]
+pub struct SharedResponse {
+    parts: Arc<ResponseParts>,
+}
+
+/// What a head of a response consists of.
+#[derive(Drop)]
+struct ResponseParts {
     status: u16,
     version: Version,
     headers: HeaderMap,
 }
 
 impl Model for ResponseHeader {
+    ghost use Rattle.std.specs.Prelude.{◌≡◌};
+    ghost use Rattle.std.specs.Option.{ForSome};
+    ghost use Rattle.relay_tasks.specs.Head.{ResponseHead};
+
+    ghost Value = { ResponseHead };
+
+    ghost view = { λ r. r.parts };
+
+    ghost invariant = { λ r. ForSome r.shared (λ shared. shared ≡ r.parts) };
+}
+
+impl Model for SharedResponse {
+    ghost use Rattle.std.specs.Arc.{arc_value};
+    ghost use Rattle.relay_tasks.specs.Head.{ResponseHead};
+
+    ghost Value = { ResponseHead };
+
+    ghost view = { λ s. arc_value s.parts };
+}
+
+impl Model for ResponseParts {
     ghost use Rattle.relay_tasks.specs.Head.{ResponseHead, IsStatus};
 
     ghost Value = { ResponseHead };
 
-    ghost view = { λ r. record {
-      status = r.status;
-      version = r.version;
-      fields = r.headers;
+    ghost view = { λ p. record {
+      status = p.status;
+      version = p.version;
+      fields = p.headers;
     } };
 
-    ghost invariant = { λ r. IsStatus r.status };
+    ghost invariant = { λ p. IsStatus p.status };
 }
 
 impl ResponseHeader {
@@ -48,10 +87,14 @@ impl ResponseHeader {
                 Context::HeadGrammar,
             )));
         }
-        Ok(ResponseHeader {
+        let parts = ResponseParts {
             status,
             version: Version::HTTP_11,
             headers: HeaderMap::new(alloc),
+        };
+        Ok(ResponseHeader {
+            parts,
+            shared: None,
         })
     }
 
@@ -60,7 +103,7 @@ impl ResponseHeader {
         ensures value { result ≡ self.now.status }
         ensures valid { IsStatus result }
     {
-        self.status
+        self.parts.status
     }
 
     /// Sets the status. Refused exactly where it is outside 100 to 999; the head then stays as
@@ -74,7 +117,8 @@ impl ResponseHeader {
         if !ResponseHeader::is_status(status) {
             return Err(Error::explain(ErrorType::InvalidHTTPHeader, Context::HeadGrammar));
         }
-        self.status = status;
+        self.shared = None;
+        self.parts.status = status;
         Ok(())
     }
 
@@ -82,21 +126,22 @@ impl ResponseHeader {
     pub fn version(&self) -> Version
         ensures { result ≡ self.now.version }
     {
-        self.version
+        self.parts.version
     }
 
     /// Sets the version.
     pub fn set_version(&mut self, version: Version)
         ensures { self.new ≡ record self.old { version = version } }
     {
-        self.version = version;
+        self.shared = None;
+        self.parts.version = version;
     }
 
     /// The field list.
     pub fn headers(&self) -> &HeaderMap
         ensures { result.now ≡ self.now.fields }
     {
-        &self.headers
+        &self.parts.headers
     }
 
     /// Puts the value in place of all those under the name. Refused exactly where the list is
@@ -109,8 +154,8 @@ impl ResponseHeader {
         ensures causes { IfErr result (IsMemoryOr (refused Context.HeadTooLong)) }
         ensures err { OnErr result (self.new ≡ self.old) }
     {
-        self.headers.insert(name, value)?;
-        Ok(())
+        self.shared = None;
+        insert_field(&mut self.parts.headers, name, value)
     }
 
     /// Adds the value after those under the name. Refused exactly where the list is full; the
@@ -123,8 +168,8 @@ impl ResponseHeader {
         ensures causes { IfErr result (IsMemoryOr (refused Context.HeadTooLong)) }
         ensures err { OnErr result (self.new ≡ self.old) }
     {
-        self.headers.append(name, value)?;
-        Ok(())
+        self.shared = None;
+        append_field(&mut self.parts.headers, name, value)
     }
 
     /// Removes all values under the name, and hands back the first.
@@ -133,14 +178,15 @@ impl ResponseHeader {
         ensures after { self.new
             ≡ record self.old { fields = remove self.old.fields name.now } }
     {
-        self.headers.remove(name)
+        self.shared = None;
+        self.parts.headers.remove(name)
     }
 
     /// Whether the head only informs, and a final head is to follow: 100 to 199 without 101.
     pub fn is_informational(&self) -> bool
         ensures { IsTrue result ↔ IsInformational self.now.status }
     {
-        self.status < 200 && self.status != 101
+        self.parts.status < 200 && self.parts.status != 101
     }
 
     /// An equal head.
@@ -148,12 +194,27 @@ impl ResponseHeader {
         ensures ok { IfOk result (λ copy. copy ≡ self.now) }
         ensures memory { IsOkUnless result Fail.OutOfMemory }
     {
-        let headers = self.headers.clone()?;
+        let parts = copy_parts(&self.parts)?;
         Ok(ResponseHeader {
-            status: self.status,
-            version: self.version,
-            headers,
+            parts,
+            shared: None,
         })
+    }
+
+    /// This head as it stands, to be held by many. Its parts are copied by the first call behind a
+    /// change, and by no other.
+    pub fn share(&mut self, alloc: Global) -> Result<SharedResponse>
+        ensures ok { IfOk result (λ shared. shared ≡ self.old) }
+        ensures memory { IsOkUnless result Fail.OutOfMemory }
+        ensures same { self.new ≡ self.old }
+    {
+        let kept = match self.shared.take() {
+            Some(kept) => kept,
+            None => share_parts(alloc, &self.parts)?,
+        };
+        let shared = kept.copy()?;
+        self.shared = Some(kept);
+        Ok(shared)
     }
 
     fn is_status(status: u16) -> bool
@@ -161,4 +222,61 @@ impl ResponseHeader {
     {
         status >= 100 && status < 1000
     }
+}
+
+impl SharedResponse {
+    ghost use Rattle.relay_tasks.specs.Head.{IsStatus};
+
+    /// The status.
+    pub fn status(&self) -> u16
+        ensures value { result ≡ self.now.status }
+        ensures valid { IsStatus result }
+    {
+        self.parts.status
+    }
+
+    /// The version.
+    pub fn version(&self) -> Version
+        ensures { result ≡ self.now.version }
+    {
+        self.parts.version
+    }
+
+    /// The field list.
+    pub fn headers(&self) -> &HeaderMap
+        ensures { result.now ≡ self.now.fields }
+    {
+        &self.parts.headers
+    }
+
+    /// The same head for one more holder. None of its parts is copied.
+    pub fn copy(&self) -> Result<SharedResponse>
+        ensures ok { IfOk result (λ copy. copy ≡ self.now) }
+        ensures memory { IsOkUnless result Fail.OutOfMemory }
+    {
+        let parts = self.parts.clone()?;
+        Ok(SharedResponse { parts })
+    }
+}
+
+/// A copy of the parts, to be held by many.
+fn share_parts(alloc: Global, parts: &ResponseParts) -> Result<SharedResponse>
+    ensures ok { IfOk result (λ shared. shared ≡ parts.now) }
+    ensures memory { IsOkUnless result Fail.OutOfMemory }
+{
+    let parts = Arc::new(alloc, copy_parts(parts)?).map_err(AllocError::from)?;
+    Ok(SharedResponse { parts })
+}
+
+/// Equal parts.
+fn copy_parts(parts: &ResponseParts) -> Result<ResponseParts>
+    ensures ok { IfOk result (λ copy. copy ≡ parts.now) }
+    ensures memory { IsOkUnless result Fail.OutOfMemory }
+{
+    let headers = parts.headers.clone()?;
+    Ok(ResponseParts {
+        status: parts.status,
+        version: parts.version,
+        headers,
+    })
 }

@@ -68,6 +68,33 @@ fn edits_fields_of_a_response(rt: HostRuntime) -> Checked {
 }
 
 #[test]
+fn shares_a_head_until_it_is_changed(rt: HostRuntime) -> Checked {
+    let mut head = get(rt.alloc(), b"/first")?;
+    let first = head.share()?;
+    let copy = first.copy()?;
+    head.set_raw_path(b"/second")?;
+    let second = head.share()?;
+    assert!(rt; first.raw_path() == b"/first".as_slice());
+    assert!(rt; copy.raw_path() == b"/first".as_slice());
+    assert!(rt; second.raw_path() == b"/second".as_slice());
+    assert!(rt; second.method().as_str() == "GET" && second.uri().is_none());
+    assert!(rt; second.version() == Version::HTTP_11 && second.headers().is_empty());
+    Ok(())
+}
+
+#[test]
+fn shares_a_response_until_it_is_changed(rt: HostRuntime) -> Checked {
+    let mut head = ResponseHeader::build(rt.alloc(), 200)?;
+    let first = head.share(rt.alloc())?;
+    head.insert_header(VIA, HeaderValue::from_static("one"))?;
+    let second = head.share(rt.alloc())?.copy()?;
+    assert_eq!(rt; first.headers().len(), 0);
+    assert_eq!(rt; second.headers().len(), 1);
+    assert!(rt; second.status() == 200 && second.version() == Version::HTTP_11);
+    Ok(())
+}
+
+#[test]
 fn sets_a_status(rt: HostRuntime) -> Checked {
     let mut head = ResponseHeader::build(rt.alloc(), 100)?;
     assert!(rt; head.is_informational());
