@@ -8,7 +8,7 @@ ghost use Rattle.relay_hooks.specs.Session.{request_head, moment};
 ghost use Rattle.relay_calls.specs.Entry.{cleared, told, with_entry};
 
 use relay_modules::Seen;
-use relay_tasks::{Error, Fail, Hook, Item, LogEntry, RequestHeader, Result, View};
+use relay_tasks::{Error, Fail, Hook, Item, LogEntry, Result, SharedRequest, View};
 
 /// A call that is about to be made: which hook, the mark of its context, what it is given, and what
 /// the session shows.
@@ -96,14 +96,15 @@ pub fn log_call(seen: &mut Seen, begun: Begun, outcome: Outcome, mark: u64) -> R
 }
 
 /// The head that an entry tells: that of a session which was lent its head.
-fn told_head(seen: &Seen) -> Result<Option<RequestHeader>>
-    requires { IsSome (head_of seen.now.downstream.reading) }
+fn told_head(seen: &mut Seen) -> Result<Option<SharedRequest>>
+    requires { IsSome (head_of seen.old.downstream.reading) }
     ensures ok { IfOk result (λ told. told
-        ≡ told_head seen.now.touched (request_head seen.now)) }
+        ≡ told_head seen.old.touched (request_head seen.old)) }
     ensures memory { IsOkUnless result Fail.OutOfMemory }
+    ensures same { seen.new ≡ seen.old }
 {
     if seen.touched {
-        Ok(Some(seen.req_header().copy()?))
+        Ok(Some(seen.share_req_header()?))
     } else {
         Ok(None)
     }

@@ -77,7 +77,7 @@ pub fn call_upstream_response_filter<SV: ProxyHttp>(
         session.new.seen (SV.mark_of app.now ctx.new)) session.old.seen session.new.seen }
     ensures kind { KeepsKindUnless result head.old head.new }
 {
-    let input = head_item(head, end)?;
+    let input = head_item(session.seen.alloc, head, end)?;
     let begun = begin(
         &mut session.seen,
         Hook::UpstreamResponseFilter,
@@ -87,7 +87,7 @@ pub fn call_upstream_response_filter<SV: ProxyHttp>(
     let alloc = session.seen.alloc;
     let answer = app.upstream_response_filter(alloc, session, head, ctx);
     let error = error_of(&answer)?;
-    let left = head_item(head, end)?;
+    let left = head_item(session.seen.alloc, head, end)?;
     let outcome = Outcome {
         output: left.item,
         error,
@@ -115,7 +115,7 @@ pub fn call_response_filter<SV: ProxyHttp>(
         session.new.seen (SV.mark_of app.now ctx.new)) session.old.seen session.new.seen }
     ensures kind { KeepsKindUnless result head.old head.new }
 {
-    let input = head_item(head, end)?;
+    let input = head_item(session.seen.alloc, head, end)?;
     let begun = begin(
         &mut session.seen,
         Hook::ResponseFilter,
@@ -125,7 +125,7 @@ pub fn call_response_filter<SV: ProxyHttp>(
     let alloc = session.seen.alloc;
     let answer = app.response_filter(alloc, session, head, ctx);
     let error = error_of(&answer)?;
-    let left = head_item(head, end)?;
+    let left = head_item(session.seen.alloc, head, end)?;
     let outcome = Outcome {
         output: left.item,
         error,

@@ -1,4 +1,5 @@
-//! What filters are given and leave, copied for the log. A copy of bytes shares them.
+//! What filters are given and leave, for the log. Bytes and heads are shared; a head is copied by the
+//! first entry behind a change.
 ghost use Rattle.std.specs.Prelude.{◌≡◌, true, Some, IfOk, IsOkUnless};
 ghost use Rattle.relay_modules.specs.Module.{piece_or};
 ghost use Rattle.relay_hooks.specs.Call.{trailed};
@@ -7,6 +8,7 @@ use crate::entry::Told;
 use bytes::Bytes;
 use http_header::HeaderMap;
 use relay_tasks::{Fail, Item, ResponseHeader, Result, copy_fields, copy_piece, copy_trailers};
+use std::alloc::Global;
 
 /// No item.
 pub fn nothing() -> Told
@@ -18,12 +20,13 @@ pub fn nothing() -> Told
 }
 
 /// A head of a response; `end` says that the response ends with it.
-pub fn head_item(head: &ResponseHeader, end: bool) -> Result<Told>
-    ensures ok { IfOk result (λ told. told.item ≡ Item.Response head.now end) }
+pub fn head_item(alloc: Global, head: &mut ResponseHeader, end: bool) -> Result<Told>
+    ensures ok { IfOk result (λ told. told.item ≡ Item.Response head.old end) }
     ensures memory { IsOkUnless result Fail.OutOfMemory }
+    ensures same { head.new ≡ head.old }
 {
     Ok(Told {
-        item: Item::Response(head.copy()?, end),
+        item: Item::Response(head.share(alloc)?, end),
     })
 }
 

@@ -76,12 +76,12 @@ pub fn call_module_response_header<SV: ProxyHttp>(
         → SV.Modules.allows session.old.modules call }
     ensures kind { is_informational head.new.status ≡ is_informational head.old.status }
 {
-    let input = head_item(head, end)?;
+    let input = head_item(session.seen.alloc, head, end)?;
     let mark = app.mark(ctx);
     let begun = begin(&mut session.seen, Hook::ModuleResponseHeader, mark, input);
     let answer = session.modules.response_header_filter(head, end);
     let error = error_of(&answer)?;
-    let left = head_item(head, end)?;
+    let left = head_item(session.seen.alloc, head, end)?;
     let outcome = Outcome {
         output: left.item,
         error,

@@ -8,7 +8,9 @@ ghost use Rattle.relay_session.specs.Response.{is_over};
 
 use bytes::Bytes;
 use relay_session::{HttpSession, answer_with_body, generated_head};
-use relay_tasks::{Fail, HttpTask, PhaseLog, RequestHeader, Result, TaskList, View};
+use relay_tasks::{
+    Fail, HttpTask, PhaseLog, RequestHeader, Result, SharedRequest, TaskList, View,
+};
 use std::alloc::Global;
 use std::mem;
 
@@ -87,6 +89,19 @@ impl Seen {
         ensures { head_of self.now.downstream.reading ≡ Some result.now }
     {
         self.downstream.req_header()
+    }
+
+    /// The request's head as it stands, to be held by many: it is copied by the first call behind a
+    /// change, and by no other.
+    ///
+    /// Fails out of memory alone.
+    pub fn share_req_header(&mut self) -> Result<SharedRequest>
+        requires { IsSome (head_of self.old.downstream.reading) }
+        ensures ok { IfOk result (λ shared. head_of self.old.downstream.reading ≡ Some shared) }
+        ensures memory { IsOkUnless result Fail.OutOfMemory }
+        ensures same { self.new ≡ self.old }
+    {
+        self.downstream.share_req_header()
     }
 
     /// The request's head, to be changed; the session counts as touched from now on. The response

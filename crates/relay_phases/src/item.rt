@@ -1,4 +1,5 @@
-//! What hooks are given, copied for the log, and the beginning of a call.
+//! What hooks are given, for the log, and the beginning of a call. Bytes and heads are shared; a head is
+//! copied by the first entry behind a change.
 ghost use Rattle.std.specs.Prelude.{◌≡◌, Some, None, IsSome, IfOk, OnOk, OnErr, IsOkUnless};
 ghost use Rattle.relay_session.specs.Reading.{head_of};
 ghost use Rattle.relay_modules.specs.Seen.{view_of};
@@ -12,12 +13,25 @@ use relay_modules::Seen;
 use relay_tasks::{Error, Fail, Hook, Item, Peer, RequestHeader, Result};
 
 /// A head of a request.
-pub(crate) fn request_item(head: &RequestHeader) -> Result<Told>
-    ensures ok { IfOk result (λ told. told.item ≡ Item.Request head.now) }
+pub(crate) fn request_item(head: &mut RequestHeader) -> Result<Told>
+    ensures ok { IfOk result (λ told. told.item ≡ Item.Request head.old) }
     ensures memory { IsOkUnless result Fail.OutOfMemory }
+    ensures same { head.new ≡ head.old }
 {
     Ok(Told {
-        item: Item::Request(head.copy()?),
+        item: Item::Request(head.share()?),
+    })
+}
+
+/// The head of the session's request.
+pub(crate) fn session_item(seen: &mut Seen) -> Result<Told>
+    requires { IsSome (head_of seen.old.downstream.reading) }
+    ensures ok { IfOk result (λ told. told.item ≡ Item.Request (request_head seen.old)) }
+    ensures memory { IsOkUnless result Fail.OutOfMemory }
+    ensures same { seen.new ≡ seen.old }
+{
+    Ok(Told {
+        item: Item::Request(seen.share_req_header()?),
     })
 }
 
@@ -78,6 +92,6 @@ pub(crate) fn begin_with_head(seen: &mut Seen, hook: Hook, mark: u64) -> Result<
     ensures memory { IsOkUnless result Fail.OutOfMemory }
     ensures err { OnErr result (seen.new ≡ seen.old) }
 {
-    let input = request_item(seen.req_header())?;
+    let input = session_item(seen)?;
     Ok(begin(seen, hook, mark, input))
 }

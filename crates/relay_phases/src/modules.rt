@@ -10,7 +10,7 @@ ghost use Rattle.relay_calls.specs.Calls.{Enters};
 ghost use Rattle.relay_phases.specs.Looks.{Looks};
 ghost use Rattle.relay_phases.specs.Modules.{CallsOnHead, MakesModules, told_error};
 
-use crate::item::{begin_with_head, request_item};
+use crate::item::{begin_with_head, session_item};
 use crate::settled::{changed, failed, only};
 use relay_calls::log_call;
 use relay_hooks::{HttpModule, ProxyHttp, Session};
@@ -86,7 +86,7 @@ pub fn call_module_request_header<M: HttpModule>(session: &mut Session<M>, mark:
 {
     let begun = begin_with_head(&mut session.seen, Hook::ModuleRequestHeader, mark)?;
     let answer = session.filter_request_header();
-    let made = request_item(session.seen.req_header())?;
+    let made = session_item(&mut session.seen)?;
     let outcome = changed(made.item, &answer)?;
     log_call(&mut session.seen, begun, outcome, mark)?;
     answer

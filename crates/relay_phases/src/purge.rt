@@ -86,7 +86,7 @@ pub fn call_purge_response_filter<SV: ProxyHttp>(
     let begun = begin(&mut session.seen, Hook::PurgeResponseFilter, mark, input);
     let alloc = session.seen.alloc;
     let done = app.purge_response_filter(alloc, session, ctx, status, answer);
-    let made = head_item(answer, true)?;
+    let made = head_item(alloc, answer, true)?;
     let outcome = changed(made.item, &done)?;
     log_call(&mut session.seen, begun, outcome, app.mark(ctx))?;
     done

@@ -1,6 +1,6 @@
 //! How the request of a client is read: its head, and its body piece by piece (RFC 9112, sections
 //! 2, 3, 6 and 7).
-ghost use Rattle.std.specs.Prelude.{◌≡◌, ◌↔◌, ℕ, List, [], ◌&&◌, ◌++◌, true, false, length, drop, min, None, Some, IsSome, IsTrue};
+ghost use Rattle.std.specs.Prelude.{◌≡◌, ◌↔◌, ℕ, List, [], ◌&&◌, ◌++◌, true, false, length, drop, min, None, Some, IsSome, IsTrue, IfOk, IsOkUnless};
 ghost use Rattle.std.specs.Borrow.{sem};
 ghost use Rattle.relay_tasks.specs.Head.{RequestHead};
 ghost use Rattle.relay_links.specs.Count.{last_count};
@@ -17,7 +17,7 @@ use crate::front::{Front, ends_with_head};
 use bytes::Bytes;
 use http_header::{CONTENT_LENGTH, TRANSFER_ENCODING};
 use relay_h1::{BodyReader, Framing, request_framing};
-use relay_tasks::{RequestHeader, Took};
+use relay_tasks::{Fail, RequestHeader, Result, SharedRequest, Took};
 use std::alloc::Global;
 
 /// The request side of one session.
@@ -162,6 +162,19 @@ impl Reading {
         match self {
             Reading::Head => unreachable!(),
             Reading::Body(request) => &mut request.head,
+        }
+    }
+
+    /// The head that was read as it stands, to be held by many.
+    pub(crate) fn share_req_header(&mut self) -> Result<SharedRequest>
+        requires { IsSome (head_of self.old) }
+        ensures ok { IfOk result (λ shared. head_of self.old ≡ Some shared) }
+        ensures memory { IsOkUnless result Fail.OutOfMemory }
+        ensures same { self.new ≡ self.old }
+    {
+        match self {
+            Reading::Head => unreachable!(),
+            Reading::Body(request) => request.head.share(),
         }
     }
 

@@ -27,7 +27,7 @@ use crate::writing::Writing;
 use bytes::Bytes;
 use relay_h1::Framing;
 use relay_links::Put;
-use relay_tasks::{Fail, RequestHeader, ResponseHeader, Result, TaskList, Took};
+use relay_tasks::{Fail, RequestHeader, ResponseHeader, Result, SharedRequest, TaskList, Took};
 use std::alloc::Global;
 
 /// The session of one request with its client. What it knows of the request is told by all bytes
@@ -191,6 +191,19 @@ impl HttpSession {
             → AnswersRead given (with_head self.old.reading head) self.old.writing }
     {
         self.reading.req_header_mut()
+    }
+
+    /// The head that was read as it stands, to be held by many: it is copied by the first call
+    /// behind a change, and by no other.
+    ///
+    /// Fails out of memory alone.
+    pub fn share_req_header(&mut self) -> Result<SharedRequest>
+        requires { IsSome (head_of self.old.reading) }
+        ensures ok { IfOk result (λ shared. head_of self.old.reading ≡ Some shared) }
+        ensures memory { IsOkUnless result Fail.OutOfMemory }
+        ensures same { self.new ≡ self.old }
+    {
+        self.reading.share_req_header()
     }
 
     /// Removes Content-Length and Transfer-Encoding from the head that was read. How far the
