@@ -1,6 +1,6 @@
 //! A poller that says on standard error where it serves.
 
-use relay_server::{Listening, Polled, Poller};
+use relay_links::{Listening, Polled, Poller};
 
 /// A poller over another, which tells on standard error at which port it listens, and for which
 /// peer. In all else it is that other poller.

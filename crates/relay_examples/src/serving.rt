@@ -3,9 +3,9 @@
 use crate::CONF;
 use relay_links::MemoryPurger;
 use relay_proxy::{HttpProxy, NoHooks};
-use relay_server::{TcpPoller, serve_with};
+use relay_server::serve_with;
 use relay_tasks::Purged;
-use relay_tcp::TcpConnector;
+use relay_tcp::{TcpConnector, TcpPoller};
 use std::alloc::{AllocError, Global};
 use std::io;
 use std::net::{Ipv4Addr, Net, SocketAddr};

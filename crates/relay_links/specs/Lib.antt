@@ -8,6 +8,7 @@ pub mod Link
 pub mod ListSchedule
 pub mod MemoryPurger
 pub mod MuteLink
+pub mod Poller
 pub mod Purger
 pub mod ReadScript
 pub mod RoundRobin

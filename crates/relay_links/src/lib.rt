@@ -1,5 +1,5 @@
 //! The outside of the relay: links, the connector that hands them out, the schedule, the shutdown
-//! watch, the delay, the purger, sources and sinks, each as a trait with its meaning.
+//! watch, the delay, the purger, the poller, sources and sinks, each as a trait with its meaning.
 #![tactic(auto)]
 
 mod branch;
@@ -12,6 +12,7 @@ mod link;
 mod list_schedule;
 mod memory_purger;
 mod mute_link;
+mod poller;
 mod purger;
 mod read_script;
 mod room;
@@ -39,6 +40,7 @@ pub use link::{ByteLink, Got, Put};
 pub use list_schedule::ListSchedule;
 pub use memory_purger::MemoryPurger;
 pub use mute_link::MuteLink;
+pub use poller::{Listening, Polled, Poller};
 pub use purger::{PurgeCall, Purger};
 pub use read_script::{ReadItem, ReadScript};
 pub use round_robin::RoundRobin;

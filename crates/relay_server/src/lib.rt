@@ -3,15 +3,10 @@
 #![tactic(auto)]
 
 mod floor;
-mod lingering;
 mod open_connection;
-mod poller;
 mod serve;
 mod stillness;
-mod tcp_poller;
 #[cfg(test)]
 mod tests;
 
-pub use poller::{Listening, Polled, Poller};
 pub use serve::{ServeEnd, serve_with};
-pub use tcp_poller::TcpPoller;

@@ -9,8 +9,7 @@ ghost use Rattle.relay_server.specs.Serving.{Books, books, CountRises, all_held,
 
 use crate::floor::{Floor, MOST_OPEN};
 use crate::open_connection::{AfterRequest, OpenConnection};
-use crate::poller::{Listening, Polled, Poller};
-use relay_links::{Connector, Purger};
+use relay_links::{Connector, Listening, Polled, Poller, Purger};
 use relay_proxy::{HttpProxy, ProxyHttp};
 use std::alloc::Global;
 use std::sync::Wait;

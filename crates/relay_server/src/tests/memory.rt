@@ -1,8 +1,8 @@
 //! Serving clients in memory.
 use super::support::{ANSWER, MemoryPoller, REQUEST, SENT, WRITTEN};
-use crate::{Poller, ServeEnd, serve_with};
+use crate::{ServeEnd, serve_with};
 use bytes::Bytes;
-use relay_links::{MemoryPurger, PeerScript, ReadItem, ScriptConnector, ScriptLink};
+use relay_links::{MemoryPurger, PeerScript, Poller, ReadItem, ScriptConnector, ScriptLink};
 use relay_proxy::{HttpProxy, NoHooks, ServerConf};
 use relay_tasks::Purged;
 use std::alloc::Global;

@@ -1,8 +1,7 @@
 //! What the tests of the server share: one request and its answer, and a poller in memory.
 ghost use Rattle.std.specs.Prelude.{None};
 
-use crate::{Listening, Polled, Poller};
-use relay_links::ScriptLink;
+use relay_links::{Listening, Polled, Poller, ScriptLink};
 use std::alloc::Global;
 use std::collections::VecDeque;
 

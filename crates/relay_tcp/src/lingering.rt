@@ -5,8 +5,8 @@
 //! client may lose what it was written last. So the write side is shut alone, what still comes is
 //! read and dropped, and the connection is closed once the client has ended it.
 
+use crate::tcp_link::TcpLink;
 use relay_links::{ByteLink, Got};
-use relay_tcp::TcpLink;
 use std::alloc::{AllocError, Global};
 use std::collections::VecDeque;
 

@@ -3,10 +3,11 @@ ghost use Rattle.std.specs.Prelude.{◌≡◌, ◌≤◌, None};
 ghost use Rattle.relay_links.specs.Count.{Rose};
 
 use crate::lingering::Lingering;
-use crate::poller::{Listening, Polled, Poller};
+use crate::readiness::{Origin, Readiness, watch};
+use crate::tcp_link::TcpLink;
 use mio::net::TcpListener;
 use mio::{Events, Interest, Poll, Token};
-use relay_tcp::{Origin, Readiness, TcpLink, watch};
+use relay_links::{Listening, Polled, Poller};
 use std::alloc::{AllocError, Global};
 use std::io;
 use std::io::ErrorKind;

@@ -2,9 +2,9 @@
 //! of them may go on.
 ghost use Rattle.std.specs.Prelude.{◌≡◌, ℕ, ◌≤◌, List, Option};
 ghost use Rattle.relay_links.specs.Count.{Rose};
-ghost use Rattle.relay_server.specs.Listening.{listened};
+ghost use Rattle.relay_links.specs.Poller.{listened};
 
-use relay_links::ByteLink;
+use crate::link::ByteLink;
 
 /// Whether a port is listened at.
 #[derive(Clone, Copy, Debug, PartialEq, Eq)]
