@@ -100,8 +100,8 @@ pub runs_script : (made first last : ScriptLink) (connector old : ScriptConnecto
     (Some []) (Some after) turns processed
 runs_script made first last connector old peer first_ahead ahead faults after turns processed
     offered is none same run =
-    let world :
-    world_with (script_state first) first_ahead (gets_failed old) ≡ first_world made connector =
+    let world : world_with (script_state first) first_ahead (gets_failed old)
+    ≡ first_world made connector =
     rw (is, none, same) in
     let unreturned : links_returned old ≡ [] = rw same offered.returned in
     subst (λ (w : World). Processes script_state script_start (start_of w)
