@@ -17,7 +17,7 @@ use relay_phases::{
     call_upstream_request_filter,
 };
 use relay_session::HttpSession;
-use relay_tasks::{Peer, PhaseLog, RequestHeader, ResponseHeader, Result};
+use relay_tasks::{Error, ErrorType, Fail, Peer, PhaseLog, RequestHeader, ResponseHeader, Result};
 use std::alloc::Global;
 
 /// Logs so many requests, one after the other, and answers how many entries the last one has; 0
@@ -33,7 +33,9 @@ pub(crate) fn log_requests(alloc: Global, requests: usize) -> Result<usize> {
         session.seen.log = PhaseLog::new(alloc);
         before_the_attempt(&app, &mut session)?;
         in_the_attempt(&app, &mut session, &mut sent)?;
-        with_the_response(&app, &mut session, &mut got)?;
+        with_the_head(&app, &mut session, &mut got)?;
+        with_the_body(&app, &mut session)?;
+        at_the_end(&app, &mut session)?;
         entries = session.seen.log.len();
     }
     Ok(entries)
@@ -47,19 +49,35 @@ fn peer() -> Peer {
     }
 }
 
-/// The calls before a peer is named.
-fn before_the_attempt(app: &Defaults, session: &mut Session<NoModules>) -> Result<()>
-    requires { IsSome (head_of session.old.seen.downstream.reading) }
-    ensures { OnOk result (IsSome (head_of session.new.seen.downstream.reading)) }
+/// A call is made only where the head stands that the client sent.
+fn stands(session: &Session<NoModules>) -> Result<()>
+    ensures { OnOk result (IsSome (head_of session.now.seen.downstream.reading)) }
 {
+    if session.seen.downstream.has_head() {
+        Ok(())
+    } else {
+        Err(Fail::Error(Error::new(ErrorType::InternalError)))
+    }
+}
+
+/// The calls before a peer is named.
+fn before_the_attempt(app: &Defaults, session: &mut Session<NoModules>) -> Result<()> {
+    stands(session)?;
     call_new_ctx(app, session)?;
+    stands(session)?;
     call_early_request_filter(app, session, &mut ())?;
+    stands(session)?;
     call_allow_spawning_subrequest(app, session, &())?;
+    stands(session)?;
     if !session.seen.view().final_head {
         call_request_filter(app, session, &mut ())?;
     }
+    stands(session)?;
     call_is_purge(app, session, &())?;
-    call_proxy_upstream_filter(app, session, &mut ())?;
+    stands(session)?;
+    if !session.seen.view().final_head {
+        call_proxy_upstream_filter(app, session, &mut ())?;
+    }
     Ok(())
 }
 
@@ -68,32 +86,44 @@ fn in_the_attempt(
     app: &Defaults,
     session: &mut Session<NoModules>,
     sent: &mut RequestHeader,
-) -> Result<()>
-    requires { IsSome (head_of session.old.seen.downstream.reading) }
-    ensures { OnOk result (IsSome (head_of session.new.seen.downstream.reading)) }
-{
+) -> Result<()> {
+    stands(session)?;
     let peer = call_upstream_peer(app, session, &mut ())?;
+    stands(session)?;
     call_connected_to_upstream(app, session, &mut (), &peer, false)?;
+    stands(session)?;
     call_upstream_request_filter(app, session, &mut (), sent)?;
-    call_request_body_filter(app, session, &mut (), &mut None, true)?;
-    Ok(())
+    stands(session)?;
+    call_request_body_filter(app, session, &mut (), &mut None, true)
 }
 
-/// The calls for the response, whose body is one piece, and for the end.
-fn with_the_response(
+/// The calls for the head of the response.
+fn with_the_head(
     app: &Defaults,
     session: &mut Session<NoModules>,
     got: &mut ResponseHeader,
-) -> Result<()>
-    requires { IsSome (head_of session.old.seen.downstream.reading) }
-    ensures { OnOk result (IsSome (head_of session.new.seen.downstream.reading)) }
-{
+) -> Result<()> {
+    stands(session)?;
     call_upstream_response_filter(app, session, &mut (), got, false)?;
-    call_response_filter(app, session, &mut (), got, false)?;
+    stands(session)?;
+    call_response_filter(app, session, &mut (), got, false)
+}
+
+/// The calls for its body, which is one piece.
+fn with_the_body(app: &Defaults, session: &mut Session<NoModules>) -> Result<()> {
     let mut piece = Some(Bytes::from_static(b"hello"));
+    stands(session)?;
     call_upstream_response_body_filter(app, session, &mut (), &mut piece, true)?;
+    stands(session)?;
     call_response_body_filter(app, session, &mut (), &mut piece, true)?;
+    Ok(())
+}
+
+/// The calls at the end.
+fn at_the_end(app: &Defaults, session: &mut Session<NoModules>) -> Result<()> {
+    stands(session)?;
     call_logging(app, session, &mut (), None)?;
+    stands(session)?;
     call_persist_connection_context(app, session, &())?;
     Ok(())
 }
