@@ -75,18 +75,7 @@ impl Pipe {
         } else if self.third.is_none() {
             self.third = Some(task);
         } else {
-            self.fill_last(task);
-        }
-    }
-
-    /// Puts the task into the last place.
-    fn fill_last(&mut self, task: HttpTask)
-        requires room { length self.old.tasks ≡ 3 }
-        ensures { self.new ≡ with_task self.old task }
-    {
-        match self.fourth {
-            Some(_) => unreachable!(),
-            None => self.fourth = Some(task),
+            self.fourth = Some(task);
         }
     }
 
