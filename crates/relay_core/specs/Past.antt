@@ -22,7 +22,8 @@ use Rattle.relay_core.specs.Told.{fault_of}
 
 -- where an exchange began: with the head of its request; where the client's link stood: the bytes
 -- that were read ahead from it, how many bytes it had given and taken, and how many of its calls had
--- failed; and whether the upstream's link had been used before
+-- failed; whether the upstream's link had been used before; and how many faults the client's link had
+-- told of its reads and of its writes
 pub record Origin : Type 0 where
   pub head : RequestHead
   pub ahead : List ℕ
@@ -30,6 +31,8 @@ pub record Origin : Type 0 where
   pub taken : ℕ
   pub faults : ℕ
   pub reused : Bool
+  pub read_faults : ℕ
+  pub write_faults : ℕ
 
 -- what passed through the client's side since its request began: the bytes that its link gave and
 -- took; the tasks that its pieces put; the tasks that it was given; and the ends of the response

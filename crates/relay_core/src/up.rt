@@ -3,6 +3,8 @@ ghost use Rattle.std.specs.Prelude.{◌≡◌, ◌++◌, ◌∷◌, ◌||◌, �
 ghost use Rattle.std.specs.List.{list_any};
 ghost use Rattle.relay_tasks.specs.declared.error.Error.{Error};
 ghost use Rattle.relay_tasks.specs.declared.error.ErrorSource.TheVariants.{Upstream};
+ghost use Rattle.relay_tasks.specs.declared.task.HttpTask.{HttpTask};
+ghost use Rattle.relay_tasks.specs.declared.took.Took.{Took};
 ghost use Rattle.relay_tasks.specs.Task.{is_end};
 ghost use Rattle.relay_links.specs.Count.{up};
 ghost use Rattle.relay_links.specs.Link.{LinkState, LinkStart};
@@ -20,7 +22,8 @@ use relay_tasks::{HttpTask, Pause, Result, Took};
 /// It also means what passed through it since its link was handed out, by a relation: each call
 /// takes every past to one that goes on from it. `blames` says that the side answers for an error,
 /// which it does from then on. `link` is its link as it stands: what an answer waits for stands in
-/// it. `start` is that link as it was handed out, which no call changes.
+/// it. `start` is that link as it was handed out, which no call changes. `cuts` says how a task is cut
+/// out of what the link gave.
 pub trait Up {
     ghost state: { Self → UpState };
 
@@ -31,6 +34,8 @@ pub trait Up {
     ghost link: { Self → LinkState };
 
     ghost start: { Self → LinkStart };
+
+    ghost cuts: { Self → Self → Took HttpTask → Type 0 };
 
     /// Which kind of upstream it is.
     fn kind(&self) -> UpKind
@@ -54,7 +59,8 @@ pub trait Up {
         ensures waits { result ≡ Took.Waited Pause.NotReady
             → (link self.new).waits ≡ up (link self.old).waits }
         ensures silent { result ≡ Took.Waited Pause.Silent
-            → (link self.new ≡ link self.old) × ((link self.new).silent_on_read ≡ true) };
+            → (link self.new ≡ link self.old) × ((link self.new).silent_on_read ≡ true) }
+        ensures cuts { cuts self.old self.new result };
 
     /// Takes a piece of the request, and queues its bytes for the upstream. An error says that the
     /// upstream cannot take it, or that the request ended short of its Content-Length; the piece

@@ -58,7 +58,7 @@ use Rattle.relay_exchange.specs.Order.{ArePieces, AreOf, IsInOrder}
 use Rattle.relay_exchange.specs.Passed.{Passed}
 use Rattle.relay_exchange.proofs.SentLemmas.{IsWritten, ends_over, closed_passes, written_of}
 use Rattle.relay_exchange.proofs.FitLemmas.{front_passes}
-use Rattle.relay_exchange.proofs.ToldLemmas.{given_follow, given_informed, given_final, given_body, given_ends_last, given_all}
+use Rattle.relay_exchange.proofs.ToldLemmas.{given_follow, given_informed, given_final, given_framed, given_body, given_ends_last, given_all}
 
 -- what passed, by the pasts of both sides
 abbrev pub passed_by : DownPast → UpPast → Passed
@@ -215,6 +215,8 @@ module _
               (given_all method link.ended q.got u.given u.withheld client.response tasks_own ends)
               ends in
               (all.place, all.whole);
+          framed = given_framed method link.ended q.got u.given u.withheld client.response
+              tasks_own;
         }
 
 -- what a batch was given of what was read: no failure, since those are not sent
@@ -486,4 +488,5 @@ module _ {L : Type 0} (state : L → LinkState) (start_at : L → LinkStart) whe
         sent = u.sent;
         peer_faults = u.faults;
         reused = reused;
+        client_tells = h.client.tells;
       }

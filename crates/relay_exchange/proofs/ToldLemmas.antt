@@ -1,6 +1,7 @@
 -- What the tasks of a response that are handed on tell, where a task behind them may be withheld.
 use Rattle.std.proofs.Common.{◌≡◌, ℕ, ◌+◌, Bool, true, false, List, [], ◌∷◌, ◌++◌, refl, sym, ap, subst, ◌∙◌, append-nil, append_assoc, Option, Some, None, if◌then◌else◌}
-use Rattle.std.specs.List.{list_any}
+use Rattle.std.specs.List.{All, list_any}
+use Rattle.std.proofs.lemmas.List.Elements.{All-nil, All-cons, All-head, All-tail}
 use Rattle.relay_tasks.specs.Head.{ResponseHead}
 use Rattle.relay_tasks.specs.declared.task.HttpTask.{HttpTask}
 use Rattle.relay_tasks.specs.declared.task.HttpTask.TheVariants as task
@@ -16,7 +17,7 @@ use Rattle.relay_peer.specs.declared.response_reading.ResponseReading.{ResponseR
 use Rattle.relay_peer.specs.ResponseReading.{ToldResponse, ReadAt, IsResponseTask, untold, with_task, with_head, with_piece}
 use Rattle.relay_core.specs.Moves.{EndsLast}
 use Rattle.relay_sides.specs.Body.{IsFrontOf}
-use Rattle.relay_sides.specs.Peer.{AreTasks, Follow, told_behind, told_of}
+use Rattle.relay_sides.specs.Peer.{AreTasks, EndsAs, EndFramed, Follow, told_behind, told_of}
 use Rattle.relay_sides.proofs.FrontLemmas.{own_front, front_more, front_then}
 use Rattle.relay_sides.proofs.SaidLemmas.{told_front}
 
@@ -212,6 +213,14 @@ final_at method closed got told (place.Ended keeps) ahead final read is =
 
 -- ---- tasks that are handed on, and those that are withheld
 
+-- what holds of all tasks holds of those in front
+all_front : (P : HttpTask → Type 0) (front behind : List HttpTask) → All P (front ++ behind)
+    → All P front
+all_front P [] behind all = All-nil P
+all_front P (one ∷ front) behind all =
+    All-cons P one front (All-head P one (front ++ behind) all)
+    (all_front P front behind (All-tail P one (front ++ behind) all))
+
 -- the front of an empty list
 no_tasks : (front behind : List HttpTask) → front ++ behind ≡ [] → front ≡ []
 no_tasks [] behind none = refl
@@ -249,6 +258,20 @@ module _
         subst (λ (hs : List ResponseHead). FinalBehind method got hs head) all.1
         (final_at method closed got (told_of (given ++ withheld)) client.place client.ahead head
         are.so_far.at all.0)
+
+    -- they end its body as it is framed
+    pub given_framed : (head : ResponseHead) → (told_of given).final ≡ Some head
+        → EndFramed method got (told_of given).informed head given
+    given_framed head is =
+        let all = given_tell.final head is in
+        let framed = are.framed head all.0 in
+        record {
+          framing = framed.framing;
+          len = framed.len;
+          has = subst (λ (hs : List ResponseHead). HasFinal method false got hs head framed.framing
+              framed.len) all.1 framed.has;
+          each = all_front (EndsAs framed.framing) given withheld framed.each;
+        }
 
     -- the bytes of the body that they bring are the front of those that the bytes say
     pub given_body : (text : ResponseText) → Tasks method false got closed text

@@ -381,7 +381,7 @@ peer_blameless s p client link start valid order lost e
     (subst (λ (xs : List ℕ). Tasks s.head.method false xs true (says told cut_off))
     (valid.answers.ends gone) reads)
 peer_blameless s p client link start valid order lost e
-    (peer_side.PeerBlames.is_broken why closed came told is front reads) =
+    (peer_side.PeerBlames.is_broken why closed came told is front reads breaks) =
     response_unbroken s.head.method came valid.answers.response closed told
     valid.answers.is_response
     (front_then came p.got valid.answers.response front valid.answers.gives) reads

@@ -16,6 +16,7 @@ use Rattle.relay_core.specs.declared.step.Step.{Step}
 use Rattle.relay_core.specs.declared.step.Step.TheVariants as step
 use Rattle.relay_sides.specs.Client.{HasPassed}
 use Rattle.relay_sides.specs.Client as client
+use Rattle.relay_sides.specs.Faults.{TellsSince}
 use Rattle.relay_sides.specs.Peer.{IsPeerSide, PeerBlames}
 use Rattle.relay_sides.specs.Peer as peer
 use Rattle.relay_sides.specs.declared.client_side.ClientSide.{ClientSide}
@@ -95,7 +96,7 @@ module _ {L : Type 0} (state : L → LinkState) (start_at : L → LinkStart) whe
     pub sent : up.sent ≡ p.sent
     pub holds : StageHolds s down up link ahead x.client x.peer x.stage
 
-  -- what passed is told by both links
+  -- what passed is told by both links, and the client's link tells its faults
   pub record AreTold (s : Origin) (p : Passed) (link peer_link : LinkState) (start : LinkStart)
       : Type 0 where
     pub came : Since [] s.given link.given p.came
@@ -105,6 +106,7 @@ module _ {L : Type 0} (state : L → LinkState) (start_at : L → LinkStart) whe
     pub sent : Since [] start.taken peer_link.taken p.sent
     pub peer_faults : start.faults ≤ peer_link.faults
     pub reused : start.reused ≡ s.reused
+    pub client_tells : TellsSince s.read_faults s.write_faults link
 
   -- both directions were relayed, which leaves both links so
   pub record IsFinished (s : Origin) (p : Passed) (ahead : List ℕ) (x : Exchange L) : Type 0 where

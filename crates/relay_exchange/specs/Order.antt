@@ -26,7 +26,7 @@ use Rattle.relay_core.specs.Moves.{EndsLast}
 use Rattle.relay_core.specs.Past.{Origin, DownPast, UpPast}
 use Rattle.relay_sides.specs.Body.{IsFrontOf, body_of, sent_as}
 use Rattle.relay_sides.specs.Client.{ClientBlames}
-use Rattle.relay_sides.specs.Peer.{handed, told_of, Follow, PeerBlames, is_switch, HasRoom, asks_to_close}
+use Rattle.relay_sides.specs.Peer.{handed, told_of, EndFramed, Follow, PeerBlames, is_switch, HasRoom, asks_to_close}
 use Rattle.relay_exchange.specs.Passed.{Passed, asked}
 
 -- the client's bytes begin with the head of the request
@@ -50,7 +50,8 @@ pub record ArePieces (framing : Framing) (bytes : List ℕ) (pieces : List HttpT
 -- ---- the response
 
 -- these tasks are handed on of the response that the bytes say: its heads in order, and the first
--- bytes of its body; an end among them is the last of them, and the response's
+-- bytes of its body; an end among them is the last of them, and the response's, and comes with a piece
+-- where the body has a length, and alone where it has none
 pub record AreOf (method : List ℕ) (closed : Bool) (got : List ℕ) (tasks : List HttpTask)
     : Type 0 where
   pub given : List HttpTask
@@ -69,6 +70,8 @@ pub record AreOf (method : List ℕ) (closed : Bool) (got : List ℕ) (tasks : L
   pub ends_last : EndsLast given
   pub whole : list_any is_end given ≡ true
       → (n : ℕ) × Tasks method false got closed (says (told_of given) (ended n))
+  pub framed : (head : ResponseHead) → (told_of given).final ≡ Some head
+      → EndFramed method got (told_of given).informed head given
 
 -- ---- both
 

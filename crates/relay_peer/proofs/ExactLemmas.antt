@@ -376,7 +376,7 @@ refusal_says : (method : List ℕ) (before after : LinkState) (given came : List
     → Refuses method after.ended given told asked error
     → Says method after.ended given told asked over (took.Failed (fail.Error error))
 refusal_says method before after given came told asked over error asks
-    (reading.Refuses.is_broken why is said) =
+    (reading.Refuses.is_broken why is said breaks) =
     Says.says_mark
     (record {
       mark = broken;

@@ -24,6 +24,7 @@ use Rattle.relay_peer.specs.declared.response_reading.ResponseReading.{ResponseR
 use Rattle.relay_peer.specs.ResponseReading.{ToldResponse, ReadAt, OpenAt, Finds, FindsAgain, FindsAtEnd, EndsThere, Answers, Refuses, ReadsTask, ReadsOn, Asks, Cuts, CutsBody, AnswerCuts, PassesOn, FoundCuts, is_over, got_of, fault_error}
 use Rattle.relay_peer.specs.ResponseReading as reading
 use Rattle.relay_peer.proofs.ExactLemmas.{reads_task}
+use Rattle.relay_peer.proofs.LengthLemmas.{out_of_length}
 use Rattle.relay_peer.proofs.ResponseLemmas.{came_more, open_read, open_not_over, open_tells}
 
 -- ---- how a body is cut
@@ -59,7 +60,8 @@ body_cuts old mid bytes between came rest (task.Body (Some piece) end) passes cu
     (cuts.0, run_behind old mid cuts.0 bytes between came piece rest end passes cuts.1)
 body_cuts old mid bytes between came rest (task.UpgradedBody piece end) passes cuts = absurd cuts
 body_cuts old mid bytes between came rest (task.Trailer fields) passes cuts = absurd cuts
-body_cuts old mid bytes between came rest task.Done passes cuts = tt
+body_cuts old mid bytes between came rest task.Done passes cuts =
+    out_of_length old mid bytes between passes cuts
 body_cuts old mid bytes between came rest (task.Failed error) passes cuts = absurd cuts
 
 -- the same for a task at any place
@@ -135,7 +137,7 @@ answers_found method closed given told old new found.End is finds =
 answers_found method closed given told old new (found.Failed fail.OutOfMemory) is finds =
     record { at = finds }
 answers_found method closed given told old new (found.Failed (fail.Error error)) is finds =
-    (reading.Refuses.is_broken finds.0 finds.1 finds.2, record { at = finds.3 })
+    (reading.Refuses.is_broken finds.0 finds.1 finds.2 finds.3, record { at = finds.4 })
 
 -- the link was not asked
 nothing_asked : {A : Type 0} (got : A) → None ≡ Some got → ⊥
@@ -311,7 +313,7 @@ answers_again method closed given told n old new took.End going finds =
 answers_again method closed given told n old new (took.Failed fail.OutOfMemory) going finds =
     record { at = finds }
 answers_again method closed given told n old new (took.Failed (fail.Error error)) going finds =
-    (reading.Refuses.is_broken finds.0 finds.1 finds.2, record { at = finds.3 })
+    (reading.Refuses.is_broken finds.0 finds.1 finds.2 finds.3, record { at = finds.4 })
 
 -- the link gave bytes
 pub link_gives : (method : List ℕ) (before after : LinkState) (old new : ResponseReading)

@@ -3,20 +3,15 @@ use Rattle.std.proofs.Common.{◌≡◌, ℕ, zero, suc, ◌+◌, ◌-◌, ◌<�
 use Rattle.std.proofs.lemmas.Bool.{cases_Bool}
 use Rattle.std.proofs.lemmas.Bool.Decides.{nat_tests}
 use Rattle.std.proofs.lemmas.List.{drop-append-le, drop-drop, drop_all}
-use Rattle.relay_tasks.specs.Error.{new_error}
+use Rattle.relay_tasks.specs.declared.context.Context.TheVariants.{BadFraming}
 use Rattle.relay_tasks.specs.Head.{ResponseHead}
-use Rattle.relay_tasks.specs.declared.error.Error.{Error}
-use Rattle.relay_tasks.specs.declared.error.ErrorSource.TheVariants.{Upstream}
-use Rattle.relay_tasks.specs.declared.error.ErrorType.TheVariants.{ConnectionClosed}
 use Rattle.relay_tasks.specs.declared.error.Fail.{Fail}
 use Rattle.relay_tasks.specs.declared.error.Fail.TheVariants as fail
-use Rattle.relay_tasks.specs.declared.error.RetryType.TheVariants.{Decided, ReusedOnly}
 use Rattle.relay_h1.specs.declared.framing.Framing.{Framing}
 use Rattle.relay_h1.specs.declared.framing.Framing.TheVariants as framing
 use Rattle.relay_h1.specs.Body.{BodyText, BodyMark, Body, open_text, ended_text, of_length}
 use Rattle.relay_h1.specs.Body as body
 use Rattle.relay_h1.specs.BodyReader.{SoFar, first_state, is_done, may_end, run}
-use Rattle.relay_h1.specs.BodyReader as reader
 use Rattle.relay_h1.specs.declared.body_reader.State.{State}
 use Rattle.relay_h1.specs.declared.body_reader.State.TheVariants as state
 use Rattle.relay_h1.specs.BodyWire.{says_end}
@@ -34,7 +29,8 @@ use Rattle.relay_peer.specs.declared.response_reading.OpenBody.{OpenBody}
 use Rattle.relay_peer.specs.declared.response_reading.ResponsePlace.{ResponsePlace}
 use Rattle.relay_peer.specs.declared.response_reading.ResponseReading.{ResponseReading}
 use Rattle.relay_peer.specs.declared.response_reading.ResponsePlace.TheVariants as place
-use Rattle.relay_peer.specs.ResponseReading.{ToldResponse, untold, ReadSoFar, says, with_head, cut_off_error, is_over, IsAwaitingHead, lets_keep, place_behind, place_behind_final, IsAwaiting, IsInBody, IsWhole, ReadAt, OpenAt, Finds, FindsAtEnd}
+use Rattle.relay_peer.specs.ResponseReading.{ToldResponse, untold, ReadSoFar, BreaksFor, says, with_head, cut_off_error, is_over, IsAwaitingHead, lets_keep, place_behind, place_behind_final, IsAwaiting, IsInBody, IsWhole, ReadAt, OpenAt, Finds, FindsAtEnd}
+use Rattle.relay_peer.specs.ResponseReading as reading
 use Rattle.relay_peer.specs.declared.response_reading.Found.TheVariants as found
 
 -- ---- what the bytes say
@@ -533,6 +529,7 @@ body_open method given told old new ahead rest here so_far still kept = (
 pub record IsBroken (method : List ℕ) (closed : Bool) (given : List ℕ) (told : ToldResponse)
     (new : OpenBody) (rest : List ℕ) : Type 0 where
   pub says_so : Tasks method false given closed (says told broken)
+  pub breaks : BreaksFor method given told BadFraming
   pub read : IsInBody method given told new rest
 
 pub body_broken : (method : List ℕ) (closed : Bool) (given : List ℕ) (told : ToldResponse)
@@ -545,6 +542,17 @@ body_broken method closed given told old new ahead rest here so_far reads kept =
   says_so = tells_final method closed given told here.n here.head here.framing here.len
       (record { bytes = told.body ++ []; mark = body.BodyMark.broken }) here.informs here.has
       here.is_final here.final reads (said_nothing told);
+  breaks = reading.BreaksFor.in_body here.head here.framing (here.n + here.len)
+      (record {
+        place = here.n;
+        own = here.len;
+        informs = here.informs;
+        has = here.has;
+        final = here.is_final;
+        ends = refl;
+      }) here.final
+      (subst (λ (xs : List ℕ). Body here.framing (drop (here.n + here.len) given)
+      (record { bytes = xs; mark = body.BodyMark.broken })) (said_nothing told) reads) refl;
   read = body_stays method given told old new ahead rest here so_far
       (still_goes_on here.framing (drop (here.n + here.len) given) (told.body ++ []) new.reader rest
       (record { bytes = told.body ++ []; mark = body.BodyMark.broken }) so_far reads broken_never)
@@ -571,28 +579,14 @@ ends_there method given told at ahead still may =
     body_ends_there method given told at ahead still.0 still.1
     (may_end_there (may_end still.0.framing) (is_done at.reader) still.0.goes_on may)
 
--- the mark of a response of which some bytes came
-cut_off_late : (given : List ℕ) → 0 < length given
-    → cut_off_error given ≡ new_error ConnectionClosed Upstream
-cut_off_late [] some = absurd (omega arith)
-cut_off_late (b ∷ given) some =
-    let came : (length (b ∷ given) == 0) ≡ false = grind (arith, nat_tests) in
-    let error : Bool → Error =
-    λ none. record (new_error ConnectionClosed Upstream) {
-      retry = if none then ReusedOnly else Decided false;
-    } in
-    ap error came
-
 -- the link ended inside the body
 pub cut_there : (method given : List ℕ) (told : ToldResponse) (old new : OpenBody) (ahead : List ℕ)
-    (inner outer : Error) (still : OpenAt method given told (place.InBody old) ahead)
-    → inner ≡ reader.closed → (may_end still.0.framing || is_done old.reader) ≡ false
-    → new.reader ≡ old.reader → outer ≡ record inner { esource = Upstream }
-    → (outer ≡ cut_off_error given) × Tasks method false given true (says told cut_off)
-    × IsInBody method given told (record old { reader = new.reader }) ahead
-cut_there method given told old new ahead inner outer still is never same out = (
-  out ∙ ap (λ (e : Error). record e { esource = Upstream }) is
-      ∙ sym (cut_off_late given (body_has_come method given told old ahead still.0)),
+    (still : OpenAt method given told (place.InBody old) ahead)
+    → (may_end still.0.framing || is_done old.reader) ≡ false → new.reader ≡ old.reader
+    → FindsAtEnd method given told (place.InBody (record old { reader = new.reader })) ahead
+    (found.Failed (fail.Error (cut_off_error given)))
+cut_there method given told old new ahead still never same = (
+  refl,
   body_cut_off method given told old ahead still.0 still.1
       (may_not_end (may_end still.0.framing) (is_done old.reader) never),
   subst (λ (r : State). IsInBody method given told (record old { reader = r }) ahead) (sym same)
@@ -631,6 +625,18 @@ tells_refused method closed given told ahead why a refused =
     (record { informed = told.informed; final = f; body = []; mark = broken })) (sym a.no_final)
     here)
 
+-- the reason for which it was
+breaks_refused : (method given : List ℕ) (told : ToldResponse) (ahead : List ℕ) (why : Context)
+    → IsAwaiting method given told ahead → IsRefusedResponse method false ahead why
+    → BreaksFor method given told why
+breaks_refused method given told ahead why a refused =
+    reading.BreaksFor.in_head
+    (record {
+      place = a.n;
+      informs = a.informs;
+      refused = subst (λ (xs : List ℕ). IsRefusedResponse method false xs why) a.rest refused;
+    }) a.no_final a.no_body
+
 -- a verdict that no head stands and none will
 pub head_refused : (method : List ℕ) (closed : Bool) (given : List ℕ) (told : ToldResponse)
     (at : ResponsePlace)
@@ -642,6 +648,8 @@ head_refused method closed given told at ahead (fail.Error error) is verdict rea
   verdict.0,
   verdict.1,
   tells_refused method closed given told ahead verdict.0
+      (awaiting method closed given told at ahead is read) verdict.2,
+  breaks_refused method given told ahead verdict.0
       (awaiting method closed given told at ahead is read) verdict.2,
   read,
 )

@@ -5,9 +5,10 @@ use Rattle.http.specs.declared.Version.{Version}
 use Rattle.http.specs.declared.version.Http.{Http}
 use Rattle.http.specs.declared.version.Http.TheVariants.{Http09, Http10, Http11, H2, H3}
 use Rattle.relay_tasks.specs.Head.{ResponseHead}
-use Rattle.relay_tasks.specs.Error.{new_error, error_of_fault}
+use Rattle.relay_tasks.specs.Error.{explained, error_of_fault}
 use Rattle.relay_tasks.specs.Task.{is_end}
 use Rattle.relay_tasks.specs.declared.context.Context.{Context}
+use Rattle.relay_tasks.specs.declared.context.Context.TheVariants.{BadFraming, UpstreamClosed}
 use Rattle.relay_tasks.specs.declared.error.Error.{Error}
 use Rattle.relay_tasks.specs.declared.error.ErrorSource.TheVariants.{Upstream}
 use Rattle.relay_tasks.specs.declared.error.ErrorType.TheVariants.{ConnectionClosed}
@@ -26,13 +27,15 @@ use Rattle.relay_links.specs.declared.link.Got.{Got}
 use Rattle.relay_links.specs.declared.link.Got.TheVariants as got
 use Rattle.relay_h1.specs.declared.framing.Framing.{Framing}
 use Rattle.relay_h1.specs.Body.{Body, open_text}
+use Rattle.relay_h1.specs.Body as body
 use Rattle.relay_h1.specs.declared.body_reader.State.{State}
+use Rattle.relay_h1.specs.declared.body_reader.State.TheVariants as state
 use Rattle.relay_h1.specs.BodyReader.{SoFar, Takes, TakesPiece, first_state, is_done}
 use Rattle.relay_h1.specs.BodyWire.{says_end}
 use Rattle.relay_h1.specs.ClientHead.{is_informational}
 use Rattle.relay_h1.specs.Move.{ReadsMore}
 use Rattle.relay_h1.specs.Options.{closes}
-use Rattle.relay_h1.specs.Tasks.{Informs, Tasks, ResponseText, ResponseMark, still_open, ended, broken, cut_off}
+use Rattle.relay_h1.specs.Tasks.{Informs, Tasks, ResponseText, ResponseMark, still_open, ended, broken, cut_off, HasFinal, IsRefusedBehind}
 use Rattle.relay_h1.specs.Verdict.{HasResponse, IsOpen, refused_from}
 use Rattle.relay_peer.specs.declared.response_reading.Found.{Found}
 use Rattle.relay_peer.specs.declared.response_reading.Found.TheVariants as found
@@ -281,13 +284,25 @@ abbrev pub IsCut : State → List ℕ → Option (List ℕ) → Bool → List �
 IsCut at bytes None end rest = ⊥
 IsCut at bytes (Some piece) end rest = (new : State) × TakesPiece at bytes piece end new rest
 
--- a task of a body that is read from there: a piece as it is cut, or the end alone
+-- bytes of a body's length are missing there
+abbrev pub is_in_length : State → Bool
+is_in_length state.ChunkLine = false
+is_in_length (state.Chunk left) = false
+is_in_length state.ChunkEnd = false
+is_in_length state.Trailer = false
+is_in_length (state.Length left) = not (left == 0)
+is_in_length state.UntilClose = false
+is_in_length state.Tunnel = false
+is_in_length state.Done = false
+
+-- a task of a body that is read from there: a piece as it is cut, or the end alone, which no body of
+-- a length has
 abbrev pub CutsBody : State → List ℕ → HttpTask → List ℕ → Type 0
 CutsBody at bytes (task.Header head end) rest = ⊥
 CutsBody at bytes (task.Body piece end) rest = IsCut at bytes piece end rest
 CutsBody at bytes (task.UpgradedBody piece end) rest = ⊥
 CutsBody at bytes (task.Trailer fields) rest = ⊥
-CutsBody at bytes task.Done rest = Unit {0}
+CutsBody at bytes task.Done rest = is_in_length at ≡ false
 CutsBody at bytes (task.Failed error) rest = ⊥
 
 -- the task is a head
@@ -336,6 +351,21 @@ FoundCuts old new bytes rest found.Nothing = PassesOn old new bytes rest
 FoundCuts old new bytes rest found.End = Unit {0}
 FoundCuts old new bytes rest (found.Failed fail) = Unit {0}
 
+-- ---- why a response is broken
+
+-- the bytes of a response are broken behind what was told, for that reason. Behind the heads that
+-- inform stands no head: none ends within the limit (`HeadTooLong`), the text is none
+-- (`HeadGrammar`), or it has no framing (`BadFraming`). Or behind the final head the body is broken,
+-- as one in chunks may be (`BadFraming`)
+pub data BreaksFor (method given : List ℕ) (told : ToldResponse) (why : Context) : Type 0 where
+  in_head : IsRefusedBehind method false given told.informed why → told.final ≡ None
+      → told.body ≡ [] → BreaksFor method given told why
+  in_body : (head : ResponseHead) (framing : Framing) (len : ℕ)
+      → HasFinal method false given told.informed head framing len → told.final ≡ Some head
+      → Body framing (drop len given)
+      (record { bytes = told.body; mark = body.BodyMark.broken })
+      → why ≡ BadFraming → BreaksFor method given told why
+
 -- ---- what stands ahead
 
 -- a task was found
@@ -359,6 +389,7 @@ Finds method closed given told old new rest (found.Failed fail.OutOfMemory) =
 Finds method closed given told old new rest (found.Failed (fail.Error error)) =
     (why : Context) × (error ≡ refused_from Upstream why)
     × Tasks method false given closed (says told broken)
+    × BreaksFor method given told why
     × ReadAt method closed given told new rest
 
 -- ---- what a call answers
@@ -377,11 +408,12 @@ abbrev pub got_of : Pause → Got
 got_of pause.NotReady = got.NotReady
 got_of pause.Silent = got.Silent
 
--- the error of a link that ended inside a response: it may help to try again on a new link only
--- where no byte of the response had come (RFC 9110, section 9.2.2)
+-- the error of a link that ended inside a response, in a head or in the body: it may help to try
+-- again on a new link only where no byte of the response had come (RFC 9110, section 9.2.2)
 abbrev pub cut_off_error : List ℕ → Error
 cut_off_error given =
-    record (new_error ConnectionClosed Upstream) {
+    record (explained ConnectionClosed UpstreamClosed) {
+      esource = Upstream;
       retry = if length given == 0 then ReusedOnly else Decided false;
     }
 
@@ -394,7 +426,7 @@ pub data Refuses
     (method : List ℕ) (closed : Bool) (given : List ℕ) (told : ToldResponse) (asked : Option Got)
     (error : Error) : Type 0 where
   is_broken : (why : Context) → error ≡ refused_from Upstream why
-      → Tasks method false given closed (says told broken)
+      → Tasks method false given closed (says told broken) → BreaksFor method given told why
       → Refuses method closed given told asked error
   has_failed : (fault : Fault) → asked ≡ Some (got.Failed fault) → error ≡ fault_error fault
       → Tasks method false given false (says told still_open)

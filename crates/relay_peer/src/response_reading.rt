@@ -8,7 +8,9 @@ ghost use Rattle.relay_peer.specs.ResponseReading.{ToldResponse, ReadAt, OpenAt,
 use http::{Method, Version};
 use relay_h1::{Ahead, BodyReader, Cut, Framing, closes, judge_response};
 use relay_links::{ByteLink, Got};
-use relay_tasks::{Error, ErrorType, Fail, HttpTask, Pause, ResponseHeader, RetryType, Took};
+use relay_tasks::{
+    Context, Error, ErrorType, Fail, HttpTask, Pause, ResponseHeader, RetryType, Took,
+};
 use std::alloc::Global;
 use std::mem;
 
@@ -334,10 +336,7 @@ fn end_of_body(mut body: OpenBody) -> ReadingStep
             place: ResponsePlace::Ended(body.keeps),
             found: Found::Task(HttpTask::Done),
         },
-        Err(error) => ReadingStep {
-            place: ResponsePlace::InBody(body),
-            found: Found::Failed(Fail::Error(error.into_up())),
-        },
+        Err(_) => cut_off(ResponsePlace::InBody(body), false),
     }
 }
 
@@ -351,7 +350,8 @@ fn cut_off(place: ResponsePlace, none_came: bool) -> ReadingStep
           found = Found.Failed (Fail.Error (cut_off_error given));
         } }
 {
-    let mut error = Error::new_up(ErrorType::ConnectionClosed);
+    let about = Context::UpstreamClosed;
+    let mut error = Error::explain(ErrorType::ConnectionClosed, about).into_up();
     if none_came {
         error.retry = RetryType::ReusedOnly;
     }

@@ -41,6 +41,7 @@ use Rattle.relay_proxy.specs.declared.machine.Phase.TheVariants.{Connect, Relay,
 use Rattle.relay_proxy.specs.declared.outcome.Outcome.{Outcome}
 use Rattle.relay_proxy.specs.declared.outcome.Outcome.TheVariants as outcome
 use Rattle.relay_proxy.proofs.OpenHead.{exchange_open}
+use Rattle.relay_sides.proofs.FaultLemmas.{grew_same}
 use Rattle.relay_proxy.proofs.Tells.{Rose-le, client_still}
 
 -- a link that was just handed out gave and took nothing since
@@ -251,7 +252,8 @@ module _ {L C : Type 0} (state : L → LinkState) (start_at : L → LinkStart) w
     passed = p;
     run = record {
       tells = client_still s p w (world_with w.client w.ahead failed)
-          (Rose-le w.connect_faults failed fits rose) refl refl (omega arith) run.tells;
+          (Rose-le w.connect_faults failed fits rose) refl refl (omega arith)
+          (grew_same w.client w.client refl) run.tells;
       order = run.order;
       untouched = run.untouched;
       going = λ limit. cc;

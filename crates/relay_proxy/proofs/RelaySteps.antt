@@ -146,6 +146,7 @@ module _ {L : Type 0} (state : L → LinkState) (start_at : L → LinkStart) whe
     written = told.written;
     faults = told.faults;
     connect_faults = tells.connect_faults;
+    fault_lists = told.client_tells;
   }
 
   -- the attempt's link tells what passed, and the lease still says what it was

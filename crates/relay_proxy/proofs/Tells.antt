@@ -9,6 +9,7 @@ use Rattle.relay_tasks.specs.declared.Error.{Error}
 use Rattle.relay_tasks.specs.declared.ErrorSource.{ErrorSource}
 use Rattle.relay_tasks.specs.declared.Fault.{Fault}
 use Rattle.relay_exchange.specs.Passed.{Passed}
+use Rattle.relay_sides.proofs.FaultLemmas.{Grew, grew_none, since_on}
 use Rattle.relay_proxy.specs.Endings.{fault_error}
 use Rattle.relay_proxy.specs.Passed.{World, Start, TellsClient}
 
@@ -44,6 +45,8 @@ client_gave s p w x room n same gives tells = record {
   written = Since-kept [] s.taken w.client.taken x.client.taken p.written gives.taken tells.written;
   faults = omega (arith, gives.faults, tells.faults);
   connect_faults = omega (arith, tells.connect_faults);
+  fault_lists = since_on s.read_faults s.write_faults w.client x.client
+      (grew_none w.client x.client gives.read_faults gives.write_faults) tells.fault_lists;
 }
 
 -- the client's link took a piece
@@ -56,19 +59,22 @@ client_took s p w x part n same takes tells = record {
       tells.written;
   faults = omega (arith, takes.faults, tells.faults);
   connect_faults = omega (arith, tells.connect_faults);
+  fault_lists = since_on s.read_faults s.write_faults w.client x.client
+      (grew_none w.client x.client takes.read_faults takes.write_faults) tells.fault_lists;
 }
 
 -- the client's link gave and took nothing
 pub client_still : (s : Start) (p : Passed) (w x : World)
     → w.connect_faults ≤ x.connect_faults
     → x.client.given ≡ w.client.given → x.client.taken ≡ w.client.taken
-    → w.client.faults ≤ x.client.faults
+    → w.client.faults ≤ x.client.faults → Grew w.client x.client
     → TellsClient s p w → TellsClient s p x
-client_still s p w x connect given taken faults tells = record {
+client_still s p w x connect given taken faults grew tells = record {
   came = Since-kept [] s.given w.client.given x.client.given p.came given tells.came;
   written = Since-kept [] s.taken w.client.taken x.client.taken p.written taken tells.written;
   faults = omega (arith, tells.faults);
   connect_faults = omega (arith, tells.connect_faults);
+  fault_lists = since_on s.read_faults s.write_faults w.client x.client grew tells.fault_lists;
 }
 
 -- an error that tells of a fault, with its side set

@@ -25,6 +25,7 @@ use Rattle.relay_h1.specs.declared.framing.Framing.{Framing}
 use Rattle.relay_session.specs.Reading.{IsWhole}
 use Rattle.relay_core.specs.Past.{Origin}
 use Rattle.relay_sides.specs.Body.{IsFrontOf, body_of}
+use Rattle.relay_sides.specs.Faults.{IsLast}
 use Rattle.relay_sides.specs.Peer.{asks_to_close}
 use Rattle.relay_exchange.specs.Order as exchange
 use Rattle.relay_exchange.specs.Order.{FailsFor, IsRelayed, HasEnded, MayServe}
@@ -116,9 +117,11 @@ pub record IsNotRelayed (s : Start) (p : Passed) (w : World) (error : Option Err
   pub written : p.written ≡ []
   pub unsent : IsUnsent p
 
--- a read of the client's head failed
+-- a read of the client's head failed, and its fault is the last that the link tells of its reads since
+-- the request began
 pub record FailsInHead (s : Start) (p : Passed) (w : World) (fault : Fault) : Type 0 where
   pub kind : IsReadFault fault
+  pub told : IsLast s.read_faults w.client.read_faults fault
   pub open_head : IsOpen (asked s p)
   pub ended : w.client.ended ≡ false
   pub written : p.written ≡ []
@@ -131,9 +134,11 @@ pub record IsHalfAnswered (s : Start) (p : Passed) : Type 0 where
   pub part : IsFrontOf p.written answer
   pub left : p.written ≢ answer
 
--- a write of the generated answer failed
-pub record FailsInRefusal (s : Start) (p : Passed) (fault : Fault) : Type 0 where
+-- a write of the generated answer failed, and its fault is the last that the link tells of its writes
+-- since the request began
+pub record FailsInRefusal (s : Start) (p : Passed) (w : World) (fault : Fault) : Type 0 where
   pub kind : IsWriteFault fault
+  pub told : IsLast s.write_faults w.client.write_faults fault
   pub unfinished : IsHalfAnswered s p
 
 -- the client's link failed before a link was asked for
@@ -141,7 +146,7 @@ pub record IsClientFault (s : Start) (p : Passed) (w : World) (error : Option Er
   pub fault : Fault
   pub is : error ≡ Some (fault_error Downstream fault)
   pub rose : Rose s.faults w.client.faults
-  pub place : FailsInHead s p w fault ⊎ FailsInRefusal s p fault
+  pub place : FailsInHead s p w fault ⊎ FailsInRefusal s p w fault
   pub unsent : IsUnsent p
 
 -- the connector gave no link

@@ -5,6 +5,7 @@ use Rattle.relay_links.specs.Link.{LinkState, LinkStart}
 use Rattle.relay_links.specs.Told.{Since, told_length}
 use Rattle.relay_h1.specs.Verdict.{IsOpen}
 use Rattle.relay_core.specs.Past.{Origin}
+use Rattle.relay_sides.specs.Faults.{TellsSince}
 use Rattle.relay_exchange.specs.Passed.{Passed}
 
 -- the outside as one request sees it: the client's link, the bytes that were read ahead from it,
@@ -21,6 +22,8 @@ pub record Start : Type 0 where
   pub taken : ℕ
   pub faults : ℕ
   pub connect_faults : ℕ
+  pub read_faults : ℕ
+  pub write_faults : ℕ
 
 -- where a request begins, as the world stands
 abbrev pub start_of : World → Start
@@ -30,6 +33,8 @@ start_of w = record {
   taken = told_length w.client.taken;
   faults = w.client.faults;
   connect_faults = w.connect_faults;
+  read_faults = told_length w.client.read_faults;
+  write_faults = told_length w.client.write_faults;
 }
 
 -- where the exchange of a request began that has that head, over a link that had been used before
@@ -42,6 +47,8 @@ origin_of s head reused = record {
   taken = s.taken;
   faults = s.faults;
   reused = reused;
+  read_faults = s.read_faults;
+  write_faults = s.write_faults;
 }
 
 -- nothing passed yet
@@ -52,12 +59,13 @@ nothing = record { came = []; written = []; got = []; sent = [] }
 abbrev pub asked : Start → Passed → List ℕ
 asked s p = s.ahead ++ p.came
 
--- the client's link tells what passed, where it tells its bytes
+-- the client's link tells what passed, where it tells its bytes, and the faults that it answered
 pub record TellsClient (s : Start) (p : Passed) (w : World) : Type 0 where
   pub came : Since [] s.given w.client.given p.came
   pub written : Since [] s.taken w.client.taken p.written
   pub faults : s.faults ≤ w.client.faults
   pub connect_faults : s.connect_faults ≤ w.connect_faults
+  pub fault_lists : TellsSince s.read_faults s.write_faults w.client
 
 -- the attempt's link tells what passed, where it tells its bytes
 pub record TellsLink (p : Passed) (link : LinkState) (start : LinkStart) : Type 0 where

@@ -18,7 +18,8 @@ use Rattle.relay_session.proofs.ReadingLemmas.{body_whole}
 use Rattle.relay_tasks.specs.declared.fault.Fault.{Fault}
 use Rattle.relay_core.specs.Past.{Origin, DownPast}
 use Rattle.relay_sides.specs.Body.{bytes_of, body_of}
-use Rattle.relay_sides.specs.Client.{HasPassed, BeginsBehind, begun_past}
+use Rattle.relay_sides.specs.Client.{HasPassed, FailsWrite, BeginsBehind, begun_past}
+use Rattle.relay_sides.proofs.FaultLemmas.{Grew, among_still}
 
 -- an output that is open has no fault
 pub open_is_whole : (output : Outgoing) (queue : List ℕ) (fault : Fault)
@@ -59,6 +60,7 @@ begins s came link ahead session b = record {
     response = b.response;
     broken = λ fault is.
         absurd (open_is_whole session.writing.output [] fault b.output is);
+    tells = b.tells;
   };
   over = λ done. absurd (cc);
   plain = refl;
@@ -98,6 +100,19 @@ rose_on start before after grown rose = λ below.
 -- a count that rises has risen from each earlier place
 pub rose_from : (start before after : ℕ) → start ≤ before → Rose before after → Rose start after
 rose_from start before after earlier rose = λ below. omega (arith, earlier, rose below)
+
+-- a write that failed has failed since
+pub failed_still : (s : Origin) (before after : LinkState) (fault : Fault)
+    → before.faults ≤ after.faults → Grew before after → FailsWrite s before fault
+    → FailsWrite s after fault
+failed_still s before after fault grown grew was = (
+  rose_on s.faults before.faults after.faults grown was.0,
+  record {
+    kind = was.1.kind;
+    among = among_still s.write_faults before.write_faults after.write_faults grew.writes fault
+        grew.written was.1.among;
+  },
+)
 
 -- a side of which something passed has a head
 pub no_head : (s : Origin) (p : DownPast) (link : LinkState) (ahead : List ℕ)

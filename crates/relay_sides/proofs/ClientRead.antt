@@ -15,7 +15,6 @@ use Rattle.relay_tasks.specs.declared.task.HttpTask.{HttpTask}
 use Rattle.relay_tasks.specs.Task.{is_end}
 use Rattle.relay_links.specs.Count.{up}
 use Rattle.relay_links.specs.Link.{LinkState}
-use Rattle.relay_links.specs.Told.{more}
 use Rattle.relay_links.proofs.SinceLemmas.{Since-kept, Since-grows}
 use Rattle.relay_h1.proofs.VerdictLemmas.{HasRequest-append}
 use Rattle.relay_h1.specs.Verdict.{HasRequest}
@@ -35,9 +34,11 @@ use Rattle.relay_core.specs.Down.{ReadsPiece}
 use Rattle.relay_core.specs.Past.{Origin, DownPast, GaveBytes, DownGoes, put_in, error_of_took}
 use Rattle.relay_core.specs.Piece.{put_of}
 use Rattle.relay_sides.specs.Body.{body_of}
-use Rattle.relay_sides.specs.Client.{IsClient, HasPassed, IsUnanswered, IsLast, ClientBlames, state_of, piece_answer, told_read, given_to}
+use Rattle.relay_sides.specs.Client.{IsClient, HasPassed, IsUnanswered, ClientBlames, state_of, piece_answer, told_read, given_to}
 use Rattle.relay_sides.specs.Client as client
-use Rattle.relay_sides.proofs.ClientPast.{stands_at, reading_whole, body_of-append, rose_from, rose_on}
+use Rattle.relay_sides.specs.Faults.{TellsSince}
+use Rattle.relay_sides.proofs.ClientPast.{stands_at, reading_whole, body_of-append, rose_from, failed_still}
+use Rattle.relay_sides.proofs.FaultLemmas.{body_grew, since_on, added_last}
 
 -- what a read of the session left, by its answer; `still` says that the body had ended, so that the
 -- client was only watched
@@ -333,7 +334,9 @@ module _
         h.response;
     broken = λ fault is.
         let was = h.broken fault (ap (λ (w : Writing). w.output) (sym l.response) ∙ is) in
-        (rose_on s.faults before.faults after.faults l.link.faults was.0, was.1);
+        failed_still s before after fault l.link.faults (body_grew before after answer l.link) was;
+    tells = since_on s.read_faults s.write_faults before after (body_grew before after answer l.link)
+        h.tells;
   }
 
 -- a read that gave bytes gave one at least
@@ -342,27 +345,22 @@ gave_some : (before after : LinkState) (came : List ℕ) → front.Gave before a
 gave_some before after came gave =
     rw gave.are (omega (arith, gave.gives.some, gave.gives.fits, length-take gave.n gave.room))
 
--- the fault that was added is the last
-is_last : (before after : Option (List Fault)) (fault : Fault) → after ≡ more before (fault ∷ [])
-    → IsLast after fault
-is_last None after fault grown = rw grown tt
-is_last (Some told) after fault grown = rw grown (told, refl)
-
 -- why a read of a body that goes on was refused
 refused_rest : (s : Origin) (q : DownPast) (before after : LinkState) (body : List ℕ) (e : Error)
-    → s.faults ≤ before.faults → RefusesRest before after (given_to s q) body e
-    → ClientBlames s q after e
-refused_rest s q before after body e earlier (says.RefusesRest.is_broken broken is) =
+    → s.faults ≤ before.faults → TellsSince s.read_faults s.write_faults before
+    → RefusesRest before after (given_to s q) body e → ClientBlames s q after e
+refused_rest s q before after body e earlier tells (says.RefusesRest.is_broken broken is) =
     client.ClientBlames.body_is_broken body broken is
-refused_rest s q before after body e earlier (says.RefusesRest.ends_inside open_still ends is) =
+refused_rest s q before after body e earlier tells (says.RefusesRest.ends_inside open_still ends is) =
     client.ClientBlames.ends_inside body open_still ends.ended is
-refused_rest s q before after body e earlier
+refused_rest s q before after body e earlier tells
     (says.RefusesRest.link_failed fault open_still fails is) =
     client.ClientBlames.link_failed fault is
     (rose_from s.faults before.faults after.faults earlier fails.faults)
     (inr (record {
       kind = fails.kind;
-      last = is_last before.read_faults after.read_faults fault fails.read_faults;
+      last = added_last s.read_faults before.read_faults after.read_faults tells.reads fault
+          fails.read_faults tells.read;
       matters = inl (body, open_still);
     }))
 
@@ -375,25 +373,27 @@ not_over s q now holds answers open_still =
 
 -- why a client stirred that was to be still
 stirred : (s : Origin) (q : DownPast) (before after : LinkState) (ahead left body : List ℕ)
-    (e : Error) → s.faults ≤ before.faults → IsWhole (given_to s q) body left → IsUnanswered s q
+    (e : Error) → s.faults ≤ before.faults → TellsSince s.read_faults s.write_faults before
+    → IsWhole (given_to s q) body left → IsUnanswered s q
     → front.Stirs before after ahead left e → ClientBlames s q after e
-stirred s q before after ahead left body e earlier whole unanswered (front.Stirs.had_sent some same kept is) =
+stirred s q before after ahead left body e earlier tells whole unanswered (front.Stirs.had_sent some same kept is) =
     client.ClientBlames.sent_more body left whole (rw kept some) unanswered is
-stirred s q before after ahead left body e earlier whole unanswered
+stirred s q before after ahead left body e earlier tells whole unanswered
     (front.Stirs.sends came none gave kept is) =
     client.ClientBlames.sent_more body left whole (rw kept (gave_some before after came gave))
     unanswered is
-stirred s q before after ahead left body e earlier whole unanswered (front.Stirs.ends none ends kept is) =
+stirred s q before after ahead left body e earlier tells whole unanswered (front.Stirs.ends none ends kept is) =
     client.ClientBlames.ends_behind body
     (subst (λ (xs : List ℕ). IsWhole (given_to s q) body xs) (kept ∙ none) whole) ends.ended
     unanswered is
-stirred s q before after ahead left body e earlier whole unanswered
+stirred s q before after ahead left body e earlier tells whole unanswered
     (front.Stirs.link_failed fault none fails kept is) =
     client.ClientBlames.link_failed fault is
     (rose_from s.faults before.faults after.faults earlier fails.faults)
     (inr (record {
       kind = fails.kind;
-      last = is_last before.read_faults after.read_faults fault fails.read_faults;
+      last = added_last s.read_faults before.read_faults after.read_faults tells.reads fault
+          fails.read_faults tells.read;
       matters = inr unanswered;
     }))
 
@@ -404,28 +404,29 @@ same_error a e is = cc
 -- why a read was refused
 blamed : (s : Origin) (q : DownPast) (before after : LinkState) (given ahead left body : List ℕ)
     (still : Bool) (new : HttpSession) (answer : Took (List ℕ)) (e : Error)
-    → s.faults ≤ before.faults → (still ≡ true → IsUnanswered s q)
+    → s.faults ≤ before.faults → TellsSince s.read_faults s.write_faults before
+    → (still ≡ true → IsUnanswered s q)
     → (r : ReadsRest before after given body ahead left still new.reading answer)
     → given_to s q ≡ given ++ r.came
     → error_of_took (piece_answer answer (is_body_done new.reading)) ≡ Some e
     → ClientBlames s q after e
-blamed s q before after given ahead left body still new (took.Item bytes) e earlier unanswered r all is =
+blamed s q before after given ahead left body still new (took.Item bytes) e earlier tells unanswered r all is =
     absurd (cc)
-blamed s q before after given ahead left body still new took.More e earlier unanswered r all is = absurd (cc)
-blamed s q before after given ahead left body still new (took.Waited pause) e earlier unanswered r all is =
+blamed s q before after given ahead left body still new took.More e earlier tells unanswered r all is = absurd (cc)
+blamed s q before after given ahead left body still new (took.Waited pause) e earlier tells unanswered r all is =
     absurd (cc)
-blamed s q before after given ahead left body still new took.End e earlier unanswered r all is = absurd (cc)
-blamed s q before after given ahead left body still new (took.Failed fail.OutOfMemory) e earlier unanswered r
+blamed s q before after given ahead left body still new took.End e earlier tells unanswered r all is = absurd (cc)
+blamed s q before after given ahead left body still new (took.Failed fail.OutOfMemory) e earlier tells unanswered r
     all is =
     absurd (cc)
-blamed s q before after given ahead left body still new (took.Failed (fail.Error error)) e earlier unanswered r
+blamed s q before after given ahead left body still new (took.Failed (fail.Error error)) e earlier tells unanswered r
     all is =
     subst (λ (err : Error). ClientBlames s q after err) (same_error error e is)
     (elim (cases_Bool still) [
       | inl on ↦ let w = r.watches on in
-          stirred s q before after ahead left body error earlier
+          stirred s q before after ahead left body error earlier tells
           (subst (λ (xs : List ℕ). IsWhole xs body left) (sym all) w.0) (unanswered on) w.1
-      | inr off ↦ refused_rest s q before after (body ++ []) error earlier
+      | inr off ↦ refused_rest s q before after (body ++ []) error earlier tells
           (subst (λ (xs : List ℕ). RefusesRest before after xs (body ++ []) error) (sym all)
           (r.tells off))
     ])
@@ -457,17 +458,16 @@ reads_on s p before after ahead left old new done finished broken answer may h l
         asked = h.asked;
         closed = rw l.response h.closed;
         unbroken = rw l.response h.unbroken;
-        fault = λ f is. (
-          rose_on s.faults before.faults after.faults l.link.faults (h.fault f is).0,
-          (h.fault f is).1,
-        );
+        fault = λ f is.
+            failed_still s before after f l.link.faults (body_grew before after answer l.link)
+            (h.fault f is);
       };
       is_put = refl;
       is_batched = refl;
       is_closing = refl;
       blamed = λ e is.
           blamed s (past_read p r.came put) before after (given_to s p) ahead left h.client.body
-          l.still new answer e h.client.faults
+          l.still new answer e h.client.faults h.client.tells
           (λ on. not_over s (past_read p r.came put) old.writing h.client.response
           (h.client.answers ∙ ap request_of h.client.own)
           (open_behind (is_body_done old.reading) done finished (is_over old.writing.place) may

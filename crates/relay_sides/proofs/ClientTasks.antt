@@ -186,6 +186,7 @@ requeued s p link ahead old new batched closing h reading request holds broken =
   told_whole = rw reading h.told_whole;
   response = holds;
   broken = broken;
+  tells = h.tells;
 }
 
 -- tasks that follow those of a response whose end was not asked for

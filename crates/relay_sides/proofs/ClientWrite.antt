@@ -1,5 +1,5 @@
 -- A write to the client: what it says of the state, and how what passed goes on with it.
-use Rattle.std.proofs.Common.{◌≡◌, ℕ, ◌≤◌, Bool, true, false, List, [], ◌++◌, length, take, drop, Option, Some, None, refl, sym, ◌∙◌, ap, subst, append-nil, le_refl, inl, inr, arith, ◌<◌}
+use Rattle.std.proofs.Common.{◌≡◌, ℕ, ◌≤◌, Bool, true, false, List, [], ◌∷◌, ◌++◌, length, take, drop, Option, Some, None, refl, sym, ◌∙◌, ap, subst, append-nil, le_refl, inl, inr, arith, ◌<◌}
 use Rattle.std.specs.Prelude.{not, ◌==◌, ◌||◌, is_some}
 use Rattle.relay_tasks.specs.declared.error.Error.{Error}
 use Rattle.relay_tasks.specs.declared.error.ErrorSource.TheVariants.{Downstream}
@@ -22,9 +22,11 @@ use Rattle.relay_core.specs.declared.told.Told.{Told}
 use Rattle.relay_core.specs.Down.{Writes}
 use Rattle.relay_core.specs.Past.{Origin, DownPast, DownGoes, error_of_put}
 use Rattle.relay_core.specs.Told.{written, fault_of}
-use Rattle.relay_sides.specs.Client.{IsClient, HasPassed, ClientBlames, fault_in, state_of}
+use Rattle.relay_sides.specs.Client.{IsClient, HasPassed, FailsWrite, ClientBlames, fault_in, state_of}
+use Rattle.relay_sides.specs.Faults.{TellsSince}
 use Rattle.relay_sides.specs.Client as client
 use Rattle.relay_sides.proofs.ClientPast.{rose_from, open_is_whole}
+use Rattle.relay_sides.proofs.FaultLemmas.{Grew, grew_none, grew_same, more_none, since_on, added_among}
 
 -- a write is due where something waits
 pub may_write : (output : Outgoing) → not (length (pending output) == 0) ≡ true → MayWrite output
@@ -38,6 +40,9 @@ record Wrote (before after : LinkState) (queue : List ℕ) (answer : Put) : Type
   faults : before.faults ≤ after.faults
   failed : (fault : Fault) → answer ≡ put.Failed fault → Rose before.faults after.faults
   kind : (fault : Fault) → answer ≡ put.Failed fault → IsWriteFault fault
+  grew : Grew before after
+  added : (fault : Fault) → answer ≡ put.Failed fault
+      → after.write_faults ≡ more before.write_faults (fault ∷ [])
 
 -- a list of which nothing is taken gains nothing
 gains_nothing : (before after : LinkState) (queue : List ℕ) → after.taken ≡ before.taken
@@ -67,6 +72,8 @@ wrote before after queue (put.Took n) w = record {
   faults = rw w.faults (le_refl before.faults);
   failed = λ fault is. cc;
   kind = λ fault is. cc;
+  grew = grew_none before after w.read_faults w.write_faults;
+  added = λ fault is. cc;
 }
 wrote before after queue put.NotReady w = record {
   given = w.given;
@@ -74,6 +81,8 @@ wrote before after queue put.NotReady w = record {
   faults = rw w.faults (le_refl before.faults);
   failed = λ fault is. cc;
   kind = λ fault is. cc;
+  grew = grew_none before after w.read_faults w.write_faults;
+  added = λ fault is. cc;
 }
 wrote before after queue put.Silent w = rw w.same (record {
   given = refl;
@@ -81,6 +90,8 @@ wrote before after queue put.Silent w = rw w.same (record {
   faults = le_refl before.faults;
   failed = λ fault is. cc;
   kind = λ fault is. cc;
+  grew = grew_same before before refl;
+  added = λ fault is. cc;
 })
 wrote before after queue (put.Failed why) w = record {
   given = w.given;
@@ -88,6 +99,15 @@ wrote before after queue (put.Failed why) w = record {
   faults = not_fallen before.faults after.faults w.sound_before.faults_fit w.faults;
   failed = λ fault is. w.faults;
   kind = λ fault is. subst IsWriteFault (same_fault why fault is) w.kind;
+  grew = record {
+    reads = [];
+    read = w.read_faults ∙ more_none before.read_faults;
+    writes = why ∷ [];
+    written = w.write_faults;
+  };
+  added = λ fault is.
+      subst (λ (f : Fault). after.write_faults ≡ more before.write_faults (f ∷ []))
+      (same_fault why fault is) w.write_faults;
 }
 wrote before after queue put.OutOfMemory w = record {
   given = ap (λ (l : LinkState). l.given) w.same;
@@ -95,7 +115,24 @@ wrote before after queue put.OutOfMemory w = record {
   faults = rw (ap (λ (l : LinkState). l.faults) w.same) (le_refl before.faults);
   failed = λ fault is. cc;
   kind = λ fault is. cc;
+  grew = grew_none before after (ap (λ (l : LinkState). l.read_faults) w.same)
+      (ap (λ (l : LinkState). l.write_faults) w.same);
+  added = λ fault is. cc;
 }
+
+-- a write that failed now has failed since the request began
+failed_now : (s : Origin) (before after : LinkState) (queue : List ℕ) (answer : Put)
+    (fault : Fault)
+    → s.faults ≤ before.faults → TellsSince s.read_faults s.write_faults before
+    → Wrote before after queue answer → answer ≡ put.Failed fault → FailsWrite s after fault
+failed_now s before after queue answer fault earlier tells w is = (
+  rose_from s.faults before.faults after.faults earlier (w.failed fault is),
+  record {
+    kind = w.kind fault is;
+    among = added_among s.write_faults before.write_faults after.write_faults tells.writes fault
+        (w.added fault is) tells.written;
+  },
+)
 
 -- what is broken where something waits
 nothing_waits : (fault : Fault) → ¬ (not (length (pending (outgoing.Broken fault)) == 0) ≡ true)
@@ -198,12 +235,9 @@ writes_on s p before after ahead left old new done finished broken answer (outgo
           told_whole = rw (reading, kept) h.client.told_whole;
           response = holds;
           broken = λ fault of.
-              let is_kept = kept_fault writes.rest answer new.writing.output fault writes.leaves of
-              in (
-                rose_from s.faults before.faults after.faults h.client.faults
-                    (w.failed fault is_kept),
-                w.kind fault is_kept,
-              );
+              failed_now s before after queue answer fault h.client.faults h.client.tells w
+              (kept_fault writes.rest answer new.writing.output fault writes.leaves of);
+          tells = since_on s.read_faults s.write_faults before after w.grew h.client.tells;
         };
         over = rw (ap (λ (r : Writing). r.request) rest) h.over;
         plain = h.plain;
@@ -214,20 +248,18 @@ writes_on s p before after ahead left old new done finished broken answer (outgo
         asked = h.asked;
         closed = rw (ap (λ (r : Writing). r.place) rest) h.closed;
         unbroken = still_open writes.rest answer new.writing.output writes.leaves;
-        fault = λ f is. (
-          rose_from s.faults before.faults after.faults h.client.faults
-              (w.failed f (found_fault answer f is)),
-          w.kind f (found_fault answer f is),
-        );
+        fault = λ f is.
+            failed_now s before after queue answer f h.client.faults h.client.tells w
+            (found_fault answer f is);
       };
       is_put = refl;
       is_batched = refl;
       is_closing = refl;
       blamed = λ e of.
           let f = failed_put answer e of in
-          client.ClientBlames.link_failed f.0 f.2
-          (rose_from s.faults before.faults after.faults h.client.faults (w.failed f.0 f.1))
-          (inl (w.kind f.0 f.1));
+          let fails =
+          failed_now s before after queue answer f.0 h.client.faults h.client.tells w f.1 in
+          client.ClientBlames.link_failed f.0 f.2 fails.0 (inl fails.1);
     }
 
 -- the answer of a write that failed before

@@ -2,9 +2,12 @@
 use Rattle.std.proofs.Common.{◌≡◌, ℕ, Bool, List, [], ◌∷◌, ◌++◌, Option, Some, None, refl, sym, ◌∙◌, ap, subst, append-nil, append_assoc}
 use Rattle.relay_tasks.specs.declared.fault.Fault.{Fault}
 use Rattle.relay_links.specs.Link.{LinkState, LinkStart, IsReadFault, IsWriteFault, IsHandedOut}
-use Rattle.relay_links.specs.Told.{more, Since}
+use Rattle.relay_links.specs.Told.{more, told_length, Since}
 use Rattle.relay_links.proofs.SinceLemmas.{Since-start, Since-grows}
-use Rattle.relay_sides.specs.Faults.{HasAnswered, TellsFaults}
+use Rattle.relay_tasks.specs.declared.took.Took.{Took}
+use Rattle.relay_session.specs.Reading.{ReadsLink, AddsFault}
+use Rattle.relay_session.specs.Reading as says
+use Rattle.relay_sides.specs.Faults.{HasAnswered, TellsFaults, TellsSince, IsAmong, IsLast}
 use Rattle.relay_sides.specs.Faults as faults
 
 -- these faults were added to the lists that a link tells
@@ -97,3 +100,63 @@ tells_none start link reused out = record {
   written = subst (λ (n : ℕ). Since [] n link.write_faults []) (sym out.write_faults)
       (Since-start [] link.write_faults);
 }
+
+-- ---- since two places
+
+-- what the link tells since two places goes on
+pub since_on : (reads writes : ℕ) (before after : LinkState) → Grew before after
+    → TellsSince reads writes before → TellsSince reads writes after
+since_on reads writes before after grew tells = record {
+  reads = tells.reads ++ grew.reads;
+  read = Since-grows [] reads before.read_faults after.read_faults tells.reads grew.reads grew.read
+      tells.read;
+  writes = tells.writes ++ grew.writes;
+  written = Since-grows [] writes before.write_faults after.write_faults tells.writes grew.writes
+      grew.written tells.written;
+}
+
+-- at its places, a link has told none since
+pub since_none : (link : LinkState)
+    → TellsSince (told_length link.read_faults) (told_length link.write_faults) link
+since_none link = record {
+  reads = [];
+  read = Since-start [] link.read_faults;
+  writes = [];
+  written = Since-start [] link.write_faults;
+}
+
+-- a fault among others is still among them
+pub among_still : (place : ℕ) (told now : Option (List Fault)) (new : List Fault) (fault : Fault)
+    → now ≡ more told new → IsAmong place told fault → IsAmong place now fault
+among_still place told now new fault grown was = (
+  was.0,
+  was.1 ++ new,
+  among_on place told now was.0 was.1 new fault grown was.2,
+)
+
+-- a fault that was added is the last
+pub added_last : (place : ℕ) (told now : Option (List Fault)) (earlier : List Fault) (fault : Fault)
+    → now ≡ more told (fault ∷ []) → Since [] place told earlier → IsLast place now fault
+added_last place told now earlier fault added since =
+    (earlier, Since-grows [] place told now earlier (fault ∷ []) added since)
+
+-- and so it is among them
+pub added_among : (place : ℕ) (told now : Option (List Fault)) (earlier : List Fault)
+    (fault : Fault)
+    → now ≡ more told (fault ∷ []) → Since [] place told earlier → IsAmong place now fault
+added_among place told now earlier fault added since =
+    (earlier, [], Since-grows [] place told now earlier (fault ∷ []) added since)
+
+-- the faults that a read of a body added
+pub body_grew : (before after : LinkState) (answer : Took (List ℕ))
+    → ReadsLink before after answer → Grew before after
+body_grew before after answer link = by_read link.read_faults
+  where
+    by_read : AddsFault before after answer → Grew before after
+    by_read (says.AddsFault.none_came same) = grew_none before after same link.write_faults
+    by_read (says.AddsFault.one_came fault added is) = record {
+      reads = fault ∷ [];
+      read = added;
+      writes = [];
+      written = link.write_faults ∙ more_none before.write_faults;
+    }

@@ -51,9 +51,10 @@ blames_keep start before after head q p e go (peer.PeerBlames.is_cut_off told ov
     (is ∙ ap (λ (g : List ℕ). cut_off_error g) (sym same))
     (subst (λ (g : List ℕ). Tasks head.method false g true (says told cut_off)) (sym same) said)
 blames_keep start before after head q p e go
-    (peer.PeerBlames.is_broken why closed came told is front said) =
+    (peer.PeerBlames.is_broken why closed came told is front said breaks) =
     peer.PeerBlames.is_broken why closed came told is
     (front_then came q.got p.got front (record { rest = go.more; joined = sym go.got })) said
+    breaks
 blames_keep start before after head q p e go
     (peer.PeerBlames.switches informed final framing len has status is) =
     peer.PeerBlames.switches informed final framing len

@@ -35,13 +35,14 @@ use Rattle.relay_peer.specs.declared.request_writing.RequestPlace.{RequestPlace}
 use Rattle.relay_peer.specs.declared.request_writing.RequestPlace.TheVariants as request
 use Rattle.relay_peer.specs.declared.request_writing.RequestWriting.{RequestWriting}
 use Rattle.relay_peer.specs.declared.response_reading.ResponsePlace.{ResponsePlace}
+use Rattle.relay_peer.specs.declared.response_reading.ResponsePlace.TheVariants as place
 use Rattle.relay_peer.specs.declared.response_reading.ResponseReading.{ResponseReading}
 use Rattle.relay_peer.specs.RequestWriting.{SentSoFar, head_in, method_of}
-use Rattle.relay_peer.specs.ResponseReading.{ToldResponse, ReadSoFar, ReadsTask, Answers, Asks, Refuses, IsResponseTask, untold, with_task, with_head, is_over, is_item, is_error, fault_error}
+use Rattle.relay_peer.specs.ResponseReading.{ToldResponse, ReadSoFar, ReadsTask, Answers, Asks, Cuts, AnswerCuts, Refuses, IsResponseTask, untold, with_task, with_head, is_over, is_item, is_error, fault_error}
 use Rattle.relay_peer.specs.ResponseReading as reading
 use Rattle.relay_core.specs.Past.{Origin, UpPast, GaveBytes, UpGoes, error_of_fail, error_of_took}
 use Rattle.relay_sides.specs.declared.peer_side.PeerSide.{PeerSide}
-use Rattle.relay_sides.specs.Peer.{IsPeer, IsPeerSide, IsQueued, PeerBlames, AreTasks, HasRoom, Withholds, asks_to_close, is_switch, Queues, Loses, IsNew, handed, told_of, none_passed}
+use Rattle.relay_sides.specs.Peer.{IsPeer, IsPeerSide, IsQueued, PeerBlames, AreTasks, CutsTask, HasRoom, Withholds, asks_to_close, is_switch, Queues, Loses, IsNew, handed, told_of, none_passed}
 use Rattle.relay_sides.specs.Peer as peer
 use Rattle.relay_sides.proofs.FaultLemmas.{grew_same, tells_on}
 use Rattle.relay_sides.proofs.FrontLemmas.{own_front}
@@ -208,9 +209,9 @@ refusal_blamed : (start : LinkStart) (before after : LinkState) (head : RequestH
     → Refuses head.method after.ended (q.got ++ came) told asked error
     → PeerBlames start after head (after_read q came read) error
 refusal_blamed start before after head q came read told asked error moves
-    (reading.Refuses.is_broken why is said) =
+    (reading.Refuses.is_broken why is said breaks) =
     peer.PeerBlames.is_broken why after.ended (q.got ++ came) told is (own_front (q.got ++ came))
-    said
+    said breaks
 refusal_blamed start before after head q came read told asked error moves
     (reading.Refuses.has_failed fault was is said) =
     peer.PeerBlames.link_failed fault is (moves.failed fault was).0 (moves.failed fault was).1
@@ -394,7 +395,7 @@ brings {L} o start before after old new lost q item reads stands =
       tasks = tasks_push stands.head.method before after q.got at.came stands.given item
           old.response new.response tasks
           (never_item (is_over old.response.place) item (λ over. (at.rests over).is_end)) answers.0
-          answers.1 answers.2;
+          answers.1 answers.2 at.cuts;
     }
 
 -- a task that is handed on
@@ -584,6 +585,52 @@ side_hands {L} o start started before after old new q given taken gone error sam
     or_none : (b : Bool) → (b || false) ≡ b
     or_none true = refl
     or_none false = refl
+
+-- ---- how a task is cut
+
+-- a task that is handed on is cut as it came
+handed_cut : (method : List ℕ) (at : ResponsePlace) (bytes rest : List ℕ) (item : HttpTask)
+    → Cuts at bytes item rest → Cuts at bytes (handed method item) rest
+handed_cut method place.NoHead bytes rest (task.Header head end) cuts = tt
+handed_cut method place.Informed bytes rest (task.Header head end) cuts = tt
+handed_cut method (place.InBody body) bytes rest (task.Header head end) cuts = absurd cuts
+handed_cut method (place.Ended keeps) bytes rest (task.Header head end) cuts = absurd cuts
+handed_cut method at bytes rest (task.Body piece end) cuts = cuts
+handed_cut method at bytes rest (task.UpgradedBody piece end) cuts = cuts
+handed_cut method at bytes rest (task.Trailer fields) cuts = cuts
+handed_cut method at bytes rest task.Done cuts = cuts
+handed_cut method at bytes rest (task.Failed error) cuts = cuts
+
+-- a read whose task is handed on
+pub cuts_handed : (method other : List ℕ) (before after : LinkState) (old new : ResponseReading)
+    (item given : HttpTask) → ReadsTask method before after old new (took.Item item)
+    → given ≡ handed other item → CutsTask before after old new (took.Item given)
+cuts_handed method other before after old new item given reads is = record {
+  came = reads.came;
+  asked = reads.asked;
+  asks = reads.asks;
+  cuts = subst (λ (t : HttpTask). Cuts old.place (old.ahead ++ reads.came) t new.ahead) (sym is)
+      (handed_cut other old.place (old.ahead ++ reads.came) new.ahead item reads.cuts);
+}
+
+-- a read of which no task is handed on
+pub cuts_none : (method : List ℕ) (before after : LinkState) (old new : ResponseReading)
+    (came given : Took HttpTask) → ReadsTask method before after old new came
+    → is_item given ≡ false → CutsTask before after old new given
+cuts_none method before after old new came given reads none = record {
+  came = reads.came;
+  asked = reads.asked;
+  asks = reads.asks;
+  cuts = no_task given none;
+}
+  where
+    no_task : (answer : Took HttpTask) → is_item answer ≡ false
+        → AnswerCuts old.place (old.ahead ++ reads.came) answer new.ahead
+    no_task (took.Item item) none = absurd (cc)
+    no_task took.More none = tt
+    no_task (took.Waited pause) none = tt
+    no_task took.End none = tt
+    no_task (took.Failed fail) none = tt
 
 -- ---- what is told of faults
 

@@ -1,6 +1,7 @@
 -- The tasks of a response: one more of them, and what they tell.
 use Rattle.std.proofs.Common.{◌≡◌, ℕ, ◌+◌, ◌<◌, Bool, true, false, ◌||◌, ◌&&◌, not, List, [], ◌∷◌, ◌++◌, length, length-append, arith, refl, sym, ap, subst, ◌∙◌, Option, Some, None, is_some, if◌then◌else◌, drop, nat_le, nat_lt, ◌==◌, codes, bytes_eq}
-use Rattle.std.specs.List.{list_any}
+use Rattle.std.specs.List.{All, list_any}
+use Rattle.std.proofs.lemmas.List.Elements.{All-nil, All-cons, All-push}
 use Rattle.std.proofs.lemmas.List.Folds.{list_any-append}
 use Rattle.http_header.specs.HeaderMap.{RefusesInsert}
 use Rattle.relay_tasks.specs.Error.{IsMemoryOr, refused}
@@ -15,6 +16,11 @@ use Rattle.relay_tasks.specs.declared.task.HttpTask.TheVariants as task
 use Rattle.relay_tasks.specs.Task.{is_end}
 use Rattle.relay_links.specs.Link.{LinkState}
 use Rattle.relay_h1.specs.declared.framing.Framing.{Framing}
+use Rattle.relay_h1.specs.declared.framing.Framing.TheVariants as framing
+use Rattle.relay_h1.specs.declared.body_reader.State.{State}
+use Rattle.relay_h1.specs.declared.body_reader.State.TheVariants as state
+use Rattle.relay_h1.specs.BodyReader.{TakesPiece, IsWholeRun, is_of, is_done, is_in_chunks, has_length, is_until_close, is_tunnel}
+use Rattle.relay_h1.proofs.TasksLemmas.{HasFinal-append, HasFinal-unique}
 use Rattle.relay_h1.specs.ClientHead.{is_informational, lacks_framing}
 use Rattle.relay_h1.specs.Framing.{has_no_body, is_bodiless}
 use Rattle.relay_h1.specs.Tasks.{HasFinal, Tasks, ended}
@@ -22,9 +28,9 @@ use Rattle.relay_h1.specs.Verdict.{HasResponse}
 use Rattle.relay_peer.specs.declared.response_reading.ResponsePlace.{ResponsePlace}
 use Rattle.relay_peer.specs.declared.response_reading.ResponsePlace.TheVariants as place
 use Rattle.relay_peer.specs.declared.response_reading.ResponseReading.{ResponseReading}
-use Rattle.relay_peer.specs.ResponseReading.{ToldResponse, ReadSoFar, ReadAt, IsResponseTask, untold, with_task, with_head, says, is_over}
+use Rattle.relay_peer.specs.ResponseReading.{ToldResponse, ReadSoFar, ReadAt, IsResponseTask, Cuts, CutsBody, is_in_length, untold, with_task, with_head, says, is_over}
 use Rattle.relay_core.specs.Moves.{EndsLast}
-use Rattle.relay_sides.specs.Peer.{AreTasks, Follow, HasRoom, StandsBehind, Withholds, inside, told_behind, told_of}
+use Rattle.relay_sides.specs.Peer.{AreTasks, EndsAs, EndFramed, Follow, HasRoom, StandsBehind, Withholds, inside, told_behind, told_of}
 use Rattle.relay_sides.specs.Peer as peer
 
 -- ---- one task more
@@ -128,14 +134,304 @@ not_over : (over : Bool) → (over ≡ true → ⊥) → over ≡ false
 not_over true never = absurd (never refl)
 not_over false never = refl
 
+-- ---- how the tasks end a body
+
+never_some : (head : ResponseHead) → None ≡ Some head → ⊥
+never_some head same = cc
+
+some_head : (a b : ResponseHead) → Some a ≡ Some b → a ≡ b
+some_head a b same = cc
+
+never_final : (a : ResponseHead) → Some a ≡ None → ⊥
+never_final a same = cc
+
+never_both : (final : Option ResponseHead) (head : ResponseHead) → final ≡ None
+    → final ≡ Some head → ⊥
+never_both final head none some = never_some head (sym none ∙ some)
+
+-- a final head that was told stands in the bytes, behind the heads that inform
+record FinalTold (method got : List ℕ) (informed : List ResponseHead) (final : ResponseHead)
+    : Type 0 where
+  framing : Framing
+  len : ℕ
+  has : HasFinal method false got informed final framing len
+
+final_told : (method : List ℕ) (closed : Bool) (got : List ℕ) (told : ToldResponse)
+    (final : ResponseHead)
+    (at : ResponsePlace) (ahead : List ℕ) → is_informational final.status ≡ false
+    → ReadAt method closed got (record told { final = Some final }) at ahead
+    → FinalTold method got told.informed final
+final_told method closed got told final place.NoHead ahead last read =
+    absurd (never_final final read.0.no_final)
+final_told method closed got told final place.Informed ahead last read =
+    absurd (never_final final read.0.no_final)
+final_told method closed got told final (place.InBody body) ahead last read = record {
+  framing = read.framing;
+  len = read.n + read.len;
+  has = record {
+    place = read.n;
+    own = read.len;
+    informs = read.informs;
+    has = subst (λ (h : ResponseHead). HasResponse method false (drop read.n got) h read.framing
+        read.len) (sym (some_head final read.head read.final)) read.has;
+    final = last;
+    ends = refl;
+  };
+}
+final_told method closed got told final (place.Ended keeps) ahead last read = record {
+  framing = read.framing;
+  len = read.n + read.len;
+  has = record {
+    place = read.n;
+    own = read.len;
+    informs = read.informs;
+    has = subst (λ (h : ResponseHead). HasResponse method false (drop read.n got) h read.framing
+        read.len) (sym (some_head final read.head read.final)) read.has;
+    final = last;
+    ends = refl;
+  };
+}
+
+-- a piece ends a body only where that has a length
+piece_ends : (framing : Framing) (old new : State) (bytes piece rest : List ℕ) (end : Bool)
+    → is_of framing old ≡ true → TakesPiece old bytes piece end new rest → end ≡ true
+    → has_length framing ≡ true
+piece_ends framing old new bytes piece rest end of takes ends =
+    by_place takes.at (takes.framing.over.of_framing framing of) takes.longest takes.some
+  where
+    done : is_done new ≡ true
+    done = sym takes.is_end ∙ ends
+
+    empty : (run_is : piece ≡ []) → 0 < length piece → has_length framing ≡ true
+    empty run_is some =
+        absurd (omega (arith, some, ap (λ (xs : List ℕ). length xs) run_is))
+
+    open_still : (at : State) → new ≡ at → is_done at ≡ false → has_length framing ≡ true
+    open_still at is open_yet =
+        let wrong = sym done ∙ ap is_done is ∙ open_yet in absurd (cc)
+
+    by_place : (at : State) → is_of framing at ≡ true
+        → IsWholeRun at takes.behind_framing piece new → 0 < length piece
+        → has_length framing ≡ true
+    by_place state.ChunkLine here whole some = empty whole.run_is some
+    by_place (state.Chunk left) here whole some = open_still _ whole.stands refl
+    by_place state.ChunkEnd here whole some = empty whole.run_is some
+    by_place state.Trailer here whole some = empty whole.run_is some
+    by_place (state.Length left) here whole some = here
+    by_place state.UntilClose here whole some = open_still _ whole.stands refl
+    by_place state.Tunnel here whole some = open_still _ whole.stands refl
+    by_place state.Done here whole some = empty whole.run_is some
+
+-- a body in chunks has no length, nor has one that lasts until the link ends
+chunks_unlong : (framing : Framing) → is_in_chunks framing ≡ true → has_length framing ≡ false
+chunks_unlong framing.Empty is = cc
+chunks_unlong (framing.Length n) is = cc
+chunks_unlong framing.Chunked is = refl
+chunks_unlong framing.UntilClose is = cc
+chunks_unlong framing.Tunnel is = cc
+
+lasting_unlong : (framing : Framing) → is_until_close framing ≡ true
+    → has_length framing ≡ false
+lasting_unlong framing.Empty is = cc
+lasting_unlong (framing.Length n) is = cc
+lasting_unlong framing.Chunked is = cc
+lasting_unlong framing.UntilClose is = refl
+lasting_unlong framing.Tunnel is = cc
+
+tunnel_unlong : (framing : Framing) → is_tunnel framing ≡ true → has_length framing ≡ false
+tunnel_unlong framing.Empty is = cc
+tunnel_unlong (framing.Length n) is = cc
+tunnel_unlong framing.Chunked is = cc
+tunnel_unlong framing.UntilClose is = cc
+tunnel_unlong framing.Tunnel is = refl
+
+not_both : (b : Bool) → b ≡ false → not b ≡ false → ⊥
+not_both true is out = cc
+not_both false is out = cc
+
+-- the end comes alone only where the body has no length
+done_ends : (framing : Framing) (at : State) → is_of framing at ≡ true → is_done at ≡ false
+    → is_in_length at ≡ false → has_length framing ≡ false
+done_ends framing state.ChunkLine of going out = chunks_unlong framing of
+done_ends framing (state.Chunk left) of going out = chunks_unlong framing of
+done_ends framing state.ChunkEnd of going out = chunks_unlong framing of
+done_ends framing state.Trailer of going out = chunks_unlong framing of
+done_ends framing (state.Length left) of going out = absurd (not_both (left == 0) going out)
+done_ends framing state.UntilClose of going out = lasting_unlong framing of
+done_ends framing state.Tunnel of going out = tunnel_unlong framing of
+done_ends framing state.Done of going out = cc
+
+-- a task of a body ends it as it is framed
+body_ends : (framing : Framing) (at : State) (bytes rest : List ℕ) (last : HttpTask)
+    → is_of framing at ≡ true → is_done at ≡ false → CutsBody at bytes last rest
+    → EndsAs framing last
+body_ends framing at bytes rest (task.Header head end) of going cuts = tt
+body_ends framing at bytes rest (task.Body None end) of going cuts = absurd cuts
+body_ends framing at bytes rest (task.Body (Some piece) end) of going cuts = λ ends.
+    piece_ends framing at cuts.0 bytes piece rest end of cuts.1 ends
+body_ends framing at bytes rest (task.UpgradedBody piece end) of going cuts = tt
+body_ends framing at bytes rest (task.Trailer fields) of going cuts = tt
+body_ends framing at bytes rest task.Done of going cuts = done_ends framing at of going cuts
+body_ends framing at bytes rest (task.Failed error) of going cuts = tt
+
+-- so does a task behind the final head
+task_ends : (method : List ℕ) (closed : Bool) (got : List ℕ) (told : ToldResponse)
+    (at : ResponsePlace) (ahead bytes rest : List ℕ) (last : HttpTask) (head : ResponseHead)
+    (framing : Framing) (len : ℕ) → HasFinal method false got told.informed head framing len
+    → told.final ≡ Some head → ReadAt method closed got told at ahead → is_over at ≡ false
+    → Cuts at bytes last rest → EndsAs framing last
+task_ends method closed got told place.NoHead ahead bytes rest last head framing len has tells read
+    going cuts = absurd (never_both told.final head read.0.no_final tells)
+task_ends method closed got told place.Informed ahead bytes rest last head framing len has tells
+    read going cuts = absurd (never_both told.final head read.0.no_final tells)
+task_ends method closed got told (place.InBody body) ahead bytes rest last head framing len has
+    tells read going cuts =
+    let own : HasFinal method false got told.informed read.head read.framing (read.n + read.len) =
+    record {
+      place = read.n;
+      own = read.len;
+      informs = read.informs;
+      has = read.has;
+      final = read.is_final;
+      ends = refl;
+    } in
+    let same = HasFinal-unique method false got told.informed told.informed read.head head
+    read.framing framing (read.n + read.len) len own has in
+    body_ends framing body.reader bytes rest last
+    (subst (λ (f : Framing). is_of f body.reader ≡ true) same.framing read.so_far.of_framing)
+    read.goes_on cuts
+task_ends method closed got told (place.Ended keeps) ahead bytes rest last head framing len has
+    tells read going cuts = absurd cuts
+
+-- in front of a final head none is told
+final_stays : (told : ToldResponse) (tasks : List HttpTask) → Follow told tasks
+    → (told_behind told tasks).final ≡ None → told.final ≡ None
+final_stays told [] follow none = none
+final_stays told (task.Header head end ∷ tasks) follow none = follow.0
+final_stays told (task.Body None end ∷ tasks) follow none = absurd follow.0
+final_stays told (task.Body (Some piece) end ∷ tasks) follow none =
+    final_stays (record told { body = told.body ++ piece }) tasks follow.2 none
+final_stays told (task.UpgradedBody piece end ∷ tasks) follow none = absurd follow.0
+final_stays told (task.Trailer fields ∷ tasks) follow none = absurd follow.0
+final_stays told (task.Done ∷ tasks) follow none = final_stays told tasks follow.2 none
+final_stays told (task.Failed error ∷ tasks) follow none = absurd follow.0
+
+never_there : (final : Option ResponseHead) → final ≡ None → is_some final ≡ true → ⊥
+never_there None none some = cc
+never_there (Some head) none some = cc
+
+-- tasks in front of a final head are heads, which end no body
+heads_alone : (framing : Framing) (told : ToldResponse) (tasks : List HttpTask)
+    → Follow told tasks → (told_behind told tasks).final ≡ None → list_any is_end tasks ≡ false
+    → All (EndsAs framing) tasks
+heads_alone framing told [] follow none unended = All-nil (EndsAs framing)
+heads_alone framing told (task.Header head end ∷ tasks) follow none unended =
+    All-cons (EndsAs framing) (task.Header head end) tasks tt
+    (heads_alone framing (with_head told head) tasks follow.2 none
+    (or_right (is_end (task.Header head end)) (list_any is_end tasks) unended))
+heads_alone framing told (task.Body None end ∷ tasks) follow none unended = absurd follow.0
+heads_alone framing told (task.Body (Some piece) end ∷ tasks) follow none unended =
+    absurd (never_there told.final
+    (final_stays told (task.Body (Some piece) end ∷ tasks) follow none) follow.1)
+heads_alone framing told (task.UpgradedBody piece end ∷ tasks) follow none unended =
+    absurd follow.0
+heads_alone framing told (task.Trailer fields ∷ tasks) follow none unended = absurd follow.0
+heads_alone framing told (task.Done ∷ tasks) follow none unended = cc
+heads_alone framing told (task.Failed error ∷ tasks) follow none unended = absurd follow.0
+
+-- a head in the place of the final one, behind the tasks so far
+head_framed : (method : List ℕ) (now : Bool) (got : List ℕ) (tasks : List HttpTask)
+    (told : ToldResponse) (given : ResponseHead) (end inform : Bool) (new : ResponseReading)
+    (head : ResponseHead) → is_informational given.status ≡ inform → told.final ≡ None
+    → ((framing : Framing) → All (EndsAs framing) tasks)
+    → ReadSoFar method now got
+    (if inform then record told { informed = told.informed ++ given ∷ [] }
+    else record told { final = Some given }) new
+    → (if inform then record told { informed = told.informed ++ given ∷ [] }
+    else record told { final = Some given }).final ≡ Some head
+    → EndFramed method got
+    (if inform then record told { informed = told.informed ++ given ∷ [] }
+    else record told { final = Some given }).informed head (tasks ++ task.Header given end ∷ [])
+head_framed method now got tasks told given end true new head is none each read tells =
+    absurd (never_both told.final head none tells)
+head_framed method now got tasks told given end false new head is none each read tells =
+    let there = final_told method now got told given new.place new.ahead is read.at in
+    record {
+      framing = there.framing;
+      len = there.len;
+      has = subst (λ (h : ResponseHead). HasFinal method false got told.informed h there.framing
+          there.len) (some_head given head tells) there.has;
+      each = All-push (EndsAs there.framing) tasks (task.Header given end) (each there.framing) tt;
+    }
+
+-- tasks that end a body as it is framed do so where more bytes came
+framed_more : (method got came : List ℕ) (informed : List ResponseHead) (head : ResponseHead)
+    (tasks : List HttpTask) → EndFramed method got informed head tasks
+    → EndFramed method (got ++ came) informed head tasks
+framed_more method got came informed head tasks framed = record {
+  framing = framed.framing;
+  len = framed.len;
+  has = HasFinal-append method false got came informed head framed.framing framed.len framed.has;
+  each = framed.each;
+}
+
+-- the same with one task more of the body
+piece_framed : (method : List ℕ) (closed : Bool) (got came : List ℕ) (tasks : List HttpTask)
+    (last : HttpTask) (old new : ResponseReading) (head : ResponseHead)
+    → AreTasks method closed got tasks old → is_over old.place ≡ false
+    → Cuts old.place (old.ahead ++ came) last new.ahead → (told_of tasks).final ≡ Some head
+    → EndFramed method (got ++ came) (told_of tasks).informed head (tasks ++ last ∷ [])
+piece_framed method closed got came tasks last old new head are going cuts tells =
+    let framed = are.framed head tells in
+    record {
+      framing = framed.framing;
+      len = framed.len;
+      has = HasFinal-append method false got came (told_of tasks).informed head framed.framing
+          framed.len framed.has;
+      each = All-push (EndsAs framed.framing) tasks last framed.each
+          (task_ends method closed got (told_of tasks) old.place old.ahead (old.ahead ++ came)
+          new.ahead last head framed.framing framed.len framed.has tells are.so_far.at going cuts);
+    }
+
+-- the same with one task more
+framed_push : (method : List ℕ) (closed now : Bool) (got came : List ℕ) (tasks : List HttpTask)
+    (last : HttpTask) (old new : ResponseReading)
+    → AreTasks method closed got tasks old → is_over old.place ≡ false
+    → IsResponseTask (told_of tasks) last
+    → ReadSoFar method now (got ++ came) (with_task (told_of tasks) last) new
+    → Cuts old.place (old.ahead ++ came) last new.ahead
+    → (head : ResponseHead) → (with_task (told_of tasks) last).final ≡ Some head
+    → EndFramed method (got ++ came) (with_task (told_of tasks) last).informed head
+    (tasks ++ last ∷ [])
+framed_push method closed now got came tasks (task.Header given end) old new are going is read cuts
+    head tells =
+    head_framed method now (got ++ came) tasks (told_of tasks) given end
+    (is_informational given.status) new head refl is
+    (λ framing. heads_alone framing untold tasks are.follow is (are.ended ∙ going)) read tells
+framed_push method closed now got came tasks (task.Body None end) old new are going is read cuts
+    head tells = absurd is
+framed_push method closed now got came tasks (task.Body (Some piece) end) old new are going is read
+    cuts head tells =
+    piece_framed method closed got came tasks (task.Body (Some piece) end) old new head are going
+    cuts tells
+framed_push method closed now got came tasks (task.UpgradedBody piece end) old new are going is read
+    cuts head tells = absurd is
+framed_push method closed now got came tasks (task.Trailer fields) old new are going is read cuts
+    head tells = absurd is
+framed_push method closed now got came tasks task.Done old new are going is read cuts head tells =
+    piece_framed method closed got came tasks task.Done old new head are going cuts tells
+framed_push method closed now got came tasks (task.Failed error) old new are going is read cuts head
+    tells = absurd is
+
 -- the tasks with the one that a call gave
 pub tasks_push : (method : List ℕ) (before after : LinkState) (got came : List ℕ)
     (tasks : List HttpTask) (last : HttpTask) (old new : ResponseReading)
     → AreTasks method before.ended got tasks old → is_over old.place ≡ false
     → IsResponseTask (told_of tasks) last → is_end last ≡ is_over new.place
     → ReadSoFar method after.ended (got ++ came) (with_task (told_of tasks) last) new
+    → Cuts old.place (old.ahead ++ came) last new.ahead
     → AreTasks method after.ended (got ++ came) (tasks ++ last ∷ []) new
-tasks_push method before after got came tasks last old new are going is ends read = record {
+tasks_push method before after got came tasks last old new are going is ends read cuts = record {
   so_far = subst (λ (t : ToldResponse). ReadSoFar method after.ended (got ++ came) t new)
       (sym (told_push untold tasks last)) read;
   follow = follow_push untold tasks last are.follow is
@@ -144,6 +440,12 @@ tasks_push method before after got came tasks last old new are going is ends rea
       ∙ ap (λ (b : Bool). b || list_any is_end (last ∷ [])) (are.ended ∙ going)
       ∙ or_nil (is_end last) ∙ ends;
   ends_last = last_ends tasks last (are.ended ∙ going);
+  framed = subst
+      (λ (t : ToldResponse). (head : ResponseHead) → t.final ≡ Some head
+      → EndFramed method (got ++ came) t.informed head (tasks ++ last ∷ []))
+      (sym (told_push untold tasks last))
+      (framed_push method before.ended after.ended got came tasks last old new are going is read
+      cuts);
 }
 
 -- the tasks where a call gave none
@@ -157,10 +459,9 @@ tasks_kept method before after got came tasks old new are same read = record {
   follow = are.follow;
   ended = are.ended ∙ sym same;
   ends_last = are.ends_last;
+  framed = λ head told. framed_more method got came (told_of tasks).informed head tasks
+      (are.framed head told);
 }
-
-never_some : (head : ResponseHead) → None ≡ Some head → ⊥
-never_some head same = cc
 
 -- no task came yet
 pub no_tasks : (method : List ℕ) (closed : Bool) (new : ResponseReading)
@@ -170,6 +471,7 @@ no_tasks method closed new read = record {
   follow = tt;
   ended = sym (none_over new.place new.ahead read.at);
   ends_last = λ front behind same found. none_behind front behind same;
+  framed = λ head told. absurd (never_some head told);
 }
   where
     none_over : (at : ResponsePlace) (ahead : List ℕ) → ReadAt method closed [] untold at ahead
@@ -188,49 +490,20 @@ pub record FinalIn (method got : List ℕ) (final : ResponseHead) : Type 0 where
   pub len : ℕ
   pub has : HasFinal method false got informed final framing len
 
-some_head : (a b : ResponseHead) → Some a ≡ Some b → a ≡ b
-some_head a b same = cc
-
-never_final : (a : ResponseHead) → Some a ≡ None → ⊥
-never_final a same = cc
-
+-- the same, by where the reading is
 final_at : (method : List ℕ) (closed : Bool) (got : List ℕ) (told : ToldResponse)
     (final : ResponseHead)
     (at : ResponsePlace) (ahead : List ℕ) → is_informational final.status ≡ false
     → ReadAt method closed got (record told { final = Some final }) at ahead
     → FinalIn method got final
-final_at method closed got told final place.NoHead ahead last read =
-    absurd (never_final final read.0.no_final)
-final_at method closed got told final place.Informed ahead last read =
-    absurd (never_final final read.0.no_final)
-final_at method closed got told final (place.InBody body) ahead last read = record {
-  informed = told.informed;
-  framing = read.framing;
-  len = read.n + read.len;
-  has = record {
-    place = read.n;
-    own = read.len;
-    informs = read.informs;
-    has = subst (λ (h : ResponseHead). HasResponse method false (drop read.n got) h read.framing
-        read.len) (sym (some_head final read.head read.final)) read.has;
-    final = last;
-    ends = refl;
-  };
-}
-final_at method closed got told final (place.Ended keeps) ahead last read = record {
-  informed = told.informed;
-  framing = read.framing;
-  len = read.n + read.len;
-  has = record {
-    place = read.n;
-    own = read.len;
-    informs = read.informs;
-    has = subst (λ (h : ResponseHead). HasResponse method false (drop read.n got) h read.framing
-        read.len) (sym (some_head final read.head read.final)) read.has;
-    final = last;
-    ends = refl;
-  };
-}
+final_at method closed got told final at ahead last read =
+    let there = final_told method closed got told final at ahead last read in
+    record {
+      informed = told.informed;
+      framing = there.framing;
+      len = there.len;
+      has = there.has;
+    }
 
 -- the final head that a task brought stands in the bytes
 pub final_in : (method : List ℕ) (closed : Bool) (got : List ℕ) (told : ToldResponse)

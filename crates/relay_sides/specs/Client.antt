@@ -36,6 +36,7 @@ use Rattle.relay_core.specs.declared.piece.Piece.{Piece}
 use Rattle.relay_core.specs.declared.told.Told.{Told}
 use Rattle.relay_core.specs.Told.{paused, failed}
 use Rattle.relay_sides.specs.Body.{body_of}
+use Rattle.relay_sides.specs.Faults.{TellsSince, IsAmong, IsLast}
 
 -- the bytes of the client since its request began, those that were ahead then first
 abbrev pub given_to : Origin → DownPast → List ℕ
@@ -60,9 +61,15 @@ state_of session told done finished kept = record {
   told = told;
 }
 
--- a write of the client's link failed so
+-- the fault is of the kind that a write answers, and among those that the client's link told of its
+-- writes since the request began
+pub record AnsweredWrite (s : Origin) (link : LinkState) (fault : Fault) : Type 0 where
+  pub kind : IsWriteFault fault
+  pub among : IsAmong s.write_faults link.write_faults fault
+
+-- a write of the client's link failed so since the request began
 abbrev pub FailsWrite : Origin → LinkState → Fault → Type 0
-FailsWrite s link fault = Rose s.faults link.faults × IsWriteFault fault
+FailsWrite s link fault = Rose s.faults link.faults × AnsweredWrite s link fault
 
 -- what passed since the request began, which is told by the client's link: the request as far as it
 -- was read, whose body the pieces are, and the response as far as it was queued
@@ -93,6 +100,7 @@ pub record IsClient
   pub response : Holds session.writing (queued p) p.written
   pub broken : (fault : Fault) → session.writing.output ≡ outgoing.Broken fault
       → FailsWrite s link fault
+  pub tells : TellsSince s.read_faults s.write_faults link
 
 -- no body of the response is open there
 abbrev pub IsClosed : Place → Type 0
@@ -140,6 +148,7 @@ pub record BeginsBehind
   pub whole : is_body_done session.reading ≡ true → IsWhole (s.ahead ++ came) [] ahead
   pub response : Holds session.writing [] []
   pub output : session.writing.output ≡ outgoing.Open []
+  pub tells : TellsSince s.read_faults s.write_faults link
 
 -- the past of a side that begins behind these bytes
 abbrev pub begun_past : List ℕ → DownPast
@@ -150,21 +159,16 @@ abbrev pub IsUnanswered : Origin → DownPast → Type 0
 IsUnanswered s p =
     is_over (wire (request_of s.head) place.NoHead (queued p)).place ≡ false
 
--- the fault is the last of those that the link tells, where it tells them
-abbrev pub IsLast : Option (List Fault) → Fault → Type 0
-IsLast None fault = Unit {0}
-IsLast (Some told) fault = (before : List Fault) × (told ≡ before ++ fault ∷ [])
-
--- a read of the client's link failed so, and its fault counts: the body of the request is open, or
--- the response is not over
+-- a read of the client's link failed so, last of those since the request began, and its fault counts:
+-- the body of the request is open, or the response is not over
 pub record CountsRead (s : Origin) (p : DownPast) (link : LinkState) (fault : Fault) : Type 0 where
   pub kind : IsReadFault fault
-  pub last : IsLast link.read_faults fault
+  pub last : IsLast s.read_faults link.read_faults fault
   pub matters : ((body : List ℕ) × SaysBody (given_to s p) (open_text body)) ⊎ IsUnanswered s p
 
 -- a fault of the client's link counts: it is that of a write, or that of such a read
 abbrev pub Counts : Origin → DownPast → LinkState → Fault → Type 0
-Counts s p link fault = IsWriteFault fault ⊎ CountsRead s p link fault
+Counts s p link fault = AnsweredWrite s link fault ⊎ CountsRead s p link fault
 
 -- why the side answers with that error: the client's link failed, its body is broken, it ended
 -- inside its body or behind its request, or it sent more than its request. Behind its request it is

@@ -1,5 +1,5 @@
--- Which faults a peer's link answered since it was handed out.
-use Rattle.std.specs.Prelude.{List, [], ◌∷◌, ◌++◌}
+-- Which faults a link answered: a peer's since it was handed out, a client's since its request began.
+use Rattle.std.specs.Prelude.{ℕ, List, [], ◌∷◌, ◌++◌, Option}
 use Rattle.relay_tasks.specs.declared.fault.Fault.{Fault}
 use Rattle.relay_links.specs.Link.{LinkState, LinkStart, IsReadFault, IsWriteFault}
 use Rattle.relay_links.specs.Told.{Since}
@@ -20,3 +20,19 @@ pub record TellsFaults (start : LinkStart) (link : LinkState) : Type 0 where
   pub read : Since [] start.read_faults link.read_faults reads
   pub writes : List Fault
   pub written : Since [] start.write_faults link.write_faults writes
+
+-- the same since these places in the two lists
+pub record TellsSince (reads_from writes_from : ℕ) (link : LinkState) : Type 0 where
+  pub reads : List Fault
+  pub read : Since [] reads_from link.read_faults reads
+  pub writes : List Fault
+  pub written : Since [] writes_from link.write_faults writes
+
+-- the fault is among those that a list gained since that place, where the list is told
+abbrev pub IsAmong : ℕ → Option (List Fault) → Fault → Type 0
+IsAmong place told fault =
+    (before : List Fault) × (behind : List Fault) × Since [] place told (before ++ fault ∷ behind)
+
+-- the fault is the last of those
+abbrev pub IsLast : ℕ → Option (List Fault) → Fault → Type 0
+IsLast place told fault = (before : List Fault) × Since [] place told (before ++ fault ∷ [])

@@ -11,13 +11,16 @@ use Rattle.relay_tasks.specs.declared.error.Fail.{Fail}
 use Rattle.relay_tasks.specs.declared.error.Fail.TheVariants as fail
 use Rattle.relay_tasks.specs.declared.fault.Fault.{Fault}
 use Rattle.relay_tasks.specs.declared.task.HttpTask.{HttpTask}
+use Rattle.relay_tasks.specs.declared.took.Took.{Took}
 use Rattle.relay_tasks.specs.declared.task.HttpTask.TheVariants as task
 use Rattle.relay_tasks.specs.Head.{RequestHead, ResponseHead}
 use Rattle.relay_tasks.specs.Task.{is_end}
 use Rattle.relay_links.specs.Count.{Rose}
 use Rattle.relay_links.specs.Link.{LinkState, LinkStart, IsSound}
 use Rattle.relay_links.specs.Told.{Since}
+use Rattle.relay_links.specs.declared.link.Got.{Got}
 use Rattle.relay_h1.specs.declared.framing.Framing.{Framing}
+use Rattle.relay_h1.specs.BodyReader.{has_length}
 use Rattle.relay_h1.specs.BodyWire.{after_pieces}
 use Rattle.relay_h1.specs.BodyWire as wire
 use Rattle.relay_h1.specs.ClientHead.{is_informational, lacks_framing, chunked_head}
@@ -28,7 +31,7 @@ use Rattle.relay_peer.specs.declared.h1_client.H1Client.{H1Client}
 use Rattle.relay_peer.specs.declared.request_writing.RequestWriting.{RequestWriting}
 use Rattle.relay_peer.specs.RequestWriting.{Sent, nothing, SentSoFar, with_piece, sent_wire, head_in, rest_of, body_framing, short_request}
 use Rattle.relay_peer.specs.declared.response_reading.ResponseReading.{ResponseReading}
-use Rattle.relay_peer.specs.ResponseReading.{ReadSoFar, IsResponseTask, untold, with_task, says, is_over, cut_off_error, fault_error}
+use Rattle.relay_peer.specs.ResponseReading.{ReadSoFar, Asks, AnswerCuts, BreaksFor, IsResponseTask, untold, with_task, says, is_over, cut_off_error, fault_error}
 use Rattle.relay_peer.specs.ResponseReading as reading
 use Rattle.relay_core.specs.Moves.{EndsLast}
 use Rattle.relay_core.specs.Past.{Origin, UpPast}
@@ -123,6 +126,23 @@ abbrev pub inside : Fail → Fail
 inside fail.OutOfMemory = fail.OutOfMemory
 inside (fail.Error error) = fail.Error (record error { esource = Internal })
 
+-- how a body with that framing ends: one of a length with a piece, and each other by the end alone
+abbrev pub EndsAs : Framing → HttpTask → Type 0
+EndsAs framing (task.Header head end) = Unit {0}
+EndsAs framing (task.Body piece end) = end ≡ true → has_length framing ≡ true
+EndsAs framing (task.UpgradedBody piece end) = Unit {0}
+EndsAs framing (task.Trailer fields) = Unit {0}
+EndsAs framing task.Done = has_length framing ≡ false
+EndsAs framing (task.Failed error) = Unit {0}
+
+-- the final head that was told stands in the bytes, and the tasks end its body as it is framed
+pub record EndFramed (method got : List ℕ) (informed : List ResponseHead) (head : ResponseHead)
+    (tasks : List HttpTask) : Type 0 where
+  pub framing : Framing
+  pub len : ℕ
+  pub has : HasFinal method false got informed head framing len
+  pub each : All (EndsAs framing) tasks
+
 -- tasks that tell what the bytes of a link say of the response to that method
 pub record AreTasks
     (method : List ℕ) (closed : Bool) (got : List ℕ) (tasks : List HttpTask)
@@ -131,6 +151,8 @@ pub record AreTasks
   pub follow : Follow untold tasks
   pub ended : list_any is_end tasks ≡ is_over client.place
   pub ends_last : EndsLast tasks
+  pub framed : (head : ResponseHead) → (told_of tasks).final ≡ Some head
+      → EndFramed method got (told_of tasks).informed head tasks
 
 -- ---- the side
 
@@ -176,7 +198,8 @@ pub data PeerBlames (start : LinkStart) (link : LinkState) (head : RequestHead) 
       → Tasks head.method false q.got true (says told cut_off) → PeerBlames start link head q e
   is_broken : (why : Context) (closed : Bool) (came : List ℕ) (told : reading.ToldResponse)
       → e ≡ refused_from Upstream why → IsFrontOf came q.got
-      → Tasks head.method false came closed (says told broken) → PeerBlames start link head q e
+      → Tasks head.method false came closed (says told broken)
+      → BreaksFor head.method came told why → PeerBlames start link head q e
   switches : (informed : List ResponseHead) (final : ResponseHead) (framing : Framing) (len : ℕ)
       → HasFinal head.method false q.got informed final framing len → final.status ≡ 101
       → e ≡ refused_from Upstream Mismatch101 → PeerBlames start link head q e
@@ -251,6 +274,16 @@ pub record IsNew {L : Type 0} (side : PeerSide L) : Type 0 where
   pub takes : side.lost ≡ None
   pub stays : side.closes ≡ false
   pub calm : side.client.failed ≡ false
+
+-- a read of a task asks the link once at most, and cuts a piece of the body out of the bytes ahead and
+-- those that came: all that they hold of its run, with the end exactly where it completes a length
+pub record CutsTask
+    (before after : LinkState) (old new : ResponseReading) (answer : Took HttpTask)
+    : Type 0 where
+  pub came : List ℕ
+  pub asked : Option Got
+  pub asks : Asks before after came asked
+  pub cuts : AnswerCuts old.place (old.ahead ++ came) answer new.ahead
 
 -- nothing passed yet
 abbrev pub none_passed : UpPast

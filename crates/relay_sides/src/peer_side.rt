@@ -14,7 +14,7 @@ ghost use Rattle.relay_peer.specs.ResponseReading as reading;
 ghost use Rattle.relay_core.specs.declared.told.TheConstants.Told.{NOTHING};
 ghost use Rattle.relay_core.specs.Past.{Origin};
 ghost use Rattle.relay_sides.specs.Body.{bytes_of};
-ghost use Rattle.relay_sides.specs.Peer.{IsPeerSide, PeerBlames, asks_to_close, IsNew, HandsOn, Queues, inside, none_passed, state_of};
+ghost use Rattle.relay_sides.specs.Peer.{IsPeerSide, PeerBlames, CutsTask, asks_to_close, IsNew, HandsOn, Queues, inside, none_passed, state_of};
 
 use crate::client_side::either;
 use http::{Method, Version};
@@ -249,6 +249,9 @@ impl<L: ByteLink> Up for PeerSide<L> {
     ghost link = { λ side. L.state side.client.link };
 
     ghost start = { λ side. L.start side.client.link };
+
+    ghost cuts = { λ old new answer. CutsTask (L.state old.client.link) (L.state new.client.link)
+        old.client.response new.client.response answer };
 
     fn kind(&self) -> UpKind {
         UpKind::H1

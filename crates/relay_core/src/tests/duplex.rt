@@ -88,6 +88,9 @@ impl Up for Upstream {
       reused = false;
     } };
 
+    // A read leaves what was given.
+    ghost cuts = { λ old new answer. new.got ≡ old.got };
+
     fn kind(&self) -> UpKind {
         UpKind::H1
     }

@@ -5,6 +5,7 @@ use Rattle.relay_tasks.specs.declared.error.Error.{Error}
 use Rattle.relay_tasks.specs.declared.error.ErrorSource.TheVariants.{Upstream}
 use Rattle.relay_h1.specs.BodyReader.{TakesPiece}
 use Rattle.relay_peer.proofs.ResponseLemmas.{body_ended, body_ended_here, body_goes_on, body_stays, body_open, body_broken, run_goes_on}
+use Rattle.relay_peer.proofs.LengthLemmas.{ends_out}
 use Rattle.relay_peer.proofs.response_reading.find_piece.Goals as goal
 
 pub returns-in-Piece-default-true-clause-finds : goal.returns-in-Piece-default-true-clause-finds
@@ -77,6 +78,7 @@ returns-in-Failed-Error-clause-finds c = λ method closed given told here.
           ∙ ap (λ (e : Error). record e { esource = Upstream })
           (c.in-Failed-Error.error-is ∙ answer.0),
       is_broken.says_so,
+      is_broken.breaks,
       is_broken.read,
     )
 
@@ -98,3 +100,8 @@ returns-in-Piece-default-false-clause-cuts c =
 
 pub returns-in-More-clause-cuts : goal.returns-in-More-clause-cuts
 returns-in-More-clause-cuts c = c.in-More.ensures.takes
+
+pub returns-in-End-clause-cuts : goal.returns-in-End-clause-cuts
+returns-in-End-clause-cuts c =
+    ends_out c.args.body.reader c.args.ahead.now c.in-End.ensures.answer.0
+    c.in-End.ensures.answer.1

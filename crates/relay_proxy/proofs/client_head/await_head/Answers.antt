@@ -2,7 +2,10 @@
 use Rattle.std.proofs.Common.{refl, ap, ◌∙◌, subst, sym, inl, List, ℕ}
 use Rattle.relay_h1.specs.Verdict.{IsOpen}
 use Rattle.relay_links.specs.Link.{LinkState}
-use Rattle.relay_proxy.proofs.HeadSteps.{head_came}
+use Rattle.relay_sides.proofs.FaultLemmas.{grew_none, grew_same}
+use Rattle.relay_proxy.specs.Endings.{ended_outcome}
+use Rattle.relay_proxy.proofs.Tells.{sided}
+use Rattle.relay_proxy.proofs.HeadSteps.{head_came, head_waits, head_ends, head_fails}
 use Rattle.relay_proxy.proofs.client_head.await_head.Goals as goal
 
 pub returns-in-Ok-Bytes-clause-run : goal.returns-in-Ok-Bytes-clause-run
@@ -32,3 +35,28 @@ returns-in-Ok-Silent-clause-cause g c = λ faults open_head.
       client_same = still.0.same;
       held_same = refl;
     }
+
+pub returns-in-Ok-NotReady-clause-run : goal.returns-in-Ok-NotReady-clause-run
+returns-in-Ok-NotReady-clause-run g c = λ s p faults run open_head.
+    let waits = rw c.in-Ok-NotReady.field-0-is at c.in-Ok-NotReady.ensures.ok in
+    head_waits g.L.ByteLink.state g.L.ByteLink.start s p _ _ waits.1 refl waits.0.given
+    waits.0.taken waits.0.faults (grew_none _ _ waits.0.read_faults waits.0.write_faults) run
+
+pub returns-in-Ok-Silent-clause-run : goal.returns-in-Ok-Silent-clause-run
+returns-in-Ok-Silent-clause-run g c = λ s p faults run open_head.
+    let still = rw c.in-Ok-Silent.field-0-is at c.in-Ok-Silent.ensures.ok in
+    head_waits g.L.ByteLink.state g.L.ByteLink.start s p _ _ still.1 refl
+    (ap (λ (l : LinkState). l.given) still.0.same) (ap (λ (l : LinkState). l.taken) still.0.same)
+    (ap (λ (l : LinkState). l.faults) still.0.same) (grew_same _ _ still.0.same) run
+
+pub returns-in-Ok-End-clause-run : goal.returns-in-Ok-End-clause-run
+returns-in-Ok-End-clause-run g c = λ s p faults run open_head.
+    let ends = rw c.in-Ok-End.field-0-is at c.in-Ok-End.ensures.ok in
+    head_ends g.L.ByteLink.state g.L.ByteLink.start s p _ _ _ _ open_head ends.0 ends.1 refl
+    (c.end_of_client.ensures ∙ ap ended_outcome c.ahead.ensures) c.new-in-Ok-End.ensures run
+
+pub returns-in-Ok-Failed-clause-run : goal.returns-in-Ok-Failed-clause-run
+returns-in-Ok-Failed-clause-run g c = λ s p faults run open_head.
+    let fails = rw c.in-Ok-Failed.field-0-is at c.in-Ok-Failed.ensures.ok in
+    head_fails g.L.ByteLink.state g.L.ByteLink.start s p _ _ _ _ _ open_head fails.0 fails.1 refl
+    (sided _ _ _ _ c.of_fault.ensures c.into_down-error.ensures) c.new-in-Ok-Failed.ensures run

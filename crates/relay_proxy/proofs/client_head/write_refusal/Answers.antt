@@ -1,6 +1,7 @@
 -- Each answer of the one write is a turn of the refusal.
 use Rattle.std.proofs.Common.{refl, ap, ◌∙◌, inl}
 use Rattle.relay_links.specs.Link.{LinkState}
+use Rattle.relay_sides.proofs.FaultLemmas.{grew_none, grew_same}
 use Rattle.relay_proxy.proofs.Tells.{sided}
 use Rattle.relay_proxy.proofs.HeadSteps.{refusal_whole, refusal_part, refusal_waits, refusal_fails, refusal_memory}
 use Rattle.relay_proxy.proofs.client_head.write_refusal.Goals as goal
@@ -19,14 +20,14 @@ pub returns-in-NotReady-clause-run : goal.returns-in-NotReady-clause-run
 returns-in-NotReady-clause-run g c = λ s p faults run.
     let (waits, kept) = c.in-NotReady.ensures.offers in
     refusal_waits g.L.ByteLink.state g.L.ByteLink.start s p _ _ _ _ _ refl waits.given
-    waits.taken waits.faults kept run
+    waits.taken waits.faults (grew_none _ _ waits.read_faults waits.write_faults) kept run
 
 pub returns-in-Silent-clause-run : goal.returns-in-Silent-clause-run
 returns-in-Silent-clause-run g c = λ s p faults run.
     let (silent, kept) = c.in-Silent.ensures.offers in
     refusal_waits g.L.ByteLink.state g.L.ByteLink.start s p _ _ _ _ _ refl
     (ap (λ (l : LinkState). l.given) silent.same) (ap (λ (l : LinkState). l.taken) silent.same)
-    (ap (λ (l : LinkState). l.faults) silent.same) kept run
+    (ap (λ (l : LinkState). l.faults) silent.same) (grew_same _ _ silent.same) kept run
 
 pub returns-in-Failed-clause-run : goal.returns-in-Failed-clause-run
 returns-in-Failed-clause-run g c = λ s p faults run.

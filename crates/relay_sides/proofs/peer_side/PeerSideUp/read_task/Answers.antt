@@ -1,8 +1,8 @@
 -- Each answer of a read: the side goes on with the bytes that came, and with its task.
-use Rattle.std.proofs.Common.{Bool, ◌||◌, refl, sym, ap, ◌∙◌, append-nil}
+use Rattle.std.proofs.Common.{Bool, ◌||◌, List, [], None, refl, sym, ap, ◌∙◌, append-nil}
 use Rattle.relay_peer.specs.declared.h1_client.H1Client.{H1Client}
 use Rattle.relay_tasks.specs.declared.took.Took.TheVariants as took
-use Rattle.relay_sides.proofs.PeerLemmas.{more_gave, end_read, stopped_still, read_none, read_hands, read_stops, side_stays, side_hands, calm_same, calm_failed, calm_withheld, calm_paused, or_none}
+use Rattle.relay_sides.proofs.PeerLemmas.{more_gave, end_read, stopped_still, read_none, read_hands, read_stops, side_stays, side_hands, calm_same, calm_failed, calm_withheld, calm_paused, cuts_handed, cuts_none, or_none}
 use Rattle.relay_sides.proofs.peer_side.PeerSideUp.read_task.Goals as goal
 
 pub returns-in-Some-clause-goes : goal.returns-in-Some-clause-goes
@@ -128,3 +128,37 @@ returns-in-Failed-clause-goes g c = λ s q stands.
     (ap (λ (k : H1Client _). k.request) c.read_response_task.ensures.same)
     c.in-Failed.ensures.reads refl (c.in-Failed.ensures.ends refl)
     c.in-Failed.ensures.failed stands.peer)
+
+pub returns-in-Some-clause-cuts : goal.returns-in-Some-clause-cuts
+returns-in-Some-clause-cuts g c =
+    record { came = []; asked = None; asks = (refl, refl); cuts = tt }
+
+pub returns-in-Ok-clause-cuts : goal.returns-in-Ok-clause-cuts
+returns-in-Ok-clause-cuts g c =
+    cuts_handed _ _ _ _ c.args.self.now.client.response c.read_response_task.new.self.response
+    c.in-Item.task c.in-Ok.task c.in-Item.ensures.reads c.in-Ok.ensures.0
+
+pub returns-in-Err-clause-cuts : goal.returns-in-Err-clause-cuts
+returns-in-Err-clause-cuts g c =
+    cuts_none _ _ _ c.args.self.now.client.response c.read_response_task.new.self.response
+    (took.Item c.in-Item.task) (took.Failed c.in-Err.why) c.in-Item.ensures.reads refl
+
+pub returns-in-More-clause-cuts : goal.returns-in-More-clause-cuts
+returns-in-More-clause-cuts g c =
+    cuts_none _ _ _ c.args.self.now.client.response c.read_response_task.new.self.response
+    took.More took.More c.in-More.ensures.reads refl
+
+pub returns-in-End-clause-cuts : goal.returns-in-End-clause-cuts
+returns-in-End-clause-cuts g c =
+    cuts_none _ _ _ c.args.self.now.client.response c.read_response_task.new.self.response
+    took.End took.More c.in-End.ensures.reads refl
+
+pub returns-in-Waited-clause-cuts : goal.returns-in-Waited-clause-cuts
+returns-in-Waited-clause-cuts g c =
+    cuts_none _ _ _ c.args.self.now.client.response c.read_response_task.new.self.response
+    (took.Waited c.in-Waited.pause) (took.Waited c.in-Waited.pause) c.in-Waited.ensures.reads refl
+
+pub returns-in-Failed-clause-cuts : goal.returns-in-Failed-clause-cuts
+returns-in-Failed-clause-cuts g c =
+    cuts_none _ _ _ c.args.self.now.client.response c.read_response_task.new.self.response
+    (took.Failed c.in-Failed.why) (took.Failed c.in-Failed.why) c.in-Failed.ensures.reads refl

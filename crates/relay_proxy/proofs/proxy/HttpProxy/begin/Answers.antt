@@ -1,0 +1,10 @@
+-- A request that begins has passed nothing.
+use Rattle.relay_proxy.specs.Turn.{world_of}
+use Rattle.relay_proxy.proofs.HeadSteps.{begins_reading}
+use Rattle.relay_proxy.proofs.proxy.HttpProxy.begin.Goals as goal
+
+pub returns-clause-run : goal.returns-clause-run
+returns-clause-run g c =
+    rw c.new.ensures (begins_reading g.K.Byte.ByteLink.state g.K.Byte.ByteLink.start
+    (world_of g.D.ByteLink.state c.args.client.now
+    (g.K.Connector.fault_count c.args.self.now.connector)))
