@@ -70,7 +70,7 @@ never_none script request b bytes items begins run none =
     (subst (λ (xs : List ReadItem). IsAtEnd (left_items xs last.reads.at last.reads.done)) is
     at_end)
 
-drop_all : (xs : List ℕ) → drop (length xs) xs ≡ []
+drop_all : {X : Type 0} (xs : List X) → drop (length xs) xs ≡ []
 drop_all xs = drop_of_length-le xs (omega arith)
 
 -- what a run does not rule out: that every script is reported as out of turns, since nothing ties
@@ -107,6 +107,12 @@ always_limit script client connector schedule processed fresh offered named outc
             written = (omega arith, drop_all client.taken.items);
             faults = omega arith;
             connect_faults = omega arith;
+            fault_lists = record {
+              reads = [];
+              read = (omega arith, drop_all _);
+              writes = [];
+              written = (omega arith, drop_all _);
+            };
           };
           order = is_nothing refl refl;
           untouched = λ _. refl;

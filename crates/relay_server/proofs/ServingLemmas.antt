@@ -85,6 +85,7 @@ module _ {L C : Type 0} (state : L → LinkState) (start_at : L → LinkStart) w
       written = run.tells.written;
       faults = run.tells.faults;
       connect_faults = omega (arith, run.tells.connect_faults, more_faults);
+      fault_lists = run.tells.fault_lists;
     };
     order = run.order;
     untouched = run.untouched;
