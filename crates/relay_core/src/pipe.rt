@@ -69,13 +69,13 @@ impl Pipe {
         ensures { self.new ≡ with_task self.old task }
     {
         if self.first.is_none() {
-            self.first = Some(task);
+            fill(&mut self.first, task);
         } else if self.second.is_none() {
-            self.second = Some(task);
+            fill(&mut self.second, task);
         } else if self.third.is_none() {
-            self.third = Some(task);
+            fill(&mut self.third, task);
         } else {
-            self.fourth = Some(task);
+            fill(&mut self.fourth, task);
         }
     }
 
@@ -185,4 +185,11 @@ pub(crate) fn is_failure(task: &HttpTask) -> bool
         HttpTask::Done => false,
         HttpTask::Failed(_) => true,
     }
+}
+
+/// Puts the task into that place.
+fn fill(place: &mut Option<HttpTask>, task: HttpTask)
+    ensures { place.new ≡ Some task }
+{
+    *place = Some(task);
 }
