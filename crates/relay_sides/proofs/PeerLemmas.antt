@@ -41,7 +41,7 @@ use Rattle.relay_peer.specs.ResponseReading.{ToldResponse, ReadSoFar, ReadsTask,
 use Rattle.relay_peer.specs.ResponseReading as reading
 use Rattle.relay_core.specs.Past.{Origin, UpPast, GaveBytes, UpGoes, error_of_fail, error_of_took}
 use Rattle.relay_sides.specs.declared.peer_side.PeerSide.{PeerSide}
-use Rattle.relay_sides.specs.Peer.{IsPeer, IsPeerSide, IsQueued, PeerBlames, AreTasks, HasRoom, Withholds, asks_to_close, is_switch, Queues, Loses, IsNew, handed, told_of, none_passed}
+use Rattle.relay_sides.specs.Peer.{IsPeer, IsPeerSide, AreMarked, IsQueued, PeerBlames, AreTasks, HasRoom, Withholds, asks_to_close, is_switch, Queues, Loses, IsNew, handed, told_of, none_passed}
 use Rattle.relay_sides.specs.Peer as peer
 use Rattle.relay_sides.proofs.FaultLemmas.{grew_same, tells_on}
 use Rattle.relay_sides.proofs.FrontLemmas.{own_front}
@@ -519,13 +519,14 @@ pub side_goes : {L : Type 0} (o : Origin) (start started : LinkStart) (before af
     (error : Option Error) → started ≡ start → start.reused ≡ o.reused
     → new.closes ≡ list_any asks_to_close read
     → (new.told.errors ≡ 0 → new.client.failed ≡ false)
+    → AreMarked start after new.read_failed new.send_failed new.lost
     → UpGoes (λ r. IsPeer o started after new.client new.stopped new.lost r)
     (λ r e. Blamed start before old r e) (λ r e. Blamed started after new.client r e) q read taken
     gone error
     → UpGoes (λ r. IsPeerSide o started after new r) (λ r e. Blamed start before old r e)
     (λ r e. Blamed started after new.client r e) q read taken gone error
 side_goes {L} o start started before after old new q read taken gone error same reused closes calm
-    went =
+    marked went =
     record {
       past = went.past;
       stands = record {
@@ -534,6 +535,8 @@ side_goes {L} o start started before after old new q read taken gone error same 
         closes = closes ∙ ap (λ (ts : List HttpTask). list_any asks_to_close ts)
             (sym went.is_read);
         calm = calm;
+        marked = subst (λ (s : LinkStart).
+            AreMarked s after new.read_failed new.send_failed new.lost) (sym same) marked;
       };
       is_read = went.is_read;
       is_taken = went.is_taken;
@@ -548,6 +551,7 @@ pub side_stays : {L : Type 0} (o : Origin) (start started : LinkStart) (before a
     (error : Option Error) → started ≡ start → new.closes ≡ old.closes → read ≡ q.read
     → ((old.told.errors ≡ 0 → old.client.failed ≡ false)
     → new.told.errors ≡ 0 → new.client.failed ≡ false)
+    → AreMarked start after new.read_failed new.send_failed new.lost
     → IsPeerSide o start before old q
     → UpGoes (λ r. IsPeer o started after new.client new.stopped new.lost r)
     (λ r e. Blamed start before old.client r e) (λ r e. Blamed started after new.client r e) q read
@@ -555,10 +559,10 @@ pub side_stays : {L : Type 0} (o : Origin) (start started : LinkStart) (before a
     → UpGoes (λ r. IsPeerSide o started after new r) (λ r e. Blamed start before old.client r e)
     (λ r e. Blamed started after new.client r e) q read taken gone error
 side_stays {L} o start started before after old new q read taken gone error same stays none calm
-    stands =
+    marked stands =
     side_goes o start started before after old.client new q read taken gone error same stands.reused
     (stays ∙ stands.closes ∙ ap (λ (ts : List HttpTask). list_any asks_to_close ts) (sym none))
-    (calm stands.calm)
+    (calm stands.calm) marked
 
 -- a call that handed one on
 pub side_hands : {L : Type 0} (o : Origin) (start started : LinkStart) (before after : LinkState)
@@ -567,19 +571,21 @@ pub side_hands : {L : Type 0} (o : Origin) (start started : LinkStart) (before a
     → new.closes ≡ old.closes || asks_to_close given
     → ((old.told.errors ≡ 0 → old.client.failed ≡ false)
     → new.told.errors ≡ 0 → new.client.failed ≡ false)
+    → AreMarked start after new.read_failed new.send_failed new.lost
     → IsPeerSide o start before old q
     → UpGoes (λ r. IsPeer o started after new.client new.stopped new.lost r)
     (λ r e. Blamed start before old.client r e) (λ r e. Blamed started after new.client r e) q
     (q.read ++ given ∷ []) taken gone error
     → UpGoes (λ r. IsPeerSide o started after new r) (λ r e. Blamed start before old.client r e)
     (λ r e. Blamed started after new.client r e) q (q.read ++ given ∷ []) taken gone error
-side_hands {L} o start started before after old new q given taken gone error same one_more calm stands =
+side_hands {L} o start started before after old new q given taken gone error same one_more calm
+    marked stands =
     side_goes o start started before after old.client new q (q.read ++ given ∷ []) taken gone error
     same stands.reused
     (one_more ∙ ap (λ (b : Bool). b || asks_to_close given) stands.closes
     ∙ ap (λ (b : Bool). list_any asks_to_close q.read || b) (sym (or_none (asks_to_close given)))
     ∙ sym (list_any-append asks_to_close q.read (given ∷ [])))
-    (calm stands.calm)
+    (calm stands.calm) marked
   where
     or_none : (b : Bool) → (b || false) ≡ b
     or_none true = refl

@@ -30,10 +30,11 @@ use Rattle.relay_peer.specs.RequestWriting as writing
 use Rattle.relay_core.specs.Past.{Origin, UpPast, UpGoes, error_of_fail, error_of_put}
 use Rattle.relay_sides.specs.Body.{IsFrontOf, bytes_of, body_of, sent_with, sent_as}
 use Rattle.relay_sides.specs.declared.peer_side.PeerSide.{PeerSide}
-use Rattle.relay_sides.specs.Peer.{IsPeer, IsPeerSide, IsQueued, PeerBlames, AreTasks, HasRoom, Queues, Loses, IsNew, none_passed}
+use Rattle.relay_sides.specs.Peer.{IsPeer, IsPeerSide, AreMarked, IsQueued, PeerBlames, AreTasks, HasRoom, Queues, Loses, IsNew, none_passed}
 use Rattle.relay_sides.specs.Peer as peer
 use Rattle.relay_sides.proofs.FaultLemmas.{grew_same, tells_on, tells_none}
 use Rattle.relay_sides.proofs.FrontLemmas.{own_front, same_front, front_more, front_then, bytes_front, task_front, sent_behind-push, head_of, stands_head, piece_head, task_head, begun_body, body_push}
+use Rattle.relay_sides.proofs.MarkLemmas.{marked_same, marked_new}
 use Rattle.relay_sides.proofs.TaskLemmas.{no_tasks}
 use Rattle.relay_sides.proofs.MoveLemmas.{GoesOn, blames_keep, write_moves}
 use Rattle.relay_sides.proofs.PeerLemmas.{Blamed, goes, neither_failed}
@@ -485,6 +486,11 @@ begins_side {L} o start started before after reused old new head own same unmove
       reused = ap (λ (s : LinkStart). s.reused) same ∙ out.marked ∙ sym used;
       closes = fresh.stays;
       calm = λ none. calm ∙ fresh.calm;
+      marked = subst (λ (s : LinkStart).
+          AreMarked s after old.read_failed old.send_failed old.lost) (sym same)
+          (marked_same start before after old.read_failed old.send_failed old.lost unmoved
+          (marked_new start before reused old.read_failed old.send_failed old.lost out fresh.unsent
+          fresh.takes));
     }
 
 -- and its head is the one that was queued

@@ -15,8 +15,10 @@ use Rattle.relay_tasks.specs.declared.task.HttpTask.TheVariants as task
 use Rattle.relay_tasks.specs.Head.{RequestHead, ResponseHead}
 use Rattle.relay_tasks.specs.Task.{is_end}
 use Rattle.relay_links.specs.Count.{Rose}
-use Rattle.relay_links.specs.Link.{LinkState, LinkStart, IsSound}
+use Rattle.relay_links.specs.Link.{LinkState, LinkStart, IsSound, IsWriteFault}
 use Rattle.relay_links.specs.Told.{Since}
+use Rattle.relay_links.specs.declared.link.Put.{Put}
+use Rattle.relay_links.specs.declared.link.Put.TheVariants as put
 use Rattle.relay_h1.specs.declared.framing.Framing.{Framing}
 use Rattle.relay_h1.specs.BodyWire.{after_pieces}
 use Rattle.relay_h1.specs.BodyWire as wire
@@ -33,6 +35,7 @@ use Rattle.relay_peer.specs.ResponseReading as reading
 use Rattle.relay_core.specs.Moves.{EndsLast}
 use Rattle.relay_core.specs.Past.{Origin, UpPast}
 use Rattle.relay_core.specs.Pipe.{is_failure}
+use Rattle.relay_core.specs.Told.{fault_of}
 use Rattle.relay_core.specs.Up.{UpState}
 use Rattle.relay_core.specs.declared.step.UpKind.TheVariants.{H1}
 use Rattle.relay_core.specs.declared.told.Told.{Told}
@@ -135,13 +138,23 @@ pub record AreTasks
 -- ---- the side
 
 -- the state of the side
-abbrev pub state_of : {L : Type 0} → H1Client L → Told → UpState
-state_of client told = record {
+abbrev pub state_of : {L : Type 0} → PeerSide L → UpState
+state_of side = record {
   kind = H1;
   upgraded = false;
-  pending = not (length client.request.unsent == 0);
-  told = told;
+  pending = not (length side.client.request.unsent == 0);
+  told = side.told;
+  read_failed = side.read_failed;
+  send_failed = side.send_failed;
 }
+
+-- the error of a write that failed, else the one before
+abbrev pub put_error : Put → Option Error → Option Error
+put_error (put.Took n) before = before
+put_error put.NotReady before = before
+put_error put.Silent before = before
+put_error (put.Failed fault) before = Some (fault_of Upstream fault)
+put_error put.OutOfMemory before = before
 
 -- what was queued of the request with that head, the pieces being these: all of them, unless one
 -- was lost
@@ -221,6 +234,27 @@ pub record IsPeer {L : Type 0}
   pub takes : lost ≡ None → q.lost ≡ false
   pub why_lost : (e : Error) → lost ≡ Some (fail.Error e) → PeerBlames start link head q e
 
+-- an error with which nothing more is sent: that of a fault that the link answered on a write,
+-- where it tells the faults of its writes, or that of a request that ends short
+pub data CannotSend (start : LinkStart) (link : LinkState) (e : Error) : Type 0 where
+  write_failed : (fault : Fault) → e ≡ fault_error fault → IsWriteFault fault
+      → Rose start.faults link.faults → (before behind : List Fault)
+      → Since [] start.write_faults link.write_faults (before ++ fault ∷ behind)
+      → CannotSend start link e
+  ends_short : e ≡ short_request → CannotSend start link e
+
+-- what the marks of the side tell of its link. Where no read answered an error no read of the link
+-- failed, and where no send did no write: neither told its fault, nor did the count of faults rise.
+-- An error with which nothing could be sent is that of a write, or of a request that ends short
+pub record AreMarked
+    (start : LinkStart) (link : LinkState) (read_failed : Bool) (send_failed : Option Error)
+    (lost : Option Fail) : Type 0 where
+  pub reads : read_failed ≡ false → Since [] start.read_faults link.read_faults []
+  pub writes : send_failed ≡ None → Since [] start.write_faults link.write_faults []
+  pub calm : read_failed ≡ false → send_failed ≡ None → link.faults ≡ start.faults
+  pub named : (e : Error) → send_failed ≡ Some e → CannotSend start link e
+  pub short : (e : Error) → lost ≡ Some (fail.Error e) → e ≡ short_request
+
 -- a final head that asks for the connection to be closed (RFC 9112, section 9.6)
 abbrev pub asks_to_close : HttpTask → Bool
 asks_to_close (task.Header head end) =
@@ -241,6 +275,7 @@ pub record IsPeerSide {L : Type 0}
   pub closes : side.closes ≡ list_any asks_to_close q.read
   -- each fault was told
   pub calm : side.told.errors ≡ 0 → side.client.failed ≡ false
+  pub marked : AreMarked start link side.read_failed side.send_failed side.lost
 
 -- a side for which nothing was queued, and which read nothing
 pub record IsNew {L : Type 0} (side : PeerSide L) : Type 0 where
@@ -251,6 +286,8 @@ pub record IsNew {L : Type 0} (side : PeerSide L) : Type 0 where
   pub takes : side.lost ≡ None
   pub stays : side.closes ≡ false
   pub calm : side.client.failed ≡ false
+  pub unread : side.read_failed ≡ false
+  pub unsent : side.send_failed ≡ None
 
 -- nothing passed yet
 abbrev pub none_passed : UpPast

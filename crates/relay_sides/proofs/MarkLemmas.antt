@@ -1,0 +1,264 @@
+-- What the marks of the peer's side tell of its link goes on with each of its calls.
+use Rattle.std.proofs.Common.{◌≡◌, ℕ, ◌≤◌, Bool, true, false, ◌||◌, List, [], ◌∷◌, ◌++◌, Option, Some, None, refl, sym, ap, subst, ◌∙◌, arith}
+use Rattle.relay_tasks.specs.declared.error.Error.{Error}
+use Rattle.relay_tasks.specs.declared.error.Fail.{Fail}
+use Rattle.relay_tasks.specs.declared.error.Fail.TheVariants as fail
+use Rattle.relay_tasks.specs.declared.fault.Fault.{Fault}
+use Rattle.relay_tasks.specs.declared.task.HttpTask.{HttpTask}
+use Rattle.relay_tasks.specs.declared.took.Took.{Took}
+use Rattle.relay_tasks.specs.declared.took.Took.TheVariants as took
+use Rattle.relay_links.specs.Count.{Rose}
+use Rattle.relay_links.specs.Link.{LinkState, LinkStart, IsHandedOut, Writes}
+use Rattle.relay_links.specs.Told.{more}
+use Rattle.relay_links.specs.declared.link.Got.{Got}
+use Rattle.relay_links.specs.declared.link.Got.TheVariants as got
+use Rattle.relay_links.specs.declared.link.Put.{Put}
+use Rattle.relay_links.specs.declared.link.Put.TheVariants as put
+use Rattle.relay_links.proofs.SinceLemmas.{Since-kept, Since-grows}
+use Rattle.relay_peer.specs.RequestWriting.{Sent, short_request}
+use Rattle.relay_peer.specs.ResponseReading.{Asks, is_error, fault_error}
+use Rattle.relay_peer.specs.declared.request_writing.RequestWriting.{RequestWriting}
+use Rattle.relay_core.specs.Up as up
+use Rattle.relay_core.proofs.BoolLemmas.{clash, or_left, or_right}
+use Rattle.relay_sides.specs.Faults.{TellsFaults}
+use Rattle.relay_sides.specs.Peer.{AreMarked, CannotSend, Loses, put_error}
+use Rattle.relay_sides.specs.Peer as peer
+use Rattle.relay_sides.proofs.FaultLemmas.{more_none, among_on, tells_none}
+
+-- ---- a call that meets no fault
+
+-- a call left the faults that the link tells, and their count
+record LeavesFaults (before after : LinkState) : Type 0 where
+  reads : after.read_faults ≡ before.read_faults
+  writes : after.write_faults ≡ before.write_faults
+  faults : after.faults ≡ before.faults
+
+-- one that left the link
+leaves_same : (before after : LinkState) → after ≡ before → LeavesFaults before after
+leaves_same before after same = record {
+  reads = ap (λ (l : LinkState). l.read_faults) same;
+  writes = ap (λ (l : LinkState). l.write_faults) same;
+  faults = ap (λ (l : LinkState). l.faults) same;
+}
+
+-- an error with which nothing could be sent stays one
+cannot_on : (start : LinkStart) (before after : LinkState) (e : Error) (new : List Fault)
+    → (Rose start.faults before.faults → Rose start.faults after.faults)
+    → after.write_faults ≡ more before.write_faults new → CannotSend start before e
+    → CannotSend start after e
+cannot_on start before after e new rises grown
+    (peer.CannotSend.write_failed fault is kind rose front behind since) =
+    peer.CannotSend.write_failed fault is kind (rises rose) front (behind ++ new)
+    (among_on start.write_faults before.write_faults after.write_faults front behind new fault grown
+    since)
+cannot_on start before after e new rises grown (peer.CannotSend.ends_short is) =
+    peer.CannotSend.ends_short is
+
+-- the marks of the side still tell of the link
+marked_leaves : (start : LinkStart) (before after : LinkState) (reads : Bool)
+    (sends : Option Error) (lost : Option Fail) → LeavesFaults before after
+    → AreMarked start before reads sends lost → AreMarked start after reads sends lost
+marked_leaves start before after reads sends lost leaves m = record {
+  reads = λ none. Since-kept [] start.read_faults before.read_faults after.read_faults []
+      leaves.reads (m.reads none);
+  writes = λ none. Since-kept [] start.write_faults before.write_faults after.write_faults []
+      leaves.writes (m.writes none);
+  calm = λ unread unsent. leaves.faults ∙ m.calm unread unsent;
+  named = λ e is. cannot_on start before after e []
+      (λ rose. subst (λ (n : ℕ). Rose start.faults n) (sym leaves.faults) rose)
+      (leaves.writes ∙ more_none before.write_faults) (m.named e is);
+  short = m.short;
+}
+
+-- the same link, after a call that changed nothing of it
+pub marked_same : (start : LinkStart) (before after : LinkState) (reads : Bool)
+    (sends : Option Error) (lost : Option Fail) → after ≡ before
+    → AreMarked start before reads sends lost → AreMarked start after reads sends lost
+marked_same start before after reads sends lost same m =
+    marked_leaves start before after reads sends lost (leaves_same before after same) m
+
+-- a read that answers an error, or not
+pub marked_more : (start : LinkStart) (link : LinkState) (was also is : Bool)
+    (sends : Option Error) (lost : Option Fail) → is ≡ was || also
+    → AreMarked start link was sends lost → AreMarked start link is sends lost
+marked_more start link was also is sends lost same m = record {
+  reads = λ none. m.reads (or_left was also (sym same ∙ none));
+  writes = m.writes;
+  calm = λ none unsent. m.calm (or_left was also (sym same ∙ none)) unsent;
+  named = m.named;
+  short = m.short;
+}
+
+-- ---- a read
+
+-- a count that rose from a count that was no lower
+rose_from : (first before after : ℕ) → first ≤ before → Rose before after → Rose first after
+rose_from first before after least rose = λ below. omega (arith, least, rose below)
+
+-- a read of the link: a fault of it was answered
+pub marked_read : (start : LinkStart) (before after : LinkState) (came : List ℕ)
+    (asked : Option Got) (answer : Took HttpTask) (was is : Bool) (sends : Option Error)
+    (lost : Option Fail) → Asks before after came asked
+    → ((fault : Fault) → asked ≡ Some (got.Failed fault)
+    → answer ≡ took.Failed (fail.Error (fault_error fault)))
+    → is ≡ was || is_error answer → start.faults ≤ before.faults
+    → AreMarked start before was sends lost → AreMarked start after is sends lost
+marked_read start before after came None answer was is sends lost asks fails same least m =
+    marked_more start after was (is_error answer) is sends lost same
+    (marked_same start before after was sends lost asks.0 m)
+marked_read start before after came (Some (got.Bytes n)) answer was is sends lost asks fails same
+    least m =
+    marked_more start after was (is_error answer) is sends lost same
+    (marked_leaves start before after was sends lost
+    (record {
+      reads = asks.gives.read_faults;
+      writes = asks.gives.write_faults;
+      faults = asks.gives.faults;
+    }) m)
+marked_read start before after came (Some got.NotReady) answer was is sends lost asks fails same
+    least m =
+    marked_more start after was (is_error answer) is sends lost same
+    (marked_leaves start before after was sends lost
+    (record {
+      reads = asks.0.read_faults;
+      writes = asks.0.write_faults;
+      faults = asks.0.faults;
+    }) m)
+marked_read start before after came (Some got.Silent) answer was is sends lost asks fails same
+    least m =
+    marked_more start after was (is_error answer) is sends lost same
+    (marked_same start before after was sends lost asks.0.same m)
+marked_read start before after came (Some got.End) answer was is sends lost asks fails same least
+    m =
+    marked_more start after was (is_error answer) is sends lost same
+    (marked_leaves start before after was sends lost
+    (record {
+      reads = asks.0.read_faults;
+      writes = asks.0.write_faults;
+      faults = asks.0.faults;
+    }) m)
+marked_read start before after came (Some (got.Failed fault)) answer was is sends lost asks fails
+    same least m =
+    let f = asks.0 in
+    let never : is ≡ false → ⊥ = λ none.
+    clash (is_error answer) (ap is_error (fails fault refl))
+    (or_right was (is_error answer) (sym same ∙ none)) in
+    record {
+      reads = λ none. absurd (never none);
+      writes = λ none. Since-kept [] start.write_faults before.write_faults after.write_faults []
+          f.write_faults (m.writes none);
+      calm = λ none unsent. absurd (never none);
+      named = λ e named. cannot_on start before after e []
+          (λ rose. rose_from start.faults before.faults after.faults least f.faults)
+          (f.write_faults ∙ more_none before.write_faults) (m.named e named);
+      short = m.short;
+    }
+
+-- the answer is an error where its failure is one
+pub same_error : (why : Fail) → is_error (took.Failed why) ≡ up.is_error why
+same_error fail.OutOfMemory = refl
+same_error (fail.Error e) = refl
+
+-- ---- a write
+
+some_error : (a b : Error) → Some a ≡ Some b → a ≡ b
+some_error a b same = cc
+
+-- a write to the link: a fault of it is kept
+pub marked_write : (start : LinkStart) (before after : LinkState) (part : List ℕ)
+    (answer : Put) (reads : Bool) (sends : Option Error) (lost : Option Fail)
+    → Writes before part after answer → start.faults ≤ before.faults → TellsFaults start before
+    → AreMarked start before reads sends lost
+    → AreMarked start after reads (put_error answer sends) lost
+marked_write start before after part (put.Took n) reads sends lost w least tells m =
+    marked_leaves start before after reads sends lost
+    (record { reads = w.read_faults; writes = w.write_faults; faults = w.faults }) m
+marked_write start before after part put.NotReady reads sends lost w least tells m =
+    marked_leaves start before after reads sends lost
+    (record { reads = w.read_faults; writes = w.write_faults; faults = w.faults }) m
+marked_write start before after part put.Silent reads sends lost w least tells m =
+    marked_same start before after reads sends lost w.same m
+marked_write start before after part (put.Failed fault) reads sends lost w least tells m = record {
+  reads = λ none. Since-kept [] start.read_faults before.read_faults after.read_faults []
+      w.read_faults (m.reads none);
+  writes = λ none. absurd (cc);
+  calm = λ unread unsent. absurd (cc);
+  named = λ e is. peer.CannotSend.write_failed fault (some_error e (fault_error fault) (sym is))
+      w.kind (rose_from start.faults before.faults after.faults least w.faults) tells.writes []
+      (Since-grows [] start.write_faults before.write_faults after.write_faults tells.writes
+      (fault ∷ []) w.write_faults tells.written);
+  short = m.short;
+}
+marked_write start before after part put.OutOfMemory reads sends lost w least tells m =
+    marked_leaves start before after reads sends lost
+    (record {
+      reads = ap (λ (l : LinkState). l.read_faults) w.same;
+      writes = ap (λ (l : LinkState). l.write_faults) w.same;
+      faults = ap (λ (l : LinkState). l.faults) w.same;
+    }) m
+
+-- ---- a piece
+
+-- a piece that was lost, for that reason
+pub marked_loses : (start : LinkStart) (link : LinkState) (reads : Bool) (sends : Option Error)
+    (lost : Option Fail) (why : Fail) → ((e : Error) → why ≡ fail.Error e → e ≡ short_request)
+    → AreMarked start link reads sends lost
+    → AreMarked start link reads (up.error_or why sends) (Some why)
+marked_loses start link reads sends lost fail.OutOfMemory short m = record {
+  reads = m.reads;
+  writes = m.writes;
+  calm = m.calm;
+  named = m.named;
+  short = λ e is. absurd (cc);
+}
+marked_loses start link reads sends lost (fail.Error error) short m = record {
+  reads = m.reads;
+  writes = λ none. absurd (cc);
+  calm = λ unread unsent. absurd (cc);
+  named = λ e is. peer.CannotSend.ends_short (sym (some_error error e is) ∙ short error refl);
+  short = λ e is. short e (some_fail (fail.Error error) (fail.Error e) is);
+}
+  where
+    some_fail : (a b : Fail) → Some a ≡ Some b → a ≡ b
+    some_fail a b same = cc
+
+-- a piece that is lost behind another
+pub marked_still : (start : LinkStart) (link : LinkState) (reads : Bool) (sends : Option Error)
+    (lost : Option Fail) (why : Fail) → lost ≡ Some why → AreMarked start link reads sends lost
+    → AreMarked start link reads (up.error_or why sends) lost
+marked_still start link reads sends lost why is m =
+    subst (λ (l : Option Fail). AreMarked start link reads (up.error_or why sends) l) (sym is)
+    (marked_loses start link reads sends lost why (λ e so. m.short e (is ∙ ap Some so)) m)
+
+-- a piece is lost with no other error than that of a short request
+pub loses_short : (sent : Sent) (had : List ℕ) (piece : HttpTask) (at : RequestWriting)
+    (why : Fail) → Loses sent had piece at why → (e : Error) → why ≡ fail.Error e
+    → e ≡ short_request
+loses_short sent had piece at _ (peer.Loses.unwritten so_far) e is = absurd (cc)
+loses_short sent had piece at _ (peer.Loses.unended ends so_far) e is = absurd (cc)
+loses_short sent had piece at _ (peer.Loses.is_short ends so_far short) e is = same is
+  where
+    same : {a b : Error} → fail.Error a ≡ fail.Error b → b ≡ a
+    same so = cc
+
+-- ---- the beginning
+
+-- a link that was handed out met no fault, and nothing is marked
+pub marked_new : (start : LinkStart) (link : LinkState) (reused reads : Bool)
+    (sends : Option Error) (lost : Option Fail) → IsHandedOut link start reused → sends ≡ None
+    → lost ≡ None → AreMarked start link reads sends lost
+marked_new start link reused reads sends lost out unsent takes =
+    let tells = tells_none start link reused out in
+    record {
+      reads = λ none. tells.read;
+      writes = λ none. tells.written;
+      calm = λ unread none. sym out.faults;
+      named = λ e is. absurd (apart e (sym is ∙ unsent));
+      short = λ e is. absurd (other e (sym is ∙ takes));
+    }
+  where
+    apart : (e : Error) → Some e ≡ None → ⊥
+    apart e same = cc
+
+    other : (e : Error) → Some (fail.Error e) ≡ None → ⊥
+    other e same = cc
