@@ -1,5 +1,5 @@
-//! What filters are given and leave, for the log. Bytes and heads are shared; a head is copied by the
-//! first entry behind a change.
+//! What filters are given and leave, for the log. Bytes and heads are shared; a head is copied by
+//! the first entry behind a change.
 ghost use Rattle.std.specs.Prelude.{◌≡◌, true, Some, IfOk, IsOkUnless};
 ghost use Rattle.relay_modules.specs.Module.{piece_or};
 ghost use Rattle.relay_hooks.specs.Call.{trailed};

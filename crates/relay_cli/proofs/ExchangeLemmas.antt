@@ -27,28 +27,34 @@ use Rattle.relay_cli.specs.Exchange.{attempt_report, taken_of, sent_of, FirstSta
 use Rattle.relay_cli.specs.Script.{PeerSpec, ScriptSpec}
 
 -- the list from a place on begins with the item there
-drop_at : {A : Type 0} (xs : List A) (n : ℕ) (x : A) → slice_get xs n ≡ Some x → drop n xs ≡ x ∷ drop (n + 1) xs
+drop_at : {A : Type 0} (xs : List A) (n : ℕ) (x : A) → slice_get xs n ≡ Some x
+    → drop n xs ≡ x ∷ drop (n + 1) xs
 drop_at xs n x is =
     rw add-one (drop-cons xs n x (slice_get_within xs n x is)
     ∙ ap (λ y. y ∷ drop (suc n) xs) (get_or_from_slice_get xs n x x is))
 
 -- one more item is read at a place
-pub map_more : {A B : Type 0} (f : A → B) (front : List B) (xs : List A) (n : ℕ) (x : A) → slice_get xs n ≡ Some x
+pub map_more : {A B : Type 0} (f : A → B) (front : List B) (xs : List A) (n : ℕ) (x : A)
+    → slice_get xs n ≡ Some x
     → (front ++ f x ∷ []) ++ map f (drop (n + 1) xs) ≡ front ++ map f (drop n xs)
-map_more f front xs n x is = append_assoc front (f x ∷ []) _ ∙ ap (λ rest. front ++ map f rest) (sym (drop_at xs n x is))
+map_more f front xs n x is =
+    append_assoc front (f x ∷ []) _ ∙ ap (λ rest. front ++ map f rest) (sym (drop_at xs n x is))
 
 -- a list that is told since its start is the list
-since_start : (place : ℕ) (told items : List ℕ) → place ≡ 0 → Since [] place (Some told) items → told ≡ items
+since_start : (place : ℕ) (told items : List ℕ) → place ≡ 0 → Since [] place (Some told) items
+    → told ≡ items
 since_start place told items zero_is since =
     let from : drop 0 told ≡ items = subst (λ (n : ℕ). drop n told ≡ items) zero_is since.1 in from
 
 -- what a fresh link took is nothing
-fresh_taken : (client : ScriptLink) (read : List ReadItem) (write : List WriteItem) → IsFresh client read write
+fresh_taken : (client : ScriptLink) (read : List ReadItem) (write : List WriteItem)
+    → IsFresh client read write
     → told_length (script_state client).taken ≡ 0
 fresh_taken client read write fresh = ap (λ (s : LinkState). told_length s.taken) fresh.state
 
 -- a request that had no link sent nothing
-unlinked_sent : (s : Start) (p : Passed) (w : World) (outcome : Outcome) → EndsUnlinked s p w outcome → [] ≡ p.sent
+unlinked_sent : (s : Start) (p : Passed) (w : World) (outcome : Outcome)
+    → EndsUnlinked s p w outcome → [] ≡ p.sent
 unlinked_sent s p w ended.NoRequest ends = sym ends.unsent.sent
 unlinked_sent s p w (ended.Refused error) (inl answered) = sym answered.unsent.sent
 unlinked_sent s p w (ended.Refused error) (inr (inl alone)) = sym alone.unsent.sent
@@ -59,22 +65,26 @@ unlinked_sent s p w ended.TurnLimit ends = sym ends.sent
 unlinked_sent s p w ended.OutOfMemory ends = sym ends.sent
 
 -- the bytes that the links of a request took are those that were sent
-sent_is : (s : Start) (p : Passed) (w : World) (own : List (Returned ScriptLink)) (records : List AttemptRecord) (outcome : Outcome)
+sent_is : (s : Start) (p : Passed) (w : World) (own : List (Returned ScriptLink))
+    (records : List AttemptRecord) (outcome : Outcome)
     → EndsWith script_state script_start s p w own records outcome → sent_of own ≡ p.sent
 sent_is s p w [] records outcome ends = unlinked_sent s p w outcome ends.0
 sent_is s p w (r ∷ []) records outcome ends = ends.tells.sent.1
 sent_is s p w (r ∷ q ∷ rest) records outcome ends = absurd ends
 
 -- the first link of a request starts within what it took
-pub starts_within : (s : Start) (p : Passed) (w : World) (own : List (Returned ScriptLink)) (records : List AttemptRecord) (outcome : Outcome)
+pub starts_within : (s : Start) (p : Passed) (w : World) (own : List (Returned ScriptLink))
+    (records : List AttemptRecord) (outcome : Outcome)
     → EndsWith script_state script_start s p w own records outcome → FirstStartsWithin own
 starts_within s p w [] records outcome ends = tt
 starts_within s p w (r ∷ []) records outcome ends = ends.tells.sent.0
 starts_within s p w (r ∷ q ∷ rest) records outcome ends = absurd ends
 
 -- the links that an unused connector has at the end are those that came back
-own_is : (before after own : List (Returned ScriptLink)) → before ≡ [] → Some after ≡ more (Some before) own → after ≡ own
-own_is before after own none gained = same_Some after (before ++ own) gained ∙ ap (λ xs. xs ++ own) none
+own_is : (before after own : List (Returned ScriptLink)) → before ≡ []
+    → Some after ≡ more (Some before) own → after ≡ own
+own_is before after own none gained =
+    same_Some after (before ++ own) gained ∙ ap (λ xs. xs ++ own) none
 
 -- a request over the links that a script makes, by the values that the code has
 pub runs_script : (made first last : ScriptLink) (connector old : ScriptConnector) (peer : PeerSpec)
@@ -82,23 +92,29 @@ pub runs_script : (made first last : ScriptLink) (connector old : ScriptConnecto
     (processed : Processed)
     → IsConnectorOf peer connector → first ≡ made → first_ahead ≡ [] → old ≡ connector
     → Processes script_state script_start
-    (start_of (world_with (script_state first) first_ahead (gets_failed old))) (world_with (script_state last) ahead faults)
+    (start_of (world_with (script_state first) first_ahead (gets_failed old)))
+    (world_with (script_state last) ahead faults)
     (Some (links_returned old)) (Some after) turns processed
-    → Processes script_state script_start (start_of (first_world made connector)) (world_with (script_state last) ahead faults)
+    → Processes script_state script_start (start_of (first_world made connector))
+    (world_with (script_state last) ahead faults)
     (Some []) (Some after) turns processed
 runs_script made first last connector old peer first_ahead ahead faults after turns processed
     offered is none same run =
-    let world : world_with (script_state first) first_ahead (gets_failed old) ≡ first_world made connector =
+    let world : world_with (script_state first) first_ahead (gets_failed old)
+    ≡ first_world made connector =
     rw (is, none, same) in
     let unreturned : links_returned old ≡ [] = rw same offered.returned in
-    subst (λ (w : World). Processes script_state script_start (start_of w) (world_with (script_state last) ahead faults)
+    subst (λ (w : World). Processes script_state script_start (start_of w)
+    (world_with (script_state last) ahead faults)
     (Some []) (Some after) turns processed) world
     (subst (λ (rs : List (Returned ScriptLink)). Processes script_state script_start
-    (start_of (world_with (script_state first) first_ahead (gets_failed old))) (world_with (script_state last) ahead faults)
+    (start_of (world_with (script_state first) first_ahead (gets_failed old)))
+    (world_with (script_state last) ahead faults)
     (Some rs) (Some after) turns processed) unreturned run)
 
 -- the links that came back, where the connector had one link, are that one
-answer_by : (after : List (Returned ScriptLink)) (left : List (Option LinkItems)) (read : List ReadItem) (write : List WriteItem)
+answer_by : (after : List (Returned ScriptLink)) (left : List (Option LinkItems))
+    (read : List ReadItem) (write : List WriteItem)
     → items_back script_start after ++ left ≡ Some (record { read = read; write = write }) ∷ []
     → AllAnswerBy after read write
 answer_by [] left read write all = tt
@@ -113,7 +129,8 @@ left_is peer connector offered =
     ∙ rw offered.connects (ap (λ (i : Option LinkItems). i ∷ []) offered.link.items)
 
 -- the links that came back from a script's connector are those of its peer
-pub are_peer : (peer : PeerSpec) (connector old : ScriptConnector) (after : List (Returned ScriptLink)) (left : List (Option LinkItems))
+pub are_peer : (peer : PeerSpec) (connector old : ScriptConnector)
+    (after : List (Returned ScriptLink)) (left : List (Option LinkItems))
     → IsConnectorOf peer connector → old ≡ connector
     → all_items script_start (Some after) [] (Some left)
     ≡ all_items script_start (Some (links_returned old)) [] (Some (items_left old))
@@ -124,7 +141,8 @@ are_peer peer connector old after left offered same all =
     rw same (left_is peer connector offered) in
     let before : all_items script_start (Some (links_returned old)) [] (Some (items_left old))
     ≡ Some (Some (record { read = peer.read; write = peer.write }) ∷ []) =
-    ap (λ (rs : List (Returned ScriptLink)). all_items script_start (Some rs) [] (Some (items_left old))) unreturned
+    ap (λ (rs : List (Returned ScriptLink)).
+    all_items script_start (Some rs) [] (Some (items_left old))) unreturned
     ∙ ap (λ (xs : List (Option LinkItems)). Some xs) left_old in
     answer_by after left peer.read peer.write (same_Some _ _ (all ∙ before))
 
@@ -136,16 +154,20 @@ still_answers first made last read write is fresh same =
     ap (λ (s : LinkStart). s.items) same ∙ rw is fresh.items
 
 -- what is reported of a request over the links of a script is a run of the script
-pub is_run : (script : ScriptSpec) (made last : ScriptLink) (connector : ScriptConnector) (schedule : ListSchedule) (ahead : List ℕ) (faults : ℕ)
+pub is_run : (script : ScriptSpec) (made last : ScriptLink) (connector : ScriptConnector)
+    (schedule : ListSchedule) (ahead : List ℕ) (faults : ℕ)
     (after : List (Returned ScriptLink)) (processed : Processed)
     → IsFresh made script.client script.client_write → IsConnectorOf script.peer connector
     → branches_left schedule ≡ script.schedule
-    → AnswersBy last script.client script.client_write → AllAnswerBy after script.peer.read script.peer.write
-    → Processes script_state script_start (start_of (first_world made connector)) (world_with (script_state last) ahead faults)
+    → AnswersBy last script.client script.client_write
+    → AllAnswerBy after script.peer.read script.peer.write
+    → Processes script_state script_start (start_of (first_world made connector))
+    (world_with (script_state last) ahead faults)
     (Some []) (Some after) script.turns processed
     → processed.outcome ≢ ended.OutOfMemory
     → IsRun script (reported script.peer.name processed last after)
-is_run script made last connector schedule ahead faults after processed fresh offered named client peer run printable =
+is_run script made last connector schedule ahead faults after processed fresh offered named client
+    peer run printable =
     let own : after ≡ run.own = own_is [] after run.own refl run.gained in
     record {
       client = made;
@@ -164,14 +186,22 @@ is_run script made last connector schedule ahead faults after processed fresh of
       run = run;
       printable = printable;
       outcome = refl;
-      written = since_start _ (taken_of last) run.passed.written (fresh_taken made script.client script.client_write fresh) run.ended.tells.written;
+      written = since_start _ (taken_of last) run.passed.written
+          (fresh_taken made script.client script.client_write fresh) run.ended.tells.written;
       attempts = ap (λ sent. map (attempt_report script.peer.name sent) processed.history.attempts)
-          (ap sent_of own ∙ sent_is _ run.passed _ run.own processed.history.attempts processed.outcome run.ended.ends);
+          (ap sent_of own
+          ∙ sent_is _ run.passed _ run.own processed.history.attempts processed.outcome
+          run.ended.ends);
     }
 
 -- the first link that came back starts within what it took
-pub first_starts_within : (s : Start) (w : World) (before after : List (Returned ScriptLink)) (turns : ℕ) (processed : Processed)
-    → before ≡ [] → Processes script_state script_start s w (Some before) (Some after) turns processed → FirstStartsWithin after
+pub first_starts_within : (s : Start) (w : World) (before after : List (Returned ScriptLink))
+    (turns : ℕ) (processed : Processed)
+    → before ≡ []
+    → Processes script_state script_start s w (Some before) (Some after) turns processed
+    → FirstStartsWithin after
 first_starts_within s w before after turns processed none run =
     let own : after ≡ run.own = own_is before after run.own none run.gained in
-    subst FirstStartsWithin (sym own) (starts_within s run.passed w run.own processed.history.attempts processed.outcome run.ended.ends)
+    subst FirstStartsWithin (sym own)
+    (starts_within s run.passed w run.own processed.history.attempts processed.outcome
+    run.ended.ends)

@@ -25,7 +25,8 @@ use Rattle.relay_cli.specs.Report.{RequestSpec}
 use Rattle.relay_cli.specs.Script.{ScriptSpec}
 
 -- a request that ended as none had no byte, and its client ended
-none_of : (s : Start) (p : Passed) (w : World) (own : List (Returned ScriptLink)) (records : List AttemptRecord)
+none_of : (s : Start) (p : Passed) (w : World) (own : List (Returned ScriptLink))
+    (records : List AttemptRecord)
     → EndsWith script_state script_start s p w own records ended.NoRequest → IsNoRequest s p w
 none_of s p w [] records ends = ends.0
 none_of s p w (r ∷ []) records ends = absurd ends.ends
@@ -42,36 +43,44 @@ items_same : (a b : LinkItems) → Some a ≡ Some b → a.read ≡ b.read
 items_same a b same = ap (λ (x : LinkItems). x.read) (same_Some a b same)
 
 -- a script whose client gives bytes first is never reported as no request
-pub never_none : (script : ScriptSpec) (request : RequestSpec) (b : ℕ) (bytes : List ℕ) (items : List ReadItem)
-    → script.client ≡ item.Bytes (b ∷ bytes) ∷ items → IsRun script request → request.outcome ≢ ended.NoRequest
+pub never_none : (script : ScriptSpec) (request : RequestSpec) (b : ℕ) (bytes : List ℕ)
+    (items : List ReadItem)
+    → script.client ≡ item.Bytes (b ∷ bytes) ∷ items → IsRun script request
+    → request.outcome ≢ ended.NoRequest
 never_none script request b bytes items begins run none =
     let s = start_of (first_world run.client run.connector) in
     let last = run.last in
     let w = world_with (script_state last) run.ahead run.faults in
     let outcome : run.processed.outcome ≡ ended.NoRequest = sym run.outcome ∙ none in
-    let ends : EndsWith script_state script_start s run.run.passed w run.run.own run.processed.history.attempts ended.NoRequest =
+    let ends : EndsWith script_state script_start s run.run.passed w run.run.own
+    run.processed.history.attempts ended.NoRequest =
     rw outcome at run.run.ended.ends in
     let no = none_of s run.run.passed w run.run.own run.processed.history.attempts ends in
-    let fresh : told_length (script_state run.client).given ≡ 0 = ap (λ (x : LinkState). told_length x.given) run.fresh.state in
+    let fresh : told_length (script_state run.client).given ≡ 0 =
+    ap (λ (x : LinkState). told_length x.given) run.fresh.state in
     let came = run.run.ended.tells.came in
     let given : script_given last.reads ≡ [] =
-    subst (λ (n : ℕ). drop n (script_given last.reads) ≡ run.run.passed.came) fresh came.1 ∙ no.no_byte in
+    subst (λ (n : ℕ). drop n (script_given last.reads) ≡ run.run.passed.came) fresh came.1
+    ∙ no.no_byte in
     let is : last.reads.items.items ≡ item.Bytes (b ∷ bytes) ∷ items =
     items_same _ _ run.is_client ∙ begins in
     let at_end : IsAtEnd (script_left last.reads) = last.at_end no.ended in
     gives_first b bytes items last.reads.at last.reads.done
     (subst (λ (xs : List ReadItem). given_of xs last.reads.at last.reads.done ≡ []) is given)
-    (subst (λ (xs : List ReadItem). IsAtEnd (left_items xs last.reads.at last.reads.done)) is at_end)
+    (subst (λ (xs : List ReadItem). IsAtEnd (left_items xs last.reads.at last.reads.done)) is
+    at_end)
 
 drop_all : (xs : List ℕ) → drop (length xs) xs ≡ []
 drop_all xs = drop_of_length-le xs (omega arith)
 
 -- what a run does not rule out: that every script is reported as out of turns, since nothing ties
 -- the turns taken to what the links answered
-pub always_limit : (script : ScriptSpec) (client : ScriptLink) (connector : ScriptConnector) (schedule : ListSchedule) (processed : Processed)
+pub always_limit : (script : ScriptSpec) (client : ScriptLink) (connector : ScriptConnector)
+    (schedule : ListSchedule) (processed : Processed)
     → IsFresh client script.client script.client_write → IsConnectorOf script.peer connector
     → branches_left schedule ≡ script.schedule
-    → processed.outcome ≡ ended.TurnLimit → processed.history.attempts ≡ [] → processed.history.turns_taken ≡ script.turns
+    → processed.outcome ≡ ended.TurnLimit → processed.history.attempts ≡ []
+    → processed.history.turns_taken ≡ script.turns
     → IsRun script (record { outcome = ended.TurnLimit; written = []; attempts = [] })
 always_limit script client connector schedule processed fresh offered named outcome attempts turns =
     record {
@@ -119,7 +128,8 @@ always_limit script client connector schedule processed fresh offered named outc
     }
 
 -- the schedule of a run can be any: nothing that a run tells follows from it
-pub schedule_free : (script : ScriptSpec) (request : RequestSpec) (schedule : ListSchedule) → IsRun script request
+pub schedule_free : (script : ScriptSpec) (request : RequestSpec) (schedule : ListSchedule)
+    → IsRun script request
     → IsRun (record script { schedule = branches_left schedule }) request
 schedule_free script request schedule run = record {
   client = run.client;

@@ -24,7 +24,8 @@ read_byte (first ∷ rest) = if first == 92 then read_name rest else (first, res
 read_byte [] = (0, [])
 
 -- a digit is read back
-unhex-hex_at : (small : Bool) (n : ℕ) → nat_lt n 10 ≡ small → n < 16 → unhex (if small then 48 + n else 87 + n) ≡ n
+unhex-hex_at : (small : Bool) (n : ℕ) → nat_lt n 10 ≡ small → n < 16
+    → unhex (if small then 48 + n else 87 + n) ≡ n
 unhex-hex_at true n is below =
     let less : n < 10 = ltb-true n 10 is in
     let digit : nat_lt (48 + n) 58 ≡ true = lt-ltb (48 + n) 58 (omega arith) in
@@ -38,7 +39,8 @@ unhex-hex : (n : ℕ) → n < 16 → unhex (hex_digit n) ≡ n
 unhex-hex n below = unhex-hex_at (nat_lt n 10) n refl below
 
 digits_back : (x : ℕ) → x < 256 → 16 * unhex (hex_digit (x / 16)) + unhex (hex_digit (x % 16)) ≡ x
-digits_back x below = rw (unhex-hex (x / 16) (omega arith), unhex-hex (x % 16) (omega arith)) (omega arith)
+digits_back x below =
+    rw (unhex-hex (x / 16) (omega arith), unhex-hex (x % 16) (omega arith)) (omega arith)
 
 -- a shown byte, by the tests on it
 abbrev shown_by : Bool → Bool → Bool → Bool → ℕ → List ℕ
@@ -51,17 +53,23 @@ shown_by slash cr lf plain x =
 back_at : (slash cr lf plain : Bool) (x : ℕ) (rest : List ℕ)
     → (x == 92) ≡ slash → (x == 13) ≡ cr → (x == 10) ≡ lf → x < 256
     → read_byte (shown_by slash cr lf plain x ++ rest) ≡ (x, rest)
-back_at true cr lf plain x rest is92 is13 is10 below = ap (λ y. (y, rest)) (sym (eqb-true x 92 is92))
-back_at false true lf plain x rest is92 is13 is10 below = ap (λ y. (y, rest)) (sym (eqb-true x 13 is13))
-back_at false false true plain x rest is92 is13 is10 below = ap (λ y. (y, rest)) (sym (eqb-true x 10 is10))
+back_at true cr lf plain x rest is92 is13 is10 below =
+    ap (λ y. (y, rest)) (sym (eqb-true x 92 is92))
+back_at false true lf plain x rest is92 is13 is10 below =
+    ap (λ y. (y, rest)) (sym (eqb-true x 13 is13))
+back_at false false true plain x rest is92 is13 is10 below =
+    ap (λ y. (y, rest)) (sym (eqb-true x 10 is10))
 back_at false false false true x rest is92 is13 is10 below = rw is92
-back_at false false false false x rest is92 is13 is10 below = ap (λ y. (y, rest)) (digits_back x below)
+back_at false false false false x rest is92 is13 is10 below =
+    ap (λ y. (y, rest)) (digits_back x below)
 
 -- the front of a shown text is read back
 read_byte-shown : (x : ℕ) (rest : List ℕ) → x < 256 → read_byte (shown_byte x ++ rest) ≡ (x, rest)
-read_byte-shown x rest below = back_at (x == 92) (x == 13) (x == 10) (nat_le 32 x && nat_le x 126) x rest refl refl refl below
+read_byte-shown x rest below =
+    back_at (x == 92) (x == 13) (x == 10) (nat_le 32 x && nat_le x 126) x rest refl refl refl below
 
-filled_at : (slash cr lf plain : Bool) (x : ℕ) (rest : List ℕ) → shown_by slash cr lf plain x ++ rest ≡ [] → ⊥
+filled_at : (slash cr lf plain : Bool) (x : ℕ) (rest : List ℕ)
+    → shown_by slash cr lf plain x ++ rest ≡ [] → ⊥
 filled_at true cr lf plain x rest is = cc
 filled_at false true lf plain x rest is = cc
 filled_at false false true plain x rest is = cc
@@ -73,7 +81,8 @@ filled : (x : ℕ) (rest : List ℕ) → shown_byte x ++ rest ≡ [] → ⊥
 filled x rest is = filled_at (x == 92) (x == 13) (x == 10) (nat_le 32 x && nat_le x 126) x rest is
 
 -- no two lists of bytes are shown alike
-pub shown_alone : (bytes others : List ℕ) → AreBytes bytes → AreBytes others → shown bytes ≡ shown others → bytes ≡ others
+pub shown_alone : (bytes others : List ℕ) → AreBytes bytes → AreBytes others
+    → shown bytes ≡ shown others → bytes ≡ others
 shown_alone [] [] b o is = refl
 shown_alone [] (y ∷ ys) b o is = absurd (filled y (shown ys) (sym is))
 shown_alone (x ∷ xs) [] b o is = absurd (filled x (shown xs) is)

@@ -45,13 +45,15 @@ item_none reads values i value front within is read =
     rw (here, read)
 
 -- a list of another length than 1 is no peer
-pub only_peer-other : (values : List Value) → (length values ≡ 1 → ⊥) → only_peer (items_view values) ≡ None
+pub only_peer-other : (values : List Value) → (length values ≡ 1 → ⊥)
+    → only_peer (items_view values) ≡ None
 only_peer-other [] other = refl
 only_peer-other (value ∷ []) other = absurd (other refl)
 only_peer-other (value ∷ next ∷ values) other = refl
 
 -- the only value of a list is the peer
-pub only_peer-one : (values : List Value) (value : Value) → length values ≡ 1 → value ≡ get_or values 0 value
+pub only_peer-one : (values : List Value) (value : Value) → length values ≡ 1
+    → value ≡ get_or values 0 value
     → only_peer (items_view values) ≡ peer_of (view value)
 only_peer-one [] value one is = cc
 only_peer-one (first ∷ []) value one is = ap (λ v. peer_of (view v)) (sym is)
@@ -63,9 +65,11 @@ none_at true bytes is refused = refused (IsUtf8-from_is_utf8 bytes is)
 none_at false bytes is refused = refl
 
 -- a text that is refused, or no text, spells no value
-pub reads_value-none : (bytes : List ℕ) → (IsUtf8 bytes → read bytes ≡ None) → reads_value bytes ≡ None
+pub reads_value-none : (bytes : List ℕ) → (IsUtf8 bytes → read bytes ≡ None)
+    → reads_value bytes ≡ None
 reads_value-none bytes refused = none_at (is_utf8 bytes) bytes refl refused
 
 -- a text spells what it is read as
-pub reads_value-text : (bytes : List ℕ) (value : Data) → IsUtf8 bytes → read bytes ≡ Some value → reads_value bytes ≡ Some value
+pub reads_value-text : (bytes : List ℕ) (value : Data) → IsUtf8 bytes → read bytes ≡ Some value
+    → reads_value bytes ≡ Some value
 reads_value-text bytes value text is = rw (is_utf8-from_IsUtf8 bytes text) is

@@ -22,7 +22,8 @@ use Rattle.relay_cli.specs.declared.report.AttemptReport.{AttemptReport}
 
 -- what is reported of an attempt at the peer of that name, whose link took those bytes
 abbrev pub attempt_report : List ℕ → List ℕ → AttemptRecord → AttemptReport
-attempt_report name sent a = record { name = name; reused = a.reused; kept = a.kept; error = a.error; sent = sent }
+attempt_report name sent a =
+    record { name = name; reused = a.reused; kept = a.kept; error = a.error; sent = sent }
 
 -- all bytes that a link took
 abbrev pub taken_of : ScriptLink → List ℕ
@@ -73,7 +74,8 @@ pub record IsConnectorOf (peer : PeerSpec) (connector : ScriptConnector) : Type 
 -- the world at the begin of a script's request: its client's link, with nothing read ahead, and its
 -- connector
 abbrev pub first_world : ScriptLink → ScriptConnector → World
-first_world client connector = record { client = script_state client; ahead = []; connect_faults = gets_failed connector }
+first_world client connector =
+    record { client = script_state client; ahead = []; connect_faults = gets_failed connector }
 
 -- a request that ran over the links of a script, and what is reported of it
 pub record IsRun (script : ScriptSpec) (request : RequestSpec) : Type 0 where

@@ -83,7 +83,9 @@ retry_name retry.ReusedOnly = codes "reused"
 -- type, source and mark of an error, or a dash
 abbrev pub error_text : Option Error → List ℕ
 error_text None = codes "-"
-error_text (Some e) = type_name e.etype ++ number_text (type_number e.etype) ++ codes " " ++ source_name e.esource ++ codes " " ++ retry_name e.retry
+error_text (Some e) =
+    type_name e.etype ++ number_text (type_number e.etype) ++ codes " " ++ source_name e.esource
+    ++ codes " " ++ retry_name e.retry
 
 abbrev pub outcome_name : Outcome → List ℕ
 outcome_name outcome.NoRequest = codes "NoRequest"
@@ -111,7 +113,8 @@ outcome_reuse outcome.OutOfMemory = false
 -- attempt j: a line on it, and one on what its link took
 abbrev pub attempt_text : ℕ → AttemptReport → List ℕ
 attempt_text j a =
-    codes "attempt " ++ decimal j ++ codes " " ++ shown a.name ++ codes " reused " ++ yes_no a.reused
+    codes "attempt " ++ decimal j ++ codes " " ++ shown a.name ++ codes " reused "
+    ++ yes_no a.reused
     ++ codes " kept " ++ yes_no a.kept ++ codes " error " ++ error_text a.error
     ++ codes "\nsent " ++ shown a.sent ++ codes "\n"
 
@@ -128,7 +131,9 @@ outcome_text k ended =
 
 -- whether the client goes back, and what its link took
 abbrev pub client_text : RequestSpec → List ℕ
-client_text r = codes "reuse " ++ yes_no (outcome_reuse r.outcome) ++ codes "\nwritten " ++ shown r.written ++ codes "\n"
+client_text r =
+    codes "reuse " ++ yes_no (outcome_reuse r.outcome) ++ codes "\nwritten " ++ shown r.written
+    ++ codes "\n"
 
 abbrev pub request_text : ℕ → RequestSpec → List ℕ
 request_text k r = outcome_text k r.outcome ++ client_text r ++ attempts_text 1 r.attempts
@@ -149,4 +154,6 @@ AreBytes (x ∷ xs) = (x < 256) × AreBytes xs
 
 -- no other bytes are shown as these are
 abbrev pub IsShownAlone : List ℕ → Type 0
-IsShownAlone bytes = (others : List ℕ) → AreBytes bytes → AreBytes others → shown bytes ≡ shown others → bytes ≡ others
+IsShownAlone bytes =
+    (others : List ℕ) → AreBytes bytes → AreBytes others → shown bytes ≡ shown others
+    → bytes ≡ others

@@ -158,7 +158,8 @@ fn branches(alloc: Global, value: &Value) -> Result<Vec<Branch>, ScriptError>
 
 /// The branches that values name, in order.
 fn each_branch(alloc: Global, values: &[Value]) -> Result<Vec<Branch>, ScriptError>
-    ensures { Reads (λ branches. branches.items) result (each_of branch_of (items_view values.now)) }
+    ensures { Reads (λ branches. branches.items) result
+        (each_of branch_of (items_view values.now)) }
 {
     let mut branches = Vec::new(alloc);
     for value in values {

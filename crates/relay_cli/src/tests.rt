@@ -223,43 +223,25 @@ fn assert_served(
 
 const HOST: &str = "Host: h.example";
 
+/// A response with a body of two bytes.
+const SIZED: [&str; 2] = ["HTTP/1.1 200 OK", "Content-Length: 2"];
+
 #[test]
 fn relays_any_method_without_a_body(rt: HostRuntime) -> Result<(), AllocError> {
     let post = ["POST /a HTTP/1.1", HOST];
     let whole = "error -\nreuse yes\nwritten HTTP/1.1 200 OK\\r\\ncontent-length: 2\\r\\n\\r\\nhi\n\
         attempt 1 a reused no kept yes error -\nsent POST /a HTTP/1.1\\r\\nhost: h.example\\r\\n";
-    assert_served(
-        &rt,
-        rt.alloc(),
-        &post,
-        &["HTTP/1.1 200 OK", "Content-Length: 2"],
-        "hi",
-        whole,
-    )?;
+    assert_served(&rt, rt.alloc(), &post, &SIZED, "hi", whole)?;
     let options = ["OPTIONS * HTTP/1.1", HOST];
     let asterisk = "kept yes error -\nsent OPTIONS * HTTP/1.1\\r\\nhost: h.example\\r\\n\\r\\n\n";
-    assert_served(
-        &rt,
-        rt.alloc(),
-        &options,
-        &["HTTP/1.1 200 OK", "Content-Length: 2"],
-        "hi",
-        asterisk,
-    )
+    assert_served(&rt, rt.alloc(), &options, &SIZED, "hi", asterisk)
 }
 
 #[test]
 fn relays_a_response_that_has_no_body(rt: HostRuntime) -> Result<(), AllocError> {
     let head_of = ["HEAD /a HTTP/1.1", HOST];
     let no_body = "written HTTP/1.1 200 OK\\r\\ncontent-length: 2\\r\\n\\r\\n\nattempt";
-    assert_served(
-        &rt,
-        rt.alloc(),
-        &head_of,
-        &["HTTP/1.1 200 OK", "Content-Length: 2"],
-        "hi",
-        no_body,
-    )?;
+    assert_served(&rt, rt.alloc(), &head_of, &SIZED, "hi", no_body)?;
     let get = ["GET /a HTTP/1.1", HOST];
     let nothing = "error -\nreuse yes\nwritten HTTP/1.1 204 No Content\\r\\n\\r\\n\nattempt";
     assert_served(
@@ -335,22 +317,8 @@ fn uses_no_connection_again_that_is_to_be_closed(rt: HostRuntime) -> Result<(), 
     let neither = "error -\nreuse no\n";
     let link = "kept no error -";
     let close = ["GET /a HTTP/1.1", HOST, "Connection: x , CLOSE"];
-    assert_served(
-        &rt,
-        rt.alloc(),
-        &close,
-        &["HTTP/1.1 200 OK", length],
-        "hi",
-        neither,
-    )?;
-    assert_served(
-        &rt,
-        rt.alloc(),
-        &close,
-        &["HTTP/1.1 200 OK", length],
-        "hi",
-        link,
-    )?;
+    assert_served(&rt, rt.alloc(), &close, &SIZED, "hi", neither)?;
+    assert_served(&rt, rt.alloc(), &close, &SIZED, "hi", link)?;
     let closing = ["HTTP/1.1 200 OK", length, "Connection: close"];
     assert_served(&rt, rt.alloc(), &get, &closing, "hi", neither)?;
     assert_served(&rt, rt.alloc(), &get, &closing, "hi", link)?;

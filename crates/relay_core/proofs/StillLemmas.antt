@@ -1,5 +1,5 @@
 -- A step that waits leaves all but what a side tells, so the same branches can be taken.
-use Rattle.std.proofs.Common.{◌≡◌, Bool, true, false, Option, Some, None, Result, Ok, Err, refl, sym, ap, ◌∙◌, subst, inl, inr}
+use Rattle.std.proofs.Common.{◌≡◌, Bool, true, false, Some, None, Result, Ok, Err, refl, sym, ap, ◌∙◌, subst, inl, inr}
 use Rattle.relay_tasks.specs.declared.error.Fail.{Fail}
 use Rattle.relay_tasks.specs.declared.error.Fail.TheVariants as fail
 use Rattle.relay_tasks.specs.declared.task.HttpTask.{HttpTask}
@@ -15,7 +15,6 @@ use Rattle.relay_core.specs.declared.piece.Piece.{Piece}
 use Rattle.relay_core.specs.declared.step.Step.{Step}
 use Rattle.relay_core.specs.declared.step.Step.TheVariants as step
 use Rattle.relay_core.specs.declared.step.UpKind.{UpKind}
-use Rattle.relay_core.specs.declared.step.UpKind.TheVariants as kind
 use Rattle.relay_core.specs.declared.told.Told.{Told}
 use Rattle.relay_core.specs.Down.{DownState, ReadsPiece}
 use Rattle.relay_core.specs.Down as down

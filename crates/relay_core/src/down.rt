@@ -23,23 +23,20 @@ use relay_tasks::{Pause, Result, TaskList, Took};
 /// behind those that it was given, and `cannot_end` that the response cannot end where it stands.
 /// `link` is the client's link as it stands: what an answer waits for stands in it. `start` is that
 /// link as it was handed out, which no call changes.
-pub trait Down {
-    /// The client, whose link the side reads and writes.
-    type Client;
-
+pub trait Down<C> {
     ghost state: { Self → DownState };
 
-    ghost past: { Self → Self.Client → Origin → DownPast → Type 0 };
+    ghost past: { Self → C → Origin → DownPast → Type 0 };
 
-    ghost blames: { Self → Self.Client → Origin → DownPast → Error → Type 0 };
+    ghost blames: { Self → C → Origin → DownPast → Error → Type 0 };
 
-    ghost refuses: { Self → Self.Client → Origin → DownPast → List HttpTask → Error → Type 0 };
+    ghost refuses: { Self → C → Origin → DownPast → List HttpTask → Error → Type 0 };
 
-    ghost cannot_end: { Self → Self.Client → Origin → DownPast → Error → Type 0 };
+    ghost cannot_end: { Self → C → Origin → DownPast → Error → Type 0 };
 
-    ghost link: { Self.Client → LinkState };
+    ghost link: { C → LinkState };
 
-    ghost start: { Self.Client → LinkStart };
+    ghost start: { C → LinkStart };
 
     /// Whether the client may be read: not where its request has ended, and it waits for the answer
     /// to an upgrade or has its whole response.
@@ -57,7 +54,7 @@ pub trait Down {
     /// Reads a piece of the request and filters it. `idle` says that the request has ended: the
     /// client is then only watched. The end comes with a piece, and `End` is never answered. `More`
     /// says that the link gave bytes in this call.
-    fn read_piece(&mut self, client: &mut Self::Client, idle: bool) -> Took<Piece>
+    fn read_piece(&mut self, client: &mut C, idle: bool) -> Took<Piece>
         requires { IsTrue (may_read (state self.old)) }
         ensures reads { ReadsPiece (state self.old) (state self.new) result }
         ensures start { start client.new ≡ start client.old }
@@ -79,7 +76,7 @@ pub trait Down {
     /// `Failed` comes alone and is answered with its error.
     fn take_batch(&mut self, tasks: TaskList, kind: UpKind) -> Result<bool>
         ensures takes { TakesBatch (state self.old) tasks (state self.new) result }
-        ensures goes { (client : Self.Client) (s : Origin) (p : DownPast)
+        ensures goes { (client : C) (s : Origin) (p : DownPast)
             → past self.old client s p
             → BatchGoes (past self.new client s) (blames self.new client s)
             (refuses self.new client s) p tasks result };
@@ -89,7 +86,7 @@ pub trait Down {
         ensures { result ≡ (state self.now).pending };
 
     /// Writes pending output once.
-    fn write_pending(&mut self, client: &mut Self::Client) -> Put
+    fn write_pending(&mut self, client: &mut C) -> Put
         requires { IsTrue (state self.old).pending }
         ensures writes { Writes (state self.old) (state self.new) result }
         ensures start { start client.new ≡ start client.old }
@@ -107,7 +104,7 @@ pub trait Down {
     /// Ends the response's body. Where it was ended already this queues nothing.
     fn finish(&mut self) -> Result<()>
         ensures ends { Finishes (state self.old) (state self.new) result }
-        ensures goes { (client : Self.Client) (s : Origin) (p : DownPast)
+        ensures goes { (client : C) (s : Origin) (p : DownPast)
             → past self.old client s p
             → DownGoes (past self.new client s) (cannot_end self.new client s)
             p.put p.batched (p.closing ++ closing_in result) (error_of_result result) };

@@ -20,7 +20,7 @@ use relay_tasks::{Error, Fail, Pause, TaskList, Took};
 
 impl Duplex {
     /// One write to the client.
-    pub(crate) fn down_write<D: Down>(&mut self, client: &mut D::Client, down: &mut D) -> Step
+    pub(crate) fn down_write<C, D: Down<C>>(&mut self, client: &mut C, down: &mut D) -> Step
         requires { IsTrue (D.state down.old).pending }
         ensures start { D.start client.new ≡ D.start client.old }
         ensures exact { DownWrites self.old (D.state down.old) self.new (D.state down.new) result }
@@ -53,10 +53,10 @@ impl Duplex {
     }
 
     /// Gives the tasks of the response pipe that go together to the client.
-    pub(crate) fn down_take<D: Down>(&mut self, down: &mut D) -> Step
+    pub(crate) fn down_take<C, D: Down<C>>(&mut self, down: &mut D) -> Step
         requires { 0 < length self.old.responses.tasks }
         ensures exact { DownTakes self.old (D.state down.old) self.new (D.state down.new) result }
-        ensures goes { (client : D.Client) (s : Origin) (p : DownPast) → D.past down.old client s p
+        ensures goes { (client : C) (s : Origin) (p : DownPast) → D.past down.old client s p
             → DownTakesOn (D.past down.new client s) (D.blames down.new client s)
             (D.refuses down.new client s) p self.old (D.state down.old) self.new
             (D.state down.new) result }
@@ -67,9 +67,9 @@ impl Duplex {
         }
     }
 
-    fn give_batch<D: Down>(&mut self, down: &mut D, tasks: TaskList) -> Step
+    fn give_batch<C, D: Down<C>>(&mut self, down: &mut D, tasks: TaskList) -> Step
         ensures exact { GivesBatch self.old (D.state down.old) tasks self.new (D.state down.new) result }
-        ensures goes { (client : D.Client) (s : Origin) (p : DownPast) → D.past down.old client s p
+        ensures goes { (client : C) (s : Origin) (p : DownPast) → D.past down.old client s p
             → GivesBatchOn (D.past down.new client s) (D.blames down.new client s)
             (D.refuses down.new client s) p self.old (D.state down.old) tasks self.new
             (D.state down.new) result }
@@ -125,7 +125,7 @@ impl Duplex {
     }
 
     /// Reads a piece of the request and puts it.
-    pub(crate) fn down_read<D: Down>(&mut self, client: &mut D::Client, down: &mut D) -> Step
+    pub(crate) fn down_read<C, D: Down<C>>(&mut self, client: &mut C, down: &mut D) -> Step
         requires room { IsTrue (has_room self.old.requests) }
         requires readable { IsTrue (may_read (D.state down.old)) }
         ensures start { D.start client.new ≡ D.start client.old }
@@ -169,9 +169,9 @@ impl Duplex {
     }
 
     /// Ends the response's body; with nothing pending then, the client's half has finished.
-    pub(crate) fn down_finish<D: Down>(&mut self, down: &mut D) -> Step
+    pub(crate) fn down_finish<C, D: Down<C>>(&mut self, down: &mut D) -> Step
         ensures exact { DownEnds self.old (D.state down.old) self.new (D.state down.new) result }
-        ensures goes { (client : D.Client) (s : Origin) (p : DownPast) → D.past down.old client s p
+        ensures goes { (client : C) (s : Origin) (p : DownPast) → D.past down.old client s p
             → DownEndsOn (D.past down.new client s) (D.cannot_end down.new client s) p self.old
             (D.state down.old) self.new (D.state down.new) result }
     {

@@ -157,7 +157,7 @@ impl Duplex {
     }
 
     /// Whether the branch can be taken now.
-    pub fn enabled<D: Down, U: Up>(&self, down: &D, up: &U, branch: Branch) -> bool
+    pub fn enabled<C, D: Down<C>, U: Up>(&self, down: &D, up: &U, branch: Branch) -> bool
         ensures { result ≡ enabled (core self.now (D.state down.now) (U.state up.now)) branch }
     {
         match branch {
@@ -208,7 +208,7 @@ impl Duplex {
     }
 
     /// The branches that can be taken now.
-    fn enabled_set<D: Down, U: Up>(&self, down: &D, up: &U) -> BranchSet
+    fn enabled_set<C, D: Down<C>, U: Up>(&self, down: &D, up: &U) -> BranchSet
         ensures { (branch : Branch) → has result branch ≡ enabled (core self.now (D.state down.now) (U.state up.now)) branch }
     {
         let mut set = BranchSet::new();
@@ -220,7 +220,7 @@ impl Duplex {
 
     /// Asks the schedule once for a branch: its answer where that can be taken, else the first in
     /// the order that can. None exactly where none can: both halves have finished or one failed.
-    pub fn choose<D: Down, U: Up, H: Schedule>(
+    pub fn choose<C, D: Down<C>, U: Up, H: Schedule>(
         &self,
         down: &D,
         up: &U,
@@ -248,9 +248,9 @@ impl Duplex {
     }
 
     /// Takes the step of the branch.
-    fn step_by<D: Down, U: Up>(
+    fn step_by<C, D: Down<C>, U: Up>(
         &mut self,
-        client: &mut D::Client,
+        client: &mut C,
         down: &mut D,
         up: &mut U,
         branch: Branch,
@@ -305,9 +305,9 @@ impl Duplex {
     /// `Failed` with an error is one for which a side answers, the last that it told or the send
     /// error that was kept, one that tasks of the response are refused with, or that of a response
     /// that is done and cannot end.
-    pub fn step<D: Down, U: Up>(
+    pub fn step<C, D: Down<C>, U: Up>(
         &mut self,
-        client: &mut D::Client,
+        client: &mut C,
         down: &mut D,
         up: &mut U,
         branch: Branch,

@@ -41,7 +41,7 @@ use Rattle.relay_sides.specs.Body.{IsFrontOf, sent_as}
 use Rattle.relay_sides.specs.Client as client
 use Rattle.relay_sides.specs.Client.{ClientBlames, ClientRefuses, CannotEnd, given_to, queued}
 use Rattle.relay_sides.specs.Peer.{IsPeer, AreTasks, PeerBlames, handed, told_of}
-use Rattle.relay_sides.specs.declared.client_side.ClientState.{ClientState}
+use Rattle.relay_sides.specs.declared.client_side.ClientSide.{ClientSide}
 use Rattle.relay_sides.specs.declared.peer_side.PeerSide.{PeerSide}
 use Rattle.relay_sides.proofs.ClientPast.{open_is_whole}
 use Rattle.relay_sides.proofs.TaskLemmas.{ended_whole}
@@ -91,13 +91,13 @@ own_blames state start_at s q up u e blames =
     (same_head blames.0 u.peer.head (sym blames.1 ∙ u.peer.is_head) ∙ u.peer.own) blames.2
 
 -- the state of the client's side
-abbrev pub down_state : ClientState → DownState
+abbrev pub down_state : ClientSide → DownState
 down_state down =
     client.state_of down.session down.told down.done down.finished down.broken
 
 -- while the head is being sent only the peer's side can fail
 pub fails_begun : {L : Type 0} (state : L → LinkState) (start_at : L → LinkStart) (s : Origin)
-    (p : DownPast) (q : UpPast) (link : LinkState) (ahead : List ℕ) (down : ClientState)
+    (p : DownPast) (q : UpPast) (link : LinkState) (ahead : List ℕ) (down : ClientSide)
     (up : PeerSide L) (e : Error) → Begins state start_at s p q link ahead down up
     → Blames state start_at up s q e
     → FailsFor s (passed_by p q) link (state up.client.link) (start_at up.client.link) e
@@ -107,7 +107,7 @@ fails_begun state start_at s p q link ahead down up e begins blames =
 
 module _ {L : Type 0} (state : L → LinkState) (start_at : L → LinkStart)
     (s : Origin) (p : DownPast) (q : UpPast) (link : LinkState) (ahead : List ℕ)
-    (down : ClientState) (up : PeerSide L) (duplex : Duplex)
+    (down : ClientSide) (up : PeerSide L) (duplex : Duplex)
     (so_far : SoFar (DownHolds link ahead down s) (UpHolds state start_at up s)
     (Blames state start_at up s) (core_of state start_at duplex down up) p q)
   where

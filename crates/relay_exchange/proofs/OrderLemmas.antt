@@ -49,7 +49,7 @@ use Rattle.relay_core.specs.declared.told.Told.{Told}
 use Rattle.relay_sides.specs.Body.{IsFrontOf, body_of, sent_as}
 use Rattle.relay_sides.specs.Client.{HasPassed, IsClient, given_to, queued, state_of}
 use Rattle.relay_sides.specs.Peer.{IsPeer, AreTasks, HasRoom, handed}
-use Rattle.relay_sides.specs.declared.client_side.ClientState.{ClientState}
+use Rattle.relay_sides.specs.declared.client_side.ClientSide.{ClientSide}
 use Rattle.relay_sides.specs.declared.peer_side.PeerSide.{PeerSide}
 use Rattle.relay_sides.proofs.FrontLemmas.{front_then}
 use Rattle.relay_sides.proofs.TaskLemmas.{ended_whole}
@@ -444,7 +444,7 @@ none_front xs ys none =
 module _ {L : Type 0} (state : L → LinkState) (start_at : L → LinkStart) where
   -- the order, from the exchange so far
   abbrev pub order_so_far : (s : Origin) (p : DownPast) (q : UpPast) (link : LinkState)
-      (ahead : List ℕ) (down : ClientState) (up : PeerSide L) (duplex : Duplex)
+      (ahead : List ℕ) (down : ClientSide) (up : PeerSide L) (duplex : Duplex)
       → SoFar (DownHolds link ahead down s) (UpHolds state start_at up s)
       (Blames state start_at up s) (core_of state start_at duplex down up) p q
       → IsInOrder s (passed_by p q) (state up.client.link).ended
@@ -458,7 +458,7 @@ module _ {L : Type 0} (state : L → LinkState) (start_at : L → LinkStart) whe
 
   -- the order of an exchange whose head is being sent
   abbrev pub begin_order : (s : Origin) (p : DownPast) (q : UpPast) (link : LinkState)
-      (ahead : List ℕ) (down : ClientState) (up : PeerSide L)
+      (ahead : List ℕ) (down : ClientSide) (up : PeerSide L)
       → Begins state start_at s p q link ahead down up
       → IsInOrder s (passed_by p q) (state up.client.link).ended
   begin_order s p q link ahead down up begins =

@@ -24,7 +24,7 @@ use Rattle.relay_sides.specs.Client.{HasPassed, begun_past, ClientBlames, Client
 use Rattle.relay_sides.specs.Client as client
 use Rattle.relay_sides.specs.Peer as peer
 use Rattle.relay_sides.specs.Peer.{none_passed}
-use Rattle.relay_sides.specs.declared.client_side.ClientState.{ClientState}
+use Rattle.relay_sides.specs.declared.client_side.ClientSide.{ClientSide}
 use Rattle.relay_sides.specs.declared.peer_side.PeerSide.{PeerSide}
 use Rattle.relay_exchange.specs.Exchange.{DownHolds, UpHolds, Blames, Begins, StageHolds, IsUnderWay, Turns, ComesTo, AreTold, core_of}
 use Rattle.relay_exchange.specs.Head.{error_of_step, IsRefusedFor}
@@ -111,7 +111,7 @@ module _ {L : Type 0} (state : L → LinkState) (start_at : L → LinkStart) whe
 module _ {L : Type 0} (state : L → LinkState) (start_at : L → LinkStart) where
   -- a write of the head goes on with it
   pub begins_on : (s : Origin) (p : DownPast) (q : UpPast) (link : LinkState) (ahead : List ℕ)
-      (down : ClientState) (up new : PeerSide L) (error : Option Error)
+      (down : ClientSide) (up new : PeerSide L) (error : Option Error)
       → Begins state start_at s p q link ahead down up
       → (went : UpGoes (UpHolds state start_at new s) (Blames state start_at up s)
       (Blames state start_at new s) q q.read q.taken q.lost error)
@@ -132,7 +132,7 @@ module _ {L : Type 0} (state : L → LinkState) (start_at : L → LinkStart) whe
 
   -- what passed is told by both links
   told_by : (s : Origin) (p : DownPast) (q : UpPast) (link : LinkState) (ahead : List ℕ)
-      (down : ClientState) (up : PeerSide L) → DownHolds link ahead down s p
+      (down : ClientSide) (up : PeerSide L) → DownHolds link ahead down s p
       → UpHolds state start_at up s q
       → AreTold state start_at s (passed_by p q) link (state up.client.link)
       (start_at up.client.link)
@@ -255,28 +255,3 @@ module _ {L : Type 0} (state : L → LinkState) (start_at : L → LinkStart) whe
           fails e went.p went.q went.so_far (went.blamed e refl)
       comes (step.Failed fail.OutOfMemory) went tells =
           order_so_far state start_at s went.p went.q link ahead x.client x.peer duplex went.so_far
-
-  -- a side that was resumed holds what it held when it was suspended
-  pub resumed_so_far : (s : Origin) (p : DownPast) (q : UpPast) (link : LinkState)
-      (ahead : List ℕ) (down : ClientState) (up : PeerSide L) (duplex : Duplex)
-      (session : HttpSession) (told : Told) (done finished : Bool) (broken : Option Fault)
-      → session ≡ down.session → told ≡ down.told → done ≡ down.done → finished ≡ down.finished
-      → broken ≡ down.broken
-      → SoFar (DownHolds link ahead down s) (UpHolds state start_at up s)
-      (Blames state start_at up s) (core_of state start_at duplex down up) p q
-      → SoFar (λ p. HasPassed s p link ahead session done finished broken)
-      (UpHolds state start_at up s) (Blames state start_at up s)
-      (core duplex (client.state_of session told done finished broken)
-      (peer.state_of up.client up.told)) p q
-  resumed_so_far s p q link ahead down up duplex session told done finished broken is_session
-      is_told is_done is_finished is_broken f =
-      let At : HttpSession → Told → Bool → Bool → Option Fault → Type 0 = λ a b c d e.
-      SoFar (λ p. HasPassed s p link ahead a c d e) (UpHolds state start_at up s)
-      (Blames state start_at up s)
-      (core duplex (client.state_of a b c d e) (peer.state_of up.client up.told)) p q in
-      subst (λ (a : HttpSession). At a told done finished broken) (sym is_session)
-      (subst (λ (b : Told). At down.session b done finished broken) (sym is_told)
-      (subst (λ (c : Bool). At down.session down.told c finished broken) (sym is_done)
-      (subst (λ (d : Bool). At down.session down.told down.done d broken) (sym is_finished)
-      (subst (λ (e : Option Fault). At down.session down.told down.done down.finished e)
-      (sym is_broken) f))))

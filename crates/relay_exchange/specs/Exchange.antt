@@ -18,7 +18,7 @@ use Rattle.relay_sides.specs.Client.{HasPassed}
 use Rattle.relay_sides.specs.Client as client
 use Rattle.relay_sides.specs.Peer.{IsPeerSide, PeerBlames}
 use Rattle.relay_sides.specs.Peer as peer
-use Rattle.relay_sides.specs.declared.client_side.ClientState.{ClientState}
+use Rattle.relay_sides.specs.declared.client_side.ClientSide.{ClientSide}
 use Rattle.relay_sides.specs.declared.peer_side.PeerSide.{PeerSide}
 use Rattle.relay_exchange.specs.declared.exchange.Exchange.{Exchange}
 use Rattle.relay_exchange.specs.declared.exchange.Stage.{Stage}
@@ -29,7 +29,7 @@ use Rattle.relay_exchange.specs.Passed.{Passed}
 use Rattle.relay_exchange.specs.Valid.{IsValid}
 
 -- the past of the client's side holds
-abbrev pub DownHolds : LinkState → List ℕ → ClientState → Origin → DownPast → Type 0
+abbrev pub DownHolds : LinkState → List ℕ → ClientSide → Origin → DownPast → Type 0
 DownHolds link ahead side s p =
     HasPassed s p link ahead side.session side.done side.finished side.broken
 
@@ -50,14 +50,14 @@ module _ {L : Type 0} (state : L → LinkState) (start_at : L → LinkStart) whe
       × PeerBlames (start_at side.client.link) (state side.client.link) head q e
 
   -- the core of an exchange that moves bodies
-  abbrev pub core_of : Duplex → ClientState → PeerSide L → State
+  abbrev pub core_of : Duplex → ClientSide → PeerSide L → State
   core_of duplex down up =
       core duplex (client.state_of down.session down.told down.done down.finished down.broken)
       (peer.state_of up.client up.told)
 
   -- the head is being sent, and nothing else has passed
   pub record Begins (s : Origin) (p : DownPast) (q : UpPast) (link : LinkState) (ahead : List ℕ)
-      (down : ClientState) (up : PeerSide L) : Type 0 where
+      (down : ClientSide) (up : PeerSide L) : Type 0 where
     pub down_holds : DownHolds link ahead down s p
     pub up_holds : UpHolds up s q
     pub none_put : p.put ≡ []
@@ -70,13 +70,13 @@ module _ {L : Type 0} (state : L → LinkState) (start_at : L → LinkStart) whe
 
   -- both bodies flow: neither half failed, nor have both finished
   pub record Flows (s : Origin) (p : DownPast) (q : UpPast) (link : LinkState) (ahead : List ℕ)
-      (down : ClientState) (up : PeerSide L) (duplex : Duplex) : Type 0 where
+      (down : ClientSide) (up : PeerSide L) (duplex : Duplex) : Type 0 where
     pub so_far : SoFar (DownHolds link ahead down s) (UpHolds up s) (Blames up s)
         (core_of duplex down up) p q
     pub goes_on : is_finished duplex ≡ false
     pub unfailed : is_failed duplex.word ≡ false
 
-  abbrev pub StageHolds : Origin → DownPast → UpPast → LinkState → List ℕ → ClientState → PeerSide L
+  abbrev pub StageHolds : Origin → DownPast → UpPast → LinkState → List ℕ → ClientSide → PeerSide L
       → Stage → Type 0
   StageHolds s p q link ahead down up stage.Head = Begins s p q link ahead down up
   StageHolds s p q link ahead down up (stage.Bodies duplex) =
@@ -141,7 +141,7 @@ module _ {L : Type 0} (state : L → LinkState) (start_at : L → LinkStart) whe
 
   -- all that can be done asks a link that is silent on it: the write of the head, or each branch
   -- that can be taken
-  abbrev pub SilentIn : LinkState → ClientState → PeerSide L → Stage → Type 0
+  abbrev pub SilentIn : LinkState → ClientSide → PeerSide L → Stage → Type 0
   SilentIn link down up stage.Head = (state up.client.link).silent_on_write ≡ true
   SilentIn link down up (stage.Bodies duplex) =
       IsQuiet (core_of duplex down up) link (state up.client.link)

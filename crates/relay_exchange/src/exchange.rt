@@ -1,5 +1,6 @@
 //! One exchange over one link to a peer: the head of the request is sent, and then both bodies flow
 //! (RFC 9112, sections 6, 7 and 9.3).
+ghost use Rattle.std.specs.declared.alloc.Global.{Global};
 ghost use Rattle.std.specs.Prelude.{◌≡◌, ◌↔◌, ◌⊎◌, ◌&&◌, Bool, ℕ, List, [], None, false, IfOk, IfErr, true};
 ghost use Rattle.relay_tasks.specs.Error.{IsMemoryOr};
 ghost use Rattle.relay_links.specs.Link.{LinkState, IsHandedOut};
@@ -21,10 +22,9 @@ use crate::round::go_round;
 use relay_core::{Duplex, Step, Up, UpKind};
 use relay_links::{Branch, ByteLink, Put, Schedule};
 use relay_session::{Front, HttpSession};
-use relay_sides::{ClientSide, ClientState, PeerSide};
+use relay_sides::{ClientSide, PeerSide};
 use relay_tasks::{Context, Error, ErrorSource, Fail, Pause, RequestHeader};
 use std::alloc::Global;
-use std::mem;
 
 /// How far an exchange is: the request's head is sent, or both bodies flow.
 #[derive(Drop)]
@@ -37,7 +37,7 @@ pub(crate) enum Stage {
 #[derive(Drop)]
 pub struct Exchange<L> {
     pub(crate) alloc: Global,
-    pub(crate) client: ClientState,
+    pub(crate) client: ClientSide,
     pub(crate) peer: PeerSide<L>,
     pub(crate) stage: Stage,
 }
@@ -63,7 +63,7 @@ impl<L: ByteLink> Exchange<L> {
     /// `InvalidHTTPHeader` of the source `Internal`, about `BadFraming`: exactly where
     /// `request_framing` refuses the head. Then, and where memory is wanted, the link comes back,
     /// and the session is dropped.
-    pub fn begin<F: Front>(
+    pub fn begin(
         alloc: Global,
         session: HttpSession,
         link: L,
@@ -87,10 +87,10 @@ impl<L: ByteLink> Exchange<L> {
         let mut peer = PeerSide::new(alloc, link);
         match peer.write_request_header(head) {
             Ok(()) => {
-                let side: ClientSide<F> = ClientSide::new(alloc, session);
+                let client = ClientSide::new(alloc, session);
                 Ok(Exchange {
                     alloc,
-                    client: side.suspend(),
+                    client,
                     peer,
                     stage: Stage::Head,
                 })
@@ -138,7 +138,6 @@ impl<L: ByteLink> Exchange<L> {
                 branch: None,
             },
             Stage::Bodies(duplex) => move_bodies(
-                self.alloc,
                 &mut self.client,
                 &mut self.peer,
                 duplex,
@@ -193,7 +192,7 @@ impl<L> Exchange<L> {
 /// One write of the request's head. Once all of it was taken, both bodies flow.
 fn send_head<L: ByteLink>(
     alloc: Global,
-    client: &ClientState,
+    client: &ClientSide,
     peer: &mut PeerSide<L>,
     stage: &mut Stage,
 ) -> Step
@@ -249,7 +248,7 @@ fn stage_behind<L: ByteLink>(alloc: Global, session: &HttpSession, peer: &PeerSi
     ensures is { IsBehind (Peer.state_of peer.now.client peer.now.told).pending
         (is_body_done session.now.reading) result }
     ensures holds { (s : Origin) (p : DownPast) (q : UpPast) (link : LinkState) (ahead : List ℕ)
-        (down : ClientState) → down.session ≡ session.now
+        (down : ClientSide) → down.session ≡ session.now
         → Begins L.state L.start s p q link ahead down peer.now
         → StageHolds L.state L.start s p q link ahead down peer.now result }
 {
@@ -259,21 +258,20 @@ fn stage_behind<L: ByteLink>(alloc: Global, session: &HttpSession, peer: &PeerSi
     Stage::Bodies(Duplex::new(alloc, UpKind::H1, session.is_body_done()))
 }
 
-/// One branch of the duplex. The client's side is made for the turn out of what was kept of it.
+/// One branch of the duplex.
 fn move_bodies<L: ByteLink, F: Front, H: Schedule>(
-    alloc: Global,
-    state: &mut ClientState,
+    down: &mut ClientSide,
     peer: &mut PeerSide<L>,
     duplex: &mut Duplex,
     client: &mut F,
     schedule: &mut H,
 ) -> Turn
-    ensures goes { (s : Origin) (p : DownPast) (q : UpPast)
-        → Flows L.state L.start s p q (F.state client.old) (F.ahead client.old) state.old peer.old
+    ensures goes { (alloc : Global) (s : Origin) (p : DownPast) (q : UpPast)
+        → Flows L.state L.start s p q (F.state client.old) (F.ahead client.old) down.old peer.old
         duplex.old
         → Turns L.state L.start s (F.state client.new) (F.ahead client.new) (record {
           alloc = alloc;
-          client = state.new;
+          client = down.new;
           peer = peer.new;
           stage = Stage.Bodies duplex.new;
         }) result.step }
@@ -283,7 +281,7 @@ fn move_bodies<L: ByteLink, F: Front, H: Schedule>(
     ensures silent { result.step ≡ Step.Waited Pause.Silent
         → IsSilentLink (F.state client.new) ⊎ IsSilentLink (L.state peer.new.client.link) }
     ensures quiet { result.step ≡ Step.Waited Pause.Silent
-        → SilentIn L.state L.start (F.state client.new) state.new peer.new (Stage.Bodies duplex.new)
+        → SilentIn L.state L.start (F.state client.new) down.new peer.new (Stage.Bodies duplex.new)
         × (F.state client.new ≡ F.state client.old)
         × (L.state peer.new.client.link ≡ L.state peer.old.client.link) }
     ensures calm { says_failed result.step ≡ false
@@ -291,15 +289,6 @@ fn move_bodies<L: ByteLink, F: Front, H: Schedule>(
     ensures client_start { F.start client.new ≡ F.start client.old }
     ensures peer_start { L.start peer.new.client.link ≡ L.start peer.old.client.link }
 {
-    let mut down: ClientSide<F> = ClientSide::resume(mem::replace(state, stand_in::<F>(alloc)));
-    let (step, branch) = go_round(duplex, client, &mut down, peer, schedule);
-    *state = down.suspend();
+    let (step, branch) = go_round(duplex, client, down, peer, schedule);
     Turn { step, branch }
-}
-
-/// What stands in the place of a client's side while that is in use: one over a fresh session. It
-/// takes no memory.
-fn stand_in<F: Front>(alloc: Global) -> ClientState {
-    let side: ClientSide<F> = ClientSide::new(alloc, HttpSession::new_http1(alloc));
-    side.suspend()
 }

@@ -17,9 +17,9 @@ use relay_tasks::{Fail, Pause};
 ///
 /// That no branch is enabled comes only where both halves have finished or one failed, so no turn
 /// of an exchange meets it; the answer then is out of memory.
-pub(crate) fn go_round<D: Down, U: Up, H: Schedule>(
+pub(crate) fn go_round<C, D: Down<C>, U: Up, H: Schedule>(
     duplex: &mut Duplex,
-    client: &mut D::Client,
+    client: &mut C,
     down: &mut D,
     up: &mut U,
     schedule: &mut H,

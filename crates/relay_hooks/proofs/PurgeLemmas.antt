@@ -13,4 +13,5 @@ unfolding generated_head digits
 purge_head-bodiless status.NoCache = record { is_final = refl; length_0 = refl; uncoded = refl }
 purge_head-bodiless status.Found = record { is_final = refl; length_0 = refl; uncoded = refl }
 purge_head-bodiless status.NotFound = record { is_final = refl; length_0 = refl; uncoded = refl }
-purge_head-bodiless (status.Error fault) = record { is_final = refl; length_0 = refl; uncoded = refl }
+purge_head-bodiless (status.Error fault) =
+    record { is_final = refl; length_0 = refl; uncoded = refl }

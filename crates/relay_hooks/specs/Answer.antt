@@ -9,7 +9,8 @@ abbrev pub is_empty : List HttpTask → Bool
 is_empty [] = true
 is_empty (task ∷ tasks) = false
 
--- these are the pieces of a body and its end, with nothing behind it; `ended` says that it has ended
+-- these are the pieces of a body and its end, with nothing behind it; `ended` says that it has
+-- ended
 abbrev pub is_body : Bool → List HttpTask → Bool
 is_body true tasks = is_empty tasks
 is_body false [] = false

@@ -20,11 +20,12 @@ abbrev pub is_idempotent : List ℕ → Bool
 is_idempotent method = list_any (bytes_eq method) repeatable
 
 -- the error of an attempt, marked: never to be tried again where the method may not be repeated or
--- not all of the body was kept, and else by its own mark, once it is known whether the link had been
--- used before
+-- not all of the body was kept, and else by its own mark, once it is known whether the link had
+-- been used before
 abbrev pub marked_for_retry : List ℕ → Bool → Bool → Error → Error
 marked_for_retry method truncated reused error =
-    if is_idempotent method && not truncated then record error { retry = decided_by error.retry reused }
+    if is_idempotent method && not truncated
+    then record error { retry = decided_by error.retry reused }
     else record error { retry = Decided false }
 
 -- a status that an application named, or 500 where it is none

@@ -1,5 +1,5 @@
--- The relation of an application that is made of filters: its calls keep the laws, and its mark counts
--- them.
+-- The relation of an application that is made of filters: its calls keep the laws, and its mark
+-- counts them.
 use Rattle.std.specs.Prelude.{◌≡◌, ℕ, Bool, true, false, ◌||◌, List, [], Option, Some, None}
 use Rattle.relay_tasks.specs.Head.{ResponseHead}
 use Rattle.relay_tasks.specs.declared.error.Error.{Error}
@@ -54,7 +54,8 @@ gets_context hook.ModuleResponseBody = false
 gets_context hook.ModuleResponseTrailer = false
 gets_context hook.ModuleResponseDone = false
 
--- the mark behind a call: one more where the hook may change its context; at its last value it stays
+-- the mark behind a call: one more where the hook may change its context; at its last value it
+-- stays
 abbrev pub next_mark : Bool → ℕ → ℕ
 next_mark true mark = up mark
 next_mark false mark = mark

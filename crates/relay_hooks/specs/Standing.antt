@@ -6,7 +6,8 @@ use Rattle.relay_tasks.specs.declared.peer.Peer.{Peer}
 use Rattle.relay_tasks.specs.declared.task.HttpTask.{HttpTask}
 
 -- what stood before a call: the mark of its context, and what the session showed. The peer of the
--- attempt, and whether its link had been used before, stand here for the hooks that are told of them
+-- attempt, and whether its link had been used before, stand here for the hooks that are told of
+-- them
 pub record Standing : Type 0 where
   pub mark : ℕ
   pub head : RequestHead
@@ -15,8 +16,8 @@ pub record Standing : Type 0 where
   pub peer : Option Peer
   pub reused : Bool
 
--- a session and a context as a call finds or leaves them: `touched` says that the head was lent to be
--- changed since the call was begun, `wrote` are the tasks that were queued since
+-- a session and a context as a call finds or leaves them: `touched` says that the head was lent to
+-- be changed since the call was begun, `wrote` are the tasks that were queued since
 pub record Moment : Type 0 where
   pub mark : ℕ
   pub head : RequestHead

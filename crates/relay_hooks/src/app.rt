@@ -12,8 +12,8 @@ use relay_tasks::{Error, Injected, Peer, PurgeAction, RequestHeader, ResponseHea
 use std::alloc::Global;
 
 /// The application of these filters, over the default hooks. Its relation says that its calls keep
-/// the laws of hooks; its mark is the number of calls that were handed the context, and stands still
-/// at its last value.
+/// the laws of hooks; its mark is the number of calls that were handed the context, and stands
+/// still at its last value.
 #[derive(Drop)]
 pub struct App<F> {
     filters: F,

@@ -46,9 +46,9 @@ pub fn error_while_proxy<M>(session: &Session<M>, mut error: Error, client_reuse
 }
 
 /// The status with which an error is answered, or 0 for no answer. `HTTPStatus` names it (500 where
-/// it names none). Else it is 502 for the upstream's errors, 500 for the relay's own and for those of
-/// no side, and for the client's 0 where it reads no more, as after a failed read or write or behind
-/// its end, and 400 for the others.
+/// it names none). Else it is 502 for the upstream's errors, 500 for the relay's own and for those
+/// of no side, and for the client's 0 where it reads no more, as after a failed read or write or
+/// behind its end, and 400 for the others.
 pub fn answer_code(error: &Error) -> u16
     ensures { result ≡ answer_code error.now.esource error.now.etype }
 {
@@ -115,8 +115,8 @@ fn client_code(etype: ErrorType) -> u16
 }
 
 /// Answers the client for a final error with the status of `answer_code`, where that is one and no
-/// final head was queued; where a write failed before, nothing is queued. The client's connection is
-/// not to be kept.
+/// final head was queued; where a write failed before, nothing is queued. The client's connection
+/// is not to be kept.
 pub fn fail_to_proxy<M: HttpModule>(session: &mut Session<M>, error: &Error) -> Result<FailToProxy>
     ensures tells { IfOk result (λ told. told ≡ record {
       error_code = answer_code error.now.esource error.now.etype;

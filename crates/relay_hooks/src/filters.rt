@@ -7,8 +7,8 @@ use relay_modules::{NoModules, Session};
 use relay_tasks::{Error, Peer, RequestHeader, ResponseHeader, Result};
 use std::alloc::Global;
 
-/// What an application changes of the requests and responses that pass. `App` makes a `ProxyHttp` of
-/// it. Each method has a body, which changes nothing: write those that you change.
+/// What an application changes of the requests and responses that pass. `App` makes a `ProxyHttp`
+/// of it. Each method has a body, which changes nothing: write those that you change.
 pub trait Filters {
     /// What the application keeps for one request.
     type CTX: Drop;
@@ -16,8 +16,8 @@ pub trait Filters {
     /// A context for a request whose head was accepted.
     fn new_ctx(&self) -> Self::CTX;
 
-    /// The peer that the next attempt is to reach: one without an address, for a connector that knows
-    /// where to go.
+    /// The peer that the next attempt is to reach: one without an address, for a connector that
+    /// knows where to go.
     fn upstream_peer(
         &self,
         _alloc: Global,
@@ -33,8 +33,8 @@ pub trait Filters {
         })
     }
 
-    /// Answers the request itself, with true and one whole final answer that is queued; or lets it go
-    /// on, with false.
+    /// Answers the request itself, with true and one whole final answer that is queued; or lets it
+    /// go on, with false.
     fn request_filter(
         &self,
         _alloc: Global,

@@ -25,12 +25,12 @@ use std::alloc::Global;
 /// It states which calls it allows: `allows st e` says that, where `st` stood before a call, the
 /// call may be told by the log entry `e`. Each hook promises that what it answers is allowed
 /// (clause `allowed`), out of memory aside: an entry that is allowed can come only from an answer
-/// of the hook. And each keeps the laws of its kind: what it may queue (`leaves`, `answers`), and what
-/// it may do to a head (`kind`, `bodiless`). `mark_of` is a number that a context shows; a context
-/// whose number moves with each call makes each call stand out in the log.
+/// of the hook. And each keeps the laws of its kind: what it may queue (`leaves`, `answers`), and
+/// what it may do to a head (`kind`, `bodiless`). `mark_of` is a number that a context shows; a
+/// context whose number moves with each call makes each call stand out in the log.
 ///
-/// No hook has a body here: it would be proved once, for all applications, and so could not be proved
-/// to be a call that each of them allows. `App` has bodies.
+/// No hook has a body here: it would be proved once, for all applications, and so could not be
+/// proved to be a call that each of them allows. `App` has bodies.
 pub trait ProxyHttp {
     /// What the application keeps for one request.
     type CTX: Drop;
@@ -125,8 +125,8 @@ pub trait ProxyHttp {
             (moment session.new.seen (mark_of self.now ctx.new)) }
         ensures leaves { LeavesUnless result session.old.seen session.new.seen };
 
-    /// Lets the request go to an upstream, with true; or answers it itself, with false. Where it then
-    /// queued no final head, the client is answered with 502.
+    /// Lets the request go to an upstream, with true; or answers it itself, with false. Where it
+    /// then queued no final head, the client is answered with 502.
     fn proxy_upstream_filter(
         &self,
         alloc: Global,
@@ -201,8 +201,8 @@ pub trait ProxyHttp {
             (moment session.new.seen (mark_of self.now ctx.new)) }
         ensures leaves { LeavesUnless result session.old.seen session.new.seen };
 
-    /// A message of a custom client: what goes on of it, or none. `final_hop` says that the upstream
-    /// is not custom.
+    /// A message of a custom client: what goes on of it, or none. `final_hop` says that the
+    /// upstream is not custom.
     fn downstream_custom_message_proxy_filter(
         &self,
         alloc: Global,
@@ -219,8 +219,8 @@ pub trait ProxyHttp {
             (moment session.new.seen (mark_of self.now ctx.new)) }
         ensures leaves { LeavesUnless result session.old.seen session.new.seen };
 
-    /// A message of a custom upstream: what goes on of it, or none. `final_hop` says that the client
-    /// is not custom.
+    /// A message of a custom upstream: what goes on of it, or none. `final_hop` says that the
+    /// client is not custom.
     fn upstream_custom_message_proxy_filter(
         &self,
         alloc: Global,
@@ -287,8 +287,8 @@ pub trait ProxyHttp {
             (moment session.new.seen (mark_of self.now ctx.new)) }
         ensures leaves { LeavesUnless result session.old.seen session.new.seen };
 
-    /// Changes the trailer fields before they go to the client. Bytes that it answers end the body in
-    /// their place.
+    /// Changes the trailer fields before they go to the client. Bytes that it answers end the body
+    /// in their place.
     fn response_trailer_filter(
         &self,
         alloc: Global,
@@ -354,7 +354,8 @@ pub trait ProxyHttp {
             (moment session.now.seen (mark_of self.now ctx.now)) (Some (only (item.Answer result)))
             (moment session.now.seen (mark_of self.now ctx.now)) };
 
-    /// Whether the error of an attempt behind which another follows is not to be written to the log.
+    /// Whether the error of an attempt behind which another follows is not to be written to the
+    /// log.
     fn suppress_proxy_warn_log(
         &self,
         session: &Session<Self::Modules>,

@@ -85,7 +85,8 @@ keeps_none seen = record seen { kept = [] }
 abbrev pub is_due : Seen → Bool
 is_due seen = seen.tasks_enabled && not (length seen.kept == 0)
 
--- the tasks that were kept were queued, and none is kept; where they are not due, nothing has changed
+-- the tasks that were kept were queued, and none is kept; where they are not due, nothing has
+-- changed
 abbrev pub WritesKept : Bool → Seen → Seen → Type 0
 WritesKept true old new = Notes old.kept (keeps_none old) new
 WritesKept false old new = new ≡ old

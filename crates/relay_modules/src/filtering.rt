@@ -1,4 +1,5 @@
-//! The tasks of a response, filtered by the modules: each kind by its own filter, a failure by none.
+//! The tasks of a response, filtered by the modules: each kind by its own filter, a failure by
+//! none.
 ghost use Rattle.std.specs.Prelude.{◌≡◌, None, MatchOption};
 ghost use Rattle.relay_tasks.specs.declared.error.ErrorSource.TheVariants.{Internal};
 ghost use Rattle.relay_h1.specs.Verdict.{refused_from};
@@ -13,9 +14,9 @@ use std::alloc::Global;
 /// Filters a task. What the modules made of it is then looked at: no upgrade is offered, so a head
 /// that switches protocols is refused, and so is a piece behind one.
 ///
-/// The error of the filter; `InvalidHTTPHeader` of the relay's own side, about `Mismatch101` exactly
-/// where the filter left a head of status 101, about `BeforeUpgrade` exactly where it left an
-/// upgraded piece.
+/// The error of the filter; `InvalidHTTPHeader` of the relay's own side, about `Mismatch101`
+/// exactly where the filter left a head of status 101, about `BeforeUpgrade` exactly where it left
+/// an upgraded piece.
 pub fn filter_task<M: HttpModule>(modules: &mut M, task: HttpTask) -> Result<HttpTask>
     ensures filters { FiltersTask (M.allows modules.old) task result }
     ensures narrows { (call : ModuleCall) → M.allows modules.new call
@@ -92,8 +93,8 @@ fn refused(why: Context) -> Error
     Error::explain(ErrorType::InvalidHTTPHeader, why).into_in()
 }
 
-/// Filters the tasks of a batch in their order, up to the first that does not pass; its error is the
-/// answer, as in `filter_task`.
+/// Filters the tasks of a batch in their order, up to the first that does not pass; its error is
+/// the answer, as in `filter_task`.
 pub fn filter_tasks<M: HttpModule>(
     alloc: Global,
     modules: &mut M,

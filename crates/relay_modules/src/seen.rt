@@ -8,9 +8,7 @@ ghost use Rattle.relay_session.specs.Response.{is_over};
 
 use bytes::Bytes;
 use relay_session::{HttpSession, answer_with_body, generated_head};
-use relay_tasks::{
-    Fail, HttpTask, PhaseLog, RequestHeader, Result, SharedRequest, TaskList, View,
-};
+use relay_tasks::{Fail, HttpTask, PhaseLog, RequestHeader, Result, SharedRequest, TaskList, View};
 use std::alloc::Global;
 use std::mem;
 
@@ -26,8 +24,8 @@ pub struct Upstream {
 ///
 /// `touched` says that the request's head was lent to be changed since it was last cleared.
 /// `keepalive` says whether the client may be kept for a next request. `kept` are the tasks that
-/// wait for `write_downstream_proxy_tasks`, `wrote` those that calls of `Session` queued since it was
-/// last cleared.
+/// wait for `write_downstream_proxy_tasks`, `wrote` those that calls of `Session` queued since it
+/// was last cleared.
 #[derive(Drop)]
 pub struct Seen {
     pub alloc: Global,

@@ -226,7 +226,7 @@ fn answers_without_the_modules(rt: HostRuntime) -> Checked {
     assert_eq!(rt; session.respond_error(500), Ok(()));
     assert_eq!(rt; session.as_downstream_mut().finish_body(), Ok(()));
     assert_eq!(rt; session.seen.wrote.len(), 2);
-    let want =
-        "HTTP/1.1 403 Forbidden\r\nserver: Pingora\r\ncontent-length: 2\r\ncache-control: private, no-store\r\n\r\nno";
+    let want = "HTTP/1.1 403 Forbidden\r\nserver: Pingora\r\ncontent-length: 2\r\n\
+        cache-control: private, no-store\r\n\r\nno";
     expect_written(&rt, rt.alloc(), &mut session, want)
 }

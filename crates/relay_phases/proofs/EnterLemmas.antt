@@ -16,7 +16,8 @@ use Rattle.relay_calls.specs.declared.entry.Outcome.{Outcome}
 use Rattle.relay_phases.specs.Looks.{Looks, Stays}
 use Rattle.relay_phases.specs.Settled.{left_of}
 
--- the call of a hook that kept its law and answered what the application allows was entered behind it
+-- the call of a hook that kept its law and answered what the application allows was entered behind
+-- it
 pub entered : (peer : Option Peer) (reused : Bool) (law : Seen → Seen → Type 0)
     (allows : Standing → LogEntry → Type 0) (which : Hook) (input : Item) (old returned new : Seen)
     (before after : ℕ) (answer : Option Left) (begun : Begun) (outcome : Outcome)
@@ -28,7 +29,8 @@ pub entered : (peer : Option Peer) (reused : Bool) (law : Seen → Seen → Type
     (moment returned after)
     → new ≡ with_entry returned (told begun outcome (moment returned after))
     → Enters answer (CallsOf peer reused law allows which input old before new after) old new
-entered peer reused law allows which input old returned new before after answer begun outcome is_begun
+entered peer reused law allows which input old returned new before after answer begun outcome
+    is_begun
     is_answer lawful stays allowed is_new =
     let e : LogEntry =
     entry which input (moment (cleared old) before) (left_of outcome) (moment returned after) in

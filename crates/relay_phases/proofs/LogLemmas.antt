@@ -53,4 +53,5 @@ pub leaves_told : (output : Item) (left : Left) (answer : Result Unit Fail) (old
     → changed output answer ≡ Some left → LeavesUnless answer old new → Leaves old new
 leaves_told output left (Ok done) old new is law = law
 leaves_told output left (Err (fail.Error error)) old new is law = law
-leaves_told output left (Err fail.OutOfMemory) old new is law = absurd (true≢false (sym (ap is_some is)))
+leaves_told output left (Err fail.OutOfMemory) old new is law =
+    absurd (true≢false (sym (ap is_some is)))

@@ -121,7 +121,8 @@ pub entered_head : (allows : ModuleCall → Type 0) (old returned new : Seen) (m
     → changed (item.Request head) answer ≡ Some (left_of outcome)
     → new ≡ with_entry returned (told begun outcome (moment returned mark))
     → Enters (told_error answer) (CallsOnHead allows old mark new) old new
-entered_head allows old returned new mark (Ok done) begun outcome head filters shown is_begun is_left
+entered_head allows old returned new mark (Ok done) begun outcome head filters shown is_begun
+    is_left
     is_new =
     stands allows old returned new mark None begun outcome head filters shown is_begun
     (ap (λ (o : Option Left). unwrap_or o (left_of outcome)) is_left) is_new

@@ -14,16 +14,16 @@ use Rattle.relay_hooks.specs.Session.{request_head, moment}
 use Rattle.relay_calls.specs.Entry.{cleared}
 use Rattle.relay_calls.specs.Modules.{left_by}
 
--- it was asked whether subrequests may be spawned, and modules were made behind it; an error of that
--- stands in the entry of the question. Where it was out of memory no entry is new
+-- it was asked whether subrequests may be spawned, and modules were made behind it; an error of
+-- that stands in the entry of the question. Where it was out of memory no entry is new
 abbrev pub MakesModules : (Left → Type 0) → Result Bool Fail → Seen → Seen → Type 0
 MakesModules called (Ok say) old new = called (only (item.Answer say))
 MakesModules called (Err (fail.Error error)) old new =
     (say : Bool) × called (failed (item.Answer say) error)
 MakesModules called (Err fail.OutOfMemory) old new = new.log ≡ old.log
 
--- the modules filtered the head of the request once: the log gained the entry of a call that they allow,
--- and no other. The head that they left stands in the session, and in the entry
+-- the modules filtered the head of the request once: the log gained the entry of a call that they
+-- allow, and no other. The head that they left stands in the session, and in the entry
 pub record CallsOnHead (allows : ModuleCall → Type 0) (old : Seen) (mark : ℕ) (new : Seen)
     (error : Option Error) : Type 0 where
   pub head : RequestHead

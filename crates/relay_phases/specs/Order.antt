@@ -1,11 +1,11 @@
 -- The order of the calls of a request: where in its life a request stands, and where each call that
 -- may come there leads.
 --
--- A context is made; where the request before it on the connection left a value, the value is handed
--- over. Hooks then may stop the request or answer it themselves. Attempts follow: a peer is named, a link
--- to it is got, the head goes out, and filters run while the messages are relayed. An error of an attempt
--- is looked at by its hook and may lead to a further attempt; else it is final, and the client is
--- answered. Each request ends with `logging`.
+-- A context is made; where the request before it on the connection left a value, the value is
+-- handed over. Hooks then may stop the request or answer it themselves. Attempts follow: a peer is
+-- named, a link to it is got, the head goes out, and filters run while the messages are relayed. An
+-- error of an attempt is looked at by its hook and may lead to a further attempt; else it is final,
+-- and the client is answered. Each request ends with `logging`.
 use Rattle.std.specs.Prelude.{◌≡◌, ℕ, Bool, true, false, ◌&&◌, not, ◌==◌, List, [], ◌∷◌, Option, Some, None, is_none, if◌then◌else◌}
 use Rattle.relay_tasks.specs.Error.{may_retry}
 use Rattle.relay_tasks.specs.declared.hook.Hook.{Hook}
@@ -73,9 +73,9 @@ abbrev pub is_marked : Item → Bool
 is_marked (item.Failure error) = may_retry error.retry
 is_marked other = false
 
--- another attempt may follow, as far as the entry tells: the error that the hook answered is marked so,
--- no final head was queued, and all that was read of the request's body is kept. That the attempts may
--- be too many stands in no entry
+-- another attempt may follow, as far as the entry tells: the error that the hook answered is marked
+-- so, no final head was queued, and all that was read of the request's body is kept. That the
+-- attempts may be too many stands in no entry
 abbrev pub may_try_again : LogEntry → Bool
 may_try_again e = is_marked e.output && (not e.view.final_head && not e.view.truncated)
 

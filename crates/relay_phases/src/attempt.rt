@@ -137,8 +137,8 @@ pub fn call_custom_forwarding<SV: ProxyHttp>(
     settled.into_answer()
 }
 
-/// Treats the error of an attempt that had reached its peer; `client_reused` says that its link had been
-/// used before.
+/// Treats the error of an attempt that had reached its peer; `client_reused` says that its link had
+/// been used before.
 ///
 /// Fails out of memory alone.
 pub fn call_error_while_proxy<SV: ProxyHttp>(

@@ -1,5 +1,5 @@
-//! The hooks at the end of a request: the answer to a final error, what is written of it, and what is
-//! kept for the next request of the connection.
+//! The hooks at the end of a request: the answer to a final error, what is written of it, and what
+//! is kept for the next request of the connection.
 //!
 //! A call may be out of memory before it is made, and behind it: then the log is as before.
 ghost use Rattle.std.specs.Prelude.{◌≡◌, None, IsSome, IsOkUnless, false, is_some};

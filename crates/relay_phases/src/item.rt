@@ -1,5 +1,5 @@
-//! What hooks are given, for the log, and the beginning of a call. Bytes and heads are shared; a head is
-//! copied by the first entry behind a change.
+//! What hooks are given, for the log, and the beginning of a call. Bytes and heads are shared; a
+//! head is copied by the first entry behind a change.
 ghost use Rattle.std.specs.Prelude.{◌≡◌, Some, None, IsSome, IfOk, OnOk, OnErr, IsOkUnless};
 ghost use Rattle.relay_session.specs.Reading.{head_of};
 ghost use Rattle.relay_modules.specs.Seen.{view_of};
@@ -76,8 +76,8 @@ pub(crate) fn failure_item(error: Option<Error>) -> Told
     }
 }
 
-/// Begins a call of a hook that is given the session and its context alone: its input is the request's
-/// head.
+/// Begins a call of a hook that is given the session and its context alone: its input is the
+/// request's head.
 ///
 /// Fails out of memory alone, and then nothing has changed.
 pub(crate) fn begin_with_head(seen: &mut Seen, hook: Hook, mark: u64) -> Result<Begun>

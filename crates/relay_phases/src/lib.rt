@@ -1,5 +1,5 @@
-//! The hooks that do not run while a message is relayed, each called once and entered once in the log;
-//! and the order in which all hooks are called.
+//! The hooks that do not run while a message is relayed, each called once and entered once in the
+//! log; and the order in which all hooks are called.
 #![tactic(auto)]
 
 mod attempt;

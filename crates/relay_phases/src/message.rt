@@ -14,8 +14,8 @@ use relay_calls::{begin, log_call};
 use relay_hooks::{ProxyHttp, Session};
 use relay_tasks::{Fail, Hook, Result};
 
-/// Calls the filter of a message of a custom client: what goes on of it, or none. `final_hop` says that
-/// the upstream is not custom.
+/// Calls the filter of a message of a custom client: what goes on of it, or none. `final_hop` says
+/// that the upstream is not custom.
 ///
 /// The error of the filter, which stands in its entry.
 pub fn call_downstream_custom_message_proxy_filter<SV: ProxyHttp>(
@@ -43,8 +43,8 @@ pub fn call_downstream_custom_message_proxy_filter<SV: ProxyHttp>(
     settled.into_answer()
 }
 
-/// Calls the filter of a message of a custom upstream: what goes on of it, or none. `final_hop` says
-/// that the client is not custom.
+/// Calls the filter of a message of a custom upstream: what goes on of it, or none. `final_hop`
+/// says that the client is not custom.
 ///
 /// The error of the filter, which stands in its entry.
 pub fn call_upstream_custom_message_proxy_filter<SV: ProxyHttp>(

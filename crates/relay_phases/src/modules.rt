@@ -39,10 +39,11 @@ pub fn call_allow_spawning_subrequest<SV: ProxyHttp>(
     Ok(say)
 }
 
-/// As `call_allow_spawning_subrequest`, and makes the modules of the request behind it. That call has
-/// no entry of its own.
+/// As `call_allow_spawning_subrequest`, and makes the modules of the request behind it. That call
+/// has no entry of its own.
 ///
-/// The error of that call, which stands in the entry of the question; the modules are then those before.
+/// The error of that call, which stands in the entry of the question; the modules are then those
+/// before.
 pub fn make_modules<SV: ProxyHttp>(
     app: &SV,
     session: &mut Session<SV::Modules>,
@@ -72,8 +73,8 @@ pub fn make_modules<SV: ProxyHttp>(
     }
 }
 
-/// Passes the head of the request through the modules. `mark` is that of the context, which the call
-/// leaves.
+/// Passes the head of the request through the modules. `mark` is that of the context, which the
+/// call leaves.
 ///
 /// The error of the filter, which stands in its entry; what it left of the head stays.
 pub fn call_module_request_header<M: HttpModule>(session: &mut Session<M>, mark: u64) -> Result<()>

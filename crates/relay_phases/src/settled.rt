@@ -1,7 +1,7 @@
 //! The answer of a hook, out of memory aside, and what its entry is to tell of it.
 //!
-//! A value that is held while a later call may fail stands in a struct: an enum there would be a case
-//! for each of its variants in the proof of each caller.
+//! A value that is held while a later call may fail stands in a struct: an enum there would be a
+//! case for each of its variants in the proof of each caller.
 ghost use Rattle.std.specs.Prelude.{◌≡◌, Some, None, Err, IfOk, OnErr, IsOkUnless, false};
 ghost use Rattle.relay_hooks.specs.Call.{answered, changed, only, failed};
 ghost use Rattle.relay_phases.specs.Settled.{handed, left_of};
@@ -64,8 +64,8 @@ pub(crate) fn failed(output: Item, error: Error) -> Outcome
     }
 }
 
-/// A call that left this and answered nothing, or an error. Fails out of memory alone, where the hook
-/// did.
+/// A call that left this and answered nothing, or an error. Fails out of memory alone, where the
+/// hook did.
 pub(crate) fn changed(output: Item, answer: &Result<()>) -> Result<Outcome>
     ensures ok { IfOk result (λ outcome. changed output answer.now ≡ Some (left_of outcome)) }
     ensures err { OnErr result (answer.now ≡ Err Fail.OutOfMemory) }

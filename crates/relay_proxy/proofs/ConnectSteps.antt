@@ -21,7 +21,7 @@ use Rattle.relay_h1.specs.declared.framing.Framing.{Framing}
 use Rattle.relay_session.specs.Reading.{head_of}
 use Rattle.relay_session.specs.declared.session.HttpSession.{HttpSession}
 use Rattle.relay_sides.specs.Client.{BeginsBehind}
-use Rattle.relay_sides.specs.declared.client_side.ClientState.{ClientState}
+use Rattle.relay_sides.specs.declared.client_side.ClientSide.{ClientSide}
 use Rattle.relay_sides.specs.declared.peer_side.PeerSide.{PeerSide}
 use Rattle.relay_core.specs.Past.{Origin, DownPast, UpPast}
 use Rattle.relay_exchange.specs.Exchange.{IsUnderWay, StageHolds, UpHolds}
@@ -96,7 +96,7 @@ part_relayed s p head reused link start relayable same order = record {
 module _ {L : Type 0} (state : L → LinkState) (start_at : L → LinkStart) where
   -- the past of the peer's side holds at each stage
   up_holds : (o : Origin) (p : DownPast) (q : UpPast) (link : LinkState) (ahead : List ℕ)
-      (down : ClientState) (up : PeerSide L) (at : Stage)
+      (down : ClientSide) (up : PeerSide L) (at : Stage)
       → StageHolds state start_at o p q link ahead down up at → UpHolds state start_at up o q
   up_holds o p q link ahead down up stage.Head begins = begins.up_holds
   up_holds o p q link ahead down up (stage.Bodies duplex) flows = flows.so_far.up

@@ -17,7 +17,7 @@ use crate::work::Work;
 use bytes::Bytes;
 use relay_exchange::{Exchange, Unbegun};
 use relay_links::{ByteLink, Connector};
-use relay_session::{Front, HttpSession};
+use relay_session::HttpSession;
 use relay_tasks::{Error, ErrorSource, Fail, Fault, Peer, RequestHeader};
 use std::alloc::Global;
 
@@ -47,7 +47,7 @@ fn out_of_memory<L, C>(alloc: Global) -> Next<L, C>
 
 /// Asks the connector for a link. Room for the attempt's record and the head that is to be sent are
 /// made first.
-pub(crate) fn connect<K: Connector, F: Front, C: Drop>(
+pub(crate) fn connect<K: Connector, C: Drop>(
     alloc: Global,
     connector: &mut K,
     context: C,
@@ -81,7 +81,7 @@ pub(crate) fn connect<K: Connector, F: Front, C: Drop>(
     match connector.get(&peer) {
         Ok((link, reused)) => {
             let lease = Lease { peer, reused, room };
-            begin::<K::Byte, F, C>(alloc, context, session, head, link, lease)
+            begin(alloc, context, session, head, link, lease)
         }
         Err(fault) => refused_link(room, peer, fault),
     }
@@ -124,7 +124,7 @@ fn copied_head(session: &HttpSession) -> Option<RequestHeader>
 }
 
 /// Begins the attempt's exchange over a link that was just handed out.
-fn begin<L: ByteLink, F: Front, C: Drop>(
+fn begin<L: ByteLink, C: Drop>(
     alloc: Global,
     context: C,
     session: Box<HttpSession>,
@@ -144,7 +144,7 @@ fn begin<L: ByteLink, F: Front, C: Drop>(
     ensures linked { links_held L.state L.start result.phase ≡ 1 }
     ensures items { items_held L.start result.phase ≡ (L.start link).items ∷ [] }
 {
-    match Exchange::begin::<F>(alloc, Box::into_inner(session), link, head) {
+    match Exchange::begin(alloc, Box::into_inner(session), link, head) {
         Ok(exchange) => hold(
             alloc,
             Attempt {

@@ -55,9 +55,7 @@ pub(crate) fn take_turn<SV: ProxyHttp, K: Connector, D: ByteLink, U: Drop, H: Sc
     match phase {
         Phase::ReadHead => read_head(alloc, hooks, client),
         Phase::Refuse(answer, error) => write_refusal(alloc, client, answer, error),
-        Phase::Connect(context, session) => {
-            connect::<K, Connection<D, U>, SV::CTX>(alloc, connector, context, session)
-        }
+        Phase::Connect(context, session) => { connect(alloc, connector, context, session) }
         Phase::Relay(attempt) => relay(client, schedule, attempt),
         Phase::Close(link, lease, keep, outcome) => Next {
             phase: Phase::Close(link, lease, keep, outcome),

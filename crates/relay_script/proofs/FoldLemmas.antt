@@ -13,7 +13,8 @@ both_true true b h = (refl, h)
 both_true false b h = absurd cc
 
 -- the rules from a place on: the rule there, and those behind it
-pub from_place : (rules : List Rule) (at : ℕ) (rule : Rule) → at < length rules → rule ≡ get_or rules at rule
+pub from_place : (rules : List Rule) (at : ℕ) (rule : Rule) → at < length rules
+    → rule ≡ get_or rules at rule
     → drop at rules ≡ rule ∷ drop (at + 1) rules
 from_place rules at rule within is =
     rw add-one (drop-cons rules at rule within ∙ ap (λ r. r ∷ drop (suc at) rules) (sym is))
@@ -21,7 +22,8 @@ from_place rules at rule within is =
 module _ {X : Type 0} (act : Action → X → Outcome X) (hook : Hook) where
   -- a rule of the hook that went on
   pub run_rules-on : (rule : Rule) (rules : List Rule) (x y : X) → same_hook rule.hook hook ≡ true
-      → act rule.action x ≡ goes_on y → run_rules act hook (rule ∷ rules) x ≡ run_rules act hook rules y
+      → act rule.action x ≡ goes_on y
+      → run_rules act hook (rule ∷ rules) x ≡ run_rules act hook rules y
   run_rules-on rule rules x y on did = rw (on, did)
 
   -- a rule of another hook
@@ -30,6 +32,8 @@ module _ {X : Type 0} (act : Action → X → Outcome X) (hook : Hook) where
   run_rules-off rule rules x off = rw off
 
 -- a rule that went on left what no rule changes
-pub kept_on : {X : Type 0} (act : Action → X → Outcome X) (may : Action → Bool) (test : X → Bool) (rule : Rule)
-    (x y : X) → Keeps act may test → may rule.action ≡ true → act rule.action x ≡ goes_on y → test y ≡ test x
+pub kept_on : {X : Type 0} (act : Action → X → Outcome X) (may : Action → Bool) (test : X → Bool)
+    (rule : Rule)
+    (x y : X) → Keeps act may test → may rule.action ≡ true → act rule.action x ≡ goes_on y
+    → test y ≡ test x
 kept_on act may test rule x y keeps ok did = let kept = keeps rule.action x ok in rw did at kept

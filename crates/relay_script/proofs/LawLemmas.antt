@@ -26,7 +26,8 @@ pub record NoneChosen (stands codes says framing crowded : Bool) : Type 0 where
 
 -- where nothing is chosen, each condition holds
 none_chosen : {F : Type 0} (f g h k l : F) (a b c d e : Bool)
-    → is_none (if not a then Some f else if not b then Some g else if not c then Some h else if not d then Some k else if e then Some l else None) ≡ true
+    → is_none (if not a then Some f else if not b then Some g else if not c then Some h
+    else if not d then Some k else if e then Some l else None) ≡ true
     → NoneChosen a b c d e
 none_chosen f g h k l false b c d e none = absurd cc
 none_chosen f g h k l true false c d e none = absurd cc
@@ -34,24 +35,33 @@ none_chosen f g h k l true true false d e none = absurd cc
 none_chosen f g h k l true true true false e none = absurd cc
 none_chosen f g h k l true true true true true none = absurd cc
 none_chosen f g h k l true true true true false none =
-    record { stands_is = refl; codes_is = refl; says_is = refl; framing_is = refl; crowded_is = refl }
+    record {
+      stands_is = refl;
+      codes_is = refl;
+      says_is = refl;
+      framing_is = refl;
+      crowded_is = refl;
+    }
 
 -- the conditions on a rule without a fault
 pub conditions : (all : List Rule) (rule : Rule) → is_none (fault_of all rule) ≡ true
-    → NoneChosen (may_stand rule.hook rule.action) (has_code rule.action) (says_end rule.hook rule.action)
+    → NoneChosen (may_stand rule.hook rule.action) (has_code rule.action)
+    (says_end rule.hook rule.action)
     (keeps_framing rule.hook rule.action) (is_crowded rule.hook all)
 conditions all rule none = none_chosen _ _ _ _ _ _ _ _ _ _ none
 
 -- ---- all rules of a list
 
 -- a list that passes has a first rule without a fault
-from_found : (at : ℕ) (fault : Option RuleFault) (rest : Result Unit RuleError) → is_ok (found at fault rest) ≡ true
+from_found : (at : ℕ) (fault : Option RuleFault) (rest : Result Unit RuleError)
+    → is_ok (found at fault rest) ≡ true
     → (is_none fault ≡ true) × (is_ok rest ≡ true)
 from_found at None rest ok = (refl, ok)
 from_found at (Some fault) rest ok = absurd cc
 
 -- no rule of a list that passes has a fault
-without_fault : (all : List Rule) (at : ℕ) (rules : List Rule) → is_ok (verdict_from all at rules) ≡ true
+without_fault : (all : List Rule) (at : ℕ) (rules : List Rule)
+    → is_ok (verdict_from all at rules) ≡ true
     → list_all (λ rule. is_none (fault_of all rule)) rules ≡ true
 without_fault all at [] ok = refl
 without_fault all at (rule ∷ rules) ok =
@@ -59,7 +69,8 @@ without_fault all at (rule ∷ rules) ok =
     rw (parts.0, without_fault all (at + 1) rules parts.1)
 
 -- what each element has that passes the first test
-list_all-weaker : {X : Type 0} (p q : X → Bool) → ((x : X) → p x ≡ true → q x ≡ true) → (xs : List X)
+list_all-weaker : {X : Type 0} (p q : X → Bool) → ((x : X) → p x ≡ true → q x ≡ true)
+    → (xs : List X)
     → list_all p xs ≡ true → list_all q xs ≡ true
 list_all-weaker p q weaker [] all = refl
 list_all-weaker p q weaker (x ∷ xs) all =
@@ -77,8 +88,10 @@ lawful_codes rules lawful =
 pub lawful_framing : (rules : List Rule) → are_lawful rules ≡ true
     → list_all (λ rule. keeps_framing rule.hook rule.action) rules ≡ true
 lawful_framing rules lawful =
-    list_all-weaker (λ rule. is_none (fault_of rules rule)) (λ rule. keeps_framing rule.hook rule.action)
-    (λ rule none. (conditions rules rule none).framing_is) rules (without_fault rules 0 rules lawful)
+    list_all-weaker (λ rule. is_none (fault_of rules rule))
+    (λ rule. keeps_framing rule.hook rule.action)
+    (λ rule none. (conditions rules rule none).framing_is) rules
+    (without_fault rules 0 rules lawful)
 
 -- ---- the kind of a head
 
@@ -98,7 +111,10 @@ code_is_final code ok =
       | inl is ↦ rw is (and_false (nat_le 100 code && nat_lt code 200))
       | inr other ↦
           let final = rw other at ok in
-          rw (not_below code (both_true (nat_le 200 code) (nat_lt code 1000) final).0, and_false (nat_le 100 code))
+          rw (
+            not_below code (both_true (nat_le 200 code) (nat_lt code 1000) final).0,
+            and_false (nat_le 100 code),
+          )
     ]
 
 -- an action with such a code leaves the kind of a head

@@ -24,13 +24,18 @@ room_of_counts names values =
     elim (cases_Bool (nat_lt names 24576)) [
       | inr many ↦ inr (rw many, inl (grind (arith, nat_tests)))
       | inl few ↦ elim (cases_Bool (nat_lt (values + 1) (2 ^ 64))) [
-        | inl fit ↦ inl (rw (few, fit), λ full. elim full [ inl m ↦ grind (arith, nat_tests) | inr m ↦ grind (arith, nat_tests) ])
+        | inl fit ↦ inl (
+          rw (few, fit),
+          λ full.
+              elim full [ inl m ↦ grind (arith, nat_tests) | inr m ↦ grind (arith, nat_tests) ],
+        )
         | inr full ↦ inr (rw (few, full), inr (grind (arith, nat_tests)))
       ]
     ]
 
 -- a name that is not there has room exactly where one more fits
-room_of_absent : (fields : Fields) (name : List ℕ) → index_of fields name ≡ None → IsAbsent fields name
+room_of_absent : (fields : Fields) (name : List ℕ) → index_of fields name ≡ None
+    → IsAbsent fields name
     → ((has_room fields name ≡ true) × ¬ (RefusesInsert fields name))
     ⊎ ((has_room fields name ≡ false) × RefusesInsert fields name)
 room_of_absent fields name none absent =
@@ -53,7 +58,8 @@ room_tells fields name = by (index_of fields name) refl (index_of_cases fields n
     by (Some i) is at = inl (rw is, λ refused. refused.0 at.contains)
 
 -- a call that sets a field answers by that test
-pub set_answers : {X : Type 0} (fields : Fields) (name : List ℕ) (r : Result Unit Fail) (old new inserted : X)
+pub set_answers : {X : Type 0} (fields : Fields) (name : List ℕ) (r : Result Unit Fail)
+    (old new inserted : X)
     → OnOk r (new ≡ inserted)
     → (IsErrOf r (fail.Error (refused about.HeadTooLong)) ↔ RefusesInsert fields name)
     → IfErr r (IsMemoryOr (refused about.HeadTooLong)) → OnErr r (new ≡ old)

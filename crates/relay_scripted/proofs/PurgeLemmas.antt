@@ -1,5 +1,5 @@
--- The rules on a purge's answer leave it a final head without a body: no rule there names a field that
--- frames one.
+-- The rules on a purge's answer leave it a final head without a body: no rule there names a field
+-- that frames one.
 use Rattle.std.proofs.Common.{◌≡◌, ℕ, ◌≢◌, true, false, List, [], ◌∷◌, map, codes, bytes_eq, refl, sym, ap, subst, ◌∙◌, inl, inr, arith}
 use Rattle.std.proofs.lemmas.Bool.{cases_Bool, both_ways}
 use Rattle.std.proofs.lemmas.Slice.Eq.{bytes_eq-Decides}
@@ -69,7 +69,8 @@ generated_unique code =
     (insert (insert [] (codes "server") (plain_value (codes "Pingora"))) (codes "content-length")
     (plain_value (decimal 0)))
     (codes "cache-control") (plain_value (codes "private, no-store"))
-    (set_unique (insert [] (codes "server") (plain_value (codes "Pingora"))) (codes "content-length")
+    (set_unique (insert [] (codes "server") (plain_value (codes "Pingora")))
+    (codes "content-length")
     (plain_value (decimal 0))
     (set_unique [] (codes "server") (plain_value (codes "Pingora")) none)))
 
@@ -77,7 +78,11 @@ generated_unique code =
 purge_head_bodiless : (answer : PurgeStatus) → AreBodiless (purge_head answer).fields
 purge_head_bodiless answer =
     let head = purge_head-bodiless answer in
-    record { unique = generated_unique (purge_code answer); length_0 = head.length_0; uncoded = head.uncoded }
+    record {
+      unique = generated_unique (purge_code answer);
+      length_0 = head.length_0;
+      uncoded = head.uncoded;
+    }
 
 -- ---- one action
 
@@ -96,15 +101,18 @@ set_bodiless : (fields : Fields) (name : List ℕ) (value : FieldValue) → not 
     → AreBodiless fields → AreBodiless (insert fields name value)
 set_bodiless fields name value other was =
     let parts =
-    neither (bytes_eq name (codes "content-length")) (bytes_eq name (codes "transfer-encoding")) other in
+    neither (bytes_eq name (codes "content-length")) (bytes_eq name (codes "transfer-encoding"))
+    other in
     record {
       unique = set_unique fields name value was.unique;
       length_0 =
           ap (map (λ (v : FieldValue). v.bytes))
-          (get_all-insert_other fields name (codes "content-length") value (apart name (codes "content-length") parts.0))
+          (get_all-insert_other fields name (codes "content-length") value
+          (apart name (codes "content-length") parts.0))
           ∙ was.length_0;
       uncoded =
-          get_all-insert_other fields name (codes "transfer-encoding") value (apart name (codes "transfer-encoding") parts.1)
+          get_all-insert_other fields name (codes "transfer-encoding") value
+          (apart name (codes "transfer-encoding") parts.1)
           ∙ was.uncoded;
     }
 
@@ -113,15 +121,18 @@ removed_bodiless : (fields : Fields) (name : List ℕ) → not (frames name) ≡
     → AreBodiless fields → AreBodiless (remove fields name)
 removed_bodiless fields name other was =
     let parts =
-    neither (bytes_eq name (codes "content-length")) (bytes_eq name (codes "transfer-encoding")) other in
+    neither (bytes_eq name (codes "content-length")) (bytes_eq name (codes "transfer-encoding"))
+    other in
     record {
       unique = removed_unique fields name was.unique;
       length_0 =
           ap (map (λ (v : FieldValue). v.bytes))
-          (get_all-remove_other fields name (codes "content-length") was.unique (apart name (codes "content-length") parts.0))
+          (get_all-remove_other fields name (codes "content-length") was.unique
+          (apart name (codes "content-length") parts.0))
           ∙ was.length_0;
       uncoded =
-          get_all-remove_other fields name (codes "transfer-encoding") was.unique (apart name (codes "transfer-encoding") parts.1)
+          get_all-remove_other fields name (codes "transfer-encoding") was.unique
+          (apart name (codes "transfer-encoding") parts.1)
           ∙ was.uncoded;
     }
 
@@ -216,7 +227,8 @@ rules_bodiless (rule ∷ rules) head framing was =
     elim (cases_Bool (same_hook rule.hook hook.PurgeResponseFilter)) [
       | inl same ↦
           rw same
-          (followed_bodiless (on_response rule.action head).left (on_response rule.action head).error
+          (followed_bodiless (on_response rule.action head).left
+          (on_response rule.action head).error
           (run_rules on_response hook.PurgeResponseFilter rules)
           (action_bodiless rule.action head (on_purge rule.hook rule.action same parts.0) was)
           (λ next kept. rules_bodiless rules next parts.1 kept))
@@ -230,7 +242,8 @@ pub filtered_bodiless : (rules : List Rule) (answer : PurgeStatus) (r : Result U
     → informs new.status ≡ informs old.status → OnOk r (IsBodiless new)
 filtered_bodiless rules answer (Ok done) old new lawful is answers kind =
     let began : AreBodiless old.fields =
-    subst (λ (head : ResponseHead). AreBodiless head.fields) (sym is) (purge_head_bodiless answer) in
+    subst (λ (head : ResponseHead). AreBodiless head.fields) (sym is)
+    (purge_head_bodiless answer) in
     let ran = rules_bodiless rules old (lawful_framing rules lawful) began in
     let left : AreBodiless new.fields =
     subst (λ (outcome : Outcome ResponseHead). AreBodiless outcome.left.fields) answers ran in

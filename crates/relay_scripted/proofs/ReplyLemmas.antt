@@ -57,7 +57,8 @@ pub reply_final : (on : Hook) (rules : List Rule) (given : Reply)
     → IsFinalReply (apply_rules on_reply on rules given)
 reply_final on [] given codes final = final
 reply_final on (rule ∷ rules) given codes final =
-    let parts = both_true (has_code rule.action) (list_all (λ rule. has_code rule.action) rules) codes in
+    let parts =
+    both_true (has_code rule.action) (list_all (λ rule. has_code rule.action) rules) codes in
     elim (cases_Bool (same_hook rule.hook on)) [
       | inl same ↦
           rw same
@@ -95,7 +96,10 @@ not_below code h = grind (arith, nat_tests)
 -- a head with such a code is final
 final_head : (code : ℕ) → is_final_code code ≡ true → is_informational code ≡ false
 final_head code final =
-    rw (not_below code (both_true (nat_le 200 code) (nat_lt code 1000) final).0, and_false (nat_le 100 code))
+    rw (
+      not_below code (both_true (nat_le 200 code) (nat_lt code 1000) final).0,
+      and_false (nat_le 100 code),
+    )
 
 -- the answer with such a code is whole
 pub lone_answer_whole : (code : ℕ) → is_final_code code ≡ true → is_whole (lone_answer code) ≡ true

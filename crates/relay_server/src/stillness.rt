@@ -5,8 +5,8 @@ use relay_links::Branch;
 use relay_proxy::RunStep;
 
 /// What the last turns of a connection say. One turn that waited says little, since the next one
-/// may ask another link: only where the schedule has come round to the branch with which the waiting
-/// began, each of them was asked in vain.
+/// may ask another link: only where the schedule has come round to the branch with which the
+/// waiting began, each of them was asked in vain.
 #[derive(Clone, Copy, PartialEq, Eq)]
 pub(crate) enum Stillness {
     /// The last turn moved something, or none was taken.

@@ -15,7 +15,6 @@ use relay_tasks::{
     Context, Error, ErrorSource, ErrorType, Fail, Fault, HttpTask, Result, TaskList, Took,
 };
 use std::alloc::Global;
-use std::marker::PhantomData;
 
 /// The client's side over the session of one request whose head was read. The session has no link:
 /// the client, which has it, is handed to each call that reads or writes.
@@ -24,19 +23,7 @@ use std::marker::PhantomData;
 /// for: no batch is queued behind it. `broken` is the fault of the first write that failed: it
 /// stays pending, and each later write answers it without the client.
 #[derive(Drop)]
-pub struct ClientSide<F> {
-    alloc: Global,
-    session: HttpSession,
-    told: Told,
-    done: bool,
-    finished: bool,
-    broken: Option<Fault>,
-    client: PhantomData<F>,
-}
-
-/// A client's side between two turns: what it keeps, without its client.
-#[derive(Drop)]
-pub struct ClientState {
+pub struct ClientSide {
     alloc: Global,
     session: HttpSession,
     told: Told,
@@ -45,19 +32,10 @@ pub struct ClientState {
     broken: Option<Fault>,
 }
 
-impl ClientState {
-    /// The session.
-    pub fn session(&self) -> &HttpSession
-        ensures { result.now ≡ self.now.session }
-    {
-        &self.session
-    }
-}
-
-impl<F: Front> ClientSide<F> {
+impl ClientSide {
     /// The side over that session, whose head was read, with nothing told. Where the session begins
     /// behind the bytes that came, so does the side.
-    pub fn new(alloc: Global, session: HttpSession) -> ClientSide<F>
+    pub fn new(alloc: Global, session: HttpSession) -> ClientSide
         ensures session { result.session ≡ session }
         ensures told { result.told ≡ Told.NOTHING }
         ensures begins { (s : Origin) (came : List ℕ) (link : LinkState) (ahead : List ℕ)
@@ -72,7 +50,6 @@ impl<F: Front> ClientSide<F> {
             done: false,
             finished: false,
             broken: None,
-            client: PhantomData,
         }
     }
 
@@ -81,64 +58,6 @@ impl<F: Front> ClientSide<F> {
         ensures { result.now ≡ self.now.session }
     {
         &self.session
-    }
-
-    /// The side without its client, to be resumed over the same client.
-    pub fn suspend(self) -> ClientState
-        ensures { result ≡ record {
-          alloc = self.alloc;
-          session = self.session;
-          told = self.told;
-          done = self.done;
-          finished = self.finished;
-          broken = self.broken;
-        } }
-    {
-        let ClientSide {
-            alloc,
-            session,
-            told,
-            done,
-            finished,
-            broken,
-            client: _,
-        } = self;
-        ClientState {
-            alloc,
-            session,
-            told,
-            done,
-            finished,
-            broken,
-        }
-    }
-
-    /// The side as it was suspended.
-    pub fn resume(state: ClientState) -> ClientSide<F>
-        ensures session { result.session ≡ state.session }
-        ensures told { result.told ≡ state.told }
-        ensures done { result.done ≡ state.done }
-        ensures finished { result.finished ≡ state.finished }
-        ensures broken { result.broken ≡ state.broken }
-        ensures alloc { result.alloc ≡ state.alloc }
-    {
-        let ClientState {
-            alloc,
-            session,
-            told,
-            done,
-            finished,
-            broken,
-        } = state;
-        ClientSide {
-            alloc,
-            session,
-            told,
-            done,
-            finished,
-            broken,
-            client: PhantomData,
-        }
     }
 
     /// Queues the tasks for the client, none behind an end of the response that was asked for. A
@@ -230,9 +149,7 @@ fn ends_short() -> Error
     Error::explain(ErrorType::PrematureBodyEnd, Context::BodyShort).into_down()
 }
 
-impl<F: Front> Down for ClientSide<F> {
-    type Client = F;
-
+impl<F: Front> Down<F> for ClientSide {
     ghost state = { λ side. state_of side.session side.told side.done side.finished side.broken };
 
     ghost past = { λ side client s p. HasPassed s p (F.state client) (F.ahead client) side.session

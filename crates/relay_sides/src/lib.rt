@@ -7,5 +7,5 @@ mod peer_side;
 #[cfg(test)]
 mod tests;
 
-pub use client_side::{ClientSide, ClientState};
+pub use client_side::ClientSide;
 pub use peer_side::PeerSide;

@@ -20,7 +20,6 @@ use std::sync::Arc;
 ///
 /// A head that was shared keeps what it gave until it is changed, so that it need not be copied
 /// for each who asks.
-#[derive(Drop)]
 pub struct RequestHeader {
     parts: RequestParts,
     shared: Option<SharedRequest>,
@@ -53,6 +52,16 @@ impl Model for RequestHeader {
     ghost view = { λ r. r.parts };
 
     ghost invariant = { λ r. ForSome r.shared (λ shared. shared ≡ r.parts) };
+}
+
+// A call in place of the fields: what drops a head needs not know of them.
+impl Drop for RequestHeader {
+    fn drop(self) {
+        let RequestHeader {
+            parts: _parts,
+            shared: _shared,
+        } = self;
+    }
 }
 
 impl Model for SharedRequest {

@@ -16,7 +16,6 @@ use std::sync::Arc;
 ///
 /// A head that was shared keeps what it gave until it is changed, so that it need not be copied
 /// for each who asks.
-#[derive(Drop)]
 pub struct ResponseHeader {
     parts: ResponseParts,
     shared: Option<SharedResponse>,
@@ -46,6 +45,16 @@ impl Model for ResponseHeader {
     ghost view = { λ r. r.parts };
 
     ghost invariant = { λ r. ForSome r.shared (λ shared. shared ≡ r.parts) };
+}
+
+// A call in place of the fields: what drops a head needs not know of them.
+impl Drop for ResponseHeader {
+    fn drop(self) {
+        let ResponseHeader {
+            parts: _parts,
+            shared: _shared,
+        } = self;
+    }
 }
 
 impl Model for SharedResponse {

@@ -1,11 +1,12 @@
 //! Requests with bodies by the top call: both bodies pass at once, whatever the cuts, the schedule
 //! and the faults of the links.
 use super::support::{
-    Ran, assert_broken_off, assert_relayed, cut_in_two, only, push_bytes, run, run_items, text,
+    Failing, Ran, WRITES, assert_broken_off, assert_relayed, cut_in_two, fault, only, push_bytes,
+    run, run_items, slow_link, text,
 };
 use relay_links::{BRANCHES, Branch, ListSchedule, ReadItem, ScriptLink, WriteItem};
 use relay_proxy::Outcome;
-use relay_tasks::{ErrorSource, ErrorType, Fault, FaultKind, RetryType};
+use relay_tasks::{ErrorSource, ErrorType, FaultKind};
 use std::alloc::{AllocError, Global};
 use std::process::Abort;
 use std::test::Fail;
@@ -192,48 +193,6 @@ fn relays_both_bodies_whatever_the_cuts(rt: HostRuntime) -> Result<(), Fail> {
         }
     }
     Ok(())
-}
-
-/// The call of a link that fails in a test: none, or the read of the item or the write of that
-/// number.
-#[derive(Clone, Copy, PartialEq, Eq)]
-enum Failing {
-    No,
-    Read(usize),
-    Write(usize),
-}
-
-fn fault(kind: FaultKind) -> Fault {
-    Fault {
-        kind,
-        retry: RetryType::Decided(false),
-    }
-}
-
-/// More writes than a link of these tests gets.
-const WRITES: usize = 24;
-
-/// A link with these items, which takes five bytes at a write, and fails as it is told.
-fn slow_link(
-    alloc: Global,
-    items: Vec<ReadItem>,
-    failing: Failing,
-) -> Result<ScriptLink, AllocError> {
-    let mut read = Vec::new(alloc);
-    for (call, item) in items.into_iter().enumerate() {
-        if failing == Failing::Read(call) {
-            read.push(ReadItem::Fault(fault(FaultKind::Read)))?;
-        }
-        read.push(item)?;
-    }
-    let mut write = Vec::new(alloc);
-    for call in 0..WRITES {
-        if failing == Failing::Write(call) {
-            write.push(WriteItem::Fault(fault(FaultKind::Write)))?;
-        }
-        write.push(WriteItem::Take(5))?;
-    }
-    Ok(ScriptLink::new(alloc, read, write))
 }
 
 /// The request that waits for leave, byte by byte, over links that fail as they are told. The peer

@@ -1,9 +1,8 @@
 //! One GET over links that give and take it in any pieces, and that fail at any call.
-use super::support::{Ran, run};
+use super::support::{Failing, Ran, cut_in_two, push_bytes, run, slow_link};
 use bytes::Bytes;
-use relay_links::{ListSchedule, ReadItem, ScriptLink, WriteItem};
-use relay_proxy::Outcome;
-use relay_tasks::{ErrorSource, ErrorType, Fault, FaultKind, RetryType};
+use relay_links::{ListSchedule, ReadItem, ScriptLink};
+use relay_tasks::{ErrorSource, ErrorType};
 use std::alloc::Global;
 use std::process::Abort;
 use std::test::Fail;
@@ -45,11 +44,6 @@ fn cut_in_three(
     Ok(items)
 }
 
-/// Two items that give these bytes, cut at that place.
-fn cut_in_two(alloc: Global, bytes: &[u8], cut: usize) -> Result<Vec<ReadItem>, Fail> {
-    cut_in_three(alloc, bytes, cut, bytes.len())
-}
-
 #[test]
 fn relays_the_same_whatever_the_cuts(rt: HostRuntime) -> Result<(), Fail> {
     let alloc = rt.alloc();
@@ -61,11 +55,7 @@ fn relays_the_same_whatever_the_cuts(rt: HostRuntime) -> Result<(), Fail> {
             ScriptLink::new(alloc, client, Vec::new(alloc)),
             ScriptLink::new(alloc, peer, Vec::new(alloc)),
         )?;
-        let whole = Outcome::Served {
-            error: None,
-            reuse: true,
-        };
-        assert!(rt; ran.outcome == whole, "cut at {cut}");
+        assert!(rt; ran.is_whole(), "cut at {cut}");
         assert!(rt; ran.written.as_slice() == WRITTEN, "cut at {cut}");
         assert!(rt; ran.sent.as_slice() == SENT, "cut at {cut}");
     }
@@ -119,14 +109,10 @@ fn relays_chunks_whatever_the_cuts(rt: HostRuntime) -> Result<(), Fail> {
                 ),
                 ScriptLink::new(alloc, peer, Vec::new(alloc)),
             )?;
-            let whole = Outcome::Served {
-                error: None,
-                reuse: true,
-            };
             let front = pieces_before(place, first);
             let both = pieces_before(place, second);
             let text = written_in_chunks(alloc, [front, both.saturating_sub(front), 5])?;
-            assert!(rt; ran.outcome == whole, "cut at {first} and {second}");
+            assert!(rt; ran.is_whole(), "cut at {first} and {second}");
             assert!(rt;
                 ran.written.as_slice() == text.as_slice(),
                 "cut at {first} and {second}"
@@ -147,14 +133,10 @@ fn hands_heads_on_whatever_the_cuts(rt: HostRuntime) -> Result<(), Fail> {
         let peer = cut_in_two(alloc, response, cut)?;
         let ran = exchange(
             alloc,
-            slow_link(alloc, REQUEST, Failing::No)?,
+            byte_link(alloc, REQUEST, Failing::No)?,
             ScriptLink::new(alloc, peer, Vec::new(alloc)),
         )?;
-        let whole = Outcome::Served {
-            error: None,
-            reuse: true,
-        };
-        assert!(rt; ran.outcome == whole, "cut at {cut}");
+        assert!(rt; ran.is_whole(), "cut at {cut}");
         assert!(rt;
             ran.written.as_slice() == written.as_slice(),
             "cut at {cut}"
@@ -163,40 +145,11 @@ fn hands_heads_on_whatever_the_cuts(rt: HostRuntime) -> Result<(), Fail> {
     Ok(())
 }
 
-/// The calls of a link that fail in a test: none, or the read or the write of that number.
-#[derive(Clone, Copy, PartialEq, Eq)]
-enum Failing {
-    No,
-    Read(usize),
-    Write(usize),
-}
-
 /// A link that gives these bytes one by one and takes them five by five, and fails as it is told.
-fn slow_link(alloc: Global, bytes: &[u8], failing: Failing) -> Result<ScriptLink, Fail> {
-    let mut read = Vec::new(alloc);
-    for (call, byte) in bytes.iter().enumerate() {
-        if failing == Failing::Read(call) {
-            read.push(ReadItem::Fault(fault(FaultKind::Read)))?;
-        }
-        let mut one = Vec::new(alloc);
-        one.push(*byte)?;
-        read.push(ReadItem::Bytes(Bytes::copy_from_slice(alloc, &one)?))?;
-    }
-    let mut write = Vec::new(alloc);
-    for call in 0..8usize {
-        if failing == Failing::Write(call) {
-            write.push(WriteItem::Fault(fault(FaultKind::Write)))?;
-        }
-        write.push(WriteItem::Take(5))?;
-    }
-    Ok(ScriptLink::new(alloc, read, write))
-}
-
-fn fault(kind: FaultKind) -> Fault {
-    Fault {
-        kind,
-        retry: RetryType::Decided(false),
-    }
+fn byte_link(alloc: Global, bytes: &[u8], failing: Failing) -> Result<ScriptLink, Fail> {
+    let mut items = Vec::new(alloc);
+    push_bytes(alloc, &mut items, bytes)?;
+    Ok(slow_link(alloc, items, failing)?)
 }
 
 /// Checks that an exchange failed by this type on this side, and passed no wrong byte.
@@ -219,21 +172,21 @@ fn assert_failed(
 fn fails_at_every_read_and_write(rt: HostRuntime) -> Result<(), Fail> {
     let alloc = rt.alloc();
     for call in 0..REQUEST.len() {
-        let client = slow_link(alloc, REQUEST, Failing::Read(call))?;
-        let ran = exchange(alloc, client, slow_link(alloc, RESPONSE, Failing::No)?)?;
+        let client = byte_link(alloc, REQUEST, Failing::Read(call))?;
+        let ran = exchange(alloc, client, byte_link(alloc, RESPONSE, Failing::No)?)?;
         assert_failed(&rt, &ran, ErrorType::ReadError, ErrorSource::Downstream)?;
     }
     for call in 0..RESPONSE.len() {
-        let peer = slow_link(alloc, RESPONSE, Failing::Read(call))?;
-        let ran = exchange(alloc, slow_link(alloc, REQUEST, Failing::No)?, peer)?;
+        let peer = byte_link(alloc, RESPONSE, Failing::Read(call))?;
+        let ran = exchange(alloc, byte_link(alloc, REQUEST, Failing::No)?, peer)?;
         assert_failed(&rt, &ran, ErrorType::ReadError, ErrorSource::Upstream)?;
     }
     for call in 0..8usize {
-        let client = slow_link(alloc, REQUEST, Failing::Write(call))?;
-        let ran = exchange(alloc, client, slow_link(alloc, RESPONSE, Failing::No)?)?;
+        let client = byte_link(alloc, REQUEST, Failing::Write(call))?;
+        let ran = exchange(alloc, client, byte_link(alloc, RESPONSE, Failing::No)?)?;
         assert_failed(&rt, &ran, ErrorType::WriteError, ErrorSource::Downstream)?;
-        let peer = slow_link(alloc, RESPONSE, Failing::Write(call))?;
-        let ran = exchange(alloc, slow_link(alloc, REQUEST, Failing::No)?, peer)?;
+        let peer = byte_link(alloc, RESPONSE, Failing::Write(call))?;
+        let ran = exchange(alloc, byte_link(alloc, REQUEST, Failing::No)?, peer)?;
         assert_failed(&rt, &ran, ErrorType::WriteError, ErrorSource::Upstream)?;
     }
     Ok(())

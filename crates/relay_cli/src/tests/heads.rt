@@ -1,5 +1,5 @@
 //! Informational heads, and clients that speak HTTP/1.0.
-use crate::tests::{HOST, assert_served};
+use crate::tests::{HOST, SIZED, assert_served};
 use std::alloc::AllocError;
 
 const GET: [&str; 2] = ["GET /a HTTP/1.1", HOST];
@@ -71,10 +71,9 @@ fn gives_a_client_of_http_1_0_what_it_reads(rt: HostRuntime) -> Result<(), Alloc
         "hi",
         until_close,
     )?;
-    let sized = ["HTTP/1.1 200 OK", "Content-Length: 2"];
     let length = "error -\nreuse no\nwritten HTTP/1.1 200 OK\\r\\ncontent-length: 2\\r\\n\\r\\nhi\n\
         attempt 1 a reused no kept yes error -";
-    assert_served(&rt, rt.alloc(), &OLD, &sized, "hi", length)?;
+    assert_served(&rt, rt.alloc(), &OLD, &SIZED, "hi", length)?;
     let bare = ["HTTP/1.1 204 No Content", "Transfer-Encoding: chunked"];
     let nothing = "error -\nreuse no\nwritten HTTP/1.1 204 No Content\\r\\n\\r\\n\nattempt";
     assert_served(&rt, rt.alloc(), &OLD, &bare, "x", nothing)

@@ -63,20 +63,15 @@ fn is_silent_until_enough_was_taken(rt: HostRuntime) -> Result<(), AllocError> {
     assert_no_items(&rt, rt.alloc(), &refused)
 }
 
-/// Checks the line that tells the error of a fault.
+/// Checks that a report has the line that tells this error.
 fn assert_error(
     rt: &impl Abort,
     alloc: Global,
-    client: &str,
-    peer: &str,
+    found: &str,
     error: &str,
 ) -> Result<(), AllocError> {
-    let found = run(alloc, client, peer)?;
     let line = format!(in alloc; "\nerror {error}\n")?;
-    assert!(rt;
-        found.as_str().contains(line.as_str()),
-        "{found} has no {line}"
-    );
+    assert!(rt; found.contains(line.as_str()), "{found} has no {line}");
     Ok(())
 }
 
@@ -101,16 +96,12 @@ fn fails_a_read_by_its_kind_and_mark(rt: HostRuntime) -> Result<(), AllocError> 
             "ReadTimedout Upstream reused",
         ),
     ] {
-        assert_error(&rt, rt.alloc(), GET, fault, error)?;
+        let found = run(rt.alloc(), GET, fault)?;
+        assert_error(&rt, rt.alloc(), found.as_str(), error)?;
     }
-    let timed_out = "{\"fault\":\"ReadTimedout\"}";
-    assert_error(
-        &rt,
-        rt.alloc(),
-        timed_out,
-        ANSWER,
-        "ReadTimedout Downstream false",
-    )?;
+    let found = run(rt.alloc(), "{\"fault\":\"ReadTimedout\"}", ANSWER)?;
+    let timed_out = "ReadTimedout Downstream false";
+    assert_error(&rt, rt.alloc(), found.as_str(), timed_out)?;
     let refused = [
         "{\"fault\":\"Write\"}",
         "{\"fault\":\"WriteTimedout\"}",
@@ -153,23 +144,6 @@ fn takes_as_its_write_items_say(rt: HostRuntime) -> Result<(), AllocError> {
     Ok(())
 }
 
-/// Checks the error of a write's fault.
-fn assert_write_error(
-    rt: &impl Abort,
-    alloc: Global,
-    client: &str,
-    peer: &str,
-    error: &str,
-) -> Result<(), AllocError> {
-    let found = run_writing(alloc, client, peer)?;
-    let line = format!(in alloc; "\nerror {error}\n")?;
-    assert!(rt;
-        found.as_str().contains(line.as_str()),
-        "{found} has no {line}"
-    );
-    Ok(())
-}
-
 #[test]
 fn fails_a_write_by_its_kind_and_mark(rt: HostRuntime) -> Result<(), AllocError> {
     for (fault, error) in [
@@ -179,7 +153,8 @@ fn fails_a_write_by_its_kind_and_mark(rt: HostRuntime) -> Result<(), AllocError>
             "WriteTimedout Downstream false",
         ),
     ] {
-        assert_write_error(&rt, rt.alloc(), fault, "", error)?;
+        let found = run_writing(rt.alloc(), fault, "")?;
+        assert_error(&rt, rt.alloc(), found.as_str(), error)?;
     }
     for (fault, error) in [
         (
@@ -191,7 +166,8 @@ fn fails_a_write_by_its_kind_and_mark(rt: HostRuntime) -> Result<(), AllocError>
             "WriteTimedout Upstream reused",
         ),
     ] {
-        assert_write_error(&rt, rt.alloc(), "", fault, error)?;
+        let found = run_writing(rt.alloc(), "", fault)?;
+        assert_error(&rt, rt.alloc(), found.as_str(), error)?;
     }
     Ok(())
 }

@@ -3,10 +3,10 @@ use bytes::Bytes;
 use relay_h1::Connection;
 use relay_links::{
     Branch, ByteLink, CountDelay, ListSchedule, MemoryPurger, PeerScript, ReadItem,
-    ScriptConnector, ScriptLink, ShutdownAt,
+    ScriptConnector, ScriptLink, ShutdownAt, WriteItem,
 };
 use relay_proxy::{HttpProxy, NoHooks, Outcome, Outside, ServerConf};
-use relay_tasks::{ErrorSource, ErrorType, Purged};
+use relay_tasks::{ErrorSource, ErrorType, Fault, FaultKind, Purged, RetryType};
 use std::alloc::{AllocError, Global};
 use std::process::Abort;
 use std::str;
@@ -142,6 +142,49 @@ pub(super) fn cut_in_two(
     items.push(ReadItem::Bytes(Bytes::copy_from_slice(alloc, front)?))?;
     items.push(ReadItem::Bytes(Bytes::copy_from_slice(alloc, rest)?))?;
     Ok(items)
+}
+
+/// The call of a link that fails in a test: none, or the read of the item or the write of that
+/// number.
+#[derive(Clone, Copy, PartialEq, Eq)]
+pub(super) enum Failing {
+    No,
+    Read(usize),
+    Write(usize),
+}
+
+/// A fault of that kind, after which nothing is to be tried again.
+pub(super) fn fault(kind: FaultKind) -> Fault {
+    Fault {
+        kind,
+        retry: RetryType::Decided(false),
+    }
+}
+
+/// More writes than a link of these tests gets.
+pub(super) const WRITES: usize = 24;
+
+/// A link with these items, which takes five bytes at a write, and fails as it is told.
+pub(super) fn slow_link(
+    alloc: Global,
+    items: Vec<ReadItem>,
+    failing: Failing,
+) -> Result<ScriptLink, AllocError> {
+    let mut read = Vec::new(alloc);
+    for (call, item) in items.into_iter().enumerate() {
+        if failing == Failing::Read(call) {
+            read.push(ReadItem::Fault(fault(FaultKind::Read)))?;
+        }
+        read.push(item)?;
+    }
+    let mut write = Vec::new(alloc);
+    for call in 0..WRITES {
+        if failing == Failing::Write(call) {
+            write.push(WriteItem::Fault(fault(FaultKind::Write)))?;
+        }
+        write.push(WriteItem::Take(5))?;
+    }
+    Ok(ScriptLink::new(alloc, read, write))
 }
 
 /// A schedule that names that branch so many times.

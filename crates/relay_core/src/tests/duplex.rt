@@ -209,9 +209,7 @@ fn keep(batches: &mut Vec<TaskList>, tasks: TaskList) -> bool
     batches.push(tasks).is_ok()
 }
 
-impl Down for Client {
-    type Client = ();
-
+impl Down<()> for Client {
     ghost state = { λ c. record {
       request_ended = c.ended;
       body_done = c.ended;

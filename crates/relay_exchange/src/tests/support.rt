@@ -97,7 +97,7 @@ pub(super) fn exchange(
     }
     let head = session.req_header().copy().ok()?;
     let link = ScriptLink::new(alloc, from_peer, Vec::new(alloc));
-    let mut under_way = match Exchange::begin::<Client>(alloc, session, link, head) {
+    let mut under_way = match Exchange::begin(alloc, session, link, head) {
         Ok(begun) => begun,
         Err(Unbegun { link: _, why: _ }) => return None,
     };

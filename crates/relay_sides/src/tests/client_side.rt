@@ -17,7 +17,7 @@ type Checked = std::result::Result<(), Failed>;
 
 type Client = Connection<ScriptLink, ()>;
 
-type Side = ClientSide<Client>;
+type Side = ClientSide;
 
 /// A client that sends these texts, ends, and takes as the items say.
 fn client(

@@ -19,5 +19,6 @@ loop-attempt-preserved c =
       omega (arith, len, slice_get_within attempts (vec_len before) c.in-Some.attempt.now here),
       ap (λ n. c.push.new.self.items ++ map f (drop n attempts)) len
           ∙ ap (λ xs. xs ++ map f (drop (vec_len before + 1) attempts)) items
-          ∙ map_more f before.items attempts (vec_len before) c.in-Some.attempt.now here ∙ c.loop-attempt.invariant.1,
+          ∙ map_more f before.items attempts (vec_len before) c.in-Some.attempt.now here
+          ∙ c.loop-attempt.invariant.1,
     )

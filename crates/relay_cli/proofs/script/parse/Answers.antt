@@ -9,4 +9,5 @@ returns-in-Ok c = reads_value-text c.args.bytes.now _ c.in-Ok.ensures.ok.0 c.in-
 pub returns-else-is_memory : goal.returns-else-is_memory
 returns-else-is_memory c =
     reads_value-none c.args.bytes.now
-    (c.in-Err.ensures.err (λ memory. true≢false (sym (c.is_memory.ensures.1 memory) ∙ c.if-is_memory.false)))
+    (c.in-Err.ensures.err
+    (λ memory. true≢false (sym (c.is_memory.ensures.1 memory) ∙ c.if-is_memory.false)))

@@ -4,7 +4,8 @@ use Rattle.relay_cli.specs.Transfer.{Gives, input_limit}
 use Rattle.relay_cli.proofs.transfer.read_all.Given as goal
 
 abbrev pub invariant-loop-room : goal.invariant-loop-room
-invariant-loop-room g l = Gives (g.S.Source.state l.fn.source) (g.S.Source.state l.source) l.text.items
+invariant-loop-room g l =
+    Gives (g.S.Source.state l.fn.source) (g.S.Source.state l.source) l.text.items
 
 abbrev pub decreases-loop-room : goal.decreases-loop-room
 decreases-loop-room g l = input_limit + 1 - length l.text.items

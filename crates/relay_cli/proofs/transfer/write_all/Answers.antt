@@ -8,8 +8,10 @@ pub loop-done-preserved : goal.loop-done-preserved
 loop-done-preserved g c =
     let text = c.args.text.now in
     let done = c.loop-done.done in
-    let fits : c.in-Took.count ≤ length text - done = omega (arith, c.in-Took.ensures.fits, length-take (length text - done) (drop done text)) in
+    let fits : c.in-Took.count ≤ length text - done =
+    omega (arith, c.in-Took.ensures.fits, length-take (length text - done) (drop done text)) in
     record {
       within = omega arith;
-      taken = Takes-more _ _ _ text done c.in-Took.count c.loop-done.invariant.within fits c.loop-done.invariant.taken c.in-Took.ensures;
+      taken = Takes-more _ _ _ text done c.in-Took.count c.loop-done.invariant.within fits
+          c.loop-done.invariant.taken c.in-Took.ensures;
     }

@@ -8,7 +8,8 @@ use Rattle.relay_phases.proofs.attempt.call_custom_forwarding.Goals as goal
 pub returns-in_err-outcome : goal.returns-in_err-outcome
 returns-in_err-outcome g c =
     let log : c.custom_forwarding.new.session.seen.log ≡ c.args.session.now.seen.log =
-    LeavesUnless-log c.custom_forwarding.result c.begin_with_head.new.seen c.custom_forwarding.new.session.seen
+    LeavesUnless-log c.custom_forwarding.result c.begin_with_head.new.seen
+    c.custom_forwarding.new.session.seen
     c.custom_forwarding.ensures.leaves
     ∙ ap (λ (s : Seen). s.log) c.in_ok-begun.ensures.seen in
     let failure =

@@ -8,7 +8,8 @@ use Rattle.relay_phases.proofs.attempt.call_upstream_peer.Goals as goal
 pub returns-in_err-outcome : goal.returns-in_err-outcome
 returns-in_err-outcome g c =
     let log : c.upstream_peer.new.session.seen.log ≡ c.args.session.now.seen.log =
-    LeavesUnless-log c.upstream_peer.result c.begin_with_head.new.seen c.upstream_peer.new.session.seen
+    LeavesUnless-log c.upstream_peer.result c.begin_with_head.new.seen
+    c.upstream_peer.new.session.seen
     c.upstream_peer.ensures.leaves
     ∙ ap (λ (s : Seen). s.log) c.in_ok-begun.ensures.seen in
     let failure =

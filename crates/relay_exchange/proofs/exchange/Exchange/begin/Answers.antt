@@ -1,8 +1,6 @@
 -- An exchange begins once its head was queued; it is not begun where the head is refused.
-use Rattle.std.proofs.Common.{[], refl, sym, subst}
+use Rattle.std.proofs.Common.{refl, sym, subst}
 use Rattle.relay_links.specs.Link.{IsHandedOut}
-use Rattle.relay_sides.specs.declared.client_side.ClientState.{ClientState}
-use Rattle.relay_exchange.specs.Exchange.{IsUnderWay}
 use Rattle.relay_exchange.specs.declared.exchange.Stage.TheVariants as stage
 use Rattle.relay_exchange.proofs.TurnLemmas.{begun_under_way, refused_as}
 use Rattle.relay_exchange.proofs.exchange.Exchange.begin.Goals as goal
@@ -11,27 +9,15 @@ pub returns-in-Ok-clause-begins : goal.returns-in-Ok-clause-begins
 returns-in-Ok-clause-begins g c =
     let state = g.L.ByteLink.state in
     let start_at = g.L.ByteLink.start in
-    let side = c.new-side.result in
-    let down : ClientState = record {
-      alloc = side.alloc;
-      session = side.session;
-      told = side.told;
-      done = side.done;
-      finished = side.finished;
-      broken = side.broken;
-    } in
+    let side = c.new-client.result in
     let peer = c.write_request_header.new.self in
     λ s came client ahead reused own behind out used.
-    let At : ClientState → Type 0 = λ d.
-    IsUnderWay state start_at s (record { came = came; written = []; got = []; sent = [] }) client
-    ahead (record { alloc = c.args.alloc; client = d; peer = peer; stage = stage.Head }) in
-    subst At (sym c.suspend.ensures)
-    (begun_under_way state start_at s came client ahead
-    (record { alloc = c.args.alloc; client = down; peer = peer; stage = stage.Head }) refl
-    (c.new-side.ensures.begins s came client ahead behind)
+    begun_under_way state start_at s came client ahead
+    (record { alloc = c.args.alloc; client = side; peer = peer; stage = stage.Head }) refl
+    (c.new-client.ensures.begins s came client ahead behind)
     (c.in-Ok.ensures.begins s own c.new-peer.ensures.fresh reused
     (subst (λ l. IsHandedOut (state l) (start_at l) reused) (sym c.new-peer.ensures.link) out)
-    used))
+    used)
 
 pub returns-in-Err-clause-refused : goal.returns-in-Err-clause-refused
 returns-in-Err-clause-refused g c =

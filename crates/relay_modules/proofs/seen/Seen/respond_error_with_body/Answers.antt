@@ -9,7 +9,8 @@ returns-in_err-answer c =
     rw (failure.1, failure.2)
     (record {
       answers = RespondsWith-memory
-          (body_answer_tasks c.args.self.now.downstream.writing.place c.args.code c.args.body) c.args.self.now _
+          (body_answer_tasks c.args.self.now.downstream.writing.place c.args.code c.args.body)
+          c.args.self.now _
           c.in_err-answer.ensures.memory;
     })
 
@@ -21,14 +22,16 @@ returns-in_err-wrote c =
     rw (failure.1, failure.2)
     (record {
       answers = RespondsWith-memory
-          (body_answer_tasks c.args.self.now.downstream.writing.place c.args.code c.args.body) c.args.self.now _
+          (body_answer_tasks c.args.self.now.downstream.writing.place c.args.code c.args.body)
+          c.args.self.now _
           c.in_err-wrote.ensures.memory;
     })
 
 pub returns : goal.returns
 returns c =
     record {
-      answers = Notes-answer (body_answer_tasks c.args.self.now.downstream.writing.place c.args.code c.args.body)
+      answers = Notes-answer
+          (body_answer_tasks c.args.self.now.downstream.writing.place c.args.code c.args.body)
           c.args.self.now c.respond_error_with_body.new.self c.in_ok-wrote.wrote
           c.in_ok-respond_error_with_body.ensures.ok c.in_ok-respond_error_with_body.ensures.reading
           (rw (← c.in_ok-answer.ensures.ok) c.in_ok-wrote.ensures.ok);

@@ -10,7 +10,8 @@ pub returns-clause-bodiless : goal.returns-clause-bodiless
 returns-clause-bodiless c =
     let lawful : are_lawful c.as_slice.result.now ≡ true =
     rw c.as_slice.ensures.value c.as_slice.ensures.lawful in
-    filtered_bodiless c.as_slice.result.now c.args._status.now c.run_rules.result c.args.answer.now _ lawful
+    filtered_bodiless c.as_slice.result.now c.args._status.now c.run_rules.result
+    c.args.answer.now _ lawful
     c.requires.answer c.run_rules.ensures.answers
     (c.run_rules.ensures.keeps has_code (λ head. informs head.status) keeps_kind
     (lawful_codes c.as_slice.result.now lawful))
