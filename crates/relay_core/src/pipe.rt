@@ -69,13 +69,13 @@ impl Pipe {
         ensures { self.new ≡ with_task self.old task }
     {
         if self.first.is_none() {
-            fill(&mut self.first, task);
+            self.first = Some(task);
         } else if self.second.is_none() {
-            fill(&mut self.second, task);
+            self.second = Some(task);
         } else if self.third.is_none() {
-            fill(&mut self.third, task);
+            self.third = Some(task);
         } else {
-            fill(&mut self.fourth, task);
+            self.fourth = Some(task);
         }
     }
 
@@ -185,11 +185,4 @@ pub(crate) fn is_failure(task: &HttpTask) -> bool
         HttpTask::Done => false,
         HttpTask::Failed(_) => true,
     }
-}
-
-/// Puts the task into that place.
-fn fill(place: &mut Option<HttpTask>, task: HttpTask)
-    ensures { place.new ≡ Some task }
-{
-    *place = Some(task);
 }
