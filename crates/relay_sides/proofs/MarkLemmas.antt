@@ -1,5 +1,5 @@
 -- What the marks of the peer's side tell of its link goes on with each of its calls.
-use Rattle.std.proofs.Common.{◌≡◌, ℕ, ◌≤◌, Bool, true, false, ◌||◌, List, [], ◌∷◌, ◌++◌, Option, Some, None, refl, sym, ap, subst, ◌∙◌, arith}
+use Rattle.std.proofs.Common.{◌≡◌, ℕ, ◌≤◌, Bool, true, false, ◌||◌, List, [], ◌∷◌, ◌++◌, Option, Some, None, refl, sym, ap, subst, ◌∙◌, arith, ◌⊎◌, inl, inr}
 use Rattle.relay_tasks.specs.declared.error.Error.{Error}
 use Rattle.relay_tasks.specs.declared.error.Fail.{Fail}
 use Rattle.relay_tasks.specs.declared.error.Fail.TheVariants as fail
@@ -15,11 +15,13 @@ use Rattle.relay_links.specs.declared.link.Got.TheVariants as got
 use Rattle.relay_links.specs.declared.link.Put.{Put}
 use Rattle.relay_links.specs.declared.link.Put.TheVariants as put
 use Rattle.relay_links.proofs.SinceLemmas.{Since-kept, Since-grows}
+use Rattle.relay_peer.specs.H1Client.{is_fault}
 use Rattle.relay_peer.specs.RequestWriting.{Sent, short_request}
-use Rattle.relay_peer.specs.ResponseReading.{Asks, is_error, fault_error}
+use Rattle.relay_peer.specs.ResponseReading.{Asks, ReadsTask, is_error, fault_error}
 use Rattle.relay_peer.specs.declared.request_writing.RequestWriting.{RequestWriting}
+use Rattle.relay_peer.specs.declared.response_reading.ResponseReading.{ResponseReading}
 use Rattle.relay_core.specs.Up as up
-use Rattle.relay_core.proofs.BoolLemmas.{clash, or_left, or_right}
+use Rattle.relay_core.proofs.BoolLemmas.{clash, or_left, or_right, or_false}
 use Rattle.relay_sides.specs.Faults.{TellsFaults}
 use Rattle.relay_sides.specs.Peer.{AreMarked, CannotSend, Loses, put_error}
 use Rattle.relay_sides.specs.Peer as peer
@@ -46,24 +48,30 @@ cannot_on : (start : LinkStart) (before after : LinkState) (e : Error) (new : Li
     → (Rose start.faults before.faults → Rose start.faults after.faults)
     → after.write_faults ≡ more before.write_faults new → CannotSend start before e
     → CannotSend start after e
-cannot_on start before after e new rises grown
-    (peer.CannotSend.write_failed fault is kind rose front behind since) =
-    peer.CannotSend.write_failed fault is kind (rises rose) front (behind ++ new)
-    (among_on start.write_faults before.write_faults after.write_faults front behind new fault grown
-    since)
-cannot_on start before after e new rises grown (peer.CannotSend.ends_short is) =
-    peer.CannotSend.ends_short is
+cannot_on start before after e new rises grown (inl w) =
+    inl (record {
+      fault = w.fault;
+      is = w.is;
+      kind = w.kind;
+      rose = rises w.rose;
+      before = w.before;
+      behind = w.behind ++ new;
+      told = among_on start.write_faults before.write_faults after.write_faults w.before w.behind new
+          w.fault grown w.told;
+    })
+cannot_on start before after e new rises grown (inr is) = inr is
 
 -- the marks of the side still tell of the link
-marked_leaves : (start : LinkStart) (before after : LinkState) (reads : Bool)
+marked_leaves : (start : LinkStart) (before after : LinkState) (failed reads : Bool)
     (sends : Option Error) (lost : Option Fail) → LeavesFaults before after
-    → AreMarked start before reads sends lost → AreMarked start after reads sends lost
-marked_leaves start before after reads sends lost leaves m = record {
+    → AreMarked start before failed reads sends lost
+    → AreMarked start after failed reads sends lost
+marked_leaves start before after failed reads sends lost leaves m = record {
   reads = λ none. Since-kept [] start.read_faults before.read_faults after.read_faults []
       leaves.reads (m.reads none);
   writes = λ none. Since-kept [] start.write_faults before.write_faults after.write_faults []
       leaves.writes (m.writes none);
-  calm = λ unread unsent. leaves.faults ∙ m.calm unread unsent;
+  calm = m.calm;
   named = λ e is. cannot_on start before after e []
       (λ rose. subst (λ (n : ℕ). Rose start.faults n) (sym leaves.faults) rose)
       (leaves.writes ∙ more_none before.write_faults) (m.named e is);
@@ -71,20 +79,23 @@ marked_leaves start before after reads sends lost leaves m = record {
 }
 
 -- the same link, after a call that changed nothing of it
-pub marked_same : (start : LinkStart) (before after : LinkState) (reads : Bool)
-    (sends : Option Error) (lost : Option Fail) → after ≡ before
-    → AreMarked start before reads sends lost → AreMarked start after reads sends lost
-marked_same start before after reads sends lost same m =
-    marked_leaves start before after reads sends lost (leaves_same before after same) m
+pub marked_same : (start : LinkStart) (before after : LinkState) (failed fails reads : Bool)
+    (sends : Option Error) (lost : Option Fail) → after ≡ before → fails ≡ failed
+    → AreMarked start before failed reads sends lost → AreMarked start after fails reads sends lost
+marked_same start before after failed fails reads sends lost same stays m =
+    subst (λ (b : Bool). AreMarked start after b reads sends lost) (sym stays)
+    (marked_leaves start before after failed reads sends lost (leaves_same before after same) m)
 
--- a read that answers an error, or not
-pub marked_more : (start : LinkStart) (link : LinkState) (was also is : Bool)
+-- a read that answers an error, or not: where the client's call failed it does
+pub marked_more : (start : LinkStart) (link : LinkState) (failed fails was also is : Bool)
     (sends : Option Error) (lost : Option Fail) → is ≡ was || also
-    → AreMarked start link was sends lost → AreMarked start link is sends lost
-marked_more start link was also is sends lost same m = record {
+    → (failed ≡ false → also ≡ false → fails ≡ false)
+    → AreMarked start link failed was sends lost → AreMarked start link fails is sends lost
+marked_more start link failed fails was also is sends lost same still m = record {
   reads = λ none. m.reads (or_left was also (sym same ∙ none));
   writes = m.writes;
-  calm = λ none unsent. m.calm (or_left was also (sym same ∙ none)) unsent;
+  calm = λ none unsent. still (m.calm (or_left was also (sym same ∙ none)) unsent)
+      (or_right was also (sym same ∙ none));
   named = m.named;
   short = m.short;
 }
@@ -95,53 +106,65 @@ marked_more start link was also is sends lost same m = record {
 rose_from : (first before after : ℕ) → first ≤ before → Rose before after → Rose first after
 rose_from first before after least rose = λ below. omega (arith, least, rose below)
 
+-- no call failed where none had, and this one answers no error
+calm_by : (failed fails also : Bool) → fails ≡ failed || also → failed ≡ false → also ≡ false
+    → fails ≡ false
+calm_by failed fails also same calm none = same ∙ or_false failed also calm none
+
 -- a read of the link: a fault of it was answered
 pub marked_read : (start : LinkStart) (before after : LinkState) (came : List ℕ)
-    (asked : Option Got) (answer : Took HttpTask) (was is : Bool) (sends : Option Error)
-    (lost : Option Fail) → Asks before after came asked
+    (asked : Option Got) (answer : Took HttpTask) (failed fails was is : Bool)
+    (sends : Option Error) (lost : Option Fail) → Asks before after came asked
     → ((fault : Fault) → asked ≡ Some (got.Failed fault)
     → answer ≡ took.Failed (fail.Error (fault_error fault)))
-    → is ≡ was || is_error answer → start.faults ≤ before.faults
-    → AreMarked start before was sends lost → AreMarked start after is sends lost
-marked_read start before after came None answer was is sends lost asks fails same least m =
-    marked_more start after was (is_error answer) is sends lost same
-    (marked_same start before after was sends lost asks.0 m)
-marked_read start before after came (Some (got.Bytes n)) answer was is sends lost asks fails same
-    least m =
-    marked_more start after was (is_error answer) is sends lost same
-    (marked_leaves start before after was sends lost
+    → fails ≡ failed || is_error answer → is ≡ was || is_error answer
+    → start.faults ≤ before.faults → AreMarked start before failed was sends lost
+    → AreMarked start after fails is sends lost
+marked_read start before after came None answer failed fails was is sends lost asks
+    tells stays same least m =
+    marked_more start after failed fails was (is_error answer) is sends lost same
+    (calm_by failed fails (is_error answer) stays)
+    (marked_same start before after failed failed was sends lost asks.0 refl m)
+marked_read start before after came (Some (got.Bytes n)) answer failed fails was is sends lost asks
+    tells stays same least m =
+    marked_more start after failed fails was (is_error answer) is sends lost same
+    (calm_by failed fails (is_error answer) stays)
+    (marked_leaves start before after failed was sends lost
     (record {
       reads = asks.gives.read_faults;
       writes = asks.gives.write_faults;
       faults = asks.gives.faults;
     }) m)
-marked_read start before after came (Some got.NotReady) answer was is sends lost asks fails same
-    least m =
-    marked_more start after was (is_error answer) is sends lost same
-    (marked_leaves start before after was sends lost
+marked_read start before after came (Some got.NotReady) answer failed fails was is sends lost asks
+    tells stays same least m =
+    marked_more start after failed fails was (is_error answer) is sends lost same
+    (calm_by failed fails (is_error answer) stays)
+    (marked_leaves start before after failed was sends lost
     (record {
       reads = asks.0.read_faults;
       writes = asks.0.write_faults;
       faults = asks.0.faults;
     }) m)
-marked_read start before after came (Some got.Silent) answer was is sends lost asks fails same
-    least m =
-    marked_more start after was (is_error answer) is sends lost same
-    (marked_same start before after was sends lost asks.0.same m)
-marked_read start before after came (Some got.End) answer was is sends lost asks fails same least
-    m =
-    marked_more start after was (is_error answer) is sends lost same
-    (marked_leaves start before after was sends lost
+marked_read start before after came (Some got.Silent) answer failed fails was is sends lost asks
+    tells stays same least m =
+    marked_more start after failed fails was (is_error answer) is sends lost same
+    (calm_by failed fails (is_error answer) stays)
+    (marked_same start before after failed failed was sends lost asks.0.same refl m)
+marked_read start before after came (Some got.End) answer failed fails was is sends lost asks
+    tells stays same least m =
+    marked_more start after failed fails was (is_error answer) is sends lost same
+    (calm_by failed fails (is_error answer) stays)
+    (marked_leaves start before after failed was sends lost
     (record {
       reads = asks.0.read_faults;
       writes = asks.0.write_faults;
       faults = asks.0.faults;
     }) m)
-marked_read start before after came (Some (got.Failed fault)) answer was is sends lost asks fails
-    same least m =
+marked_read start before after came (Some (got.Failed fault)) answer failed fails was is sends lost
+    asks tells stays same least m =
     let f = asks.0 in
     let never : is ≡ false → ⊥ = λ none.
-    clash (is_error answer) (ap is_error (fails fault refl))
+    clash (is_error answer) (ap is_error (tells fault refl))
     (or_right was (is_error answer) (sym same ∙ none)) in
     record {
       reads = λ none. absurd (never none);
@@ -154,6 +177,18 @@ marked_read start before after came (Some (got.Failed fault)) answer was is send
       short = m.short;
     }
 
+-- the same, as a call of the reading that answered so
+pub marked_task : (method : List ℕ) (start : LinkStart) (before after : LinkState)
+    (old new : ResponseReading) (answer : Took HttpTask) (failed fails was is : Bool)
+    (sends : Option Error) (lost : Option Fail) → ReadsTask method before after old new answer
+    → fails ≡ failed || is_error answer → is ≡ was || is_error answer
+    → start.faults ≤ before.faults → AreMarked start before failed was sends lost
+    → AreMarked start after fails is sends lost
+marked_task method start before after old new answer failed fails was is sends lost reads stays same
+    least m =
+    marked_read start before after reads.came reads.asked answer failed fails was is sends lost
+    reads.asks reads.fails stays same least m
+
 -- the answer is an error where its failure is one
 pub same_error : (why : Fail) → is_error (took.Failed why) ≡ up.is_error why
 same_error fail.OutOfMemory = refl
@@ -164,58 +199,87 @@ same_error (fail.Error e) = refl
 some_error : (a b : Error) → Some a ≡ Some b → a ≡ b
 some_error a b same = cc
 
+-- a write that answered no fault
+no_fault : (start : LinkStart) (link : LinkState) (failed fails reads : Bool)
+    (sends : Option Error) (lost : Option Fail) → fails ≡ failed || false
+    → AreMarked start link failed reads sends lost → AreMarked start link fails reads sends lost
+no_fault start link failed fails reads sends lost stays m =
+    marked_more start link failed fails reads false reads sends lost (or_none reads)
+    (λ calm none. calm_by failed fails false stays calm none) m
+  where
+    or_none : (b : Bool) → b ≡ (b || false)
+    or_none true = refl
+    or_none false = refl
+
 -- a write to the link: a fault of it is kept
 pub marked_write : (start : LinkStart) (before after : LinkState) (part : List ℕ)
-    (answer : Put) (reads : Bool) (sends : Option Error) (lost : Option Fail)
-    → Writes before part after answer → start.faults ≤ before.faults → TellsFaults start before
-    → AreMarked start before reads sends lost
-    → AreMarked start after reads (put_error answer sends) lost
-marked_write start before after part (put.Took n) reads sends lost w least tells m =
-    marked_leaves start before after reads sends lost
-    (record { reads = w.read_faults; writes = w.write_faults; faults = w.faults }) m
-marked_write start before after part put.NotReady reads sends lost w least tells m =
-    marked_leaves start before after reads sends lost
-    (record { reads = w.read_faults; writes = w.write_faults; faults = w.faults }) m
-marked_write start before after part put.Silent reads sends lost w least tells m =
-    marked_same start before after reads sends lost w.same m
-marked_write start before after part (put.Failed fault) reads sends lost w least tells m = record {
-  reads = λ none. Since-kept [] start.read_faults before.read_faults after.read_faults []
-      w.read_faults (m.reads none);
-  writes = λ none. absurd (cc);
-  calm = λ unread unsent. absurd (cc);
-  named = λ e is. peer.CannotSend.write_failed fault (some_error e (fault_error fault) (sym is))
-      w.kind (rose_from start.faults before.faults after.faults least w.faults) tells.writes []
-      (Since-grows [] start.write_faults before.write_faults after.write_faults tells.writes
-      (fault ∷ []) w.write_faults tells.written);
-  short = m.short;
-}
-marked_write start before after part put.OutOfMemory reads sends lost w least tells m =
-    marked_leaves start before after reads sends lost
+    (answer : Put) (failed fails reads : Bool) (sends : Option Error) (lost : Option Fail)
+    → Writes before part after answer → fails ≡ failed || is_fault answer
+    → start.faults ≤ before.faults → TellsFaults start before
+    → AreMarked start before failed reads sends lost
+    → AreMarked start after fails reads (put_error answer sends) lost
+marked_write start before after part (put.Took n) failed fails reads sends lost w stays least tells
+    m =
+    no_fault start after failed fails reads sends lost stays
+    (marked_leaves start before after failed reads sends lost
+    (record { reads = w.read_faults; writes = w.write_faults; faults = w.faults }) m)
+marked_write start before after part put.NotReady failed fails reads sends lost w stays least tells
+    m =
+    no_fault start after failed fails reads sends lost stays
+    (marked_leaves start before after failed reads sends lost
+    (record { reads = w.read_faults; writes = w.write_faults; faults = w.faults }) m)
+marked_write start before after part put.Silent failed fails reads sends lost w stays least tells
+    m =
+    no_fault start after failed fails reads sends lost stays
+    (marked_same start before after failed failed reads sends lost w.same refl m)
+marked_write start before after part (put.Failed fault) failed fails reads sends lost w stays least
+    tells m = record {
+      reads = λ none. Since-kept [] start.read_faults before.read_faults after.read_faults []
+          w.read_faults (m.reads none);
+      writes = λ none. absurd (cc);
+      calm = λ unread unsent. absurd (cc);
+      named = λ e is. inl (record {
+        fault = fault;
+        is = some_error e (fault_error fault) (sym is);
+        kind = w.kind;
+        rose = rose_from start.faults before.faults after.faults least w.faults;
+        before = tells.writes;
+        behind = [];
+        told = Since-grows [] start.write_faults before.write_faults after.write_faults tells.writes
+            (fault ∷ []) w.write_faults tells.written;
+      });
+      short = m.short;
+    }
+marked_write start before after part put.OutOfMemory failed fails reads sends lost w stays least
+    tells m =
+    no_fault start after failed fails reads sends lost stays
+    (marked_leaves start before after failed reads sends lost
     (record {
       reads = ap (λ (l : LinkState). l.read_faults) w.same;
       writes = ap (λ (l : LinkState). l.write_faults) w.same;
       faults = ap (λ (l : LinkState). l.faults) w.same;
-    }) m
+    }) m)
 
 -- ---- a piece
 
 -- a piece that was lost, for that reason
-pub marked_loses : (start : LinkStart) (link : LinkState) (reads : Bool) (sends : Option Error)
-    (lost : Option Fail) (why : Fail) → ((e : Error) → why ≡ fail.Error e → e ≡ short_request)
-    → AreMarked start link reads sends lost
-    → AreMarked start link reads (up.error_or why sends) (Some why)
-marked_loses start link reads sends lost fail.OutOfMemory short m = record {
+pub marked_loses : (start : LinkStart) (link : LinkState) (failed reads : Bool)
+    (sends : Option Error) (lost : Option Fail) (why : Fail)
+    → ((e : Error) → why ≡ fail.Error e → e ≡ short_request)
+    → AreMarked start link failed reads sends lost
+    → AreMarked start link failed reads (up.error_or why sends) (Some why)
+marked_loses start link failed reads sends lost fail.OutOfMemory short m = record {
   reads = m.reads;
   writes = m.writes;
   calm = m.calm;
   named = m.named;
   short = λ e is. absurd (cc);
 }
-marked_loses start link reads sends lost (fail.Error error) short m = record {
+marked_loses start link failed reads sends lost (fail.Error error) short m = record {
   reads = m.reads;
   writes = λ none. absurd (cc);
   calm = λ unread unsent. absurd (cc);
-  named = λ e is. peer.CannotSend.ends_short (sym (some_error error e is) ∙ short error refl);
+  named = λ e is. inr (sym (some_error error e is) ∙ short error refl);
   short = λ e is. short e (some_fail (fail.Error error) (fail.Error e) is);
 }
   where
@@ -223,12 +287,13 @@ marked_loses start link reads sends lost (fail.Error error) short m = record {
     some_fail a b same = cc
 
 -- a piece that is lost behind another
-pub marked_still : (start : LinkStart) (link : LinkState) (reads : Bool) (sends : Option Error)
-    (lost : Option Fail) (why : Fail) → lost ≡ Some why → AreMarked start link reads sends lost
-    → AreMarked start link reads (up.error_or why sends) lost
-marked_still start link reads sends lost why is m =
-    subst (λ (l : Option Fail). AreMarked start link reads (up.error_or why sends) l) (sym is)
-    (marked_loses start link reads sends lost why (λ e so. m.short e (is ∙ ap Some so)) m)
+pub marked_still : (start : LinkStart) (link : LinkState) (failed reads : Bool)
+    (sends : Option Error) (lost : Option Fail) (why : Fail) → lost ≡ Some why
+    → AreMarked start link failed reads sends lost
+    → AreMarked start link failed reads (up.error_or why sends) lost
+marked_still start link failed reads sends lost why is m =
+    subst (λ (l : Option Fail). AreMarked start link failed reads (up.error_or why sends) l) (sym is)
+    (marked_loses start link failed reads sends lost why (λ e so. m.short e (is ∙ ap Some so)) m)
 
 -- a piece is lost with no other error than that of a short request
 pub loses_short : (sent : Sent) (had : List ℕ) (piece : HttpTask) (at : RequestWriting)
@@ -244,15 +309,15 @@ loses_short sent had piece at _ (peer.Loses.is_short ends so_far short) e is = s
 -- ---- the beginning
 
 -- a link that was handed out met no fault, and nothing is marked
-pub marked_new : (start : LinkStart) (link : LinkState) (reused reads : Bool)
-    (sends : Option Error) (lost : Option Fail) → IsHandedOut link start reused → sends ≡ None
-    → lost ≡ None → AreMarked start link reads sends lost
-marked_new start link reused reads sends lost out unsent takes =
+pub marked_new : (start : LinkStart) (link : LinkState) (reused failed reads : Bool)
+    (sends : Option Error) (lost : Option Fail) → IsHandedOut link start reused → failed ≡ false
+    → sends ≡ None → lost ≡ None → AreMarked start link failed reads sends lost
+marked_new start link reused failed reads sends lost out calm unsent takes =
     let tells = tells_none start link reused out in
     record {
       reads = λ none. tells.read;
       writes = λ none. tells.written;
-      calm = λ unread none. sym out.faults;
+      calm = λ unread none. calm;
       named = λ e is. absurd (apart e (sym is ∙ unsent));
       short = λ e is. absurd (other e (sym is ∙ takes));
     }

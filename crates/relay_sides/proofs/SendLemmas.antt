@@ -97,6 +97,7 @@ peer_take {L} o start link old new stopped lost_before lost q piece gone sending
       none_switches = stands.none_switches;
       have_room = stands.have_room;
       goes_on = stands.goes_on;
+      heads = stands.heads;
       why = λ e is.
           blames_keep start link link stands.head q (after_take q piece gone) e
           (take_on start link q piece gone) (stands.why e is);
@@ -407,6 +408,7 @@ write_goes {L} o start started before after old new stopped lost q answer same k
       none_switches = stands.none_switches;
       have_room = stands.have_room;
       goes_on = stands.goes_on;
+      heads = stands.heads;
       why = λ e is. blames_keep start before after stands.head q p e on (stands.why e is);
       takes = stands.takes;
       why_lost = λ e is. blames_keep start before after stands.head q p e on (stands.why_lost e is);
@@ -447,6 +449,7 @@ begins {L} o start link reused old new head own fresh out same so_far = record {
   none_switches = refl;
   have_room = All-nil (HasRoom head.method);
   goes_on = λ none. refl;
+  heads = tt;
   why = λ e is. absurd (apart e (sym is ∙ fresh.goes_on));
   takes = λ none. refl;
   why_lost = λ e is. absurd (apart e (sym is ∙ fresh.takes));
@@ -487,10 +490,11 @@ begins_side {L} o start started before after reused old new head own same unmove
       closes = fresh.stays;
       calm = λ none. calm ∙ fresh.calm;
       marked = subst (λ (s : LinkStart).
-          AreMarked s after old.read_failed old.send_failed old.lost) (sym same)
-          (marked_same start before after old.read_failed old.send_failed old.lost unmoved
-          (marked_new start before reused old.read_failed old.send_failed old.lost out fresh.unsent
-          fresh.takes));
+          AreMarked s after new.failed old.read_failed old.send_failed old.lost) (sym same)
+          (marked_same start before after old.client.failed new.failed old.read_failed
+          old.send_failed old.lost unmoved calm
+          (marked_new start before reused old.client.failed old.read_failed old.send_failed old.lost
+          out fresh.calm fresh.unsent fresh.takes));
     }
 
 -- and its head is the one that was queued

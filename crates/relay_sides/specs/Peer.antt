@@ -203,6 +203,11 @@ pub data PeerBlames (start : LinkStart) (link : LinkState) (head : RequestHead) 
       → wire.is_short (after_pieces (body_framing head) pieces) ≡ true → e ≡ short_request
       → PeerBlames start link head q e
 
+-- the tasks are heads
+abbrev pub AreHeads : List HttpTask → Type 0
+AreHeads [] = Unit {0}
+AreHeads (task ∷ tasks) = reading.IsHead task × AreHeads tasks
+
 -- what passed since the link was handed out, which the link tells: the request as far as it was
 -- queued, and the response as far as it was handed on. Once the side stopped, for a final head that
 -- it does not hand on, that head is withheld; once a piece was lost, no more of the request is
@@ -230,28 +235,34 @@ pub record IsPeer {L : Type 0}
   pub none_switches : list_any is_switch given ≡ false
   pub have_room : All (HasRoom head.method) given
   pub goes_on : stopped ≡ None → withheld ≡ []
+  pub heads : AreHeads withheld
   pub why : (e : Error) → stopped ≡ Some (fail.Error e) → PeerBlames start link head q e
   pub takes : lost ≡ None → q.lost ≡ false
   pub why_lost : (e : Error) → lost ≡ Some (fail.Error e) → PeerBlames start link head q e
 
--- an error with which nothing more is sent: that of a fault that the link answered on a write,
--- where it tells the faults of its writes, or that of a request that ends short
-pub data CannotSend (start : LinkStart) (link : LinkState) (e : Error) : Type 0 where
-  write_failed : (fault : Fault) → e ≡ fault_error fault → IsWriteFault fault
-      → Rose start.faults link.faults → (before behind : List Fault)
-      → Since [] start.write_faults link.write_faults (before ++ fault ∷ behind)
-      → CannotSend start link e
-  ends_short : e ≡ short_request → CannotSend start link e
+-- the error tells of a fault that the link answered on a write, which is among those that it tells
+pub record IsWriteError (start : LinkStart) (link : LinkState) (e : Error) : Type 0 where
+  pub fault : Fault
+  pub is : e ≡ fault_error fault
+  pub kind : IsWriteFault fault
+  pub rose : Rose start.faults link.faults
+  pub before : List Fault
+  pub behind : List Fault
+  pub told : Since [] start.write_faults link.write_faults (before ++ fault ∷ behind)
 
--- what the marks of the side tell of its link. Where no read answered an error no read of the link
--- failed, and where no send did no write: neither told its fault, nor did the count of faults rise.
--- An error with which nothing could be sent is that of a write, or of a request that ends short
+-- an error with which nothing more is sent: that of a write, or that of a request that ends short
+abbrev pub CannotSend : LinkStart → LinkState → Error → Type 0
+CannotSend start link e = IsWriteError start link e ⊎ (e ≡ short_request)
+
+-- what the marks of the side tell: where no read answered an error, no read of the link failed,
+-- where it tells its faults; where no error kept anything from being sent, no write did; where
+-- neither, no call of the client failed. And which errors keep something from being sent
 pub record AreMarked
-    (start : LinkStart) (link : LinkState) (read_failed : Bool) (send_failed : Option Error)
-    (lost : Option Fail) : Type 0 where
+    (start : LinkStart) (link : LinkState) (failed read_failed : Bool)
+    (send_failed : Option Error) (lost : Option Fail) : Type 0 where
   pub reads : read_failed ≡ false → Since [] start.read_faults link.read_faults []
   pub writes : send_failed ≡ None → Since [] start.write_faults link.write_faults []
-  pub calm : read_failed ≡ false → send_failed ≡ None → link.faults ≡ start.faults
+  pub calm : read_failed ≡ false → send_failed ≡ None → failed ≡ false
   pub named : (e : Error) → send_failed ≡ Some e → CannotSend start link e
   pub short : (e : Error) → lost ≡ Some (fail.Error e) → e ≡ short_request
 
@@ -275,7 +286,7 @@ pub record IsPeerSide {L : Type 0}
   pub closes : side.closes ≡ list_any asks_to_close q.read
   -- each fault was told
   pub calm : side.told.errors ≡ 0 → side.client.failed ≡ false
-  pub marked : AreMarked start link side.read_failed side.send_failed side.lost
+  pub marked : AreMarked start link side.client.failed side.read_failed side.send_failed side.lost
 
 -- a side for which nothing was queued, and which read nothing
 pub record IsNew {L : Type 0} (side : PeerSide L) : Type 0 where
