@@ -24,7 +24,7 @@ use Rattle.relay_h1.specs.Tasks.{Tasks, ended}
 use Rattle.relay_h1.proofs.VerdictLemmas.{HasRequest-unique}
 use Rattle.relay_peer.specs.H1Client.{may_keep_client}
 use Rattle.relay_peer.specs.ResponseReading.{says, may_keep_reading}
-use Rattle.relay_peer.specs.ResponseReading.{is_over as is_over_reading}
+use Rattle.relay_peer.specs.ResponseReading as reading
 use Rattle.relay_peer.specs.RequestWriting.{Sent, Stands, sent_wire, may_keep_writing}
 use Rattle.relay_session.specs.Response.{IsOpen, is_over, pending}
 use Rattle.relay_session.specs.declared.task_text.Place.TheVariants as place
@@ -337,7 +337,7 @@ module _ {L : Type 0} (state : L → LinkState) (start_at : L → LinkStart)
         (framing_is s.head c.framing
         (own_request s p link ahead down.session c).let_in.framed) stands
         (c.whole (finishes.request_ended none)) in
-        let over : is_over_reading up.client.response.place ≡ true =
+        let over : reading.is_over up.client.response.place ≡ true =
         sym tasks_are.ended
         ∙ any_left is_end u.given u.withheld
         (sym (handed_any s.head.method u.given) ∙ ap (list_any is_end) (sym in_order.are_of.are)

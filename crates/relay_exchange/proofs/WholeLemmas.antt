@@ -2,7 +2,8 @@
 -- which no byte is missing is read to its end.
 use Rattle.std.proofs.Common.{◌≡◌, ℕ, ◌≤◌, ◌<◌, nat_le, Bool, true, false, ◌⊎◌, inl, inr, List, [], ◌∷◌, ◌++◌, length, take, drop, refl, sym, ap, subst, ◌∙◌, arith, append-nil, length-append, length-take, Some, None, Option}
 use Rattle.std.specs.List.{list_any}
-use Rattle.std.proofs.lemmas.Bool.{cases_Bool, leb-true}
+use Rattle.std.proofs.Math.Seq.{take-nil}
+use Rattle.std.proofs.lemmas.Bool.{cases_Bool, leb-false}
 use Rattle.std.proofs.lemmas.Bool.Decides.{nat_tests}
 use Rattle.relay_tasks.specs.declared.task.HttpTask.{HttpTask}
 use Rattle.relay_tasks.specs.declared.task.HttpTask.TheVariants as task
@@ -55,15 +56,12 @@ open_short k bytes told is =
             arith,
             ap (λ (t : BodyText). length t.bytes) is,
             length-take k bytes,
-            short k (length bytes) few,
+            leb-false k (length bytes) few,
           )
     ]
   where
     apart : body.BodyMark.still_open ≡ body.BodyMark.ended k → ⊥
     apart same = cc
-
-    short : (a b : ℕ) → nat_le a b ≡ false → b < a
-    short a b fails = grind (arith, nat_tests)
 
 -- a body of some length that goes on has not come whole
 length_short : (k : ℕ) (given told ahead : List ℕ) (at : State)
@@ -77,17 +75,13 @@ length_short k given told ahead state.ChunkEnd so_far goes_on =
 length_short k given told ahead state.Trailer so_far goes_on =
     clash false so_far.of_framing refl
 length_short k given told ahead (state.Length left) so_far goes_on =
+    let few : nat_le left 0 ≡ false = grind (arith, nat_tests) in
     let none : of_length left [] ≡ record { bytes = []; mark = body.BodyMark.still_open } =
-    on left goes_on in
+    rw (take-nil left, few) refl in
     let said = so_far.says [] (record { bytes = []; mark = body.BodyMark.still_open }) (sym none) in
     open_short k (so_far.consumed ++ []) told
     (ap (λ (xs : List ℕ). record { bytes = xs; mark = body.BodyMark.still_open })
     (sym (append-nil told)) ∙ said)
-  where
-    on : (n : ℕ) → (n == 0) ≡ false
-        → of_length n [] ≡ record { bytes = []; mark = body.BodyMark.still_open }
-    on zero left = cc
-    on (suc n) left = refl
 length_short k given told ahead state.UntilClose so_far goes_on =
     clash false so_far.of_framing refl
 length_short k given told ahead state.Tunnel so_far goes_on =

@@ -275,7 +275,7 @@ fn queue_piece<L>(client: &mut H1Client<L>, task: &HttpTask) -> Result<()>
 }
 
 impl<L: ByteLink> Up for PeerSide<L> {
-    ghost state = { state_of };
+    ghost state = { λ side. state_of side };
 
     ghost past = { λ side s q.
         IsPeerSide s (L.start side.client.link) (L.state side.client.link) side q };
