@@ -18,8 +18,9 @@ use Rattle.relay_h1.specs.BodyReader.{Reads, Takes, is_done}
 use Rattle.relay_h1.proofs.BodyLemmas.{Chunked-unique}
 use Rattle.relay_h1.proofs.BodyReaderLemmas.{Takes-reads, done_reads}
 use Rattle.relay_session.specs.Front as front
-use Rattle.relay_session.specs.Front.{Gave, Comes, ReadsPiece, Watches}
+use Rattle.relay_session.specs.Front.{Gave, Comes, ReadsPiece, Watches, link_fault}
 use Rattle.relay_session.specs.Reading.{ReadsLink, EndsBy}
+use Rattle.relay_session.specs.Reading as says
 use Rattle.relay_session.proofs.ReadingLemmas.{plain}
 
 -- ---- the link
@@ -38,6 +39,8 @@ link_stays before after answer speaks same = rw same (record {
   sound = λ sound. sound;
   waits = λ is. absurd (speaks NotReady is);
   silent = λ is. absurd (speaks Silent is);
+  read_faults = says.AddsFault.none_came refl;
+  write_faults = refl;
 })
 
 -- a read gave bytes
@@ -50,6 +53,8 @@ link_gave before after came answer speaks gave = record {
   sound = λ sound. gave.gives.sound;
   waits = λ is. absurd (speaks NotReady is);
   silent = λ is. absurd (speaks Silent is);
+  read_faults = says.AddsFault.none_came gave.gives.read_faults;
+  write_faults = gave.gives.write_faults;
 }
 
 -- the link was asked or not
@@ -71,6 +76,8 @@ link_waits before after waits = record {
   sound = λ sound. waits.sound;
   waits = λ is. waits.waits;
   silent = λ is. cc;
+  read_faults = says.AddsFault.none_came waits.read_faults;
+  write_faults = waits.write_faults;
 }
 
 -- no read gives anything until a write
@@ -83,6 +90,8 @@ link_silent before after silent = rw silent.same (record {
   sound = λ sound. sound;
   waits = λ is. cc;
   silent = λ is. (refl, silent.silent);
+  read_faults = says.AddsFault.none_came refl;
+  write_faults = refl;
 })
 
 -- the client ended
@@ -95,6 +104,8 @@ link_ends before after answer speaks ends = record {
   sound = λ sound. ends.sound;
   waits = λ is. absurd (speaks NotReady is);
   silent = λ is. absurd (speaks Silent is);
+  read_faults = says.AddsFault.none_came ends.read_faults;
+  write_faults = ends.write_faults;
 }
 
 -- a count that rose has not fallen
@@ -111,14 +122,18 @@ fails_speaking error why is = cc
 
 -- a read failed
 link_fails : (before after : LinkState) (fault : Fault) (error : Error)
-    → FailsRead before fault after → ReadsLink before after (took.Failed (fail.Error error))
-link_fails before after fault error fails = record {
+    → FailsRead before fault after → error ≡ link_fault fault
+    → ReadsLink before after (took.Failed (fail.Error error))
+link_fails before after fault error fails is = record {
   taken = fails.taken;
   faults = not_fallen before.faults after.faults fails.sound_before.faults_fit fails.faults;
   calm = λ none. absurd (none error refl);
   sound = λ sound. fails.sound;
-  waits = λ is. absurd (fails_speaking error NotReady is);
-  silent = λ is. absurd (fails_speaking error Silent is);
+  waits = λ waits. absurd (fails_speaking error NotReady waits);
+  silent = λ waits. absurd (fails_speaking error Silent waits);
+  read_faults = says.AddsFault.one_came fault fails.read_faults
+      (ap (λ (e : Error). took.Failed (fail.Error e)) is);
+  write_faults = fails.write_faults;
 }
 
 module _ (before after : LinkState) (old new : State) (ahead left : List ℕ) where
@@ -144,7 +159,7 @@ module _ (before after : LinkState) (old new : State) (ahead left : List ℕ) wh
   piece_link (took.Failed (fail.Error error)) (front.RefusesBody.ends_inside stays ends may is) =
       link_ends before after (took.Failed (fail.Error error)) (fails_speaking error) ends
   piece_link (took.Failed (fail.Error error)) (front.RefusesBody.link_failed fault stays fails is) =
-      link_fails before after fault error fails
+      link_fails before after fault error fails is
 
   -- what one look at a client that is to be still leaves of it
   watch_link : (answer : Took (List ℕ × Bool)) → Watches before after ahead left answer
@@ -163,7 +178,7 @@ module _ (before after : LinkState) (old new : State) (ahead left : List ℕ) wh
   watch_link (took.Failed (fail.Error error)) (front.Stirs.ends none ends kept is) =
       link_ends before after (took.Failed (fail.Error error)) (fails_speaking error) ends
   watch_link (took.Failed (fail.Error error)) (front.Stirs.link_failed fault none fails kept is) =
-      link_fails before after fault error fails
+      link_fails before after fault error fails is
 
   -- a call in either mode
   pub either_link : (answer : Took (List ℕ × Bool)) (still : Bool)

@@ -1,6 +1,6 @@
 -- How far the request of a session has come, and what each call says of all that its client gave
 -- since the session began (RFC 9112, sections 2, 3, 6 and 9).
-use Rattle.std.specs.Prelude.{◌≡◌, ℕ, ◌<◌, ◌≤◌, Bool, true, false, ◌⊎◌, List, [], ◌++◌, length, drop, min, Option, Some, None, ⊤}
+use Rattle.std.specs.Prelude.{◌≡◌, ℕ, ◌<◌, ◌≤◌, Bool, true, false, ◌⊎◌, List, [], ◌∷◌, ◌++◌, length, drop, min, Option, Some, None, ⊤}
 use Rattle.relay_tasks.specs.declared.context.Context.{Context}
 use Rattle.relay_tasks.specs.declared.error.Error.{Error}
 use Rattle.relay_tasks.specs.declared.error.ErrorSource.TheVariants.{Downstream}
@@ -237,9 +237,15 @@ pub record ReadsRest
 
 -- ---- what a call for the body leaves
 
+-- the faults that the link tells of its reads: none came, or the one that is answered
+pub data AddsFault (before after : LinkState) (answer : Took (List ℕ)) : Type 0 where
+  none_came : after.read_faults ≡ before.read_faults → AddsFault before after answer
+  one_came : (fault : Fault) → after.read_faults ≡ more before.read_faults (fault ∷ [])
+      → answer ≡ took.Failed (fail.Error (link_fault fault)) → AddsFault before after answer
+
 -- of the link: no byte was taken, its count of faults does not fall, and a sound link stays sound;
 -- where the answer is NotReady, it was counted; where it is Silent, the link is silent on a read and
--- stays as it was
+-- stays as it was. Of the faults that it tells the one that is answered alone is new
 pub record ReadsLink (before after : LinkState) (answer : Took (List ℕ)) : Type 0 where
   pub taken : after.taken ≡ before.taken
   pub faults : before.faults ≤ after.faults
@@ -248,6 +254,8 @@ pub record ReadsLink (before after : LinkState) (answer : Took (List ℕ)) : Typ
   pub sound : IsSound before → IsSound after
   pub waits : answer ≡ took.Waited NotReady → after.waits ≡ up before.waits
   pub silent : answer ≡ took.Waited Silent → (after ≡ before) × (after.silent_on_read ≡ true)
+  pub read_faults : AddsFault before after answer
+  pub write_faults : after.write_faults ≡ before.write_faults
 
 -- whether the body has ended then, by the answer: it ends with a piece or by `End` alone
 abbrev pub EndsBy : {T : Type 0} → Took T → Bool → Type 0

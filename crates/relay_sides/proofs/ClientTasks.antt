@@ -1,5 +1,5 @@
 -- Tasks for the client: what queueing them says of the state, and how what passed goes on.
-use Rattle.std.proofs.Common.{◌≡◌, ℕ, ◌<◌, Bool, true, false, List, [], ◌∷◌, ◌++◌, length, Option, Some, None, Result, Ok, Err, refl, sym, ◌∙◌, ap, subst, append-nil, append_assoc, length-append, add-zero, inl, inr, arith}
+use Rattle.std.proofs.Common.{◌≡◌, ℕ, ◌<◌, Bool, true, false, List, [], ◌∷◌, ◌++◌, length, Option, Some, None, Err, refl, sym, ◌∙◌, ap, subst, append-nil, append_assoc, length-append, add-zero, inl, inr, arith}
 use Rattle.std.specs.Prelude.{◌||◌, ◌&&◌, ◌⊎◌, not}
 use Rattle.std.specs.List.{list_any}
 use Rattle.std.proofs.lemmas.Bool.{cases_Bool}
@@ -11,7 +11,6 @@ use Rattle.relay_tasks.specs.declared.fault.Fault.{Fault}
 use Rattle.relay_tasks.specs.declared.task.HttpTask.{HttpTask}
 use Rattle.relay_tasks.specs.declared.task.HttpTask.TheVariants as task
 use Rattle.relay_tasks.specs.Head.{ResponseHead}
-use Rattle.relay_links.specs.Count.{Rose}
 use Rattle.relay_links.specs.Link.{LinkState}
 use Rattle.relay_h1.specs.declared.framing.Framing.{Framing}
 use Rattle.relay_h1.specs.declared.framing.Framing.TheVariants as framing

@@ -1,5 +1,5 @@
 -- What tasks told is the front of what the bytes of the link say.
-use Rattle.std.proofs.Common.{◌≡◌, ℕ, ◌+◌, ◌-◌, Bool, false, List, [], ◌++◌, length, drop, refl, sym, ap, subst, ◌∙◌, Some}
+use Rattle.std.proofs.Common.{◌≡◌, ℕ, ◌+◌, ◌-◌, Bool, false, List, [], length, drop, refl, sym, ap, subst, Some}
 use Rattle.relay_tasks.specs.declared.task.HttpTask.{HttpTask}
 use Rattle.relay_h1.specs.Body.{BodyText, behind}
 use Rattle.relay_h1.specs.Body as body
@@ -13,7 +13,7 @@ use Rattle.relay_h1.proofs.BodyReaderLemmas.{SoFar-reads}
 use Rattle.relay_peer.specs.declared.response_reading.ResponsePlace.{ResponsePlace}
 use Rattle.relay_peer.specs.declared.response_reading.ResponsePlace.TheVariants as place
 use Rattle.relay_peer.specs.declared.response_reading.ResponseReading.{ResponseReading}
-use Rattle.relay_peer.specs.ResponseReading.{ToldResponse, ReadSoFar, ReadAt, says}
+use Rattle.relay_peer.specs.ResponseReading.{ToldResponse, ReadAt, says}
 use Rattle.relay_peer.proofs.ExactLemmas.{Tasks-unique}
 use Rattle.relay_sides.specs.Body.{IsFrontOf}
 use Rattle.relay_sides.specs.Peer.{AreTasks, told_of}

@@ -22,7 +22,7 @@ returns-in-Bodies-clause-goes g c =
     StageHolds g.L.ByteLink.state g.L.ByteLink.start s u.down u.up
     (g.F.Front.state c.args.client.now) (g.F.Front.ahead c.args.client.now) c.args.self.now.client
     c.args.self.now.peer at in
-    c.move_bodies.ensures.goes s u.down u.up (subst At c.in-Bodies.is u.holds)
+    c.move_bodies.ensures.goes c.args.self.now.alloc s u.down u.up (subst At c.in-Bodies.is u.holds)
 
 pub returns-in-Head-clause-quiet : goal.returns-in-Head-clause-quiet
 returns-in-Head-clause-quiet g c = λ is.

@@ -4,6 +4,6 @@ use Rattle.relay_sides.specs.Client as client
 use Rattle.relay_sides.proofs.client_side.ClientSide.queue.Goals as goal
 
 pub returns-in-Some-clause-queues : goal.returns-in-Some-clause-queues
-returns-in-Some-clause-queues g c =
+returns-in-Some-clause-queues c =
     client.QueuesFront.fails c.in-Some.error (sym c.failure_in_front.ensures ∙ c.in-Some.is) refl
     refl
