@@ -4,33 +4,30 @@
 --   kept_writing   a request that was sent whole, and whose head lets its link be kept
 --   kept_reading   a response that was read whole, and whose head and framing let its link be kept
 --   all_keep       a duplex of HTTP/1 in which both have ended and nothing failed
-use Rattle.std.proofs.Common.{◌≡◌, ℕ, ◌+◌, Bool, true, false, not, ◌&&◌, ◌||◌, ◌==◌, ◌⊎◌, inl, inr, List, [], ◌∷◌, length, drop, refl, sym, ap, subst, ◌∙◌, Option, Some, None, if◌then◌else◌}
+use Rattle.std.proofs.Common.{◌≡◌, ℕ, ◌+◌, Bool, true, false, not, ◌&&◌, ◌==◌, ◌⊎◌, inl, inr, List, [], ◌∷◌, length, drop, refl, sym, ap, subst, ◌∙◌, Some, if◌then◌else◌}
 use Rattle.std.specs.List.{list_any}
-use Rattle.relay_tasks.specs.declared.context.Context.{Context}
 use Rattle.relay_tasks.specs.declared.error.Error.{Error}
-use Rattle.relay_tasks.specs.declared.error.ErrorType.{ErrorType}
 use Rattle.relay_tasks.specs.declared.task.HttpTask.{HttpTask}
 use Rattle.relay_tasks.specs.Head.{RequestHead, ResponseHead}
 use Rattle.relay_tasks.specs.Task.{is_end}
 use Rattle.relay_links.specs.Link.{LinkState, LinkStart}
 use Rattle.relay_h1.specs.declared.framing.Framing.{Framing}
 use Rattle.relay_h1.specs.declared.framing.Framing.TheVariants as framing
-use Rattle.relay_h1.specs.BodyWire.{is_full, says_end}
+use Rattle.relay_h1.specs.BodyWire.{is_full}
 use Rattle.relay_h1.specs.ClientHead.{is_informational}
 use Rattle.relay_h1.specs.Options.{closes}
 use Rattle.relay_h1.specs.Tasks.{HasFinal, Tasks, ResponseText, ResponseMark, ended}
 use Rattle.relay_h1.specs.Tasks as tasks
 use Rattle.relay_h1.proofs.TasksLemmas.{HasFinal-unique}
-use Rattle.relay_core.proofs.BoolLemmas.{and_both, and_left, clash, not_false, or_cases}
+use Rattle.relay_core.proofs.BoolLemmas.{and_both, clash, not_false, or_cases}
 use Rattle.relay_peer.specs.RequestWriting as writing
-use Rattle.relay_peer.specs.RequestWriting.{Sent, SentSoFar, Stands, body_framing, head_in, is_whole, may_keep_writing, with_piece, with_end, short_request}
-use Rattle.relay_peer.specs.ResponseReading.{ToldResponse, ReadSoFar, ReadAt, IsReadWhole, is_over, keeps_at, lets_keep, says}
+use Rattle.relay_peer.specs.RequestWriting.{Sent, Stands, body_framing, head_in, is_whole, may_keep_writing, with_piece, with_end, short_request}
+use Rattle.relay_peer.specs.ResponseReading.{ToldResponse, ReadAt, IsReadWhole, is_over, keeps_at, lets_keep, says}
 use Rattle.relay_peer.specs.declared.request_writing.RequestPlace.{RequestPlace}
 use Rattle.relay_peer.specs.declared.request_writing.RequestPlace.TheVariants as request
 use Rattle.relay_peer.specs.declared.request_writing.RequestWriting.{RequestWriting}
 use Rattle.relay_peer.specs.declared.response_reading.ResponsePlace.{ResponsePlace}
 use Rattle.relay_peer.specs.declared.response_reading.ResponsePlace.TheVariants as place
-use Rattle.relay_peer.specs.declared.response_reading.ResponseReading.{ResponseReading}
 use Rattle.relay_peer.proofs.ExactLemmas.{Tasks-unique}
 use Rattle.relay_session.specs.Front.{ends_with_head}
 use Rattle.relay_core.specs.Past.{Origin}

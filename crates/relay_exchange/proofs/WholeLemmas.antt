@@ -1,6 +1,6 @@
 -- Where the text of what was handed on is over, the end of the response was handed on: a body of
 -- which no byte is missing is read to its end.
-use Rattle.std.proofs.Common.{◌≡◌, ℕ, ◌≤◌, ◌<◌, nat_le, Bool, true, false, ◌⊎◌, inl, inr, List, [], ◌∷◌, ◌++◌, length, take, drop, refl, sym, ap, subst, ◌∙◌, arith, append-nil, length-append, length-take, Some, None, Option}
+use Rattle.std.proofs.Common.{◌≡◌, ℕ, ◌≤◌, ◌<◌, nat_le, Bool, true, false, ◌⊎◌, inl, inr, List, [], ◌∷◌, ◌++◌, length, take, drop, refl, sym, ap, subst, ◌∙◌, arith, append-nil, length-take, Some, None}
 use Rattle.std.specs.List.{list_any}
 use Rattle.std.proofs.Math.Seq.{take-nil}
 use Rattle.std.proofs.lemmas.Bool.{cases_Bool, leb-false}
@@ -18,7 +18,7 @@ use Rattle.relay_h1.specs.Body as body
 use Rattle.relay_h1.specs.BodyReader.{SoFar, is_done, is_of}
 use Rattle.relay_h1.specs.Tasks.{HasFinal}
 use Rattle.relay_h1.proofs.TasksLemmas.{HasFinal-unique}
-use Rattle.relay_peer.specs.ResponseReading.{ToldResponse, IsHead, IsInBody, ReadAt, untold, with_task, is_over}
+use Rattle.relay_peer.specs.ResponseReading.{ToldResponse, IsHead, ReadAt, untold, with_task, is_over}
 use Rattle.relay_peer.specs.declared.response_reading.ResponsePlace.{ResponsePlace}
 use Rattle.relay_peer.specs.declared.response_reading.ResponsePlace.TheVariants as place
 use Rattle.relay_peer.specs.declared.response_reading.ResponseReading.{ResponseReading}

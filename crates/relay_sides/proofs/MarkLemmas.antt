@@ -1,5 +1,5 @@
 -- What the marks of the peer's side tell of its link goes on with each of its calls.
-use Rattle.std.proofs.Common.{◌≡◌, ℕ, ◌≤◌, Bool, true, false, ◌||◌, List, [], ◌∷◌, ◌++◌, Option, Some, None, refl, sym, ap, subst, ◌∙◌, arith, ◌⊎◌, inl, inr}
+use Rattle.std.proofs.Common.{◌≡◌, ℕ, ◌≤◌, Bool, true, false, ◌||◌, List, [], ◌∷◌, ◌++◌, Option, Some, None, refl, sym, ap, subst, ◌∙◌, arith, inl, inr}
 use Rattle.relay_tasks.specs.declared.error.Error.{Error}
 use Rattle.relay_tasks.specs.declared.error.Fail.{Fail}
 use Rattle.relay_tasks.specs.declared.error.Fail.TheVariants as fail
@@ -9,12 +9,12 @@ use Rattle.relay_tasks.specs.declared.took.Took.{Took}
 use Rattle.relay_tasks.specs.declared.took.Took.TheVariants as took
 use Rattle.relay_links.specs.Count.{Rose}
 use Rattle.relay_links.specs.Link.{LinkState, LinkStart, IsHandedOut, Writes}
-use Rattle.relay_links.specs.Told.{more}
+use Rattle.relay_links.specs.Told.{more, Since}
 use Rattle.relay_links.specs.declared.link.Got.{Got}
 use Rattle.relay_links.specs.declared.link.Got.TheVariants as got
 use Rattle.relay_links.specs.declared.link.Put.{Put}
 use Rattle.relay_links.specs.declared.link.Put.TheVariants as put
-use Rattle.relay_links.proofs.SinceLemmas.{Since-kept, Since-grows}
+use Rattle.relay_links.proofs.SinceLemmas.{Since-start, Since-kept, Since-grows}
 use Rattle.relay_peer.specs.H1Client.{is_fault}
 use Rattle.relay_peer.specs.RequestWriting.{Sent, short_request}
 use Rattle.relay_peer.specs.ResponseReading.{Asks, ReadsTask, is_error, fault_error}
@@ -25,7 +25,7 @@ use Rattle.relay_core.proofs.BoolLemmas.{clash, or_left, or_right, or_false}
 use Rattle.relay_sides.specs.Faults.{TellsFaults}
 use Rattle.relay_sides.specs.Peer.{AreMarked, CannotSend, Loses, put_error}
 use Rattle.relay_sides.specs.Peer as peer
-use Rattle.relay_sides.proofs.FaultLemmas.{more_none, among_on, tells_none}
+use Rattle.relay_sides.proofs.FaultLemmas.{more_none, among_on}
 
 -- ---- a call that meets no fault
 
@@ -313,10 +313,11 @@ pub marked_new : (start : LinkStart) (link : LinkState) (reused failed reads : B
     (sends : Option Error) (lost : Option Fail) → IsHandedOut link start reused → failed ≡ false
     → sends ≡ None → lost ≡ None → AreMarked start link failed reads sends lost
 marked_new start link reused failed reads sends lost out calm unsent takes =
-    let tells = tells_none start link reused out in
     record {
-      reads = λ none. tells.read;
-      writes = λ none. tells.written;
+      reads = λ none. subst (λ (n : ℕ). Since [] n link.read_faults []) (sym out.read_faults)
+          (Since-start [] link.read_faults);
+      writes = λ none. subst (λ (n : ℕ). Since [] n link.write_faults []) (sym out.write_faults)
+          (Since-start [] link.write_faults);
       calm = λ unread none. calm;
       named = λ e is. absurd (apart e (sym is ∙ unsent));
       short = λ e is. absurd (other e (sym is ∙ takes));

@@ -1,6 +1,6 @@
 -- The upstream's side: what passed between a peer and its client since the link was handed out, and
 -- why the side answers with an error (RFC 9110, section 15.2; RFC 9112, sections 3 to 8).
-use Rattle.std.specs.Prelude.{◌≡◌, ℕ, All, ◌≤◌, Bool, true, false, not, ◌&&◌, ◌==◌, List, [], ◌∷◌, ◌++◌, length, map, Option, Some, None, is_some, Result, Ok, Err, if◌then◌else◌, codes}
+use Rattle.std.specs.Prelude.{◌≡◌, ℕ, All, ◌≤◌, Bool, true, false, not, ◌&&◌, ◌==◌, ◌⊎◌, List, [], ◌∷◌, ◌++◌, length, map, Option, Some, None, is_some, Result, Ok, Err, if◌then◌else◌, codes}
 use Rattle.std.specs.List.{list_any, concat}
 use Rattle.http_header.specs.HeaderMap.{RefusesInsert}
 use Rattle.relay_tasks.specs.declared.context.Context.{Context}
