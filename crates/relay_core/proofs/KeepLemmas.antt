@@ -26,7 +26,7 @@ use Rattle.relay_core.specs.Batch.{batch_of, rest_of}
 use Rattle.relay_core.specs.Causes.{says_failed, says_finished}
 use Rattle.relay_core.specs.Down.{DownState, ReadsPiece, TakesBatch}
 use Rattle.relay_core.specs.Ends.{can_send_on}
-use Rattle.relay_core.specs.Moves.{Extends, SoFar, Steady, Ordinary, Finishes, Refused, Unended, HasReason, Goes, ResponseHeld, is_over}
+use Rattle.relay_core.specs.Moves.{Extends, SoFar, Marks, Steady, Ordinary, Finishes, Refused, Unended, HasReason, Goes, ResponseHeld, is_over}
 use Rattle.relay_core.specs.Past.{DownPast, UpPast, BatchGoes, put_in, task_in, closing_in, loses, error_of_fail, error_of_took, error_of_put, error_of_result}
 use Rattle.relay_core.specs.Pipe.{places, is_failure, is_empty}
 use Rattle.relay_core.specs.Sound.{Runs, ends_with}
@@ -39,6 +39,7 @@ use Rattle.relay_core.proofs.CauseLemmas.{kept_batch, kept_up_read, kept_down_re
 use Rattle.relay_core.proofs.EndLemmas.{step_tells}
 use Rattle.relay_core.proofs.HeldLemmas.{Plain, plainly, at_last, passed_none, passed_batch, passed_front, passed_failure, passed_drop, passed_task, passed_error, passed_refused}
 use Rattle.relay_core.proofs.MoveLemmas.{batch-rest, Leaves, leaves_same, leaves_at, leaves_next, leaves_failed, leaves_response_done, leaves_request_done, leaves_up_write, leaves_down_write, leaves_piece, leaves_sent, leaves_batch, leaves_up_finish, leaves_down_finish, over_done}
+use Rattle.relay_core.proofs.MarkLemmas.{keep_at, keep_down_write, keep_batch, keep_down_read, keep_up_finish, keep_down_finish, marks_same, marks_write, marks_take, marks_read}
 use Rattle.relay_core.proofs.OrdinaryLemmas.{ordinary_at, ordinary_up_write, ordinary_down_write, ordinary_up_take, ordinary_batch, ordinary_drop, ordinary_closed, ordinary_up_read, ordinary_down_read, ordinary_up_finish, ordinary_down_finish, steady_of, steady_same, steady_down_write, steady_down_read, not_yet_asked, steady_refused, asked_when_done, steady_down_finish}
 use Rattle.relay_core.proofs.SoundLemmas.{step_sound, enabled_sound, down_writes_body, down_ends_body}
 use Rattle.relay_core.proofs.StuckLemmas.{empty_ends}
@@ -350,6 +351,8 @@ finishes dp up ub s p q f alive both plain =
       unlost = o.unlost;
       request_ended = λ h. (o.sent h up_done).1;
       sent = λ h. (o.sent h up_done).2;
+      done = λ h. o.taken_end (o.sent h up_done).1 (o.sent h up_done).0;
+      unfailed = alive;
     }
 
 -- an upstream half whose request is not done and which holds a piece writes, or takes it
@@ -560,9 +563,9 @@ module _
       → ((e : Error) → new.duplex.send_error ≡ Some e → up_blames q' e)
       → (new.down.upgraded ≡ false → Steady new p')
       → (is_failed new.duplex.word ≡ false → new.down.upgraded ≡ false → Ordinary new p' q')
-      → SoFar dp up ub old p q → SoFar holds up_holds up_blames new p' q'
+      → Marks new q' → SoFar dp up ub old p q → SoFar holds up_holds up_blames new p' q'
   quiet dp up ub b old new result p p' q q' on by leaves put batched read taken down_stands up_stands
-      keeps kept steady ordinary f =
+      keeps kept steady ordinary marks f =
       record {
         down = down_stands;
         up = up_stands;
@@ -583,6 +586,7 @@ module _
             (f.failures front behind e (sym leaves.responses ∙ is));
         steady = steady;
         ordinary = ordinary;
+        marks = marks;
       }
 
   -- one write to the upstream
@@ -611,6 +615,8 @@ module _
       (up_open old.duplex (and_left (up_runs old.duplex) _ on))
       (f.ordinary alive (sym (ap (λ (s : DownState). s.upgraded) by.down) ∙ plain))
       (alive_then new.duplex _ w.duplex now))))
+      (marks_write old new w.answer q g.past w.duplex w.writes
+      (leaves_at _ _ _ w.duplex (leaves_up_write old.duplex w.answer)).ended g.is_read f.marks)
       f)
       (λ e h. no_error result (step_of_up_write w.answer) e w.step (up_write_error w.answer) h)
 
@@ -641,6 +647,9 @@ module _
       (down_open old.duplex (and_left (down_runs old.duplex) _ on)) w.writes
       (f.ordinary alive (sym same.upgraded ∙ plain))
       (alive_then new.duplex _ w.duplex now))))
+      (marks_same old new q q
+      (keep_at _ _ _ w.duplex (keep_down_write old.duplex w.answer)) by.up
+      (leaves_at _ _ _ w.duplex (leaves_down_write old.duplex w.answer)).ended refl f.marks)
       f)
       (λ e h. inl (g.blamed e (error_is result (step_of_down_write w.answer) _ e w.step
       (down_write_error w.answer) h)))
@@ -692,6 +701,8 @@ module _
             (not_true d.upstream_request_done
             (and_left (not d.upstream_request_done) _ (and_right (up_runs d) _ on)))
             parts g.is_lost (f.ordinary alive was) (alive_then new.duplex _ w.duplex now));
+        marks = marks_take old new old.down.upgraded w.piece w.rest w.answer q g.past w.duplex
+            w.takes leaves.ended g.is_read f.marks;
       })
       (λ e h. no_error result (step_of_up_take w.answer) e w.step (up_take_error w.answer) h)
 
@@ -732,6 +743,9 @@ module _
         ordinary = λ now plain. ordinary_then _ new old.down old.up p q w.duplex by.down by.up
             (ordinary_drop d old.down old.up w.rest p q
             (f.ordinary alive (sym (ap (λ (s : DownState). s.upgraded) by.down) ∙ plain)));
+        marks = marks_same old new q q
+            (keep_at _ _ _ w.duplex (record { kind = refl; sends = refl })) by.up leaves.ended refl
+            f.marks;
       })
       (λ e h. no_error result step.Moved e w.step refl h)
 
@@ -753,6 +767,8 @@ module _
       (λ now plain.
       let was = sym (ap (λ (s : DownState). s.upgraded) by.down) ∙ plain in
       no_end old p q on (f.sound.runs alive) was (f.ordinary alive was))
+      (marks_same old new q q (keep_at _ _ _ w.duplex (record { kind = refl; sends = refl })) by.up
+      (leaves_at _ _ _ w.duplex (leaves_response_done old.duplex true)).ended refl f.marks)
       f)
       (λ e h. no_error result step.Moved e w.step refl h)
 
@@ -776,6 +792,8 @@ module _
       (ordinary_closed d old.down old.up p q (down_open d (and_left (down_runs d) _ on))
       (and_left d.requests.closed _ (and_right (down_runs d) _ on))
       (f.ordinary alive (sym (ap (λ (s : DownState). s.upgraded) by.down) ∙ plain))))
+      (marks_same old new q q (keep_at _ _ _ w.duplex (record { kind = refl; sends = refl })) by.up
+      (leaves_at _ _ _ w.duplex (leaves_request_done d true)).ended refl f.marks)
       f)
       (λ e h. no_error result step.Moved e w.step refl h)
 
@@ -832,6 +850,8 @@ module _
             (ordinary_up_read d tunnel old.down old.up new.up w.answer p q was
             (up_open d (and_left (up_runs d) _ on)) (f.ordinary alive was)
             (alive_then new.duplex _ w.duplex now)));
+        marks = marks_read old new tunnel w.answer q g.past w.duplex w.reads (unread old on)
+            (f.unended (unread old on)) g.is_read f.marks;
       })
       (λ e h. no_error result (step_of_up_read w.answer) e w.step (up_read_error w.answer) h)
 
@@ -883,6 +903,9 @@ module _
         steady = λ plain. steady_down_read old new w.answer p g.past q w.reads w.duplex alive
             g.is_put g.is_batched g.is_closing (λ now. ordinary now plain) (f.steady (was plain));
         ordinary = ordinary;
+        marks = marks_same old new q q
+            (keep_at _ _ _ w.duplex (keep_down_read d upgraded w.answer)) by.up leaves.ended refl
+            f.marks;
       })
       (λ e h. inl (g.blamed e (error_is result (step_of_down_read w.answer) _ e w.step
       (down_read_error w.answer) h)))
@@ -914,6 +937,8 @@ module _
       (λ none. quiet_up old.up.pending d.send_error none
       (and_left (not old.up.pending || is_some d.send_error) _ rest))
       (f.sound.runs alive) (f.ordinary alive was) (alive_then new.duplex _ w.duplex now)))
+      (marks_same old new q q (keep_at _ _ _ w.duplex (keep_up_finish d why)) by.up
+      (leaves_at _ _ _ w.duplex (leaves_up_finish d why)).ended refl f.marks)
       f)
       (λ e h. inr (inl (f.send_error e (up_finish_error d d.kind d.send_error e
       (ap step_error (sym w.step ∙ h))))))
@@ -950,6 +975,10 @@ module _
       response
       w.ends g.is_put g.is_batched (f.ordinary alive (sym same.upgraded ∙ plain))
       (alive_then new.duplex _ w.duplex now)))
+      (marks_same old new q q
+      (keep_at _ _ _ w.duplex (keep_down_finish d new.down.pending w.answer)) by.up
+      (leaves_at _ _ _ w.duplex (leaves_down_finish d new.down.pending w.answer alive)).ended refl
+      f.marks)
       f)
       (λ e h. inr (inr (inr (record {
         why = g.blamed e (error_is result (step_of_down_finish d new.down.pending w.answer) _ e
@@ -1014,6 +1043,11 @@ module _
             (rest_of held) (batch-rest held) f.failures front behind e (sym leaves.responses ∙ h);
         steady = λ plain. steady_of new g.past q (ordinary plain);
         ordinary = λ now plain. ordinary plain;
+        marks =
+            let keeps = keep_at _ _ _ is (keep_batch mid old.down new.down (batch_of held) (Ok done))
+            in
+            marks_same old new q q (record { kind = keeps.kind; sends = keeps.sends }) by.up
+            leaves.ended refl f.marks;
       })
       (λ e h. no_error result step.Moved e same refl h)
   given dp old new result p q (Err why) on by takes is same b f =
@@ -1058,6 +1092,8 @@ module _
             (f.ordinary alive (not_before old.down.upgraded new.down.upgraded takes.upgraded_stays
             plain));
         ordinary = λ now plain. clash true refl (alive_then new.duplex (failed mid) is now);
+        marks = marks_same old new q q (keep_at _ _ _ is (record { kind = refl; sends = refl })) by.up
+            leaves.ended refl f.marks;
       })
       (λ e h. let fails : step.Failed why ≡ step.Failed (fail.Error e) = sym same ∙ h in
       inr (blamed e cc)) in
@@ -1143,6 +1179,9 @@ module _
         steady = steady_same old new p l.same f.steady;
         ordinary = λ now plain.
             clash true refl (alive_then new.duplex (failed mid) l.duplex now);
+        marks = marks_same old new q q
+            (keep_at _ _ _ l.duplex (record { kind = refl; sends = refl })) by.up leaves.ended refl
+            f.marks;
       })
       (λ e h. no_error result (step.Failed fail.OutOfMemory) e l.step refl h)
 

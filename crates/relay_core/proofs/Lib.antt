@@ -12,3 +12,4 @@ pub mod StuckLemmas
 pub mod DoneLemmas
 pub mod KeepLemmas
 pub mod StillLemmas
+pub mod MarkLemmas

@@ -41,6 +41,11 @@ ordinary_at s p p' q q' is_put is_batched is_closing is_lost o = record {
   request_done = o.request_done;
   unlost = λ h. is_lost ∙ o.unlost h;
   whole = o.whole;
+  put_end = λ h. elim (o.put_end h) [
+    | inl end ↦ inl (ap (list_any is_end) is_put ∙ end)
+    | inr done ↦ inr done
+  ];
+  taken_end = o.taken_end;
   sent = o.sent;
   through = o.through;
   answered = λ h. elim (o.answered h) [
@@ -63,6 +68,8 @@ ordinary_written d side u u' p q runs o = record {
   request_done = o.request_done;
   unlost = o.unlost;
   whole = o.whole;
+  put_end = o.put_end;
+  taken_end = o.taken_end;
   sent = λ h fin. clash d.upstream_finished fin runs;
   through = o.through;
   answered = o.answered;
@@ -80,6 +87,8 @@ ordinary_unsent d error side u u' p q q' runs o = record {
   request_done = o.request_done;
   unlost = λ h. cc;
   whole = λ h done. cc;
+  put_end = λ h. inr refl;
+  taken_end = λ h none. refl;
   sent = λ h fin. clash d.upstream_finished fin runs;
   through = λ fin. clash d.upstream_finished fin runs;
   answered = o.answered;
@@ -117,6 +126,8 @@ ordinary_side d side side' u p q runs same o = record {
   ];
   unlost = o.unlost;
   whole = λ h done. let w = o.whole h done in (w.0, same.request ∙ w.1);
+  put_end = λ h. o.put_end (sym same.request ∙ h);
+  taken_end = λ h none. o.taken_end (sym same.request ∙ h) none;
   sent = λ h fin. let w = o.sent h fin in (w.0, same.request ∙ w.1, w.2);
   through = o.through;
   answered = λ h. elim (o.answered h) [
@@ -189,6 +200,19 @@ ended_whole put taken piece rest ended parts end last tells =
       tells (ap (list_any is_end) parts' ∙ any_left is_end (taken ++ piece ∷ []) rest front),
     )
 
+-- the last piece of a request that has ended, whose end is among what was put, is an end
+last_ends : (put taken : List HttpTask) (piece : HttpTask) (rest : List HttpTask)
+    → put ≡ taken ++ (piece ∷ rest) → rest ≡ [] → list_any is_end put ≡ true → EndsLast put
+    → is_end piece ≡ true
+last_ends put taken piece rest parts none end last =
+    elim (any_cases is_end taken (piece ∷ rest) (ap (list_any is_end) (sym parts) ∙ end)) [
+      | inl before ↦ (let wrong : piece ∷ rest ≡ [] = last taken (piece ∷ rest) parts before in cc)
+      | inr here ↦ elim (or_cases (is_end piece) (list_any is_end rest) here) [
+        | inl is ↦ is
+        | inr behind ↦ clash (list_any is_end rest) behind (ap (list_any is_end) none)
+      ]
+    ]
+
 -- the upstream took a piece
 ordinary_sent : (d : Duplex) (tunnel : Bool) (side : DownState) (u u' : UpState)
     (piece : HttpTask) (rest : List HttpTask) (p : DownPast) (q q' : UpPast) → tunnel ≡ false
@@ -207,6 +231,15 @@ ordinary_sent d false side u u' piece rest p q q' plain runs unsent parts is_los
     | inl before ↦ clash d.upstream_request_done before unsent
     | inr now ↦ ended_whole p.put q.taken piece rest side.request_ended parts
         (sym (ends_is_end piece) ∙ now) o.ends_last o.ended
+  ];
+  put_end = λ h. elim (o.put_end h) [
+    | inl end ↦ inl end
+    | inr done ↦ inr (or_inl d.upstream_request_done (ends_request false piece) done)
+  ];
+  taken_end = λ h none. elim (o.put_end h) [
+    | inl end ↦ or_inr d.upstream_request_done (ends_request false piece)
+        (ends_is_end piece ∙ last_ends p.put q.taken piece rest parts none end o.ends_last)
+    | inr done ↦ or_inl d.upstream_request_done (ends_request false piece) done
   ];
   sent = λ h fin. clash d.upstream_finished fin runs;
   through = λ fin. clash d.upstream_finished fin runs;
@@ -232,6 +265,8 @@ ordinary_up_take d tunnel side u u' piece rest (Err (fail.Error error)) p q q' p
       request_done = o.request_done;
       unlost = λ h. cc;
       whole = λ h done. cc;
+      put_end = λ h. inr refl;
+      taken_end = λ h none. refl;
       sent = λ h fin. clash d.upstream_finished fin runs;
       through = λ fin. clash d.upstream_finished fin runs;
       answered = o.answered;
@@ -281,6 +316,11 @@ ordinary_given d false upgraded done side side' u batch rest p p' q once plain r
           ];
       unlost = o.unlost;
       whole = λ h over. let w = o.whole h over in (w.0, ended ∙ w.1);
+      put_end = λ h. elim (o.put_end (sym ended ∙ h)) [
+        | inl end ↦ inl (ap (list_any is_end) is_put ∙ end)
+        | inr over ↦ inr over
+      ];
+      taken_end = λ h none. o.taken_end (sym ended ∙ h) none;
       sent = λ h fin. let w = o.sent h fin in (w.0, ended ∙ w.1, w.2);
       through = o.through;
       answered = λ h. elim (or_cases d.client_response.upstream_done
@@ -334,6 +374,8 @@ ordinary_drop d side u rest p q o = record {
   request_done = o.request_done;
   unlost = o.unlost;
   whole = o.whole;
+  put_end = o.put_end;
+  taken_end = o.taken_end;
   sent = o.sent;
   through = o.through;
   answered = o.answered;
@@ -351,6 +393,8 @@ ordinary_closed d side u p q runs closed o = record {
   request_done = λ h. inr closed;
   unlost = o.unlost;
   whole = o.whole;
+  put_end = o.put_end;
+  taken_end = o.taken_end;
   sent = o.sent;
   through = o.through;
   answered = o.answered;
@@ -371,6 +415,12 @@ ordinary_task d tunnel side u u' new p q plain runs o = record {
     | inl before ↦ o.whole h before
     | inr now ↦ clash tunnel (and_right (is_end new) tunnel now) plain
   ];
+  put_end = λ h. elim (o.put_end h) [
+    | inl end ↦ inl end
+    | inr done ↦ inr (or_inl d.upstream_request_done (is_end new && tunnel) done)
+  ];
+  taken_end = λ h none.
+      or_inl d.upstream_request_done (is_end new && tunnel) (o.taken_end h none);
   sent = λ h fin. clash d.upstream_finished fin runs;
   through = λ fin. clash d.upstream_finished fin runs;
   answered = o.answered;
@@ -409,6 +459,26 @@ put_by piece false h = elim (or_cases piece.upstream_end false h) [
 put_end : (piece : Piece) → list_any is_end (put_of false piece) ≡ true
     → piece.upstream_end ≡ true
 put_end piece h = put_by piece (is_empty piece.bytes && not piece.upstream_end) h
+
+-- the last piece puts the end of the request
+end_put : (piece : Piece) → piece.upstream_end ≡ true
+    → list_any is_end (put_of false piece) ≡ true
+end_put piece is = rw is (put (is_empty piece.bytes))
+  where
+    put : (none : Bool) → list_any is_end (option_to_list
+        (if none && not true then None else Some (task.Body piece.bytes true))) ≡ true
+    put true = refl
+    put false = refl
+
+-- what is put in front of nothing is nothing
+front_none : (tasks more : List HttpTask) → tasks ++ more ≡ [] → tasks ≡ []
+front_none [] more none = refl
+front_none (one ∷ tasks) more none = cc
+
+-- and so is what is put behind it
+behind_none : (tasks more : List HttpTask) → tasks ++ more ≡ [] → more ≡ []
+behind_none [] more none = none
+behind_none (one ∷ tasks) more none = cc
 
 -- nothing was put behind the end
 none_put : (tasks more : List HttpTask) → tasks ≡ [] → more ≡ [] → tasks ++ more ≡ []
@@ -451,6 +521,20 @@ ordinary_piece d false side side' u piece p p' q same plain runs gives is_put is
       unlost = o.unlost;
       whole = λ h done. let w = o.whole h done in
           (none_put d.requests.tasks (put_of false piece) w.0 (stops w.1), stays w.1);
+      put_end = λ h. elim (or_cases side.request_ended piece.upstream_end (sym now ∙ h)) [
+        | inl before ↦ elim (o.put_end before) [
+          | inl end ↦ inl (ap (list_any is_end) is_put
+              ∙ any_left is_end p.put (put_of false piece) end)
+          | inr done ↦ inr done
+        ]
+        | inr end ↦ inl (ap (list_any is_end) is_put
+            ∙ any_right is_end p.put (put_of false piece) (end_put piece end))
+      ];
+      taken_end = λ h none. elim (or_cases side.request_ended piece.upstream_end (sym now ∙ h)) [
+        | inl before ↦ o.taken_end before (front_none d.requests.tasks (put_of false piece) none)
+        | inr end ↦ clash (list_any is_end (put_of false piece)) (end_put piece end)
+            (ap (list_any is_end) (behind_none d.requests.tasks (put_of false piece) none))
+      ];
       sent = λ h fin. let w = o.sent h fin in
           (none_put d.requests.tasks (put_of false piece) w.0 (stops w.1), stays w.1, w.2);
       through = o.through;
@@ -533,6 +617,8 @@ ordinary_up_finish d side u None p q open_yet through quiet r o alive =
       request_done = λ h. inr refl;
       unlost = o.unlost;
       whole = o.whole;
+      put_end = o.put_end;
+      taken_end = o.taken_end;
       sent = λ h fin.
           elim (or_cases (d.upstream_request_done && d.upstream_response_done) _ through) [
             | inl both ↦ (let w = o.whole h (and_left d.upstream_request_done _ both) in
@@ -586,6 +672,11 @@ ordinary_down_finish d side side' u true (Ok done) p p' q is runs request respon
       ];
       unlost = o.unlost;
       whole = λ h over. let w = o.whole h over in (w.0, ended ∙ w.1);
+      put_end = λ h. elim (o.put_end (sym ended ∙ h)) [
+        | inl end ↦ inl (ap (list_any is_end) is_put ∙ end)
+        | inr over ↦ inr over
+      ];
+      taken_end = λ h none. o.taken_end (sym ended ∙ h) none;
       sent = λ h fin. let w = o.sent h fin in (w.0, ended ∙ w.1, w.2);
       through = o.through;
       answered = λ h. elim (o.answered h) [
@@ -611,6 +702,11 @@ ordinary_down_finish d side side' u false (Ok done) p p' q is runs request respo
       ];
       unlost = o.unlost;
       whole = λ h over. let w = o.whole h over in (w.0, ended ∙ w.1);
+      put_end = λ h. elim (o.put_end (sym ended ∙ h)) [
+        | inl end ↦ inl (ap (list_any is_end) is_put ∙ end)
+        | inr over ↦ inr over
+      ];
+      taken_end = λ h none. o.taken_end (sym ended ∙ h) none;
       sent = λ h fin. let w = o.sent h fin in (w.0, ended ∙ w.1, w.2);
       through = λ fin. inr refl;
       answered = λ h. elim (o.answered h) [

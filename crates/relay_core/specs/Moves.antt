@@ -72,6 +72,12 @@ pub record Ordinary (s : State) (p : DownPast) (q : UpPast) : Type 0 where
   pub unlost : s.duplex.send_error ≡ None → q.lost ≡ false
   pub whole : s.duplex.send_error ≡ None → s.duplex.upstream_request_done ≡ true
       → (s.duplex.requests.tasks ≡ []) × (s.down.request_ended ≡ true)
+  -- and where it has ended and all of it was taken it is done: its end was put, or it had none to
+  -- put
+  pub put_end : s.down.request_ended ≡ true
+      → (list_any is_end p.put ≡ true) ⊎ (s.duplex.upstream_request_done ≡ true)
+  pub taken_end : s.down.request_ended ≡ true → s.duplex.requests.tasks ≡ []
+      → s.duplex.upstream_request_done ≡ true
   -- the upstream half finished with nothing pending, the request having been taken whole
   pub sent : s.duplex.send_error ≡ None → s.duplex.upstream_finished ≡ true
       → (s.duplex.requests.tasks ≡ []) × (s.down.request_ended ≡ true) × (s.up.pending ≡ false)
@@ -86,6 +92,16 @@ pub record Ordinary (s : State) (p : DownPast) (q : UpPast) : Type 0 where
       × (is_response_done s.duplex.client_response ≡ true) × (s.down.pending ≡ false)
   -- an end is asked for only once the response is done
   pub closed : (p.closing ≡ []) ⊎ (is_response_done s.duplex.client_response ≡ true)
+
+-- what the upstream's side tells of errors is what the duplex made of them: the send error is the
+-- last with which nothing could be sent; and a read that answers an error ends the upstream's
+-- response, so that none did before that, nor where an end is among the tasks that were read
+pub record Marks (s : State) (q : UpPast) : Type 0 where
+  pub kind : s.duplex.kind ≡ s.up.kind
+  pub sends : s.duplex.send_error ≡ s.up.send_failed
+  pub reads :
+      (s.duplex.upstream_response_done ≡ false) ⊎ (list_any is_end q.read ≡ true)
+      → s.up.read_failed ≡ false
 
 -- the exchange so far, over the pasts of both sides
 pub record SoFar
@@ -106,9 +122,10 @@ pub record SoFar
       → s.duplex.responses.tasks ≡ front ++ task.Failed e ∷ behind → up_blames q e
   pub steady : s.down.upgraded ≡ false → Steady s p
   pub ordinary : is_failed s.duplex.word ≡ false → s.down.upgraded ≡ false → Ordinary s p q
+  pub marks : Marks s q
 
--- both halves have finished: the response was given to the client, and nothing waits for it; and
--- where no send error is kept, the request was taken whole
+-- both halves have finished, and none failed: the response was given to the client, and nothing
+-- waits for it; and where no send error is kept, the request was taken whole, and is done
 pub record Finishes (s : State) (p : DownPast) (q : UpPast) : Type 0 where
   pub ended : (list_any is_end p.batched ≡ true) ⊎ (s.down.response_done ≡ true)
   pub written : s.down.pending ≡ false
@@ -116,6 +133,8 @@ pub record Finishes (s : State) (p : DownPast) (q : UpPast) : Type 0 where
   pub unlost : s.duplex.send_error ≡ None → q.lost ≡ false
   pub request_ended : s.duplex.send_error ≡ None → s.down.request_ended ≡ true
   pub sent : s.duplex.send_error ≡ None → s.up.pending ≡ false
+  pub done : s.duplex.send_error ≡ None → s.duplex.upstream_request_done ≡ true
+  pub unfailed : is_failed s.duplex.word ≡ false
 
 -- the client's side refuses tasks that the upstream gave behind those that the client was given;
 -- without a tunnel no end of the response was asked for before

@@ -8,7 +8,7 @@
 --   fails_begun   from Begins and an error for which the peer's side answers: FailsFor
 --   failed_of     from FailsFor: IsFailed
 use Rattle.std.proofs.Common.{◌≡◌, ℕ, Bool, true, false, not, ◌==◌, ◌⊎◌, List, [], ◌∷◌, ◌++◌, length, drop, map, refl, sym, ap, subst, ◌∙◌, append-nil, append_assoc, inl, inr, Option, Some, None, Result, Ok, Err, arith}
-use Rattle.std.specs.Prelude.{◌||◌, is_some}
+use Rattle.std.specs.Prelude.{◌||◌, ◌&&◌, is_some, is_none}
 use Rattle.std.specs.List.{list_any}
 use Rattle.std.proofs.lemmas.Bool.Decides.{nat_tests}
 use Rattle.relay_tasks.specs.declared.error.Error.{Error}
@@ -17,13 +17,15 @@ use Rattle.relay_tasks.specs.declared.task.HttpTask.{HttpTask}
 use Rattle.relay_tasks.specs.declared.task.HttpTask.TheVariants as task
 use Rattle.relay_tasks.specs.Head.{RequestHead}
 use Rattle.relay_tasks.specs.Task.{is_end}
+use Rattle.relay_links.specs.Count.{Rose}
 use Rattle.relay_links.specs.Link.{LinkState, LinkStart}
 use Rattle.relay_h1.specs.Body.{Body, ended_text}
 use Rattle.relay_h1.specs.Tasks.{Tasks, ended}
 use Rattle.relay_h1.proofs.VerdictLemmas.{HasRequest-unique}
 use Rattle.relay_peer.specs.H1Client.{may_keep_client}
-use Rattle.relay_peer.specs.ResponseReading.{says}
-use Rattle.relay_peer.specs.RequestWriting.{sent_wire}
+use Rattle.relay_peer.specs.ResponseReading.{says, may_keep_reading}
+use Rattle.relay_peer.specs.ResponseReading as reading
+use Rattle.relay_peer.specs.RequestWriting.{Sent, Stands, sent_wire, may_keep_writing}
 use Rattle.relay_session.specs.Response.{IsOpen, is_over, pending}
 use Rattle.relay_session.specs.declared.task_text.Place.TheVariants as place
 use Rattle.relay_session.specs.declared.writing.Outgoing.TheVariants as outgoing
@@ -34,13 +36,15 @@ use Rattle.relay_session.specs.TaskWire.{refusal, wire}
 use Rattle.relay_core.specs.Down.{DownState}
 use Rattle.relay_core.specs.Moves.{SoFar, Finishes, Refused, Unended}
 use Rattle.relay_core.specs.Table as core
-use Rattle.relay_core.proofs.BoolLemmas.{and_right}
+use Rattle.relay_core.specs.declared.step.UpKind.{UpKind}
+use Rattle.relay_core.proofs.BoolLemmas.{and_right, and_both, clash, decide, not_false}
+use Rattle.relay_core.proofs.TaskLemmas.{any_left}
 use Rattle.relay_core.specs.Past.{Origin, DownPast, UpPast}
 use Rattle.relay_core.specs.declared.duplex.Duplex.{Duplex}
 use Rattle.relay_sides.specs.Body.{IsFrontOf, sent_as}
 use Rattle.relay_sides.specs.Client as client
 use Rattle.relay_sides.specs.Client.{ClientBlames, ClientRefuses, CannotEnd, given_to, queued}
-use Rattle.relay_sides.specs.Peer.{IsPeer, AreTasks, PeerBlames, handed, told_of}
+use Rattle.relay_sides.specs.Peer.{IsPeer, AreTasks, PeerBlames, IsWriteError, handed, told_of}
 use Rattle.relay_sides.specs.declared.client_side.ClientSide.{ClientSide}
 use Rattle.relay_sides.specs.declared.peer_side.PeerSide.{PeerSide}
 use Rattle.relay_sides.proofs.ClientPast.{open_is_whole}
@@ -56,10 +60,11 @@ use Rattle.relay_exchange.specs.Order.{FailsFor, SendsWhole, IsRelayed, IsInOrde
 use Rattle.relay_exchange.specs.Order as order
 use Rattle.relay_exchange.proofs.SentLemmas.{IsWritten, stays_over}
 use Rattle.relay_exchange.proofs.ToldLemmas.{given_ends_last, given_all}
-use Rattle.relay_exchange.proofs.OrderLemmas.{passed_by, own_request, answers_own, text_written, tasks_own, batched_front, IsEndGiven, end_given, over_by_end, ended_said, order_so_far, begin_order}
-use Rattle.relay_exchange.proofs.FitLemmas.{never_refused, over_is_whole}
+use Rattle.relay_exchange.proofs.OrderLemmas.{passed_by, own_request, answers_own, text_written, tasks_own, batched_front, handed_any, IsEndGiven, end_given, over_by_end, ended_said, order_so_far, begin_order}
+use Rattle.relay_exchange.proofs.FitLemmas.{never_refused, over_is_whole, over_has_end}
 use Rattle.relay_exchange.proofs.KeepLemmas.{kept_parts, kept_unfailed, sent_whole, read_whole, over_ends}
-use Rattle.relay_exchange.proofs.ValidLemmas.{client_blameless, peer_blameless}
+use Rattle.relay_exchange.proofs.ServeLemmas.{never_short, ended_stands, kept_writing, kept_reading, all_keep}
+use Rattle.relay_exchange.proofs.ValidLemmas.{client_blameless, peer_blameless, framing_is}
 
 -- what is not awaited is empty
 none_waits : (waits : List ℕ) → not (length waits == 0) ≡ false → waits ≡ []
@@ -241,17 +246,56 @@ module _ {L : Type 0} (state : L → LinkState) (start_at : L → LinkStart)
           sent = sent_all none finishes;
         }
 
+    -- an end is among the tasks that were handed on, where the response is over behind its batches
+    read_ends : (list_any is_end p.batched ≡ true) ⊎ (down.done ≡ true)
+        → list_any is_end q.read ≡ true
+    read_ends (inl ends) =
+        ap (list_any is_end) (sym front.joined) ∙ any_left is_end p.batched front.rest ends
+    read_ends (inr done) =
+        ap (list_any is_end) in_order.are_of.are
+        ∙ handed_any s.head.method in_order.are_of.given
+        ∙ over_has_end s.head (state up.client.link).ended q.got q.read in_order.are_of
+        peer_holds.withheld up.client.response tasks_are peer_holds.heads p.batched front.rest
+        (sym front.joined) (over_behind (inr done))
+
+    -- so no read of the peer failed
+    unread : Finishes (core_of state start_at duplex down up) p q → up.read_failed ≡ false
+    unread finishes = so_far.marks.reads (inr (read_ends finishes.ended))
+
+    -- and where no send error is kept no call of the peer's client did
+    calm : duplex.send_error ≡ None → Finishes (core_of state start_at duplex down up) p q
+        → up.client.failed ≡ false
+    calm none finishes = so_far.up.marked.calm (unread finishes) (sym so_far.marks.sends ∙ none)
+
+    -- a send error that is kept is that of a write, since no request ends short
+    write_error : (e : Error) → duplex.send_error ≡ Some e
+        → IsWriteError (start_at up.client.link) (state up.client.link) e
+    write_error e some = elim (so_far.up.marked.named e (sym so_far.marks.sends ∙ some)) [
+      | inl written ↦ written
+      | inr short ↦ absurd (never_short s (passed_by p q) (state up.client.link).ended
+          (state up.client.link) (start_at up.client.link) in_order q.lost e
+          (own_blames state start_at s q up so_far.up e (so_far.send_error e some)) short)
+    ]
+
     -- or the peer's side answers for the error that is kept
     request_by : (error : Option Error) → duplex.send_error ≡ error
         → Finishes (core_of state start_at duplex down up) p q
-        → SendsWhole s (passed_by p q) (state up.client.link).ended
+        → (SendsWhole s (passed_by p q) (state up.client.link).ended
         (order_so_far state start_at s p q link ahead down up duplex so_far)
+        × ((state up.client.link).faults ≡ (start_at up.client.link).faults))
         ⊎ ((e : Error) × (lost : Bool)
         × PeerBlames (start_at up.client.link) (state up.client.link) s.head
-        (order.up_past (order_so_far state start_at s p q link ahead down up duplex so_far) lost) e)
-    request_by None none finishes = inl (sends_whole none finishes)
+        (order.up_past (order_so_far state start_at s p q link ahead down up duplex so_far) lost) e
+        × IsWriteError (start_at up.client.link) (state up.client.link) e)
+    request_by None none finishes =
+        inl (sends_whole none finishes, peer_holds.calm (calm none finishes))
     request_by (Some e) some finishes =
-        inr (e, q.lost, own_blames state start_at s q up so_far.up e (so_far.send_error e some))
+        inr (
+          e,
+          q.lost,
+          own_blames state start_at s q up so_far.up e (so_far.send_error e some),
+          write_error e some,
+        )
 
     -- both directions were relayed
     abbrev relayed_of : Finishes (core_of state start_at duplex down up) p q
@@ -265,7 +309,59 @@ module _ {L : Type 0} (state : L → LinkState) (start_at : L → LinkStart)
           over = over_by finishes.ended;
           written = written_all finishes.written;
           request = request_by duplex.send_error refl finishes;
+          reads = so_far.up.marked.reads (unread finishes);
         }
+
+    -- without a fault no send error is kept
+    unsent : (error : Option Error) → duplex.send_error ≡ error
+        → ¬ (Rose (start_at up.client.link).faults (state up.client.link).faults)
+        → duplex.send_error ≡ None
+    unsent None is faultless = is
+    unsent (Some e) is faultless = absurd (faultless (write_error e is).rose)
+
+    -- a link that may serve another request is kept
+    pub keeps_of : Finishes (core_of state start_at duplex down up) p q
+        → MayServe s (passed_by p q) (state up.client.link).ended in_order
+        → ¬ (Rose (start_at up.client.link).faults (state up.client.link).faults)
+        → core.may_keep duplex.kind duplex && may_keep_client up.client ≡ true
+    keeps_of finishes serves faultless =
+        let none = unsent duplex.send_error refl faultless in
+        let c = so_far.down.client in
+        let u = peer_holds in
+        let ends = read_ends finishes.ended in
+        let stands = subst (λ (x : Sent). Stands x up.client.request.request)
+        (u.queued.unlost (finishes.unlost none)
+        ∙ ap (λ (h : RequestHead). sent_as h q.taken) u.own
+        ∙ ap (λ (ts : List HttpTask). sent_as s.head ts) (finishes.taken none)) u.so_far.stands in
+        let whole = ended_stands s.head p.put up.client.request.request c.framing
+        (framing_is s.head c.framing
+        (own_request s p link ahead down.session c).let_in.framed) stands
+        (c.whole (finishes.request_ended none)) in
+        let over : reading.is_over up.client.response.place ≡ true =
+        sym tasks_are.ended
+        ∙ any_left is_end u.given u.withheld
+        (sym (handed_any s.head.method u.given) ∙ ap (list_any is_end) (sym in_order.are_of.are)
+        ∙ ends) in
+        and_both (core.may_keep duplex.kind duplex) _
+        (ap (λ (k : UpKind). core.may_keep k duplex) so_far.marks.kind
+        ∙ all_keep (core.is_failed duplex.word) (is_none duplex.send_error)
+        duplex.upstream_request_done duplex.upstream_response_done finishes.unfailed
+        (ap (λ (e : Option Error). is_none e) none) (finishes.done none) (response_done ends))
+        (and_both (may_keep_writing up.client.request) _
+        (kept_writing s.head up.client.request
+        (u.is_head ∙ ap (λ (h : RequestHead). Some h) u.own) serves.asks whole
+        (none_waits up.client.request.unsent (finishes.sent none)))
+        (and_both (may_keep_reading up.client.response) _
+        (kept_reading s.head.method (state up.client.link).ended q.got
+        (told_of in_order.are_of.given) (told_of (u.given ++ u.withheld)) up.client.response.place
+        up.client.response.ahead tasks_are.so_far.at over serves.response)
+        (not_false up.client.failed (calm none finishes))))
+      where
+        response_done : list_any is_end q.read ≡ true → duplex.upstream_response_done ≡ true
+        response_done ends = elim (decide duplex.upstream_response_done) [
+          | inl done ↦ done
+          | inr goes_on ↦ clash (list_any is_end q.read) ends (so_far.unended goes_on)
+        ]
 
     -- what the client's side leaves of its request, and the peer's side of its response
     pub leaves_of : (keeps : Bool) (n : ℕ) → Tasks s.head.method false q.got (state up.client.link).ended
@@ -379,6 +475,10 @@ module _ {L : Type 0} (state : L → LinkState) (start_at : L → LinkStart) whe
             relayed.n relayed.whole
             client_keeps;
         faultless = λ kept. f.up.peer.calm (kept_unfailed x.peer.client (client_keeps kept));
+        keeps = λ serves faultless.
+            subst (λ (at : Stage). may_keep_at x.peer at ≡ true) (sym is)
+            (keeps_of state start_at s p q link ahead x.client x.peer duplex f finishes serves
+            faultless);
       }
 
   -- an exchange that failed for a cause, which no valid one has

@@ -3,6 +3,7 @@
 --
 --   never_refused   no task is refused behind the front of them that was sent
 --   over_is_whole   a front that is sent as a text that is over tells the response whole
+--   over_has_end    and then the end of the response was handed on
 use Rattle.std.proofs.Common.{◌≡◌, ℕ, ◌+◌, ◌-◌, ◌≤◌, nat_le, Bool, true, false, ◌||◌, ◌⊎◌, List, [], ◌∷◌, ◌++◌, length, take, drop, map, codes, refl, sym, ap, subst, ◌∙◌, append-nil, length-append, length-take, arith, inl, inr, Option, Some, None, is_some, Result, Ok, Err, option_map, MatchOption, if◌then◌else◌, eqb-true, leb-true, le-leb}
 use Rattle.std.specs.List.{list_any}
 use Rattle.std.proofs.lemmas.Bool.{cases_Bool}
@@ -39,9 +40,11 @@ use Rattle.relay_session.specs.declared.task_text.Request.{Request}
 use Rattle.relay_session.proofs.AskedLemmas.{same_framing}
 use Rattle.relay_core.specs.Moves.{EndsLast}
 use Rattle.relay_sides.specs.Body.{IsFrontOf}
+use Rattle.relay_peer.specs.declared.response_reading.ResponseReading.{ResponseReading}
 use Rattle.relay_sides.specs.Peer.{handed, told_behind, told_of}
-use Rattle.relay_sides.specs.Peer.{Follow}
+use Rattle.relay_sides.specs.Peer.{Follow, AreHeads, AreTasks}
 use Rattle.relay_exchange.specs.Order.{AreOf}
+use Rattle.relay_exchange.proofs.WholeLemmas.{IsFull, full_has_end}
 
 -- ---- the fields of a head that came
 
@@ -863,3 +866,61 @@ module _
         let there = sends_front front rest same in
         over_told there.told there.next (wire (request_of head) place.NoHead front).place there.left
         there.stands over
+
+    -- where a front of the tasks is over, an end is among all of them, or the body takes no more
+    -- bytes behind its final head
+    record HasFull : Type 0 where
+      pub final : ResponseHead
+      pub form : Framing
+      pub is : IsFinal final form
+      pub full : IsFull form all.body
+
+    -- what is left of a length behind the first bytes of a body is left behind no more
+    full_all : (told : ToldResponse) (rest : List HttpTask) (f : Framing) → Left told rest
+        → is_full (after_piece (framing_for old f) told.body) ≡ true → IsFull f all.body
+    full_all told rest framing.Empty left full = inl refl
+    full_all told rest (framing.Length k) left full =
+        let none = eqb-true (k - length told.body) 0 full in
+        let grows = body_grows told rest in
+        let same = ap (λ (t : ToldResponse). length t.body) left.tells in
+        inr (k, refl, omega arith)
+    full_all told rest framing.Chunked left full =
+        let wrong = sym full ∙ chunked_open old told.body in absurd (cc)
+    full_all told rest framing.UntilClose left full = absurd (cc)
+    full_all told rest framing.Tunnel left full = absurd (cc)
+
+    over_by : (told : ToldResponse) (rest : List HttpTask) (at : Place) → Left told rest
+        → Stands told at → is_over at ≡ true → (list_any is_end are.given ≡ true) ⊎ HasFull
+    over_by told rest at left (none_yet none bare there) over =
+        let wrong : false ≡ true = subst (λ (p : Place). is_over p ≡ true) there over in
+        absurd (cc)
+    over_by told rest at left (in_body final f g tells is (inl same) there) over =
+        inr (record {
+          final = final;
+          form = f;
+          is = is;
+          full = full_all told rest f left
+              (subst (λ (x : Framing). is_full (after_piece (framing_for old x) told.body) ≡ true)
+              same (subst (λ (p : Place). is_over p ≡ true) there over));
+        })
+    over_by told rest at left (in_body final f g tells is (inr chunked) there) over =
+        let full = subst
+        (λ (x : Framing). is_full (after_piece (framing_for old x) told.body) ≡ true) chunked
+        (subst (λ (p : Place). is_over p ≡ true) there over) in
+        let wrong = sym full ∙ chunked_open old told.body in absurd (cc)
+    over_by told rest at left (is_done final tells among there) over = inl among
+
+    -- where the text of a front of the tasks is over, the end of the response was handed on
+    pub over_has_end : (withheld : List HttpTask) (client : ResponseReading)
+        → AreTasks head.method closed got (are.given ++ withheld) client → AreHeads withheld
+        → (front rest : List HttpTask) → tasks ≡ front ++ rest
+        → is_over (wire (request_of head) place.NoHead front).place ≡ true
+        → list_any is_end are.given ≡ true
+    over_has_end withheld client reads heads front rest same over =
+        let there = sends_front front rest same in
+        elim (over_by there.told there.next (wire (request_of head) place.NoHead front).place
+        there.left there.stands over) [
+          | inl ends ↦ ends
+          | inr full ↦ full_has_end head.method closed got are.given withheld client full.final
+              full.form full.is.len reads heads full.is.told full.is.has full.full
+        ]

@@ -7,3 +7,5 @@ pub mod KeepLemmas
 pub mod EndLemmas
 pub mod TurnLemmas
 pub mod RoundLemmas
+pub mod WholeLemmas
+pub mod ServeLemmas

@@ -275,6 +275,12 @@ handed_ends method (task.Trailer fields) = refl
 handed_ends method task.Done = refl
 handed_ends method (task.Failed error) = refl
 
+-- and so do tasks
+pub handed_any : (method : List ℕ) (tasks : List HttpTask)
+    → list_any is_end (map (handed method) tasks) ≡ list_any is_end tasks
+handed_any method [] = refl
+handed_any method (one ∷ tasks) = rw (handed_ends method one, handed_any method tasks) refl
+
 -- the front, with an end, of tasks that are handed on is handed on of a front of them, with an end
 pub record IsHanded (method : List ℕ) (tasks front : List HttpTask) : Type 0 where
   pub before : List HttpTask

@@ -1,5 +1,5 @@
 -- What a turn makes of an exchange: from the head to the bodies, and on to its end.
-use Rattle.std.proofs.Common.{◌≡◌, ℕ, Bool, true, false, ◌⊎◌, inl, inr, List, [], Option, Some, Result, Ok, Err, ◌↔◌, refl, sym, ap, subst, ◌∙◌}
+use Rattle.std.proofs.Common.{◌≡◌, ℕ, Bool, true, false, ◌⊎◌, inl, inr, List, [], Option, Some, None, Result, Ok, Err, ◌↔◌, refl, sym, ap, subst, ◌∙◌}
 use Rattle.std.specs.Result.{IsErrOf}
 use Rattle.relay_tasks.specs.declared.error.Error.{Error}
 use Rattle.relay_tasks.specs.declared.error.Fail.{Fail}
@@ -26,7 +26,7 @@ use Rattle.relay_sides.specs.Peer as peer
 use Rattle.relay_sides.specs.Peer.{none_passed}
 use Rattle.relay_sides.specs.declared.client_side.ClientSide.{ClientSide}
 use Rattle.relay_sides.specs.declared.peer_side.PeerSide.{PeerSide}
-use Rattle.relay_exchange.specs.Exchange.{DownHolds, UpHolds, Blames, Begins, StageHolds, IsUnderWay, Turns, ComesTo, AreTold, core_of}
+use Rattle.relay_exchange.specs.Exchange.{DownHolds, UpHolds, Blames, Begins, IsUnfailed, StageHolds, IsUnderWay, Turns, ComesTo, AreTold, core_of}
 use Rattle.relay_exchange.specs.Head.{error_of_step, IsRefusedFor}
 use Rattle.relay_exchange.specs.declared.exchange.Exchange.{Exchange}
 use Rattle.relay_exchange.specs.declared.exchange.Stage.{Stage}
@@ -75,10 +75,10 @@ module _ {L : Type 0} (state : L → LinkState) (start_at : L → LinkStart) whe
   pub begun_under_way : (s : Origin) (came : List ℕ) (link : LinkState) (ahead : List ℕ)
       (x : Exchange L) → x.stage ≡ stage.Head
       → DownHolds link ahead x.client s (begun_past came)
-      → UpHolds state start_at x.peer s none_passed
+      → UpHolds state start_at x.peer s none_passed → IsUnfailed state start_at x.peer
       → IsUnderWay state start_at s (record { came = came; written = []; got = []; sent = [] })
       link ahead x
-  begun_under_way s came link ahead x is h u =
+  begun_under_way s came link ahead x is h u none =
       let b : Begins state start_at s (begun_past came) none_passed link ahead x.client x.peer =
       record {
         down_holds = h;
@@ -103,7 +103,7 @@ module _ {L : Type 0} (state : L → LinkState) (start_at : L → LinkStart) whe
         written = refl;
         got = refl;
         sent = refl;
-        holds = subst At (sym is) b;
+        holds = subst At (sym is) (b, none);
       }
 
 -- ---- from the head to the bodies
@@ -145,18 +145,20 @@ module _ {L : Type 0} (state : L → LinkState) (start_at : L → LinkStart) whe
   pub head_turns : (s : Origin) (p : DownPast) (q : UpPast) (link : LinkState) (ahead : List ℕ)
       (x : Exchange L) (result : Step)
       → Begins state start_at s p q link ahead x.client x.peer
-      → StageHolds state start_at s p q link ahead x.client x.peer x.stage
+      → (error_of_step result ≡ None
+      → StageHolds state start_at s p q link ahead x.client x.peer x.stage)
       → says_finished result ≡ false
       → ((e : Error) → error_of_step result ≡ Some e → Blames state start_at x.peer s q e)
       → Turns state start_at s link ahead x result
   head_turns s p q link ahead x result b holds unended blamed = record {
     passed = passed_by p q;
     told = told_by s p q link ahead x.client x.peer b.down_holds b.up_holds;
-    comes_to = comes result unended blamed;
+    comes_to = comes result unended blamed holds;
   }
     where
-      on : IsUnderWay state start_at s (passed_by p q) link ahead x
-      on = record {
+      on : StageHolds state start_at s p q link ahead x.client x.peer x.stage
+          → IsUnderWay state start_at s (passed_by p q) link ahead x
+      on stands = record {
         order = begin_order state start_at s p q link ahead x.client x.peer b;
         down = p;
         up = q;
@@ -164,19 +166,21 @@ module _ {L : Type 0} (state : L → LinkState) (start_at : L → LinkStart) whe
         written = refl;
         got = refl;
         sent = refl;
-        holds = holds;
+        holds = stands;
       }
 
       comes : (result : Step) → says_finished result ≡ false
           → ((e : Error) → error_of_step result ≡ Some e → Blames state start_at x.peer s q e)
+          → (error_of_step result ≡ None
+          → StageHolds state start_at s p q link ahead x.client x.peer x.stage)
           → ComesTo state start_at s (passed_by p q) link ahead x result
-      comes step.Moved unended blamed = on
-      comes (step.Waited pause) unended blamed = on
-      comes step.Finished unended blamed = absurd (cc)
-      comes (step.Failed (fail.Error e)) unended blamed =
+      comes step.Moved unended blamed holds = on (holds refl)
+      comes (step.Waited pause) unended blamed holds = on (holds refl)
+      comes step.Finished unended blamed holds = absurd (cc)
+      comes (step.Failed (fail.Error e)) unended blamed holds =
           failed_of state start_at s (passed_by p q) link x e
           (fails_begun state start_at s p q link ahead x.client x.peer e b (blamed e refl))
-      comes (step.Failed fail.OutOfMemory) unended blamed = on.order
+      comes (step.Failed fail.OutOfMemory) unended blamed holds = (on (holds refl)).order
 
   -- a branch of the duplex is a turn
   pub bodies_turn : (s : Origin) (link : LinkState) (ahead : List ℕ) (before : DownPast)

@@ -345,13 +345,13 @@ whole_unshort framing.Tunnel bytes whole n pieces reads joined =
     stays_unshort framing.Tunnel (λ piece. refl) refl pieces
 
 -- the framing of a head that has one
-framing_is : (head : RequestHead) (given : Framing) → request_framing head ≡ Some given
+pub framing_is : (head : RequestHead) (given : Framing) → request_framing head ≡ Some given
     → body_framing head ≡ given
 unfolding body_framing
 framing_is head given framed = ap (λ (f : Option Framing). unwrap_or f framing.Empty) framed
 
 -- a request in order does not end short
-request_unshort : (s : Origin) (p : Passed) (closed : Bool) (order : IsInOrder s p closed)
+pub request_unshort : (s : Origin) (p : Passed) (closed : Bool) (order : IsInOrder s p closed)
     (front : List HttpTask) (pieces : List (List ℕ)) → IsFrontOf front order.taken
     → list_any is_end front ≡ true → concat pieces ≡ body_of front
     → is_short (after_pieces (body_framing s.head) pieces) ≡ false

@@ -1,8 +1,9 @@
 -- An exchange so far, and what a turn makes of it.
-use Rattle.std.specs.Prelude.{◌≡◌, ℕ, true, false, ◌⊎◌, ◌≤◌, List, [], Some}
+use Rattle.std.specs.Prelude.{◌≡◌, ℕ, true, false, ◌⊎◌, ◌≤◌, List, [], Some, None}
 use Rattle.relay_tasks.specs.declared.error.Error.{Error}
 use Rattle.relay_tasks.specs.declared.error.Fail.TheVariants as fail
 use Rattle.relay_tasks.specs.Head.{RequestHead}
+use Rattle.relay_links.specs.Count.{Rose}
 use Rattle.relay_links.specs.Link.{LinkState, LinkStart}
 use Rattle.relay_links.specs.Told.{Since}
 use Rattle.relay_peer.specs.RequestWriting.{head_in}
@@ -25,7 +26,7 @@ use Rattle.relay_exchange.specs.declared.exchange.Exchange.{Exchange}
 use Rattle.relay_exchange.specs.declared.exchange.Stage.{Stage}
 use Rattle.relay_exchange.specs.declared.exchange.Stage.TheVariants as stage
 use Rattle.relay_exchange.specs.Head.{may_keep}
-use Rattle.relay_exchange.specs.Order.{IsInOrder, FailsFor, IsRelayed, Leaves}
+use Rattle.relay_exchange.specs.Order.{IsInOrder, FailsFor, IsRelayed, Leaves, MayServe}
 use Rattle.relay_exchange.specs.Passed.{Passed}
 use Rattle.relay_exchange.specs.Valid.{IsValid}
 
@@ -54,7 +55,7 @@ module _ {L : Type 0} (state : L → LinkState) (start_at : L → LinkStart) whe
   abbrev pub core_of : Duplex → ClientSide → PeerSide L → State
   core_of duplex down up =
       core duplex (client.state_of down.session down.told down.done down.finished down.broken)
-      (peer.state_of up.client up.told)
+      (peer.state_of up)
 
   -- the head is being sent, and nothing else has passed
   pub record Begins (s : Origin) (p : DownPast) (q : UpPast) (link : LinkState) (ahead : List ℕ)
@@ -69,6 +70,11 @@ module _ {L : Type 0} (state : L → LinkState) (start_at : L → LinkStart) whe
     pub none_lost : q.lost ≡ false
     pub open_yet : down.done ≡ false
 
+  -- no call of the peer's side answered an error
+  pub record IsUnfailed (up : PeerSide L) : Type 0 where
+    pub reads : up.read_failed ≡ false
+    pub sends : up.send_failed ≡ None
+
   -- both bodies flow: neither half failed, nor have both finished
   pub record Flows (s : Origin) (p : DownPast) (q : UpPast) (link : LinkState) (ahead : List ℕ)
       (down : ClientSide) (up : PeerSide L) (duplex : Duplex) : Type 0 where
@@ -79,7 +85,8 @@ module _ {L : Type 0} (state : L → LinkState) (start_at : L → LinkStart) whe
 
   abbrev pub StageHolds : Origin → DownPast → UpPast → LinkState → List ℕ → ClientSide → PeerSide L
       → Stage → Type 0
-  StageHolds s p q link ahead down up stage.Head = Begins s p q link ahead down up
+  StageHolds s p q link ahead down up stage.Head =
+      Begins s p q link ahead down up × IsUnfailed up
   StageHolds s p q link ahead down up (stage.Bodies duplex) =
       Flows s p q link ahead down up duplex
 
@@ -117,6 +124,10 @@ module _ {L : Type 0} (state : L → LinkState) (start_at : L → LinkStart) whe
     -- a link of which a call failed is not kept
     pub faultless : may_keep x ≡ true
         → (state x.peer.client.link).faults ≡ (start_at x.peer.client.link).faults
+    -- and one that may serve another request is, where none failed
+    pub keeps : MayServe s p (state x.peer.client.link).ended relayed.order
+        → ¬ (Rose (start_at x.peer.client.link).faults (state x.peer.client.link).faults)
+        → may_keep x ≡ true
 
   -- it failed for a cause, which no valid exchange has
   pub record IsFailed (s : Origin) (p : Passed) (link : LinkState) (x : Exchange L) (e : Error)

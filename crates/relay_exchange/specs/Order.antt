@@ -7,6 +7,7 @@ use Rattle.relay_tasks.specs.declared.task.HttpTask.{HttpTask}
 use Rattle.relay_tasks.specs.Head.{ResponseHead}
 use Rattle.relay_tasks.specs.Task.{is_end}
 use Rattle.relay_links.specs.Link.{LinkState, LinkStart}
+use Rattle.relay_links.specs.Told.{Since}
 use Rattle.relay_h1.specs.declared.framing.Framing.{Framing}
 use Rattle.relay_h1.specs.Body.{BodyText, ended_text, Body}
 use Rattle.relay_h1.specs.BodyWire.{after_pieces, body_text, is_short}
@@ -26,7 +27,7 @@ use Rattle.relay_core.specs.Moves.{EndsLast}
 use Rattle.relay_core.specs.Past.{Origin, DownPast, UpPast}
 use Rattle.relay_sides.specs.Body.{IsFrontOf, body_of, sent_as}
 use Rattle.relay_sides.specs.Client.{ClientBlames}
-use Rattle.relay_sides.specs.Peer.{handed, told_of, EndFramed, Follow, PeerBlames, is_switch, HasRoom, asks_to_close}
+use Rattle.relay_sides.specs.Peer.{handed, told_of, EndFramed, Follow, PeerBlames, is_switch, HasRoom, asks_to_close, IsWriteError}
 use Rattle.relay_exchange.specs.Passed.{Passed, asked}
 
 -- the client's bytes begin with the head of the request
@@ -151,8 +152,9 @@ pub record SendsWhole (s : Origin) (p : Passed) (closed : Bool) (order : IsInOrd
   pub ended : HasEnded order
   pub sent : p.sent ≡ sent_wire (sent_as s.head order.pieces)
 
--- the response has come whole, and its text was written whole; and the request was sent whole, or
--- the peer's side answers for the error with which it was not
+-- the response has come whole, and its text was written whole, no read of the peer's link having
+-- failed, where it tells the faults of its reads. And the request was sent whole, no call of that
+-- link having failed; or the peer's side answers for the error of the write with which it was not
 pub record IsRelayed (s : Origin) (p : Passed) (link : LinkState) (start : LinkStart) : Type 0 where
   pub order : IsInOrder s p link.ended
   pub n : ℕ
@@ -160,8 +162,10 @@ pub record IsRelayed (s : Origin) (p : Passed) (link : LinkState) (start : LinkS
       (says (told_of order.are_of.given) (ended n))
   pub over : is_over (text_of order).place ≡ true
   pub written : p.written ≡ (text_of order).text
-  pub request : SendsWhole s p link.ended order
-      ⊎ ((e : Error) × (lost : Bool) × PeerBlames start link s.head (up_past order lost) e)
+  pub request : (SendsWhole s p link.ended order × (link.faults ≡ start.faults))
+      ⊎ ((e : Error) × (lost : Bool) × PeerBlames start link s.head (up_past order lost) e
+      × IsWriteError start link e)
+  pub reads : Since [] start.read_faults link.read_faults []
 
 -- the peer's link may serve another request: the request was sent whole, in these pieces; its head
 -- and the response's let the link be kept; and no byte behind the response was read (RFC 9112,

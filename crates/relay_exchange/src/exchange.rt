@@ -16,7 +16,7 @@ ghost use Rattle.relay_sides.specs.Client;
 ghost use Rattle.relay_sides.specs.Peer;
 ghost use Rattle.relay_exchange.specs.Passed.{Passed};
 ghost use Rattle.relay_exchange.specs.Head.{error_of_step, IsRefusedFor, IsBehind, may_keep};
-ghost use Rattle.relay_exchange.specs.Exchange.{IsUnderWay, Turns, SilentIn, MeetsSilence, IsSilent, IsSilentLink, UpHolds, Blames, Begins, Flows, StageHolds};
+ghost use Rattle.relay_exchange.specs.Exchange.{IsUnderWay, Turns, SilentIn, MeetsSilence, IsSilent, IsSilentLink, UpHolds, Blames, Begins, IsUnfailed, Flows, StageHolds};
 
 use crate::round::go_round;
 use relay_core::{Duplex, Step, Up, UpKind};
@@ -198,6 +198,7 @@ fn send_head<L: ByteLink>(
 ) -> Step
     ensures goes { (s : Origin) (p : DownPast) (q : UpPast) (link : LinkState) (ahead : List ℕ)
         → Begins L.state L.start s p q link ahead client.now peer.old
+        → IsUnfailed L.state L.start peer.old
         → Turns L.state L.start s link ahead
         (record { alloc = alloc; client = client.now; peer = peer.new; stage = stage.new }) result }
     ensures waits { result ≡ Step.Waited Pause.NotReady
@@ -222,7 +223,7 @@ fn write_head<L: ByteLink>(peer: &mut PeerSide<L>) -> Step
     ensures waits { result ≡ Step.Waited Pause.NotReady
         → (L.state peer.new.client.link).waits ≡ up (L.state peer.old.client.link).waits }
     ensures silent { result ≡ Step.Waited Pause.Silent
-        → ((Peer.state_of peer.new.client peer.new.told).pending ≡ true)
+        → ((Peer.state_of peer.new).pending ≡ true)
         × ((L.state peer.new.client.link).silent_on_write ≡ true)
         × (L.state peer.new.client.link ≡ L.state peer.old.client.link) }
     ensures peer_start { L.start peer.new.client.link ≡ L.start peer.old.client.link }
@@ -230,6 +231,8 @@ fn write_head<L: ByteLink>(peer: &mut PeerSide<L>) -> Step
     // An error that the side told is the answer.
     ensures told { error_of_step result ≡ None
         → peer.new.told.errors ≡ peer.old.told.errors }
+    ensures unread { peer.new.read_failed ≡ peer.old.read_failed }
+    ensures unsent { error_of_step result ≡ None → peer.new.send_failed ≡ peer.old.send_failed }
 {
     if !peer.has_pending() {
         return Step::Moved;
@@ -245,11 +248,12 @@ fn write_head<L: ByteLink>(peer: &mut PeerSide<L>) -> Step
 
 /// The stage by what waits of the head.
 fn stage_behind<L: ByteLink>(alloc: Global, session: &HttpSession, peer: &PeerSide<L>) -> Stage
-    ensures is { IsBehind (Peer.state_of peer.now.client peer.now.told).pending
+    ensures is { IsBehind (Peer.state_of peer.now).pending
         (is_body_done session.now.reading) result }
     ensures holds { (s : Origin) (p : DownPast) (q : UpPast) (link : LinkState) (ahead : List ℕ)
         (down : ClientSide) → down.session ≡ session.now
         → Begins L.state L.start s p q link ahead down peer.now
+        → IsUnfailed L.state L.start peer.now
         → StageHolds L.state L.start s p q link ahead down peer.now result }
 {
     if peer.has_pending() {

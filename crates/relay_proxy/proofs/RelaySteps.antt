@@ -183,6 +183,7 @@ module _ {L : Type 0} (state : L → LinkState) (start_at : L → LinkStart) whe
     calm = calm;
     kept = finished.leaves.serves;
     faultless = finished.faultless;
+    keeps = finished.keeps;
     goes_back = reusable x (origin_of s head (start_at x.peer.client.link).reused) p
         (state x.peer.client.link).ended finished.relayed.order w.ahead (may_keep x)
         finished.is_head finished.leaves;

@@ -201,6 +201,9 @@ pub record IsRelayedWhole
       → MayServe (origin_of s head start.reused) p link.ended relayed.order
   -- and where no call of it failed
   pub faultless : keep ≡ true → link.faults ≡ start.faults
+  -- and a link that may serve another request is kept, where no call of it failed
+  pub keeps : MayServe (origin_of s head start.reused) p link.ended relayed.order
+      → ¬ (Rose start.faults link.faults) → keep ≡ true
   -- the client goes back exactly where it may ask for more
   pub goes_back : IsTrue reuse
       ↔ IsClientReusable (origin_of s head start.reused) p link.ended relayed.order w.ahead

@@ -51,7 +51,7 @@ tells_on start before after grew tells = record {
 }
 
 -- a fault among others, with more behind them
-among_on : (place : ℕ) (told now : Option (List Fault)) (front behind new : List Fault)
+pub among_on : (place : ℕ) (told now : Option (List Fault)) (front behind new : List Fault)
     (fault : Fault) → now ≡ more told new → Since [] place told (front ++ fault ∷ behind)
     → Since [] place now (front ++ fault ∷ (behind ++ new))
 among_on place told now front behind new fault grown since =

@@ -9,3 +9,4 @@ pub mod MoveLemmas
 pub mod PeerLemmas
 pub mod SendLemmas
 pub mod SaidLemmas
+pub mod MarkLemmas

@@ -42,7 +42,7 @@ use Rattle.relay_peer.specs.ResponseReading.{ToldResponse, ReadSoFar, ReadsTask,
 use Rattle.relay_peer.specs.ResponseReading as reading
 use Rattle.relay_core.specs.Past.{Origin, UpPast, GaveBytes, UpGoes, error_of_fail, error_of_took}
 use Rattle.relay_sides.specs.declared.peer_side.PeerSide.{PeerSide}
-use Rattle.relay_sides.specs.Peer.{IsPeer, IsPeerSide, IsQueued, PeerBlames, AreTasks, CutsTask, HasRoom, Withholds, asks_to_close, is_switch, Queues, Loses, IsNew, handed, told_of, none_passed}
+use Rattle.relay_sides.specs.Peer.{IsPeer, IsPeerSide, IsQueued, PeerBlames, AreTasks, CutsTask, HasRoom, Withholds, asks_to_close, is_switch, Queues, Loses, IsNew, handed, told_of, none_passed, AreMarked, AreHeads}
 use Rattle.relay_sides.specs.Peer as peer
 use Rattle.relay_sides.proofs.FaultLemmas.{grew_same, tells_on}
 use Rattle.relay_sides.proofs.FrontLemmas.{own_front}
@@ -154,13 +154,13 @@ peer_read : {L : Type 0} (o : Origin) (start : LinkStart) (before after : LinkSt
     → AreTasks stands.head.method after.ended (q.got ++ came) (given ++ withheld) new.response
     → read ≡ map (handed stands.head.method) given → list_any is_switch given ≡ false
     → All (HasRoom stands.head.method) given
-    → (stopped ≡ None → withheld ≡ [])
+    → (stopped ≡ None → withheld ≡ []) → AreHeads withheld
     → ((e : Error) → stopped ≡ Some (fail.Error e)
     → PeerBlames start after stands.head (after_read q came read) e)
     → (new.failed ≡ false → after.faults ≡ start.faults)
     → IsPeer o start after new stopped lost (after_read q came read)
 peer_read {L} o start before after old new stopped_before stopped lost q came read given withheld
-    asked stands same moves tasks is_read unswitched roomy goes_on why calm = record {
+    asked stands same moves tasks is_read unswitched roomy goes_on heads why calm = record {
       got = moves.given;
       sent = Since-kept [] start.taken before.taken after.taken q.sent moves.taken stands.sent;
       faults = moves.faults;
@@ -181,6 +181,7 @@ peer_read {L} o start before after old new stopped_before stopped lost q came re
       none_switches = unswitched;
       have_room = roomy;
       goes_on = goes_on;
+      heads = heads;
       why = why;
       takes = stands.takes;
       why_lost = λ e is.
@@ -269,7 +270,7 @@ read_none {L} o start started before after old new stopped lost q answer same ke
     stands.tasks over
     (told_stays stands.head.method after.ended (q.got ++ at.came) (told_of tasks) at.asked
     old.response.place new.response answer none answers))
-    stands.is_read stands.none_switches stands.have_room stands.goes_on
+    stands.is_read stands.none_switches stands.have_room stands.goes_on stands.heads
     (λ e is. blames_keep start before after stands.head q (after_read q at.came q.read) e
     (read_on start before after q at.came q.read at.asked moves) (stands.why e is))
     (calm_read start before after q.got at.came at.asked old.failed new.failed answer moves at.fails
@@ -438,7 +439,7 @@ read_hands {L} o start started before after old new stopped lost q item given op
     ∙ ap (λ (b : Bool). b || false) plain)
     (All-push (HasRoom stands.head.method) stands.given item stands.have_room
     (subst (λ (m : List ℕ). HasRoom m item) method room))
-    (λ none. refl) (λ e none. absurd (cc))
+    (λ none. refl) tt (λ e none. absurd (cc))
     (calm_read start before after q.got b.came b.asked old.failed new.failed (took.Item item) b.moves
     b.fails failed stands.calm))
     refl refl refl (λ e none. absurd (cc)))
@@ -477,6 +478,18 @@ withheld_blamed start after head p told new item why closed is read
     (peer.Withholds.tells_error error at) e because =
     absurd (subst (λ (t : HttpTask). IsResponseTask told t) at is)
 
+-- a task that is withheld is a head
+withheld_head : (told : ToldResponse) (method : List ℕ) (item : HttpTask) (why : Fail)
+    → IsResponseTask told item → Withholds method item why → reading.IsHead item
+withheld_head told method item why is (peer.Withholds.switches final end at status) =
+    subst (λ (t : HttpTask). reading.IsHead t) (sym at) tt
+withheld_head told method item why is (peer.Withholds.is_full final end at lacks full) =
+    subst (λ (t : HttpTask). reading.IsHead t) (sym at) tt
+withheld_head told method item why is (peer.Withholds.wants_memory final end at lacks) =
+    subst (λ (t : HttpTask). reading.IsHead t) (sym at) tt
+withheld_head told method item why is (peer.Withholds.tells_error error at) =
+    absurd (subst (λ (t : HttpTask). IsResponseTask told t) at is)
+
 -- a task that is withheld
 pub read_stops : {L : Type 0} (o : Origin) (start started : LinkStart) (before after : LinkState)
     (old new : H1Client L) (stopped lost : Option Fail) (q : UpPast) (item : HttpTask) (why : Fail)
@@ -506,6 +519,8 @@ read_stops {L} o start started before after old new stopped lost q item why open
     (item ∷ []) b.asked stands kept b.moves b.tasks stands.is_read stands.none_switches
     stands.have_room
     (λ some. absurd (cc))
+    (withheld_head b.told stands.head.method item why b.is
+    (subst (λ (m : List ℕ). Withholds m item why) method withholds), tt)
     (λ e is. blamed e (some_fail why (fail.Error e) is))
     (calm_read start before after q.got b.came b.asked old.failed new.failed (took.Item item) b.moves
     b.fails failed stands.calm))
@@ -520,13 +535,14 @@ pub side_goes : {L : Type 0} (o : Origin) (start started : LinkStart) (before af
     (error : Option Error) → started ≡ start → start.reused ≡ o.reused
     → new.closes ≡ list_any asks_to_close read
     → (new.told.errors ≡ 0 → new.client.failed ≡ false)
+    → AreMarked start after new.client.failed new.read_failed new.send_failed new.lost
     → UpGoes (λ r. IsPeer o started after new.client new.stopped new.lost r)
     (λ r e. Blamed start before old r e) (λ r e. Blamed started after new.client r e) q read taken
     gone error
     → UpGoes (λ r. IsPeerSide o started after new r) (λ r e. Blamed start before old r e)
     (λ r e. Blamed started after new.client r e) q read taken gone error
 side_goes {L} o start started before after old new q read taken gone error same reused closes calm
-    went =
+    marked went =
     record {
       past = went.past;
       stands = record {
@@ -535,6 +551,8 @@ side_goes {L} o start started before after old new q read taken gone error same 
         closes = closes ∙ ap (λ (ts : List HttpTask). list_any asks_to_close ts)
             (sym went.is_read);
         calm = calm;
+        marked = subst (λ (s : LinkStart).
+            AreMarked s after new.client.failed new.read_failed new.send_failed new.lost) (sym same) marked;
       };
       is_read = went.is_read;
       is_taken = went.is_taken;
@@ -549,6 +567,7 @@ pub side_stays : {L : Type 0} (o : Origin) (start started : LinkStart) (before a
     (error : Option Error) → started ≡ start → new.closes ≡ old.closes → read ≡ q.read
     → ((old.told.errors ≡ 0 → old.client.failed ≡ false)
     → new.told.errors ≡ 0 → new.client.failed ≡ false)
+    → AreMarked start after new.client.failed new.read_failed new.send_failed new.lost
     → IsPeerSide o start before old q
     → UpGoes (λ r. IsPeer o started after new.client new.stopped new.lost r)
     (λ r e. Blamed start before old.client r e) (λ r e. Blamed started after new.client r e) q read
@@ -556,10 +575,10 @@ pub side_stays : {L : Type 0} (o : Origin) (start started : LinkStart) (before a
     → UpGoes (λ r. IsPeerSide o started after new r) (λ r e. Blamed start before old.client r e)
     (λ r e. Blamed started after new.client r e) q read taken gone error
 side_stays {L} o start started before after old new q read taken gone error same stays none calm
-    stands =
+    marked stands =
     side_goes o start started before after old.client new q read taken gone error same stands.reused
     (stays ∙ stands.closes ∙ ap (λ (ts : List HttpTask). list_any asks_to_close ts) (sym none))
-    (calm stands.calm)
+    (calm stands.calm) marked
 
 -- a call that handed one on
 pub side_hands : {L : Type 0} (o : Origin) (start started : LinkStart) (before after : LinkState)
@@ -568,19 +587,21 @@ pub side_hands : {L : Type 0} (o : Origin) (start started : LinkStart) (before a
     → new.closes ≡ old.closes || asks_to_close given
     → ((old.told.errors ≡ 0 → old.client.failed ≡ false)
     → new.told.errors ≡ 0 → new.client.failed ≡ false)
+    → AreMarked start after new.client.failed new.read_failed new.send_failed new.lost
     → IsPeerSide o start before old q
     → UpGoes (λ r. IsPeer o started after new.client new.stopped new.lost r)
     (λ r e. Blamed start before old.client r e) (λ r e. Blamed started after new.client r e) q
     (q.read ++ given ∷ []) taken gone error
     → UpGoes (λ r. IsPeerSide o started after new r) (λ r e. Blamed start before old.client r e)
     (λ r e. Blamed started after new.client r e) q (q.read ++ given ∷ []) taken gone error
-side_hands {L} o start started before after old new q given taken gone error same one_more calm stands =
+side_hands {L} o start started before after old new q given taken gone error same one_more calm
+    marked stands =
     side_goes o start started before after old.client new q (q.read ++ given ∷ []) taken gone error
     same stands.reused
     (one_more ∙ ap (λ (b : Bool). b || asks_to_close given) stands.closes
     ∙ ap (λ (b : Bool). list_any asks_to_close q.read || b) (sym (or_none (asks_to_close given)))
     ∙ sym (list_any-append asks_to_close q.read (given ∷ [])))
-    (calm stands.calm)
+    (calm stands.calm) marked
   where
     or_none : (b : Bool) → (b || false) ≡ b
     or_none true = refl

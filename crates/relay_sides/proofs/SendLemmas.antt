@@ -30,10 +30,11 @@ use Rattle.relay_peer.specs.RequestWriting as writing
 use Rattle.relay_core.specs.Past.{Origin, UpPast, UpGoes, error_of_fail, error_of_put}
 use Rattle.relay_sides.specs.Body.{IsFrontOf, bytes_of, body_of, sent_with, sent_as}
 use Rattle.relay_sides.specs.declared.peer_side.PeerSide.{PeerSide}
-use Rattle.relay_sides.specs.Peer.{IsPeer, IsPeerSide, IsQueued, PeerBlames, AreTasks, HasRoom, Queues, Loses, IsNew, none_passed}
+use Rattle.relay_sides.specs.Peer.{IsPeer, IsPeerSide, AreMarked, IsQueued, PeerBlames, AreTasks, HasRoom, Queues, Loses, IsNew, none_passed}
 use Rattle.relay_sides.specs.Peer as peer
 use Rattle.relay_sides.proofs.FaultLemmas.{grew_same, tells_on, tells_none}
 use Rattle.relay_sides.proofs.FrontLemmas.{own_front, same_front, front_more, front_then, bytes_front, task_front, sent_behind-push, head_of, stands_head, piece_head, task_head, begun_body, body_push}
+use Rattle.relay_sides.proofs.MarkLemmas.{marked_same, marked_new}
 use Rattle.relay_sides.proofs.TaskLemmas.{no_tasks}
 use Rattle.relay_sides.proofs.MoveLemmas.{GoesOn, blames_keep, write_moves}
 use Rattle.relay_sides.proofs.PeerLemmas.{Blamed, goes, neither_failed}
@@ -96,6 +97,7 @@ peer_take {L} o start link old new stopped lost_before lost q piece gone sending
       none_switches = stands.none_switches;
       have_room = stands.have_room;
       goes_on = stands.goes_on;
+      heads = stands.heads;
       why = λ e is.
           blames_keep start link link stands.head q (after_take q piece gone) e
           (take_on start link q piece gone) (stands.why e is);
@@ -406,6 +408,7 @@ write_goes {L} o start started before after old new stopped lost q answer same k
       none_switches = stands.none_switches;
       have_room = stands.have_room;
       goes_on = stands.goes_on;
+      heads = stands.heads;
       why = λ e is. blames_keep start before after stands.head q p e on (stands.why e is);
       takes = stands.takes;
       why_lost = λ e is. blames_keep start before after stands.head q p e on (stands.why_lost e is);
@@ -446,6 +449,7 @@ begins {L} o start link reused old new head own fresh out same so_far = record {
   none_switches = refl;
   have_room = All-nil (HasRoom head.method);
   goes_on = λ none. refl;
+  heads = tt;
   why = λ e is. absurd (apart e (sym is ∙ fresh.goes_on));
   takes = λ none. refl;
   why_lost = λ e is. absurd (apart e (sym is ∙ fresh.takes));
@@ -485,6 +489,12 @@ begins_side {L} o start started before after reused old new head own same unmove
       reused = ap (λ (s : LinkStart). s.reused) same ∙ out.marked ∙ sym used;
       closes = fresh.stays;
       calm = λ none. calm ∙ fresh.calm;
+      marked = subst (λ (s : LinkStart).
+          AreMarked s after new.failed old.read_failed old.send_failed old.lost) (sym same)
+          (marked_same start before after old.client.failed new.failed old.read_failed
+          old.send_failed old.lost unmoved calm
+          (marked_new start before reused old.client.failed old.read_failed old.send_failed old.lost
+          out fresh.calm fresh.unsent fresh.takes));
     }
 
 -- and its head is the one that was queued

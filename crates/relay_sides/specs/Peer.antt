@@ -1,6 +1,6 @@
 -- The upstream's side: what passed between a peer and its client since the link was handed out, and
 -- why the side answers with an error (RFC 9110, section 15.2; RFC 9112, sections 3 to 8).
-use Rattle.std.specs.Prelude.{◌≡◌, ℕ, All, ◌≤◌, Bool, true, false, not, ◌&&◌, ◌==◌, List, [], ◌∷◌, ◌++◌, length, map, Option, Some, None, is_some, Result, Ok, Err, if◌then◌else◌, codes}
+use Rattle.std.specs.Prelude.{◌≡◌, ℕ, All, ◌≤◌, Bool, true, false, not, ◌&&◌, ◌==◌, ◌⊎◌, List, [], ◌∷◌, ◌++◌, length, map, Option, Some, None, is_some, Result, Ok, Err, if◌then◌else◌, codes}
 use Rattle.std.specs.List.{list_any, concat}
 use Rattle.http_header.specs.HeaderMap.{RefusesInsert}
 use Rattle.relay_tasks.specs.declared.context.Context.{Context}
@@ -16,9 +16,11 @@ use Rattle.relay_tasks.specs.declared.task.HttpTask.TheVariants as task
 use Rattle.relay_tasks.specs.Head.{RequestHead, ResponseHead}
 use Rattle.relay_tasks.specs.Task.{is_end}
 use Rattle.relay_links.specs.Count.{Rose}
-use Rattle.relay_links.specs.Link.{LinkState, LinkStart, IsSound}
+use Rattle.relay_links.specs.Link.{LinkState, LinkStart, IsSound, IsWriteFault}
 use Rattle.relay_links.specs.Told.{Since}
 use Rattle.relay_links.specs.declared.link.Got.{Got}
+use Rattle.relay_links.specs.declared.link.Put.{Put}
+use Rattle.relay_links.specs.declared.link.Put.TheVariants as put
 use Rattle.relay_h1.specs.declared.framing.Framing.{Framing}
 use Rattle.relay_h1.specs.BodyReader.{has_length}
 use Rattle.relay_h1.specs.BodyWire.{after_pieces}
@@ -36,6 +38,7 @@ use Rattle.relay_peer.specs.ResponseReading as reading
 use Rattle.relay_core.specs.Moves.{EndsLast}
 use Rattle.relay_core.specs.Past.{Origin, UpPast}
 use Rattle.relay_core.specs.Pipe.{is_failure}
+use Rattle.relay_core.specs.Told.{fault_of}
 use Rattle.relay_core.specs.Up.{UpState}
 use Rattle.relay_core.specs.declared.step.UpKind.TheVariants.{H1}
 use Rattle.relay_core.specs.declared.told.Told.{Told}
@@ -157,13 +160,23 @@ pub record AreTasks
 -- ---- the side
 
 -- the state of the side
-abbrev pub state_of : {L : Type 0} → H1Client L → Told → UpState
-state_of client told = record {
+abbrev pub state_of : {L : Type 0} → PeerSide L → UpState
+state_of side = record {
   kind = H1;
   upgraded = false;
-  pending = not (length client.request.unsent == 0);
-  told = told;
+  pending = not (length side.client.request.unsent == 0);
+  told = side.told;
+  read_failed = side.read_failed;
+  send_failed = side.send_failed;
 }
+
+-- the error of a write that failed, else the one before
+abbrev pub put_error : Put → Option Error → Option Error
+put_error (put.Took n) before = before
+put_error put.NotReady before = before
+put_error put.Silent before = before
+put_error (put.Failed fault) before = Some (fault_of Upstream fault)
+put_error put.OutOfMemory before = before
 
 -- what was queued of the request with that head, the pieces being these: all of them, unless one
 -- was lost
@@ -213,6 +226,11 @@ pub data PeerBlames (start : LinkStart) (link : LinkState) (head : RequestHead) 
       → wire.is_short (after_pieces (body_framing head) pieces) ≡ true → e ≡ short_request
       → PeerBlames start link head q e
 
+-- the tasks are heads
+abbrev pub AreHeads : List HttpTask → Type 0
+AreHeads [] = Unit {0}
+AreHeads (task ∷ tasks) = reading.IsHead task × AreHeads tasks
+
 -- what passed since the link was handed out, which the link tells: the request as far as it was
 -- queued, and the response as far as it was handed on. Once the side stopped, for a final head that
 -- it does not hand on, that head is withheld; once a piece was lost, no more of the request is
@@ -240,9 +258,36 @@ pub record IsPeer {L : Type 0}
   pub none_switches : list_any is_switch given ≡ false
   pub have_room : All (HasRoom head.method) given
   pub goes_on : stopped ≡ None → withheld ≡ []
+  pub heads : AreHeads withheld
   pub why : (e : Error) → stopped ≡ Some (fail.Error e) → PeerBlames start link head q e
   pub takes : lost ≡ None → q.lost ≡ false
   pub why_lost : (e : Error) → lost ≡ Some (fail.Error e) → PeerBlames start link head q e
+
+-- the error tells of a fault that the link answered on a write, which is among those that it tells
+pub record IsWriteError (start : LinkStart) (link : LinkState) (e : Error) : Type 0 where
+  pub fault : Fault
+  pub is : e ≡ fault_error fault
+  pub kind : IsWriteFault fault
+  pub rose : Rose start.faults link.faults
+  pub before : List Fault
+  pub behind : List Fault
+  pub told : Since [] start.write_faults link.write_faults (before ++ fault ∷ behind)
+
+-- an error with which nothing more is sent: that of a write, or that of a request that ends short
+abbrev pub CannotSend : LinkStart → LinkState → Error → Type 0
+CannotSend start link e = IsWriteError start link e ⊎ (e ≡ short_request)
+
+-- what the marks of the side tell: where no read answered an error, no read of the link failed,
+-- where it tells its faults; where no error kept anything from being sent, no write did; where
+-- neither, no call of the client failed. And which errors keep something from being sent
+pub record AreMarked
+    (start : LinkStart) (link : LinkState) (failed read_failed : Bool)
+    (send_failed : Option Error) (lost : Option Fail) : Type 0 where
+  pub reads : read_failed ≡ false → Since [] start.read_faults link.read_faults []
+  pub writes : send_failed ≡ None → Since [] start.write_faults link.write_faults []
+  pub calm : read_failed ≡ false → send_failed ≡ None → failed ≡ false
+  pub named : (e : Error) → send_failed ≡ Some e → CannotSend start link e
+  pub short : (e : Error) → lost ≡ Some (fail.Error e) → e ≡ short_request
 
 -- a final head that asks for the connection to be closed (RFC 9112, section 9.6)
 abbrev pub asks_to_close : HttpTask → Bool
@@ -264,6 +309,7 @@ pub record IsPeerSide {L : Type 0}
   pub closes : side.closes ≡ list_any asks_to_close q.read
   -- each fault was told
   pub calm : side.told.errors ≡ 0 → side.client.failed ≡ false
+  pub marked : AreMarked start link side.client.failed side.read_failed side.send_failed side.lost
 
 -- a side for which nothing was queued, and which read nothing
 pub record IsNew {L : Type 0} (side : PeerSide L) : Type 0 where
@@ -274,6 +320,8 @@ pub record IsNew {L : Type 0} (side : PeerSide L) : Type 0 where
   pub takes : side.lost ≡ None
   pub stays : side.closes ≡ false
   pub calm : side.client.failed ≡ false
+  pub unread : side.read_failed ≡ false
+  pub unsent : side.send_failed ≡ None
 
 -- a read of a task asks the link once at most, and cuts a piece of the body out of the bytes ahead and
 -- those that came: all that they hold of its run, with the end exactly where it completes a length

@@ -13,8 +13,9 @@ ghost use Rattle.relay_peer.specs.ResponseReading.{ReadSoFar, IsReadWhole};
 ghost use Rattle.relay_peer.specs.ResponseReading as reading;
 ghost use Rattle.relay_core.specs.declared.told.TheConstants.Told.{NOTHING};
 ghost use Rattle.relay_core.specs.Past.{Origin};
+ghost use Rattle.relay_core.specs.Up.{is_error, error_or};
 ghost use Rattle.relay_sides.specs.Body.{bytes_of};
-ghost use Rattle.relay_sides.specs.Peer.{IsPeerSide, PeerBlames, CutsTask, asks_to_close, IsNew, HandsOn, Queues, inside, none_passed, state_of};
+ghost use Rattle.relay_sides.specs.Peer.{IsPeerSide, PeerBlames, CutsTask, asks_to_close, IsNew, HandsOn, Queues, inside, none_passed, state_of, put_error};
 
 use crate::client_side::either;
 use http::{Method, Version};
@@ -40,6 +41,9 @@ pub struct PeerSide<L> {
     lost: Option<Fail>,
     // Whether a final head that was handed on asks to close.
     closes: bool,
+    // Whether a read answered an error, and the last error with which nothing could be sent.
+    read_failed: bool,
+    send_failed: Option<Error>,
 }
 
 impl<L> PeerSide<L> {
@@ -56,6 +60,8 @@ impl<L> PeerSide<L> {
             stopped: None,
             lost: None,
             closes: false,
+            read_failed: false,
+            send_failed: None,
         }
     }
 
@@ -140,6 +146,8 @@ impl<L> PeerSide<L> {
             stopped: _,
             lost: _,
             closes: _,
+            read_failed: _,
+            send_failed: _,
         } = self;
         client.into_link()
     }
@@ -180,6 +188,36 @@ fn inside(fail: Fail) -> Fail
     match fail {
         Fail::OutOfMemory => Fail::OutOfMemory,
         Fail::Error(error) => Fail::Error(error.into_in()),
+    }
+}
+
+/// Whether the failure is an error; out of memory is none.
+fn is_error(fail: Fail) -> bool
+    ensures { result ≡ is_error fail }
+{
+    match fail {
+        Fail::OutOfMemory => false,
+        Fail::Error(_) => true,
+    }
+}
+
+/// The error of a failure; out of memory leaves the one before.
+fn error_or(fail: Fail, before: Option<Error>) -> Option<Error>
+    ensures { result ≡ error_or fail before }
+{
+    match fail {
+        Fail::OutOfMemory => before,
+        Fail::Error(error) => Some(error),
+    }
+}
+
+/// The error of a write that failed, else the one before.
+fn put_error(put: Put, before: Option<Error>) -> Option<Error>
+    ensures { result ≡ put_error put before }
+{
+    match put {
+        Put::Failed(fault) => Some(Error::of_fault(fault).into_up()),
+        Put::Took(_) | Put::NotReady | Put::Silent | Put::OutOfMemory => before,
     }
 }
 
@@ -237,7 +275,7 @@ fn queue_piece<L>(client: &mut H1Client<L>, task: &HttpTask) -> Result<()>
 }
 
 impl<L: ByteLink> Up for PeerSide<L> {
-    ghost state = { λ side. state_of side.client side.told };
+    ghost state = { λ side. state_of side };
 
     ghost past = { λ side s q.
         IsPeerSide s (L.start side.client.link) (L.state side.client.link) side q };
@@ -265,6 +303,7 @@ impl<L: ByteLink> Up for PeerSide<L> {
         match self.stopped {
             Some(why) => {
                 self.told = self.told.failed(why);
+                self.read_failed = either(self.read_failed, is_error(why));
                 Took::Failed(why)
             }
             None => match self.client.read_response_task(self.alloc) {
@@ -276,6 +315,7 @@ impl<L: ByteLink> Up for PeerSide<L> {
                     Err(why) => {
                         self.stopped = Some(why);
                         self.told = self.told.failed(why);
+                        self.read_failed = either(self.read_failed, is_error(why));
                         Took::Failed(why)
                     }
                 },
@@ -287,6 +327,7 @@ impl<L: ByteLink> Up for PeerSide<L> {
                 }
                 Took::Failed(why) => {
                     self.told = self.told.failed(why);
+                    self.read_failed = either(self.read_failed, is_error(why));
                     Took::Failed(why)
                 }
             },
@@ -297,6 +338,7 @@ impl<L: ByteLink> Up for PeerSide<L> {
         match self.lost {
             Some(why) => {
                 self.told = self.told.failed(why);
+                self.send_failed = error_or(why, self.send_failed);
                 Err(why)
             }
             None => match queue_piece(&mut self.client, &task) {
@@ -304,6 +346,7 @@ impl<L: ByteLink> Up for PeerSide<L> {
                 Err(why) => {
                     self.lost = Some(why);
                     self.told = self.told.failed(why);
+                    self.send_failed = error_or(why, self.send_failed);
                     Err(why)
                 }
             },
@@ -317,6 +360,7 @@ impl<L: ByteLink> Up for PeerSide<L> {
     fn write_pending(&mut self) -> Put {
         let put = self.client.write_pending();
         self.told = self.told.written(ErrorSource::Upstream, put);
+        self.send_failed = put_error(put, self.send_failed);
         put
     }
 

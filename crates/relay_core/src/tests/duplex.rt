@@ -49,6 +49,7 @@ struct Upstream {
     got: TaskList,
     pending: bool,
     told: Told,
+    unsent: Option<Error>,
 }
 
 impl Up for Upstream {
@@ -57,6 +58,8 @@ impl Up for Upstream {
       upgraded = false;
       pending = u.pending;
       told = u.told;
+      read_failed = false;
+      send_failed = u.unsent;
     } };
 
     ghost past = { λ u s q. q.lost ≡ false → q.taken ≡ u.got };
@@ -111,6 +114,7 @@ impl Up for Upstream {
 
     fn take_piece(&mut self, task: HttpTask) -> Result<()> {
         if let Some(error) = self.refuses {
+            self.unsent = Some(error);
             self.told = tell(self.told, error);
             return Err(Fail::Error(error));
         }
@@ -356,6 +360,7 @@ fn serving(alloc: Global, pieces: Vec<&'static str>, refuses: Option<Error>) -> 
         got: TaskList::new(alloc),
         pending: false,
         told: NOTHING_TOLD,
+        unsent: None,
     }
 }
 

@@ -1,5 +1,5 @@
 -- A write of the head is a turn.
-use Rattle.std.proofs.Common.{sym}
+use Rattle.std.proofs.Common.{sym, ◌∙◌}
 use Rattle.relay_exchange.proofs.TurnLemmas.{begins_on, head_turns}
 use Rattle.relay_exchange.proofs.exchange.send_head.Goals as goal
 
@@ -9,7 +9,7 @@ returns-clause-goes g c =
     let start_at = g.L.ByteLink.start in
     let down = c.args.client.now in
     let new = c.write_head-step.new.peer in
-    λ s p q link ahead b.
+    λ s p q link ahead b unfailed.
     let went = c.write_head-step.ensures.goes s q b.up_holds in
     let on = begins_on state start_at s p q link ahead down c.args.peer.now new _ b went in
     head_turns state start_at s p went.past link ahead
@@ -20,5 +20,9 @@ returns-clause-goes g c =
       stage = c.stage_behind.result;
     })
     c.write_head-step.result on
-    (c.stage_behind.ensures.holds s p went.past link ahead down (sym c.session.ensures) on)
+    (λ none. c.stage_behind.ensures.holds s p went.past link ahead down (sym c.session.ensures) on
+    (record {
+      reads = c.write_head-step.ensures.unread ∙ unfailed.reads;
+      sends = c.write_head-step.ensures.unsent none ∙ unfailed.sends;
+    }))
     c.write_head-step.ensures.unfinished went.blamed

@@ -1,5 +1,5 @@
 -- An exchange begins once its head was queued; it is not begun where the head is refused.
-use Rattle.std.proofs.Common.{refl, sym, subst}
+use Rattle.std.proofs.Common.{refl, sym, ap, subst, ◌∙◌}
 use Rattle.relay_links.specs.Link.{IsHandedOut}
 use Rattle.relay_exchange.specs.declared.exchange.Stage.TheVariants as stage
 use Rattle.relay_exchange.proofs.TurnLemmas.{begun_under_way, refused_as}
@@ -18,6 +18,12 @@ returns-in-Ok-clause-begins g c =
     (c.in-Ok.ensures.begins s own c.new-peer.ensures.fresh reused
     (subst (λ l. IsHandedOut (state l) (start_at l) reused) (sym c.new-peer.ensures.link) out)
     used)
+    (record {
+      reads = ap (λ k. k.read_failed) c.write_request_header.ensures.same
+          ∙ c.new-peer.ensures.fresh.unread;
+      sends = ap (λ k. k.send_failed) c.write_request_header.ensures.same
+          ∙ c.new-peer.ensures.fresh.unsent;
+    })
 
 pub returns-in-Err-clause-refused : goal.returns-in-Err-clause-refused
 returns-in-Err-clause-refused g c =

@@ -12,7 +12,8 @@ returns-in-Head-clause-goes g c =
     let At : Stage → Type 0 = λ at.
     StageHolds g.L.ByteLink.state g.L.ByteLink.start s u.down u.up link ahead
     c.args.self.now.client c.args.self.now.peer at in
-    c.send_head.ensures.goes s u.down u.up link ahead (subst At c.in-Head.is u.holds)
+    let stands = subst At c.in-Head.is u.holds in
+    c.send_head.ensures.goes s u.down u.up link ahead stands.0 stands.1
 
 pub returns-in-Bodies-clause-goes : goal.returns-in-Bodies-clause-goes
 returns-in-Bodies-clause-goes g c =

@@ -3,13 +3,19 @@ use Rattle.std.proofs.Common.{Bool, ◌||◌, List, [], None, refl, sym, ap, ◌
 use Rattle.relay_peer.specs.declared.h1_client.H1Client.{H1Client}
 use Rattle.relay_tasks.specs.declared.took.Took.TheVariants as took
 use Rattle.relay_sides.proofs.PeerLemmas.{more_gave, end_read, stopped_still, read_none, read_hands, read_stops, side_stays, side_hands, calm_same, calm_failed, calm_withheld, calm_paused, cuts_handed, cuts_none, or_none}
+use Rattle.relay_sides.proofs.MarkLemmas.{marked_more, marked_task, same_error}
 use Rattle.relay_sides.proofs.peer_side.PeerSideUp.read_task.Goals as goal
 
 pub returns-in-Some-clause-goes : goal.returns-in-Some-clause-goes
 returns-in-Some-clause-goes g c = λ s q stands.
     side_stays s _ _ _ _ c.args.self.now _ q _ _ _ _ refl refl (append-nil q.read)
     (λ calm still. calm_withheld c.args.self.now.told _ _ c.in-Some.why refl calm
-    (sym (ap (λ t. t.errors) c.failed-self.ensures) ∙ still)) stands
+    (sym (ap (λ t. t.errors) c.failed-self.ensures) ∙ still))
+    (marked_more (g.L.ByteLink.start c.args.self.now.client.link)
+    (g.L.ByteLink.state c.args.self.now.client.link) c.args.self.now.client.failed
+    c.args.self.now.client.failed c.args.self.now.read_failed
+    c.is_error.result c.either-self.result c.args.self.now.send_failed c.args.self.now.lost
+    c.either-self.ensures (λ calm none. calm) stands.marked) stands
     (stopped_still s (g.L.ByteLink.start c.args.self.now.client.link)
     (g.L.ByteLink.state c.args.self.now.client.link) c.args.self.now.client
     c.args.self.now.stopped c.args.self.now.lost c.in-Some.why q c.in-Some.is stands.peer)
@@ -17,10 +23,19 @@ returns-in-Some-clause-goes g c = λ s q stands.
 pub returns-in-Ok-clause-goes : goal.returns-in-Ok-clause-goes
 returns-in-Ok-clause-goes g c = λ s q stands.
     side_hands s _ _ _ _ c.args.self.now _ q c.in-Ok.task _ _ _ c.read_response_task.ensures.start
-    (c.either-self.ensures
+    (c.either-self-in-Ok.ensures
     ∙ ap (λ (b : Bool). c.args.self.now.closes || b) c.asks_to_close.ensures)
     (λ calm still. calm_same c.args.self.now.told _ _ _ (took.Item c.in-Item.task)
-    c.in-Item.ensures.failed refl refl calm still) stands
+    c.in-Item.ensures.failed refl refl calm still)
+    (marked_task _ (g.L.ByteLink.start c.args.self.now.client.link)
+    (g.L.ByteLink.state c.args.self.now.client.link)
+    (g.L.ByteLink.state c.read_response_task.new.self.link)
+    c.args.self.now.client.response c.read_response_task.new.self.response (took.Item c.in-Item.task)
+    c.args.self.now.client.failed c.read_response_task.new.self.failed
+    c.args.self.now.read_failed c.args.self.now.read_failed c.args.self.now.send_failed c.args.self.now.lost
+    c.in-Item.ensures.reads c.in-Item.ensures.failed
+    (sym (or_none c.args.self.now.read_failed)) stands.peer.faults stands.marked)
+    stands
     (read_hands s (g.L.ByteLink.start c.args.self.now.client.link)
     (g.L.ByteLink.start c.read_response_task.new.self.link)
     (g.L.ByteLink.state c.args.self.now.client.link)
@@ -37,7 +52,21 @@ returns-in-Err-clause-goes g c = λ s q stands.
     (append-nil q.read)
     (λ calm still. calm_withheld c.args.self.now.told _ _ c.in-Err.why
     (c.in-Item.ensures.failed ∙ or_none _) calm
-    (sym (ap (λ t. t.errors) c.failed-self-in-Err.ensures) ∙ still)) stands
+    (sym (ap (λ t. t.errors) c.failed-self-in-Err.ensures) ∙ still))
+    (marked_more (g.L.ByteLink.start c.args.self.now.client.link)
+    (g.L.ByteLink.state c.read_response_task.new.self.link) c.read_response_task.new.self.failed
+    c.read_response_task.new.self.failed c.args.self.now.read_failed c.is_error-in-Err.result
+    c.either-self-in-Err.result c.args.self.now.send_failed c.args.self.now.lost
+    c.either-self-in-Err.ensures (λ calm none. calm)
+    (marked_task _ (g.L.ByteLink.start c.args.self.now.client.link)
+    (g.L.ByteLink.state c.args.self.now.client.link)
+    (g.L.ByteLink.state c.read_response_task.new.self.link)
+    c.args.self.now.client.response c.read_response_task.new.self.response (took.Item c.in-Item.task)
+    c.args.self.now.client.failed c.read_response_task.new.self.failed
+    c.args.self.now.read_failed c.args.self.now.read_failed c.args.self.now.send_failed c.args.self.now.lost
+    c.in-Item.ensures.reads c.in-Item.ensures.failed
+    (sym (or_none c.args.self.now.read_failed)) stands.peer.faults stands.marked))
+    stands
     (read_stops s (g.L.ByteLink.start c.args.self.now.client.link)
     (g.L.ByteLink.start c.read_response_task.new.self.link)
     (g.L.ByteLink.state c.args.self.now.client.link)
@@ -52,7 +81,16 @@ returns-in-More-clause-goes g c = λ s q stands.
     side_stays s _ _ _ _ c.args.self.now _ q _ _ _ _ c.read_response_task.ensures.start refl
     (append-nil q.read)
     (λ calm still. calm_same c.args.self.now.told _ _ _ took.More
-    c.in-More.ensures.failed refl refl calm still) stands
+    c.in-More.ensures.failed refl refl calm still)
+    (marked_task _ (g.L.ByteLink.start c.args.self.now.client.link)
+    (g.L.ByteLink.state c.args.self.now.client.link)
+    (g.L.ByteLink.state c.read_response_task.new.self.link)
+    c.args.self.now.client.response c.read_response_task.new.self.response took.More
+    c.args.self.now.client.failed c.read_response_task.new.self.failed
+    c.args.self.now.read_failed c.args.self.now.read_failed c.args.self.now.send_failed c.args.self.now.lost
+    c.in-More.ensures.reads c.in-More.ensures.failed
+    (sym (or_none c.args.self.now.read_failed)) stands.peer.faults stands.marked)
+    stands
     (read_none s (g.L.ByteLink.start c.args.self.now.client.link)
     (g.L.ByteLink.start c.read_response_task.new.self.link)
     (g.L.ByteLink.state c.args.self.now.client.link)
@@ -86,7 +124,16 @@ returns-in-End-clause-goes g c = λ s q stands.
     side_stays s _ _ _ _ c.args.self.now _ q _ _ _ _ c.read_response_task.ensures.start refl
     (append-nil q.read)
     (λ calm still. calm_same c.args.self.now.told _ _ _ took.End
-    c.in-End.ensures.failed refl refl calm still) stands
+    c.in-End.ensures.failed refl refl calm still)
+    (marked_task _ (g.L.ByteLink.start c.args.self.now.client.link)
+    (g.L.ByteLink.state c.args.self.now.client.link)
+    (g.L.ByteLink.state c.read_response_task.new.self.link)
+    c.args.self.now.client.response c.read_response_task.new.self.response took.End
+    c.args.self.now.client.failed c.read_response_task.new.self.failed
+    c.args.self.now.read_failed c.args.self.now.read_failed c.args.self.now.send_failed c.args.self.now.lost
+    c.in-End.ensures.reads c.in-End.ensures.failed
+    (sym (or_none c.args.self.now.read_failed)) stands.peer.faults stands.marked)
+    stands
     (read_none s (g.L.ByteLink.start c.args.self.now.client.link)
     (g.L.ByteLink.start c.read_response_task.new.self.link)
     (g.L.ByteLink.state c.args.self.now.client.link)
@@ -102,7 +149,16 @@ returns-in-Waited-clause-goes g c = λ s q stands.
     side_stays s _ _ _ _ c.args.self.now _ q _ _ _ _ c.read_response_task.ensures.start refl
     (append-nil q.read)
     (λ calm still. calm_paused c.args.self.now.told _ _ c.in-Waited.pause c.in-Waited.ensures.failed calm
-    (sym (ap (λ t. t.errors) c.paused-self.ensures) ∙ still)) stands
+    (sym (ap (λ t. t.errors) c.paused-self.ensures) ∙ still))
+    (marked_task _ (g.L.ByteLink.start c.args.self.now.client.link)
+    (g.L.ByteLink.state c.args.self.now.client.link)
+    (g.L.ByteLink.state c.read_response_task.new.self.link)
+    c.args.self.now.client.response c.read_response_task.new.self.response (took.Waited c.in-Waited.pause)
+    c.args.self.now.client.failed c.read_response_task.new.self.failed
+    c.args.self.now.read_failed c.args.self.now.read_failed c.args.self.now.send_failed c.args.self.now.lost
+    c.in-Waited.ensures.reads c.in-Waited.ensures.failed
+    (sym (or_none c.args.self.now.read_failed)) stands.peer.faults stands.marked)
+    stands
     (read_none s (g.L.ByteLink.start c.args.self.now.client.link)
     (g.L.ByteLink.start c.read_response_task.new.self.link)
     (g.L.ByteLink.state c.args.self.now.client.link)
@@ -118,7 +174,18 @@ returns-in-Failed-clause-goes g c = λ s q stands.
     side_stays s _ _ _ _ c.args.self.now _ q _ _ _ _ c.read_response_task.ensures.start refl
     (append-nil q.read)
     (λ calm still. calm_failed c.args.self.now.told _ _ c.in-Failed.why c.in-Failed.ensures.failed calm
-    (sym (ap (λ t. t.errors) c.failed-self-in-Failed.ensures) ∙ still)) stands
+    (sym (ap (λ t. t.errors) c.failed-self-in-Failed.ensures) ∙ still))
+    (marked_task _ (g.L.ByteLink.start c.args.self.now.client.link)
+    (g.L.ByteLink.state c.args.self.now.client.link)
+    (g.L.ByteLink.state c.read_response_task.new.self.link)
+    c.args.self.now.client.response c.read_response_task.new.self.response (took.Failed c.in-Failed.why)
+    c.args.self.now.client.failed c.read_response_task.new.self.failed
+    c.args.self.now.read_failed c.either-self-in-Failed.result c.args.self.now.send_failed c.args.self.now.lost
+    c.in-Failed.ensures.reads c.in-Failed.ensures.failed
+    (c.either-self-in-Failed.ensures
+    ∙ ap (λ (b : Bool). c.args.self.now.read_failed || b)
+    (c.is_error-in-Failed.ensures ∙ sym (same_error c.in-Failed.why))) stands.peer.faults stands.marked)
+    stands
     (read_none s (g.L.ByteLink.start c.args.self.now.client.link)
     (g.L.ByteLink.start c.read_response_task.new.self.link)
     (g.L.ByteLink.state c.args.self.now.client.link)

@@ -1,6 +1,9 @@
 -- What the link took leaves the queue, and a fault is blamed.
-use Rattle.std.proofs.Common.{refl, ap, sym, ◌∙◌}
+use Rattle.std.proofs.Common.{Option, refl, ap, sym, subst, ◌∙◌}
+use Rattle.relay_tasks.specs.declared.error.Error.{Error}
 use Rattle.relay_peer.specs.declared.h1_client.H1Client.{H1Client}
+use Rattle.relay_sides.specs.Peer.{AreMarked}
+use Rattle.relay_sides.proofs.MarkLemmas.{marked_write}
 use Rattle.relay_sides.proofs.PeerLemmas.{side_stays, calm_put}
 use Rattle.relay_sides.proofs.SendLemmas.{write_goes}
 use Rattle.relay_sides.proofs.peer_side.PeerSideUp.write_pending.Goals as goal
@@ -10,6 +13,16 @@ returns-clause-goes g c = λ s q stands.
     side_stays s _ _ _ _ c.args.self.now _ q _ _ _ _ c.write_pending-put.ensures.start refl refl
     (λ calm still. calm_put c.args.self.now.told _ _ c.write_pending-put.result
     c.write_pending-put.ensures.failed calm (sym (ap (λ t. t.errors) c.written-self.ensures) ∙ still))
+    (subst (λ (e : Option Error). AreMarked (g.L.ByteLink.start c.args.self.now.client.link)
+    (g.L.ByteLink.state c.write_pending-put.new.self.link) c.write_pending-put.new.self.failed
+    c.args.self.now.read_failed e c.args.self.now.lost) (sym c.put_error-self.ensures)
+    (marked_write (g.L.ByteLink.start c.args.self.now.client.link)
+    (g.L.ByteLink.state c.args.self.now.client.link)
+    (g.L.ByteLink.state c.write_pending-put.new.self.link) c.args.self.now.client.request.unsent
+    c.write_pending-put.result c.args.self.now.client.failed c.write_pending-put.new.self.failed
+    c.args.self.now.read_failed c.args.self.now.send_failed c.args.self.now.lost
+    c.write_pending-put.ensures.answer.writes c.write_pending-put.ensures.failed
+    stands.peer.faults stands.peer.tells stands.marked))
     stands
     (write_goes s (g.L.ByteLink.start c.args.self.now.client.link)
     (g.L.ByteLink.start c.write_pending-put.new.self.link)
