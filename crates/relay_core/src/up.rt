@@ -22,8 +22,8 @@ use relay_tasks::{HttpTask, Pause, Result, Took};
 /// It also means what passed through it since its link was handed out, by a relation: each call
 /// takes every past to one that goes on from it. `blames` says that the side answers for an error,
 /// which it does from then on. `link` is its link as it stands: what an answer waits for stands in
-/// it. `start` is that link as it was handed out, which no call changes. `cuts` says how a task is cut
-/// out of what the link gave.
+/// it. `start` is that link as it was handed out, which no call changes. `cuts` says how a task is
+/// cut out of what the link gave.
 pub trait Up {
     ghost state: { Self → UpState };
 

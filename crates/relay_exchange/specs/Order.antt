@@ -51,8 +51,8 @@ pub record ArePieces (framing : Framing) (bytes : List ℕ) (pieces : List HttpT
 -- ---- the response
 
 -- these tasks are handed on of the response that the bytes say: its heads in order, and the first
--- bytes of its body; an end among them is the last of them, and the response's, and comes with a piece
--- where the body has a length, and alone where it has none
+-- bytes of its body; an end among them is the last of them, and the response's, and comes with a
+-- piece where the body has a length, and alone where it has none
 pub record AreOf (method : List ℕ) (closed : Bool) (got : List ℕ) (tasks : List HttpTask)
     : Type 0 where
   pub given : List HttpTask

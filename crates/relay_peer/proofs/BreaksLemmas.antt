@@ -1,7 +1,6 @@
 -- A response that is broken is broken for one reason, whatever was told of it.
-use Rattle.std.proofs.Common.{◌≡◌, ℕ, ◌≤◌, ◌<◌, false, List, take, drop, sym, ◌∙◌, subst, arith, Option, Some, None}
+use Rattle.std.proofs.Common.{◌≡◌, ℕ, ◌≤◌, false, List, take, drop, sym, ◌∙◌, subst, arith, Some}
 use Rattle.relay_tasks.specs.declared.context.Context.{Context}
-use Rattle.relay_tasks.specs.Head.{ResponseHead}
 use Rattle.relay_h1.specs.Head.{most_bytes}
 use Rattle.relay_h1.specs.HeadEnd.{head_end}
 use Rattle.relay_h1.specs.Verdict.{IsTooLong, IsRefusedAnswer, IsRefusedResponse}

@@ -1,5 +1,5 @@
 -- The end of a body comes alone only where no bytes of a length are missing.
-use Rattle.std.proofs.Common.{◌≡◌, ℕ, ◌+◌, ◌≤◌, ◌==◌, Bool, true, false, not, ◌||◌, List, [], length, take, refl, sym, ap, ◌∙◌, arith, inl, inr, length-take, nat_le, if◌then◌else◌}
+use Rattle.std.proofs.Common.{◌≡◌, ℕ, ◌+◌, ◌==◌, Bool, true, false, not, ◌||◌, List, [], length, take, refl, sym, ap, ◌∙◌, arith, inl, inr, length-take, nat_le, if◌then◌else◌}
 use Rattle.std.proofs.lemmas.Bool.{cases_Bool}
 use Rattle.std.proofs.lemmas.Bool.Decides.{nat_tests}
 use Rattle.relay_h1.specs.declared.framing.Framing.{Framing}

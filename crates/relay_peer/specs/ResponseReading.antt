@@ -295,8 +295,8 @@ is_in_length state.UntilClose = false
 is_in_length state.Tunnel = false
 is_in_length state.Done = false
 
--- a task of a body that is read from there: a piece as it is cut, or the end alone, which no body of
--- a length has
+-- a task of a body that is read from there: a piece as it is cut, or the end alone, which no body
+-- of a length has
 abbrev pub CutsBody : State → List ℕ → HttpTask → List ℕ → Type 0
 CutsBody at bytes (task.Header head end) rest = ⊥
 CutsBody at bytes (task.Body piece end) rest = IsCut at bytes piece end rest
@@ -355,8 +355,8 @@ FoundCuts old new bytes rest (found.Failed fail) = Unit {0}
 
 -- the bytes of a response are broken behind what was told, for that reason. Behind the heads that
 -- inform stands no head: none ends within the limit (`HeadTooLong`), the text is none
--- (`HeadGrammar`), or it has no framing (`BadFraming`). Or behind the final head the body is broken,
--- as one in chunks may be (`BadFraming`)
+-- (`HeadGrammar`), or it has no framing (`BadFraming`). Or behind the final head the body is
+-- broken, as one in chunks may be (`BadFraming`)
 pub data BreaksFor (method given : List ℕ) (told : ToldResponse) (why : Context) : Type 0 where
   in_head : IsRefusedBehind method false given told.informed why → told.final ≡ None
       → told.body ≡ [] → BreaksFor method given told why

@@ -208,8 +208,8 @@ impl<L: ByteLink> H1Client<L> {
     /// - `InvalidHTTPHeader`, about `HeadTooLong`, `HeadGrammar` or `BadFraming`: a head or the
     ///   body is broken at the next place.
     /// - The error of the link's fault.
-    /// - `ConnectionClosed`, about `UpstreamClosed`: the link ended inside the response. Its mark is `ReusedOnly` where no
-    ///   byte of the response had come, else `Decided(false)`.
+    /// - `ConnectionClosed`, about `UpstreamClosed`: the link ended inside the response. Its mark
+    ///   is `ReusedOnly` where no byte of the response had come, else `Decided(false)`.
     ///
     /// Out of memory aside, each of these comes exactly where the bytes and the link say so. After
     /// an error, and when out of memory, what was told stays, and a next call goes on from there.

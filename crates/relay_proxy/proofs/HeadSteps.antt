@@ -131,7 +131,8 @@ ended_going (b ∷ bytes) limit = cc
 
 module _ {L C : Type 0} (state : L → LinkState) (start_at : L → LinkStart) where
   -- a request begins: nothing passed yet
-  pub begins_reading : (w : World) → RunSoFar {C = C} state start_at (start_of w) nothing w [] ReadHead
+  pub begins_reading : (w : World)
+      → RunSoFar {C = C} state start_at (start_of w) nothing w [] ReadHead
   begins_reading w = record {
     tells = record {
       came = Since-start [] w.client.given;

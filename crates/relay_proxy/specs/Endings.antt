@@ -117,8 +117,8 @@ pub record IsNotRelayed (s : Start) (p : Passed) (w : World) (error : Option Err
   pub written : p.written ≡ []
   pub unsent : IsUnsent p
 
--- a read of the client's head failed, and its fault is the last that the link tells of its reads since
--- the request began
+-- a read of the client's head failed, and its fault is the last that the link tells of its reads
+-- since the request began
 pub record FailsInHead (s : Start) (p : Passed) (w : World) (fault : Fault) : Type 0 where
   pub kind : IsReadFault fault
   pub told : IsLast s.read_faults w.client.read_faults fault
@@ -134,8 +134,8 @@ pub record IsHalfAnswered (s : Start) (p : Passed) : Type 0 where
   pub part : IsFrontOf p.written answer
   pub left : p.written ≢ answer
 
--- a write of the generated answer failed, and its fault is the last that the link tells of its writes
--- since the request began
+-- a write of the generated answer failed, and its fault is the last that the link tells of its
+-- writes since the request began
 pub record FailsInRefusal (s : Start) (p : Passed) (w : World) (fault : Fault) : Type 0 where
   pub kind : IsWriteFault fault
   pub told : IsLast s.write_faults w.client.write_faults fault

@@ -1,5 +1,5 @@
 -- A read of the client: what the piece says of its state, and how what passed goes on with it.
-use Rattle.std.proofs.Common.{◌≡◌, ℕ, ◌<◌, ◌≤◌, Bool, true, false, List, [], ◌∷◌, ◌++◌, length, Option, Some, None, refl, sym, ◌∙◌, ap, subst, append-nil, append_assoc, length-append, inl, inr, arith}
+use Rattle.std.proofs.Common.{◌≡◌, ℕ, ◌<◌, ◌≤◌, Bool, true, false, List, [], ◌∷◌, ◌++◌, length, Option, Some, refl, sym, ◌∙◌, ap, subst, append-nil, append_assoc, length-append, inl, inr, arith}
 use Rattle.std.specs.Prelude.{◌||◌, ◌&&◌, ◌⊎◌, ◌==◌, not}
 use Rattle.std.specs.List.{list_any}
 use Rattle.std.proofs.lemmas.Bool.{cases_Bool}
@@ -335,8 +335,8 @@ module _
     broken = λ fault is.
         let was = h.broken fault (ap (λ (w : Writing). w.output) (sym l.response) ∙ is) in
         failed_still s before after fault l.link.faults (body_grew before after answer l.link) was;
-    tells = since_on s.read_faults s.write_faults before after (body_grew before after answer l.link)
-        h.tells;
+    tells = since_on s.read_faults s.write_faults before after
+        (body_grew before after answer l.link) h.tells;
   }
 
 -- a read that gave bytes gave one at least
@@ -351,7 +351,8 @@ refused_rest : (s : Origin) (q : DownPast) (before after : LinkState) (body : Li
     → RefusesRest before after (given_to s q) body e → ClientBlames s q after e
 refused_rest s q before after body e earlier tells (says.RefusesRest.is_broken broken is) =
     client.ClientBlames.body_is_broken body broken is
-refused_rest s q before after body e earlier tells (says.RefusesRest.ends_inside open_still ends is) =
+refused_rest s q before after body e earlier tells
+    (says.RefusesRest.ends_inside open_still ends is) =
     client.ClientBlames.ends_inside body open_still ends.ended is
 refused_rest s q before after body e earlier tells
     (says.RefusesRest.link_failed fault open_still fails is) =
@@ -376,13 +377,15 @@ stirred : (s : Origin) (q : DownPast) (before after : LinkState) (ahead left bod
     (e : Error) → s.faults ≤ before.faults → TellsSince s.read_faults s.write_faults before
     → IsWhole (given_to s q) body left → IsUnanswered s q
     → front.Stirs before after ahead left e → ClientBlames s q after e
-stirred s q before after ahead left body e earlier tells whole unanswered (front.Stirs.had_sent some same kept is) =
+stirred s q before after ahead left body e earlier tells whole unanswered
+    (front.Stirs.had_sent some same kept is) =
     client.ClientBlames.sent_more body left whole (rw kept some) unanswered is
 stirred s q before after ahead left body e earlier tells whole unanswered
     (front.Stirs.sends came none gave kept is) =
     client.ClientBlames.sent_more body left whole (rw kept (gave_some before after came gave))
     unanswered is
-stirred s q before after ahead left body e earlier tells whole unanswered (front.Stirs.ends none ends kept is) =
+stirred s q before after ahead left body e earlier tells whole unanswered
+    (front.Stirs.ends none ends kept is) =
     client.ClientBlames.ends_behind body
     (subst (λ (xs : List ℕ). IsWhole (given_to s q) body xs) (kept ∙ none) whole) ends.ended
     unanswered is
@@ -410,17 +413,21 @@ blamed : (s : Origin) (q : DownPast) (before after : LinkState) (given ahead lef
     → given_to s q ≡ given ++ r.came
     → error_of_took (piece_answer answer (is_body_done new.reading)) ≡ Some e
     → ClientBlames s q after e
-blamed s q before after given ahead left body still new (took.Item bytes) e earlier tells unanswered r all is =
+blamed s q before after given ahead left body still new (took.Item bytes) e earlier tells
+    unanswered r all is =
     absurd (cc)
-blamed s q before after given ahead left body still new took.More e earlier tells unanswered r all is = absurd (cc)
-blamed s q before after given ahead left body still new (took.Waited pause) e earlier tells unanswered r all is =
+blamed s q before after given ahead left body still new took.More e earlier tells unanswered r all
+    is = absurd (cc)
+blamed s q before after given ahead left body still new (took.Waited pause) e earlier tells
+    unanswered r all is =
     absurd (cc)
-blamed s q before after given ahead left body still new took.End e earlier tells unanswered r all is = absurd (cc)
-blamed s q before after given ahead left body still new (took.Failed fail.OutOfMemory) e earlier tells unanswered r
-    all is =
+blamed s q before after given ahead left body still new took.End e earlier tells unanswered r all
+    is = absurd (cc)
+blamed s q before after given ahead left body still new (took.Failed fail.OutOfMemory) e earlier
+    tells unanswered r all is =
     absurd (cc)
-blamed s q before after given ahead left body still new (took.Failed (fail.Error error)) e earlier tells unanswered r
-    all is =
+blamed s q before after given ahead left body still new (took.Failed (fail.Error error)) e earlier
+    tells unanswered r all is =
     subst (λ (err : Error). ClientBlames s q after err) (same_error error e is)
     (elim (cases_Bool still) [
       | inl on ↦ let w = r.watches on in

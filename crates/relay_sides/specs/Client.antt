@@ -159,8 +159,8 @@ abbrev pub IsUnanswered : Origin → DownPast → Type 0
 IsUnanswered s p =
     is_over (wire (request_of s.head) place.NoHead (queued p)).place ≡ false
 
--- a read of the client's link failed so, last of those since the request began, and its fault counts:
--- the body of the request is open, or the response is not over
+-- a read of the client's link failed so, last of those since the request began, and its fault
+-- counts: the body of the request is open, or the response is not over
 pub record CountsRead (s : Origin) (p : DownPast) (link : LinkState) (fault : Fault) : Type 0 where
   pub kind : IsReadFault fault
   pub last : IsLast s.read_faults link.read_faults fault

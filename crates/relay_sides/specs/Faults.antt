@@ -1,4 +1,5 @@
--- Which faults a link answered: a peer's since it was handed out, a client's since its request began.
+-- Which faults a link answered: a peer's since it was handed out, a client's since its request
+-- began.
 use Rattle.std.specs.Prelude.{ℕ, List, [], ◌∷◌, ◌++◌, Option}
 use Rattle.relay_tasks.specs.declared.fault.Fault.{Fault}
 use Rattle.relay_links.specs.Link.{LinkState, LinkStart, IsReadFault, IsWriteFault}

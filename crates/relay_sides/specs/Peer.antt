@@ -323,8 +323,9 @@ pub record IsNew {L : Type 0} (side : PeerSide L) : Type 0 where
   pub unread : side.read_failed ≡ false
   pub unsent : side.send_failed ≡ None
 
--- a read of a task asks the link once at most, and cuts a piece of the body out of the bytes ahead and
--- those that came: all that they hold of its run, with the end exactly where it completes a length
+-- a read of a task asks the link once at most, and cuts a piece of the body out of the bytes ahead
+-- and those that came: all that they hold of its run, with the end exactly where it completes a
+-- length
 pub record CutsTask
     (before after : LinkState) (old new : ResponseReading) (answer : Took HttpTask)
     : Type 0 where

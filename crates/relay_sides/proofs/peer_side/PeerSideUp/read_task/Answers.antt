@@ -1,5 +1,5 @@
 -- Each answer of a read: the side goes on with the bytes that came, and with its task.
-use Rattle.std.proofs.Common.{Bool, ◌||◌, List, [], None, refl, sym, ap, ◌∙◌, append-nil}
+use Rattle.std.proofs.Common.{Bool, ◌||◌, [], None, refl, sym, ap, ◌∙◌, append-nil}
 use Rattle.relay_peer.specs.declared.h1_client.H1Client.{H1Client}
 use Rattle.relay_tasks.specs.declared.took.Took.TheVariants as took
 use Rattle.relay_sides.proofs.PeerLemmas.{more_gave, end_read, stopped_still, read_none, read_hands, read_stops, side_stays, side_hands, calm_same, calm_failed, calm_withheld, calm_paused, cuts_handed, cuts_none, or_none}
