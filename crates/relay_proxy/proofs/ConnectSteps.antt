@@ -99,7 +99,7 @@ module _ {L : Type 0} (state : L → LinkState) (start_at : L → LinkStart) whe
   up_holds : (o : Origin) (p : DownPast) (q : UpPast) (link : LinkState) (ahead : List ℕ)
       (down : ClientSide) (up : PeerSide L) (at : Stage)
       → StageHolds state start_at o p q link ahead down up at → UpHolds state start_at up o q
-  up_holds o p q link ahead down up stage.Head begins = begins.up_holds
+  up_holds o p q link ahead down up stage.Head begins = begins.0.up_holds
   up_holds o p q link ahead down up (stage.Bodies duplex) flows = flows.so_far.up
 
   -- an exchange that is under way is over a link that tells what passed

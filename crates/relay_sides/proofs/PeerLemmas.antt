@@ -518,9 +518,11 @@ read_stops {L} o start started before after old new stopped lost q item why open
     (peer_read o start before after old new None (Some why) lost q b.came q.read stands.given
     (item ∷ []) b.asked stands kept b.moves b.tasks stands.is_read stands.none_switches
     stands.have_room
-    (λ some. absurd (cc))
-    (withheld_head b.told stands.head.method item why b.is
-    (subst (λ (m : List ℕ). Withholds m item why) method withholds), tt)
+    (λ some. absurd (cc)) (
+      withheld_head b.told stands.head.method item why b.is
+          (subst (λ (m : List ℕ). Withholds m item why) method withholds),
+      tt,
+    )
     (λ e is. blamed e (some_fail why (fail.Error e) is))
     (calm_read start before after q.got b.came b.asked old.failed new.failed (took.Item item) b.moves
     b.fails failed stands.calm))
