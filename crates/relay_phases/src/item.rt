@@ -29,6 +29,8 @@ pub(crate) fn session_item(seen: &mut Seen) -> Result<Told>
     ensures ok { IfOk result (λ told. told.item ≡ Item.Request (request_head seen.old)) }
     ensures memory { IsOkUnless result Fail.OutOfMemory }
     ensures same { seen.new ≡ seen.old }
+    ensures stands { IsSome (head_of seen.new.downstream.reading) }
+    ensures shown { head_of seen.old.downstream.reading ≡ Some (request_head seen.old) }
 {
     Ok(Told {
         item: Item::Request(seen.share_req_header()?),

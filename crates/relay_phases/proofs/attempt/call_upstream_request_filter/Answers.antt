@@ -1,6 +1,7 @@
 -- The head is copied before the call and behind it.
-use Rattle.std.proofs.Common.{◌≡◌, ℕ, Some, None, false, ap, subst, ◌∙◌}
+use Rattle.std.proofs.Common.{◌≡◌, ℕ, Some, None, false, ap, subst, sym, ◌∙◌}
 use Rattle.std.proofs.lemmas.Result.{err_from_is_err_and}
+use Rattle.relay_tasks.specs.Head.{RequestHead}
 use Rattle.relay_tasks.specs.declared.hook.Hook.TheVariants.{UpstreamRequestFilter}
 use Rattle.relay_tasks.specs.declared.log.Item.{Item}
 use Rattle.relay_tasks.specs.declared.log.Item.TheVariants.{Request}
@@ -9,6 +10,7 @@ use Rattle.relay_modules.specs.declared.seen.Seen.{Seen}
 use Rattle.relay_hooks.specs.Call.{AskedOf, changed}
 use Rattle.relay_hooks.specs.Laws.{LeavesUnless}
 use Rattle.relay_hooks.specs.Session.{Leaves, moment}
+use Rattle.relay_calls.specs.Calls.{Calls, Enters}
 use Rattle.relay_calls.specs.Entry.{cleared, told, with_entry}
 use Rattle.relay_phases.specs.Settled.{left_of}
 use Rattle.relay_phases.proofs.EnterLemmas.{entered}
@@ -80,7 +82,13 @@ returns g c =
     UpstreamRequestFilter (Request c.args.head.now) (moment s before)
     (changed (Request c.upstream_request_filter-answer.new.head)
     c.upstream_request_filter-answer.result) (moment returned after))
-    c.begin-begun.ensures.seen c.upstream_request_filter-answer.ensures.allowed in
+    c.begin-begun.ensures.seen
+    (subst
+    (λ (h : RequestHead). AskedOf None false (g.SV.ProxyHttp.allows c.args.app.now)
+    UpstreamRequestFilter (Request h) (moment c.begin-begun.new.seen before)
+    (changed (Request c.upstream_request_filter-answer.new.head)
+    c.upstream_request_filter-answer.result) (moment returned after))
+    c.request_item.ensures.same c.upstream_request_filter-answer.ensures.allowed) in
     let is_new : new ≡ with_entry returned
     (told c.begin-begun.result c.in_ok-outcome.outcome (moment returned after)) =
     subst
@@ -89,10 +97,15 @@ returns g c =
     c.mark.ensures c.in_ok-log_call.ensures.ok in
     record {
       calls =
-          entered None false Leaves (g.SV.ProxyHttp.allows c.args.app.now) UpstreamRequestFilter
+          subst
+          (λ (h : RequestHead). Enters (changed (Request h) c.upstream_request_filter-answer.result)
+          (Calls (g.SV.ProxyHttp.allows c.args.app.now) UpstreamRequestFilter
+          (Request c.args.head.now) old before new after) old new)
+          (sym c.request_item-2.ensures.same)
+          (entered None false Leaves (g.SV.ProxyHttp.allows c.args.app.now) UpstreamRequestFilter
           (Request c.args.head.now) old returned new before after
           (changed (Request c.upstream_request_filter-answer.new.head)
           c.upstream_request_filter-answer.result)
           c.begin-begun.result c.in_ok-outcome.outcome is_begun is_answer lawful
-          (Leaves-log (cleared old) returned lawful) allowed is_new;
+          (Leaves-log (cleared old) returned lawful) allowed is_new);
     }
