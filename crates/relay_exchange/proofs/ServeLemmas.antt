@@ -51,7 +51,7 @@ never_short s p closed link start order lost e (peer.PeerBlames.is_cut_off told 
     same =
     let wrong = ap (λ (x : Error). x.etype) (sym is ∙ same) in cc
 never_short s p closed link start order lost e
-    (peer.PeerBlames.is_broken why closed_then came told is front reads) same =
+    (peer.PeerBlames.is_broken why closed_then came told is front reads for) same =
     let wrong = ap (λ (x : Error). x.etype) (sym is ∙ same) in cc
 never_short s p closed link start order lost e
     (peer.PeerBlames.switches informed final given len has status is) same =
