@@ -321,9 +321,9 @@ impl Down<()> for Client {
 }
 
 /// Takes as many steps by that schedule, and answers as the last.
-fn run<D: Down, U: Up, H: Schedule>(
+fn run<C, D: Down<C>, U: Up, H: Schedule>(
     duplex: &mut Duplex,
-    client: &mut D::Client,
+    client: &mut C,
     down: &mut D,
     up: &mut U,
     schedule: &mut H,
