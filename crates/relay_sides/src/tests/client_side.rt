@@ -72,7 +72,7 @@ fn word(took: &Took<Piece>) -> &'static str {
 
 /// What a read gives, where the client may be read.
 fn read_word(side: &mut Side, client: &mut Client) -> &'static str {
-    if !side.may_read() {
+    if !Down::<Client>::may_read(side) {
         return "unread";
     }
     word(&side.read_piece(client, false))
@@ -124,8 +124,11 @@ fn queue_response(rt: &impl Abort, alloc: Global, side: &mut Side) -> Checked {
     let mut tasks = TaskList::new(alloc);
     tasks.push(HttpTask::Header(head, false))?;
     tasks.push(HttpTask::Body(Some(Bytes::from_static(b"hello")), false))?;
-    assert_eq!(rt; side.take_batch(tasks, UpKind::H1), Ok(true));
-    assert!(rt; side.has_pending());
+    assert_eq!(rt;
+        Down::<Client>::take_batch(side, tasks, UpKind::H1),
+        Ok(true)
+    );
+    assert!(rt; Down::<Client>::has_pending(side));
     Ok(())
 }
 
@@ -135,12 +138,12 @@ fn writes_a_batch(rt: HostRuntime) -> Checked {
     let mut client = client(rt.alloc(), head, b"", WriteItem::Take(1000))?;
     let mut side = side_of(rt.alloc(), &mut client);
     queue_response(&rt, rt.alloc(), &mut side)?;
-    if side.has_pending() {
+    if Down::<Client>::has_pending(&side) {
         assert!(rt; matches!(side.write_pending(&mut client), Put::Took(_)));
     }
-    assert!(rt; !side.has_pending());
-    assert_eq!(rt; side.finish(), Ok(()));
-    assert!(rt; !side.has_pending());
+    assert!(rt; !Down::<Client>::has_pending(&side));
+    assert_eq!(rt; Down::<Client>::finish(&mut side), Ok(()));
+    assert!(rt; !Down::<Client>::has_pending(&side));
     assert_eq!(rt;
         str::from_utf8(client.link().taken()),
         Ok("HTTP/1.1 200 OK\r\ncontent-length: 5\r\n\r\nhello")
@@ -158,15 +161,15 @@ fn keeps_the_fault_of_a_write(rt: HostRuntime) -> Checked {
     let mut client = client(rt.alloc(), head, b"", WriteItem::Fault(fault))?;
     let mut side = side_of(rt.alloc(), &mut client);
     queue_response(&rt, rt.alloc(), &mut side)?;
-    if side.has_pending() {
+    if Down::<Client>::has_pending(&side) {
         assert!(rt; matches!(side.write_pending(&mut client), Put::Failed(_)));
     }
-    assert!(rt; side.has_pending());
-    if side.has_pending() {
+    assert!(rt; Down::<Client>::has_pending(&side));
+    if Down::<Client>::has_pending(&side) {
         assert!(rt; matches!(side.write_pending(&mut client), Put::Failed(_)));
     }
-    assert!(rt; side.has_pending());
-    assert!(rt; side.finish().is_err());
-    assert_eq!(rt; side.told().errors, 3);
+    assert!(rt; Down::<Client>::has_pending(&side));
+    assert!(rt; Down::<Client>::finish(&mut side).is_err());
+    assert_eq!(rt; Down::<Client>::told(&side).errors, 3);
     Ok(())
 }
