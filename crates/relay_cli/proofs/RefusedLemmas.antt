@@ -3,6 +3,8 @@ use Rattle.std.proofs.Common.{◌≡◌, ◌≢◌, ℕ, zero, suc, true, List, 
 use Rattle.std.proofs.lemmas.Option.{same_Some}
 use Rattle.relay_links.specs.Link.{LinkState, LinkItems}
 use Rattle.relay_links.specs.ReadScript.{given_of, left_items, script_given, script_left, IsAtEnd}
+use Rattle.relay_links.specs.ReadScript as reads
+use Rattle.relay_links.specs.WriteScript as writes
 use Rattle.relay_links.specs.ScriptLink.{script_state, script_start, IsFresh}
 use Rattle.relay_links.specs.Told.{Since, told_length}
 use Rattle.relay_links.specs.declared.connector.Returned.{Returned}
@@ -109,9 +111,9 @@ always_limit script client connector schedule processed fresh offered named outc
             connect_faults = omega arith;
             fault_lists = record {
               reads = [];
-              read = (omega arith, drop_all _);
+              read = (omega arith, drop_all (reads.script_faults client.reads));
               writes = [];
-              written = (omega arith, drop_all _);
+              written = (omega arith, drop_all (writes.script_faults client.writes));
             };
           };
           order = is_nothing refl refl;

@@ -4,6 +4,7 @@ ghost use Rattle.relay_session.specs.Reading.{head_of};
 
 use crate::heads::{request_head, response_head};
 use bytes::Bytes;
+use http::Version;
 use relay_calls::{
     call_request_body_filter, call_response_body_filter, call_response_filter,
     call_upstream_response_body_filter, call_upstream_response_filter,
@@ -31,6 +32,7 @@ pub(crate) fn log_requests(alloc: Global, requests: usize) -> Result<usize> {
     let mut entries = 0;
     for _ in 0..requests {
         session.seen.log = PhaseLog::new(alloc);
+        make_new(&mut session, &mut sent, &mut got)?;
         before_the_attempt(&app, &mut session)?;
         in_the_attempt(&app, &mut session, &mut sent)?;
         with_the_head(&app, &mut session, &mut got)?;
@@ -39,6 +41,19 @@ pub(crate) fn log_requests(alloc: Global, requests: usize) -> Result<usize> {
         entries = session.seen.log.len();
     }
     Ok(entries)
+}
+
+/// Lets go of what the heads have shared, as the heads of a next request have shared nothing.
+fn make_new(
+    session: &mut Session<NoModules>,
+    sent: &mut RequestHeader,
+    got: &mut ResponseHeader,
+) -> Result<()> {
+    stands(session)?;
+    session.req_header_mut().set_send_end_stream(true);
+    sent.set_send_end_stream(true);
+    got.set_version(Version::HTTP_11);
+    Ok(())
 }
 
 fn peer() -> Peer {
