@@ -15,6 +15,7 @@ pub struct Reply {
 }
 
 /// The error of an answer, or none. Fails out of memory alone, where the answer does.
+#[inline(always)]
 pub fn error_of<T>(answer: &Result<T>) -> Result<Option<Error>>
     ensures { result ≡ outcome_of answer.now }
 {
@@ -26,6 +27,7 @@ pub fn error_of<T>(answer: &Result<T>) -> Result<Option<Error>>
 }
 
 /// The delay in milliseconds that a filter of pieces answered, or none.
+#[inline(always)]
 pub(crate) fn delay_of(answer: &Result<Option<u64>>) -> Option<u64>
     ensures { result ≡ delay_of answer.now }
 {

@@ -37,6 +37,7 @@ pub struct Told {
 
 /// Begins a call of that hook, with that mark and input: the head counts as untouched, and nothing
 /// as queued.
+#[inline(always)]
 pub fn begin(seen: &mut Seen, hook: Hook, mark: u64, input: Told) -> Begun
     ensures seen { seen.new ≡ cleared seen.old }
     ensures begun { result ≡ record {
@@ -60,6 +61,7 @@ pub fn begin(seen: &mut Seen, hook: Hook, mark: u64, input: Told) -> Begun
 /// of which none is noted then.
 ///
 /// Fails out of memory alone, and then the log is as before.
+#[inline(always)]
 pub fn log_call(seen: &mut Seen, begun: Begun, outcome: Outcome, mark: u64) -> Result<()>
     requires { IsSome (head_of seen.old.downstream.reading) }
     ensures ok { OnOk result (seen.new
@@ -96,6 +98,7 @@ pub fn log_call(seen: &mut Seen, begun: Begun, outcome: Outcome, mark: u64) -> R
 }
 
 /// The head that an entry tells: that of a session which was lent its head.
+#[inline(always)]
 fn told_head(seen: &mut Seen) -> Result<Option<SharedRequest>>
     requires { IsSome (head_of seen.old.downstream.reading) }
     ensures ok { IfOk result (λ told. told

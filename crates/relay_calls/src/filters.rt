@@ -225,7 +225,7 @@ pub fn call_upstream_response_trailer_filter<SV: ProxyHttp>(
         session.old.seen (SV.mark_of app.now ctx.old)
         session.new.seen (SV.mark_of app.now ctx.new)) session.old.seen session.new.seen }
 {
-    let input = fields_item(trailers)?;
+    let input = fields_item(session.seen.alloc, trailers)?;
     let begun = begin(
         &mut session.seen,
         Hook::UpstreamResponseTrailerFilter,
@@ -235,7 +235,7 @@ pub fn call_upstream_response_trailer_filter<SV: ProxyHttp>(
     let alloc = session.seen.alloc;
     let answer = app.upstream_response_trailer_filter(alloc, session, trailers, ctx);
     let error = error_of(&answer)?;
-    let left = fields_item(trailers)?;
+    let left = fields_item(session.seen.alloc, trailers)?;
     let outcome = Outcome {
         output: left.item,
         error,
@@ -261,7 +261,7 @@ pub fn call_response_trailer_filter<SV: ProxyHttp>(
         session.old.seen (SV.mark_of app.now ctx.old)
         session.new.seen (SV.mark_of app.now ctx.new)) session.old.seen session.new.seen }
 {
-    let input = fields_item(trailers)?;
+    let input = fields_item(session.seen.alloc, trailers)?;
     let begun = begin(
         &mut session.seen,
         Hook::ResponseTrailerFilter,
@@ -271,7 +271,7 @@ pub fn call_response_trailer_filter<SV: ProxyHttp>(
     let alloc = session.seen.alloc;
     let reply = reply_of(app.response_trailer_filter(alloc, session, trailers, ctx))?;
     let error = reply.error;
-    let left = trailed_item(trailers, &reply.bytes)?;
+    let left = trailed_item(alloc, trailers, &reply.bytes)?;
     let outcome = Outcome {
         output: left.item,
         error,

@@ -7,10 +7,11 @@ ghost use Rattle.relay_hooks.specs.Call.{trailed};
 use crate::entry::Told;
 use bytes::Bytes;
 use http_header::HeaderMap;
-use relay_tasks::{Fail, Item, ResponseHeader, Result, copy_fields, copy_piece, copy_trailers};
+use relay_tasks::{Fail, Item, ResponseHeader, Result, Shared, copy_fields, copy_piece};
 use std::alloc::Global;
 
 /// No item.
+#[inline(always)]
 pub fn nothing() -> Told
     ensures { result.item ≡ Item.Nothing }
 {
@@ -20,6 +21,7 @@ pub fn nothing() -> Told
 }
 
 /// A head of a response; `end` says that the response ends with it.
+#[inline(always)]
 pub fn head_item(alloc: Global, head: &mut ResponseHeader, end: bool) -> Result<Told>
     ensures ok { IfOk result (λ told. told.item ≡ Item.Response head.old end) }
     ensures memory { IsOkUnless result Fail.OutOfMemory }
@@ -31,6 +33,7 @@ pub fn head_item(alloc: Global, head: &mut ResponseHeader, end: bool) -> Result<
 }
 
 /// A piece of a body; `end` says that the body ends with it.
+#[inline(always)]
 pub fn piece_item(piece: &Option<Bytes>, end: bool) -> Result<Told>
     ensures ok { IfOk result (λ told. told.item ≡ Item.Piece piece.now end) }
     ensures memory { IsOkUnless result Fail.OutOfMemory }
@@ -41,23 +44,26 @@ pub fn piece_item(piece: &Option<Bytes>, end: bool) -> Result<Told>
 }
 
 /// Trailer fields.
-pub fn fields_item(fields: &HeaderMap) -> Result<Told>
+pub fn fields_item(alloc: Global, fields: &HeaderMap) -> Result<Told>
     ensures ok { IfOk result (λ told. told.item ≡ Item.Trailers (Some fields.now)) }
     ensures memory { IsOkUnless result Fail.OutOfMemory }
 {
     Ok(Told {
-        item: Item::Trailers(Some(copy_fields(fields)?)),
+        item: Item::Trailers(Some(Shared::new(alloc, copy_fields(fields)?)?)),
     })
 }
 
 /// Trailer fields, or none.
-pub fn trailers_item(trailers: &Option<HeaderMap>) -> Result<Told>
+pub fn trailers_item(alloc: Global, trailers: &Option<HeaderMap>) -> Result<Told>
     ensures ok { IfOk result (λ told. told.item ≡ Item.Trailers trailers.now) }
     ensures memory { IsOkUnless result Fail.OutOfMemory }
 {
-    Ok(Told {
-        item: Item::Trailers(copy_trailers(trailers)?),
-    })
+    match trailers {
+        Some(fields) => fields_item(alloc, fields),
+        None => Ok(Told {
+            item: Item::Trailers(None),
+        }),
+    }
 }
 
 /// The bytes that a filter answered, as the last piece of the body.
@@ -71,13 +77,13 @@ fn last_piece(bytes: &Bytes) -> Result<Told>
 }
 
 /// Trailer fields, or in their place the bytes that their filter answered.
-pub fn trailed_item(fields: &HeaderMap, bytes: &Option<Bytes>) -> Result<Told>
+pub fn trailed_item(alloc: Global, fields: &HeaderMap, bytes: &Option<Bytes>) -> Result<Told>
     ensures ok { IfOk result (λ told. told.item ≡ trailed fields.now bytes.now) }
     ensures memory { IsOkUnless result Fail.OutOfMemory }
 {
     match bytes {
         Some(bytes) => last_piece(bytes),
-        None => fields_item(fields),
+        None => fields_item(alloc, fields),
     }
 }
 

@@ -144,12 +144,12 @@ pub fn call_module_response_trailer<SV: ProxyHttp>(
     ensures narrows { (call : ModuleCall) → SV.Modules.allows session.new.modules call
         → SV.Modules.allows session.old.modules call }
 {
-    let input = trailers_item(trailers)?;
+    let input = trailers_item(session.seen.alloc, trailers)?;
     let mark = app.mark(ctx);
     let begun = begin(&mut session.seen, Hook::ModuleResponseTrailer, mark, input);
     let reply = reply_of(session.modules.response_trailer_filter(trailers))?;
     let error = reply.error;
-    let left = piece_or(&reply.bytes, trailers_item(trailers)?)?;
+    let left = piece_or(&reply.bytes, trailers_item(session.seen.alloc, trailers)?)?;
     let outcome = Outcome {
         output: left.item,
         error,

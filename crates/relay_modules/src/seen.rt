@@ -71,6 +71,7 @@ impl Seen {
     }
 
     /// What a log entry shows of the session. It keeps no replay and offers no upgrade.
+    #[inline(always)]
     pub fn view(&self) -> View
         ensures { result ≡ view_of self.now }
     {
@@ -93,6 +94,7 @@ impl Seen {
     /// change, and by no other.
     ///
     /// Fails out of memory alone.
+    #[inline(always)]
     pub fn share_req_header(&mut self) -> Result<SharedRequest>
         requires { IsSome (head_of self.old.downstream.reading) }
         ensures ok { IfOk result (λ shared. head_of self.old.downstream.reading ≡ Some shared) }
@@ -114,6 +116,7 @@ impl Seen {
     }
 
     /// What a call of a hook begins with: the head counts as untouched, and nothing as queued.
+    #[inline(always)]
     pub fn begin_call(&mut self)
         ensures { self.new ≡ record self.old { touched = false; wrote = [] } }
     {
@@ -122,6 +125,7 @@ impl Seen {
     }
 
     /// The tasks that were noted as queued, of which none is noted then.
+    #[inline(always)]
     pub fn take_wrote(&mut self) -> TaskList
         ensures tasks { result ≡ self.old.wrote }
         ensures rest { self.new ≡ record self.old { wrote = [] } }

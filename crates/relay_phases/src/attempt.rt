@@ -132,7 +132,7 @@ pub fn call_custom_forwarding<SV: ProxyHttp>(
     let begun = begin_with_head(&mut session.seen, Hook::CustomForwarding, app.mark(ctx))?;
     let alloc = session.seen.alloc;
     let settled = settle(app.custom_forwarding(alloc, session, ctx))?;
-    let outcome = settled.injected()?;
+    let outcome = settled.injected(alloc)?;
     log_call(&mut session.seen, begun, outcome, app.mark(ctx))?;
     settled.into_answer()
 }

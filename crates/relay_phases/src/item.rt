@@ -13,6 +13,7 @@ use relay_modules::Seen;
 use relay_tasks::{Error, Fail, Hook, Item, Peer, RequestHeader, Result};
 
 /// A head of a request.
+#[inline(always)]
 pub(crate) fn request_item(head: &mut RequestHeader) -> Result<Told>
     ensures ok { IfOk result (λ told. told.item ≡ Item.Request head.old) }
     ensures memory { IsOkUnless result Fail.OutOfMemory }
@@ -24,6 +25,7 @@ pub(crate) fn request_item(head: &mut RequestHeader) -> Result<Told>
 }
 
 /// The head of the session's request.
+#[inline(always)]
 pub(crate) fn session_item(seen: &mut Seen) -> Result<Told>
     requires { IsSome (head_of seen.old.downstream.reading) }
     ensures ok { IfOk result (λ told. told.item ≡ Item.Request (request_head seen.old)) }
@@ -38,6 +40,7 @@ pub(crate) fn session_item(seen: &mut Seen) -> Result<Told>
 }
 
 /// A peer; `reused` says that its link had been used before.
+#[inline(always)]
 pub(crate) fn peer_item(peer: &Peer, reused: bool) -> Result<Told>
     ensures ok { IfOk result (λ told. told.item ≡ Item.Addressed peer.now reused) }
     ensures memory { IsOkUnless result Fail.OutOfMemory }
@@ -58,6 +61,7 @@ pub(crate) fn message_item(message: &Bytes, final_hop: bool) -> Result<Told>
 }
 
 /// An error.
+#[inline(always)]
 pub(crate) fn error_item(error: Error) -> Told
     ensures { result.item ≡ Item.Failure error }
 {
@@ -67,6 +71,7 @@ pub(crate) fn error_item(error: Error) -> Told
 }
 
 /// An error, or nothing for none.
+#[inline(always)]
 pub(crate) fn failure_item(error: Option<Error>) -> Told
     ensures { result.item ≡ failure error }
 {
@@ -82,6 +87,7 @@ pub(crate) fn failure_item(error: Option<Error>) -> Told
 /// request's head.
 ///
 /// Fails out of memory alone, and then nothing has changed.
+#[inline(always)]
 pub(crate) fn begin_with_head(seen: &mut Seen, hook: Hook, mark: u64) -> Result<Begun>
     requires { IsSome (head_of seen.old.downstream.reading) }
     ensures begun { IfOk result (λ begun. begun ≡ record {

@@ -9,7 +9,8 @@ ghost use Rattle.relay_phases.specs.Settled.{handed, left_of};
 use bytes::Bytes;
 use relay_calls::Outcome;
 use relay_hooks::FailToProxy;
-use relay_tasks::{Error, Fail, Injected, Item, Peer, Result, copy_piece};
+use relay_tasks::{Error, Fail, Injected, Item, Peer, Result, Shared, copy_piece};
+use std::alloc::Global;
 
 /// What a hook answered, or its error.
 #[derive(Drop)]
@@ -18,6 +19,7 @@ pub(crate) struct Settled<T> {
 }
 
 /// Splits off out of memory, which is the only failure.
+#[inline(always)]
 pub(crate) fn settle<T>(answer: Result<T>) -> Result<Settled<T>>
     ensures ok { IfOk result (λ settled. answer ≡ handed settled) }
     ensures err { OnErr result (answer ≡ Err Fail.OutOfMemory) }
@@ -32,6 +34,7 @@ pub(crate) fn settle<T>(answer: Result<T>) -> Result<Settled<T>>
 
 impl<T> Settled<T> {
     /// The hook's own answer.
+    #[inline(always)]
     pub(crate) fn into_answer(self) -> Result<T>
         ensures { result ≡ handed self }
     {
@@ -43,6 +46,7 @@ impl<T> Settled<T> {
 }
 
 /// A call that left this and has no error.
+#[inline(always)]
 pub(crate) fn only(output: Item) -> Outcome
     ensures { left_of result ≡ only output }
 {
@@ -54,6 +58,7 @@ pub(crate) fn only(output: Item) -> Outcome
 }
 
 /// A call that left this and has that error.
+#[inline(always)]
 pub(crate) fn failed(output: Item, error: Error) -> Outcome
     ensures { left_of result ≡ failed output error }
 {
@@ -66,6 +71,7 @@ pub(crate) fn failed(output: Item, error: Error) -> Outcome
 
 /// A call that left this and answered nothing, or an error. Fails out of memory alone, where the
 /// hook did.
+#[inline(always)]
 pub(crate) fn changed(output: Item, answer: &Result<()>) -> Result<Outcome>
     ensures ok { IfOk result (λ outcome. changed output answer.now ≡ Some (left_of outcome)) }
     ensures err { OnErr result (answer.now ≡ Err Fail.OutOfMemory) }
@@ -79,6 +85,7 @@ pub(crate) fn changed(output: Item, answer: &Result<()>) -> Result<Outcome>
 }
 
 /// A call that answered whether something is so. Fails out of memory alone, where the hook did.
+#[inline(always)]
 pub(crate) fn said(answer: &Result<bool>) -> Result<Outcome>
     ensures ok { IfOk result (λ outcome. answered Item.Answer answer.now ≡ Some (left_of outcome)) }
     ensures err { OnErr result (answer.now ≡ Err Fail.OutOfMemory) }
@@ -108,6 +115,7 @@ pub(crate) fn told(answer: &Result<FailToProxy>) -> Result<Outcome>
 
 impl Settled<Peer> {
     /// A call that named a peer.
+    #[inline(always)]
     pub(crate) fn named(&self) -> Result<Outcome>
         ensures ok { IfOk result (λ outcome.
             answered (λ peer. Item.Addressed peer false) (handed self.now)
@@ -123,13 +131,13 @@ impl Settled<Peer> {
 
 impl Settled<Injected> {
     /// A call that gave messages to be sent in front.
-    pub(crate) fn injected(&self) -> Result<Outcome>
+    pub(crate) fn injected(&self, alloc: Global) -> Result<Outcome>
         ensures ok { IfOk result (λ outcome. answered Item.Injected (handed self.now)
             ≡ Some (left_of outcome)) }
         ensures memory { IsOkUnless result Fail.OutOfMemory }
     {
         match &self.answer {
-            Ok(injected) => Ok(only(Item::Injected(injected.copy()?))),
+            Ok(injected) => Ok(only(Item::Injected(Shared::new(alloc, injected.copy()?)?))),
             Err(error) => Ok(failed(Item::Nothing, *error)),
         }
     }

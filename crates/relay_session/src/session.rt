@@ -197,6 +197,7 @@ impl HttpSession {
     /// behind a change, and by no other.
     ///
     /// Fails out of memory alone.
+    #[inline(always)]
     pub fn share_req_header(&mut self) -> Result<SharedRequest>
         requires { IsSome (head_of self.old.reading) }
         ensures ok { IfOk result (λ shared. head_of self.old.reading ≡ Some shared) }

@@ -8,20 +8,22 @@ use crate::message::Injected;
 use crate::peer::{Peer, PurgeAction, Purged};
 use crate::request::SharedRequest;
 use crate::response::SharedResponse;
+use crate::shared::Shared;
 use crate::task_list::TaskList;
 use bytes::Bytes;
 use http_header::HeaderMap;
 use std::alloc::{AllocError, Global};
 use std::marker::Model;
 
-/// What a hook was given, or what it left and answered.
+/// What a hook was given, or what it left and answered. What is large stands behind a pointer, so that
+/// an item is small.
 #[derive(Drop)]
 pub enum Item {
     Nothing,
     Request(SharedRequest),
     Response(SharedResponse, bool),
     Piece(Option<Bytes>, bool),
-    Trailers(Option<HeaderMap>),
+    Trailers(Option<Shared<HeaderMap>>),
     Message(Option<Bytes>, bool),
     Answer(bool),
     Addressed(Peer, bool),
@@ -31,7 +33,7 @@ pub enum Item {
     Action(PurgeAction),
     Text(Bytes),
     Kept(bool),
-    Injected(Injected),
+    Injected(Shared<Injected>),
 }
 
 /// What a session answers just before a hook is called: whether a final head was written, whether
@@ -91,6 +93,7 @@ impl PhaseLog {
     }
 
     /// Adds the entry at the end. Without memory the log stays as it was.
+    #[inline(always)]
     pub fn push(&mut self, entry: LogEntry) -> Result<()>
         ensures ok { OnOk result (self.new ≡ self.old ++ entry ∷ []) }
         ensures memory { IsOkUnless result Fail.OutOfMemory }

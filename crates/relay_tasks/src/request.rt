@@ -6,14 +6,14 @@ ghost use Rattle.relay_tasks.specs.Error.{refused, IsMemoryOr};
 use crate::context::Context;
 use crate::error::{Error, ErrorType, Fail, Result};
 use crate::fields::{append_field, insert_field};
+use crate::shared::Shared;
 use crate::target::{is_raw_target, sent_target};
 use http::{Method, Version};
 use http_header::{HeaderMap, HeaderName, HeaderValue};
 use http_uri::Uri;
-use std::alloc::{AllocError, Global};
+use std::alloc::Global;
 use std::marker::Model;
 use std::str;
-use std::sync::Arc;
 
 /// The head of a request: a method, a version, a raw target, the URI that was set last, if the
 /// target was set by one, and a field list.
@@ -28,7 +28,7 @@ pub struct RequestHeader {
 /// A head of a request that nobody changes, so that many may hold it.
 #[derive(Drop)]
 pub struct SharedRequest {
-    parts: Arc<RequestParts>,
+    parts: Shared<RequestParts>,
 }
 
 /// What a head of a request consists of.
@@ -37,7 +37,7 @@ struct RequestParts {
     method: Method,
     version: Version,
     target: Vec<u8>,
-    uri: Option<Uri>,
+    uri: Option<Shared<Uri>>,
     headers: HeaderMap,
     ends: bool,
 }
@@ -65,12 +65,11 @@ impl Drop for RequestHeader {
 }
 
 impl Model for SharedRequest {
-    ghost use Rattle.std.specs.Arc.{arc_value};
     ghost use Rattle.relay_tasks.specs.Head.{RequestHead};
 
     ghost Value = { RequestHead };
 
-    ghost view = { λ s. arc_value s.parts };
+    ghost view = { λ s. s.parts };
 }
 
 impl Model for RequestParts {
@@ -156,7 +155,7 @@ impl RequestHeader {
     pub fn uri(&self) -> Option<&Uri>
         ensures { option_copied result ≡ self.now.uri }
     {
-        self.parts.uri.as_ref()
+        lent_uri(&self.parts.uri)
     }
 
     /// Sets the URI. The raw target becomes its path and query, `/` where it has none.
@@ -166,7 +165,9 @@ impl RequestHeader {
         ensures memory { IsOkUnless result Fail.OutOfMemory }
         ensures err { OnErr result (self.new ≡ self.old) }
     {
-        let target = sent_target(*self.parts.target.allocator(), &uri)?;
+        let alloc = *self.parts.target.allocator();
+        let target = sent_target(alloc, &uri)?;
+        let uri = Shared::new(alloc, uri)?;
         self.shared = None;
         self.parts.target = target;
         self.parts.uri = Some(uri);
@@ -276,16 +277,14 @@ impl RequestHeader {
         }
     }
 
-    /// An equal head.
+    /// An equal head, which keeps what this one gave to be held by many.
     pub fn copy(&self) -> Result<RequestHeader>
         ensures ok { IfOk result (λ copy. copy ≡ self.now) }
         ensures memory { IsOkUnless result Fail.OutOfMemory }
     {
         let parts = copy_parts(&self.parts)?;
-        Ok(RequestHeader {
-            parts,
-            shared: None,
-        })
+        let shared = copy_shared(&self.shared)?;
+        Ok(RequestHeader { parts, shared })
     }
 
     /// This head as it stands, to be held by many. Its parts are copied by the first call behind a
@@ -312,21 +311,21 @@ impl SharedRequest {
     pub fn method(&self) -> &Method
         ensures { result.now ≡ self.now.method }
     {
-        &self.parts.method
+        &self.parts.get().method
     }
 
     /// The version.
     pub fn version(&self) -> Version
         ensures { result ≡ self.now.version }
     {
-        self.parts.version
+        self.parts.get().version
     }
 
     /// The URI that `set_uri` gave last, and none after `set_raw_path`.
     pub fn uri(&self) -> Option<&Uri>
         ensures { option_copied result ≡ self.now.uri }
     {
-        self.parts.uri.as_ref()
+        lent_uri(&self.parts.get().uri)
     }
 
     /// The raw target, as it stands in the request line.
@@ -334,14 +333,14 @@ impl SharedRequest {
         ensures value { result.now ≡ self.now.target }
         ensures valid { IsSendable result.now }
     {
-        self.parts.target.as_slice()
+        self.parts.get().target.as_slice()
     }
 
     /// The field list.
     pub fn headers(&self) -> &HeaderMap
         ensures { result.now ≡ self.now.fields }
     {
-        &self.parts.headers
+        &self.parts.get().headers
     }
 
     /// The same head for one more holder. None of its parts is copied.
@@ -349,7 +348,7 @@ impl SharedRequest {
         ensures ok { IfOk result (λ copy. copy ≡ self.now) }
         ensures memory { IsOkUnless result Fail.OutOfMemory }
     {
-        let parts = self.parts.clone()?;
+        let parts = self.parts.copy()?;
         Ok(SharedRequest { parts })
     }
 }
@@ -360,7 +359,7 @@ fn share_parts(parts: &RequestParts) -> Result<SharedRequest>
     ensures memory { IsOkUnless result Fail.OutOfMemory }
 {
     let alloc = *parts.target.allocator();
-    let parts = Arc::new(alloc, copy_parts(parts)?).map_err(AllocError::from)?;
+    let parts = Shared::new(alloc, copy_parts(parts)?)?;
     Ok(SharedRequest { parts })
 }
 
@@ -383,11 +382,31 @@ fn copy_parts(parts: &RequestParts) -> Result<RequestParts>
     })
 }
 
-fn copy_uri(uri: &Option<Uri>) -> std::result::Result<Option<Uri>, AllocError>
-    ensures { IfOk result (λ copy. copy ≡ uri.now) }
+fn copy_uri(uri: &Option<Shared<Uri>>) -> Result<Option<Shared<Uri>>>
+    ensures ok { IfOk result (λ copy. copy ≡ uri.now) }
+    ensures memory { IsOkUnless result Fail.OutOfMemory }
 {
     match uri {
-        Some(uri) => Ok(Some(uri.clone()?)),
+        Some(uri) => Ok(Some(uri.copy()?)),
         None => Ok(None),
+    }
+}
+
+fn copy_shared(shared: &Option<SharedRequest>) -> Result<Option<SharedRequest>>
+    ensures ok { IfOk result (λ copy. copy ≡ shared.now) }
+    ensures memory { IsOkUnless result Fail.OutOfMemory }
+{
+    match shared {
+        Some(shared) => Ok(Some(shared.copy()?)),
+        None => Ok(None),
+    }
+}
+
+fn lent_uri(uri: &Option<Shared<Uri>>) -> Option<&Uri>
+    ensures { option_copied result ≡ uri.now }
+{
+    match uri {
+        Some(uri) => Some(uri.get()),
+        None => None,
     }
 }

@@ -6,11 +6,11 @@ ghost use Rattle.relay_tasks.specs.Error.{refused, IsMemoryOr};
 use crate::context::Context;
 use crate::error::{Error, ErrorType, Fail, Result};
 use crate::fields::{append_field, insert_field};
+use crate::shared::Shared;
 use http::Version;
 use http_header::{HeaderMap, HeaderName, HeaderValue};
-use std::alloc::{AllocError, Global};
+use std::alloc::Global;
 use std::marker::Model;
-use std::sync::Arc;
 
 /// The head of a response: a status from 100 to 999, a version and a field list.
 ///
@@ -24,7 +24,7 @@ pub struct ResponseHeader {
 /// A head of a response that nobody changes, so that many may hold it.
 #[derive(Drop)]
 pub struct SharedResponse {
-    parts: Arc<ResponseParts>,
+    parts: Shared<ResponseParts>,
 }
 
 /// What a head of a response consists of.
@@ -58,12 +58,11 @@ impl Drop for ResponseHeader {
 }
 
 impl Model for SharedResponse {
-    ghost use Rattle.std.specs.Arc.{arc_value};
     ghost use Rattle.relay_tasks.specs.Head.{ResponseHead};
 
     ghost Value = { ResponseHead };
 
-    ghost view = { λ s. arc_value s.parts };
+    ghost view = { λ s. s.parts };
 }
 
 impl Model for ResponseParts {
@@ -198,16 +197,14 @@ impl ResponseHeader {
         self.parts.status < 200 && self.parts.status != 101
     }
 
-    /// An equal head.
+    /// An equal head, which keeps what this one gave to be held by many.
     pub fn copy(&self) -> Result<ResponseHeader>
         ensures ok { IfOk result (λ copy. copy ≡ self.now) }
         ensures memory { IsOkUnless result Fail.OutOfMemory }
     {
         let parts = copy_parts(&self.parts)?;
-        Ok(ResponseHeader {
-            parts,
-            shared: None,
-        })
+        let shared = copy_shared(&self.shared)?;
+        Ok(ResponseHeader { parts, shared })
     }
 
     /// This head as it stands, to be held by many. Its parts are copied by the first call behind a
@@ -241,21 +238,21 @@ impl SharedResponse {
         ensures value { result ≡ self.now.status }
         ensures valid { IsStatus result }
     {
-        self.parts.status
+        self.parts.get().status
     }
 
     /// The version.
     pub fn version(&self) -> Version
         ensures { result ≡ self.now.version }
     {
-        self.parts.version
+        self.parts.get().version
     }
 
     /// The field list.
     pub fn headers(&self) -> &HeaderMap
         ensures { result.now ≡ self.now.fields }
     {
-        &self.parts.headers
+        &self.parts.get().headers
     }
 
     /// The same head for one more holder. None of its parts is copied.
@@ -263,7 +260,7 @@ impl SharedResponse {
         ensures ok { IfOk result (λ copy. copy ≡ self.now) }
         ensures memory { IsOkUnless result Fail.OutOfMemory }
     {
-        let parts = self.parts.clone()?;
+        let parts = self.parts.copy()?;
         Ok(SharedResponse { parts })
     }
 }
@@ -273,7 +270,7 @@ fn share_parts(alloc: Global, parts: &ResponseParts) -> Result<SharedResponse>
     ensures ok { IfOk result (λ shared. shared ≡ parts.now) }
     ensures memory { IsOkUnless result Fail.OutOfMemory }
 {
-    let parts = Arc::new(alloc, copy_parts(parts)?).map_err(AllocError::from)?;
+    let parts = Shared::new(alloc, copy_parts(parts)?)?;
     Ok(SharedResponse { parts })
 }
 
@@ -288,4 +285,14 @@ fn copy_parts(parts: &ResponseParts) -> Result<ResponseParts>
         version: parts.version,
         headers,
     })
+}
+
+fn copy_shared(shared: &Option<SharedResponse>) -> Result<Option<SharedResponse>>
+    ensures ok { IfOk result (λ copy. copy ≡ shared.now) }
+    ensures memory { IsOkUnless result Fail.OutOfMemory }
+{
+    match shared {
+        Some(shared) => Ok(Some(shared.copy()?)),
+        None => Ok(None),
+    }
 }
