@@ -14,10 +14,10 @@ use relay_tasks::{Error, Fail, Hook, Item, LogEntry, Result, SharedRequest, View
 /// the session shows.
 #[derive(Drop)]
 pub struct Begun {
-    pub hook: Hook,
     pub mark: u64,
     pub input: Item,
     pub view: View,
+    pub hook: Hook,
 }
 
 /// What a call came to: what it left or answered, its error, and the delay in milliseconds that it

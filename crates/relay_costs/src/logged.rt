@@ -1,15 +1,10 @@
-//! One request: its calls in order, each through the wrapper that enters it in the log.
-ghost use Rattle.std.specs.Prelude.{IsSome, OnOk};
-ghost use Rattle.relay_session.specs.Reading.{head_of};
-
-use crate::heads::{request_head, response_head};
+//! The calls of a request in order, each through the wrapper that enters it in the log.
+use crate::heads::{Request, peer, stands};
 use bytes::Bytes;
-use http::Version;
 use relay_calls::{
     call_request_body_filter, call_response_body_filter, call_response_filter,
     call_upstream_response_body_filter, call_upstream_response_filter,
 };
-use relay_h1::Framing;
 use relay_hooks::{Defaults, NoModules, Session};
 use relay_phases::{
     call_allow_spawning_subrequest, call_connected_to_upstream, call_early_request_filter,
@@ -17,62 +12,26 @@ use relay_phases::{
     call_proxy_upstream_filter, call_request_filter, call_upstream_peer,
     call_upstream_request_filter,
 };
-use relay_session::HttpSession;
-use relay_tasks::{Error, ErrorType, Fail, Peer, PhaseLog, RequestHeader, ResponseHeader, Result};
+use relay_tasks::{ResponseHeader, Result};
 use std::alloc::Global;
 
 /// Logs so many requests, one after the other, and answers how many entries the last one has; 0
 /// where there is none.
 pub(crate) fn log_requests(alloc: Global, requests: usize) -> Result<usize> {
-    let client = HttpSession::begun_http1(alloc, request_head(alloc)?, Framing::Empty);
-    let mut session = Session::new_h1_with_modules(alloc, client, NoModules);
+    let mut request = Request::new(alloc)?;
     let app = Defaults::new(peer());
-    let mut sent = request_head(alloc)?;
-    let mut got = response_head(alloc)?;
     let mut entries = 0;
     for _ in 0..requests {
-        session.seen.log = PhaseLog::new(alloc);
-        make_new(&mut session, &mut sent, &mut got)?;
-        before_the_attempt(&app, &mut session)?;
-        in_the_attempt(&app, &mut session, &mut sent)?;
-        with_the_head(&app, &mut session, &mut got)?;
-        with_the_body(&app, &mut session)?;
-        at_the_end(&app, &mut session)?;
+        request.make_new(alloc)?;
+        let Request { session, got } = &mut request;
+        before_the_attempt(&app, session)?;
+        in_the_attempt(&app, session)?;
+        with_the_head(&app, session, got)?;
+        with_the_body(&app, session)?;
+        at_the_end(&app, session)?;
         entries = session.seen.log.len();
     }
     Ok(entries)
-}
-
-/// Lets go of what the heads have shared, as the heads of a next request have shared nothing.
-fn make_new(
-    session: &mut Session<NoModules>,
-    sent: &mut RequestHeader,
-    got: &mut ResponseHeader,
-) -> Result<()> {
-    stands(session)?;
-    session.req_header_mut().set_send_end_stream(true);
-    sent.set_send_end_stream(true);
-    got.set_version(Version::HTTP_11);
-    Ok(())
-}
-
-fn peer() -> Peer {
-    Peer {
-        address: Bytes::from_static(b"127.0.0.1:80"),
-        tls: false,
-        allows_h1: true,
-    }
-}
-
-/// A call is made only where the head stands that the client sent.
-fn stands(session: &Session<NoModules>) -> Result<()>
-    ensures { OnOk result (IsSome (head_of session.now.seen.downstream.reading)) }
-{
-    if session.seen.downstream.has_head() {
-        Ok(())
-    } else {
-        Err(Fail::Error(Error::new(ErrorType::InternalError)))
-    }
 }
 
 /// The calls before a peer is named.
@@ -96,18 +55,16 @@ fn before_the_attempt(app: &Defaults, session: &mut Session<NoModules>) -> Resul
     Ok(())
 }
 
-/// The calls up to the end of the request's body, which has no bytes.
-fn in_the_attempt(
-    app: &Defaults,
-    session: &mut Session<NoModules>,
-    sent: &mut RequestHeader,
-) -> Result<()> {
+/// The calls up to the end of the request's body, which has no bytes. The head that is sent is a copy
+/// of the client's.
+fn in_the_attempt(app: &Defaults, session: &mut Session<NoModules>) -> Result<()> {
     stands(session)?;
     let peer = call_upstream_peer(app, session, &mut ())?;
     stands(session)?;
     call_connected_to_upstream(app, session, &mut (), &peer, false)?;
     stands(session)?;
-    call_upstream_request_filter(app, session, &mut (), sent)?;
+    let mut sent = session.req_header().copy()?;
+    call_upstream_request_filter(app, session, &mut (), &mut sent)?;
     stands(session)?;
     call_request_body_filter(app, session, &mut (), &mut None, true)
 }
@@ -126,7 +83,7 @@ fn with_the_head(
 
 /// The calls for its body, which is one piece.
 fn with_the_body(app: &Defaults, session: &mut Session<NoModules>) -> Result<()> {
-    let mut piece = Some(Bytes::from_static(b"hello"));
+    let mut piece = Some(Bytes::from_static(b"hi"));
     stands(session)?;
     call_upstream_response_body_filter(app, session, &mut (), &mut piece, true)?;
     stands(session)?;

@@ -1,31 +1,62 @@
-//! What the log of a small request costs: the calls of a GET with a small response, entered in the
-//! log one by one, by the application that decides nothing.
+//! What the log of a small request costs: the calls of a GET with a small response by the application
+//! that decides nothing, entered in the log one by one, or with no log.
 //!
-//! The requests are as many as the program is given words. Counted by callgrind, the difference between
-//! runs with two words and with one is what one request costs.
+//! The first word says which: `logged` or `plain`. The requests are as many as the words behind it.
+//! Counted by callgrind, the difference between runs with two such words and with one is what one request
+//! costs, and of that the difference between both ways is what its entries cost.
 #![tactic(auto)]
 
 mod heads;
-mod request;
+mod logged;
+mod plain;
 
-use crate::request::log_requests;
+use crate::logged::log_requests;
+use crate::plain::call_requests;
+use relay_tasks::Result;
 use std::alloc::Global;
 use std::process::ExitCode;
 use std::rt::Env;
 use std::{env, io};
 
+/// How the hooks are called: each through the wrapper that enters it in the log, or directly.
+#[derive(Clone, Copy)]
+enum Way {
+    Logged,
+    Plain,
+}
+
 fn main(rt: HostRuntime) -> ExitCode {
-    let requests = match words(&rt) {
-        Ok(requests) => requests,
-        Err(_) => return ExitCode::from(2),
+    let (way, requests) = match words(&rt) {
+        Ok(Some(words)) => words,
+        Ok(None) | Err(_) => return ExitCode::from(2),
     };
-    match log_requests(rt.alloc(), requests) {
-        Ok(16) => ExitCode::from(0),
-        Ok(_) | Err(_) => ExitCode::from(1),
+    match make(rt.alloc(), way, requests) {
+        Ok(true) => ExitCode::from(0),
+        Ok(false) | Err(_) => ExitCode::from(1),
     }
 }
 
-/// How many words the program was given behind its name.
-fn words<R: Env + AllocGlobal>(rt: &R) -> io::Result<usize> {
-    Ok(env::args(rt)?.skip(1).count())
+/// Makes the calls of so many requests, and answers whether the last one's log has all its entries.
+fn make(alloc: Global, way: Way, requests: usize) -> Result<bool> {
+    match way {
+        Way::Logged => Ok(log_requests(alloc, requests)? == 16),
+        Way::Plain => {
+            call_requests(alloc, requests)?;
+            Ok(true)
+        }
+    }
+}
+
+/// The way that the first word names, and how many words stand behind it; none where it names none.
+fn words<R: Env + AllocGlobal>(rt: &R) -> io::Result<Option<(Way, usize)>> {
+    let mut words = env::args(rt)?.skip(1);
+    let Some(first) = words.next() else {
+        return Ok(None);
+    };
+    let way = match first.as_str() {
+        "logged" => Way::Logged,
+        "plain" => Way::Plain,
+        _ => return Ok(None),
+    };
+    Ok(Some((way, words.count())))
 }

@@ -121,7 +121,9 @@ impl Seen {
         ensures { self.new ≡ record self.old { touched = false; wrote = [] } }
     {
         self.touched = false;
-        self.wrote = TaskList::new(self.alloc);
+        if !self.wrote.is_empty() {
+            self.wrote = TaskList::new(self.alloc);
+        }
     }
 
     /// The tasks that were noted as queued, of which none is noted then.

@@ -1,6 +1,6 @@
 //! The log of a request: which hooks were called, in order, with what they were given and what
 //! they answered.
-ghost use Rattle.std.specs.Prelude.{◌≡◌, ◌++◌, ◌∷◌, ◌==◌, [], length, slice_get, OnOk, OnErr, IsOkUnless, option_copied};
+ghost use Rattle.std.specs.Prelude.{◌≡◌, ◌++◌, ◌∷◌, ◌==◌, ◌<◌, [], length, vec_len, vec_capacity, slice_get, OnOk, OnErr, IsOkUnless, option_copied};
 
 use crate::error::{Error, Fail, Result};
 use crate::hook::Hook;
@@ -12,12 +12,11 @@ use crate::shared::Shared;
 use crate::task_list::TaskList;
 use bytes::Bytes;
 use http_header::HeaderMap;
-use std::alloc::{AllocError, Global};
+use std::alloc::Global;
 use std::marker::Model;
 
 /// What a hook was given, or what it left and answered. What is large stands behind a pointer, so that
 /// an item is small.
-#[derive(Drop)]
 pub enum Item {
     Nothing,
     Request(SharedRequest),
@@ -36,6 +35,30 @@ pub enum Item {
     Injected(Shared<Injected>),
 }
 
+// A call in place of the variants: what drops an item needs not know of them.
+impl Drop for Item {
+    #[inline(always)]
+    fn drop(self) {
+        match self {
+            Item::Nothing => {}
+            Item::Request(_head) => {}
+            Item::Response(_head, _) => {}
+            Item::Piece(_piece, _) => {}
+            Item::Trailers(_fields) => {}
+            Item::Message(_message, _) => {}
+            Item::Answer(_) => {}
+            Item::Addressed(_peer, _) => {}
+            Item::Failure(_) => {}
+            Item::Code(_, _) => {}
+            Item::Status(_) => {}
+            Item::Action(_) => {}
+            Item::Text(_text) => {}
+            Item::Kept(_) => {}
+            Item::Injected(_lists) => {}
+        }
+    }
+}
+
 /// What a session answers just before a hook is called: whether a final head was written, whether
 /// the replay was cut short, and whether the connection was upgraded.
 #[derive(Clone, Copy, Debug, PartialEq, Eq)]
@@ -51,17 +74,17 @@ pub struct View {
 /// a body filter's delay in milliseconds.
 #[derive(Drop)]
 pub struct LogEntry {
-    pub hook: Hook,
     pub mark_before: u64,
     pub mark_after: u64,
     pub input: Item,
     pub output: Item,
     pub wrote: TaskList,
-    pub error: Option<Error>,
     pub head: Option<SharedRequest>,
-    pub keepalive: bool,
     pub delay: Option<u64>,
+    pub keepalive: bool,
+    pub error: Option<Error>,
     pub view: View,
+    pub hook: Hook,
 }
 
 /// How many entries a log makes room for with the first: those of a small exchange.
@@ -99,10 +122,8 @@ impl PhaseLog {
         ensures memory { IsOkUnless result Fail.OutOfMemory }
         ensures err { OnErr result (self.new ≡ self.old) }
     {
-        if self.entries.capacity() == 0 {
-            self.entries.reserve(FIRST_ROOM)?;
-        }
-        self.entries.push(entry).map_err(AllocError::from)?;
+        make_room(&mut self.entries)?;
+        self.entries.push_reserved(entry);
         Ok(())
     }
 
@@ -126,4 +147,27 @@ impl PhaseLog {
     {
         self.entries.get(at)
     }
+}
+
+/// Room for one more entry, and for those of a small exchange with the first.
+#[inline(always)]
+fn make_room(entries: &mut Vec<LogEntry>) -> Result<()>
+    ensures ok { OnOk result (vec_len entries.new < vec_capacity entries.new) }
+    ensures memory { IsOkUnless result Fail.OutOfMemory }
+    ensures same { entries.new.items ≡ entries.old.items }
+{
+    if entries.len() == entries.capacity() {
+        grow(entries)?;
+    }
+    Ok(())
+}
+
+/// Room for one more entry where there is none.
+fn grow(entries: &mut Vec<LogEntry>) -> Result<()>
+    ensures ok { OnOk result (vec_len entries.new < vec_capacity entries.new) }
+    ensures memory { IsOkUnless result Fail.OutOfMemory }
+    ensures same { entries.new.items ≡ entries.old.items }
+{
+    entries.reserve(if entries.is_empty() { FIRST_ROOM } else { 1 })?;
+    Ok(())
 }

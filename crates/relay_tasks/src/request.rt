@@ -36,7 +36,7 @@ pub struct SharedRequest {
 struct RequestParts {
     method: Method,
     version: Version,
-    target: Vec<u8>,
+    target: Shared<Vec<u8>>,
     uri: Option<Shared<Uri>>,
     headers: HeaderMap,
     ends: bool,
@@ -106,7 +106,7 @@ impl RequestHeader {
             )));
         }
         let method = method.clone()?;
-        let target = Vec::from_slice(alloc, target)?;
+        let target = Shared::new(alloc, Vec::from_slice(alloc, target)?)?;
         let parts = RequestParts {
             method,
             version: Version::HTTP_11,
@@ -165,8 +165,8 @@ impl RequestHeader {
         ensures memory { IsOkUnless result Fail.OutOfMemory }
         ensures err { OnErr result (self.new ≡ self.old) }
     {
-        let alloc = *self.parts.target.allocator();
-        let target = sent_target(alloc, &uri)?;
+        let alloc = *self.parts.target.get().allocator();
+        let target = Shared::new(alloc, sent_target(alloc, &uri)?)?;
         let uri = Shared::new(alloc, uri)?;
         self.shared = None;
         self.parts.target = target;
@@ -190,7 +190,8 @@ impl RequestHeader {
                 Context::HeadGrammar,
             )));
         }
-        let target = Vec::from_slice(*self.parts.target.allocator(), target)?;
+        let alloc = *self.parts.target.get().allocator();
+        let target = Shared::new(alloc, Vec::from_slice(alloc, target)?)?;
         self.shared = None;
         self.parts.target = target;
         self.parts.uri = None;
@@ -202,14 +203,14 @@ impl RequestHeader {
         ensures value { result.now ≡ self.now.target }
         ensures valid { IsSendable result.now }
     {
-        self.parts.target.as_slice()
+        self.parts.target.get().as_slice()
     }
 
     /// Whether the raw target is UTF-8.
     pub fn raw_path_is_utf8(&self) -> bool
         ensures { IsTrue result ↔ IsUtf8 self.now.target }
     {
-        str::from_utf8(self.parts.target.as_slice()).is_ok()
+        str::from_utf8(self.parts.target.get().as_slice()).is_ok()
     }
 
     /// The field list.
@@ -289,15 +290,25 @@ impl RequestHeader {
 
     /// This head as it stands, to be held by many. Its parts are copied by the first call behind a
     /// change, and by no other.
+    #[inline(always)]
     pub fn share(&mut self) -> Result<SharedRequest>
         ensures ok { IfOk result (λ shared. shared ≡ self.old) }
         ensures memory { IsOkUnless result Fail.OutOfMemory }
         ensures same { self.new ≡ self.old }
     {
-        let kept = match self.shared.take() {
-            Some(kept) => kept,
-            None => share_parts(&self.parts)?,
-        };
+        match &self.shared {
+            Some(shared) => shared.copy(),
+            None => self.share_anew(),
+        }
+    }
+
+    /// As `share`, where nothing was shared since the last change.
+    fn share_anew(&mut self) -> Result<SharedRequest>
+        ensures ok { IfOk result (λ shared. shared ≡ self.old) }
+        ensures memory { IsOkUnless result Fail.OutOfMemory }
+        ensures same { self.new ≡ self.old }
+    {
+        let kept = share_parts(&self.parts)?;
         let shared = kept.copy()?;
         self.shared = Some(kept);
         Ok(shared)
@@ -333,7 +344,7 @@ impl SharedRequest {
         ensures value { result.now ≡ self.now.target }
         ensures valid { IsSendable result.now }
     {
-        self.parts.get().target.as_slice()
+        self.parts.get().target.get().as_slice()
     }
 
     /// The field list.
@@ -354,22 +365,24 @@ impl SharedRequest {
 }
 
 /// A copy of the parts, to be held by many.
+#[inline(always)]
 fn share_parts(parts: &RequestParts) -> Result<SharedRequest>
     ensures ok { IfOk result (λ shared. shared ≡ parts.now) }
     ensures memory { IsOkUnless result Fail.OutOfMemory }
 {
-    let alloc = *parts.target.allocator();
+    let alloc = *parts.target.get().allocator();
     let parts = Shared::new(alloc, copy_parts(parts)?)?;
     Ok(SharedRequest { parts })
 }
 
 /// Equal parts.
+#[inline(always)]
 fn copy_parts(parts: &RequestParts) -> Result<RequestParts>
     ensures ok { IfOk result (λ copy. copy ≡ parts.now) }
     ensures memory { IsOkUnless result Fail.OutOfMemory }
 {
     let method = parts.method.clone()?;
-    let target = parts.target.clone()?;
+    let target = parts.target.copy()?;
     let uri = copy_uri(&parts.uri)?;
     let headers = parts.headers.clone()?;
     Ok(RequestParts {
@@ -382,6 +395,7 @@ fn copy_parts(parts: &RequestParts) -> Result<RequestParts>
     })
 }
 
+#[inline(always)]
 fn copy_uri(uri: &Option<Shared<Uri>>) -> Result<Option<Shared<Uri>>>
     ensures ok { IfOk result (λ copy. copy ≡ uri.now) }
     ensures memory { IsOkUnless result Fail.OutOfMemory }
@@ -392,6 +406,7 @@ fn copy_uri(uri: &Option<Shared<Uri>>) -> Result<Option<Shared<Uri>>>
     }
 }
 
+#[inline(always)]
 fn copy_shared(shared: &Option<SharedRequest>) -> Result<Option<SharedRequest>>
     ensures ok { IfOk result (λ copy. copy ≡ shared.now) }
     ensures memory { IsOkUnless result Fail.OutOfMemory }

@@ -209,15 +209,25 @@ impl ResponseHeader {
 
     /// This head as it stands, to be held by many. Its parts are copied by the first call behind a
     /// change, and by no other.
+    #[inline(always)]
     pub fn share(&mut self, alloc: Global) -> Result<SharedResponse>
         ensures ok { IfOk result (λ shared. shared ≡ self.old) }
         ensures memory { IsOkUnless result Fail.OutOfMemory }
         ensures same { self.new ≡ self.old }
     {
-        let kept = match self.shared.take() {
-            Some(kept) => kept,
-            None => share_parts(alloc, &self.parts)?,
-        };
+        match &self.shared {
+            Some(shared) => shared.copy(),
+            None => self.share_anew(alloc),
+        }
+    }
+
+    /// As `share`, where nothing was shared since the last change.
+    fn share_anew(&mut self, alloc: Global) -> Result<SharedResponse>
+        ensures ok { IfOk result (λ shared. shared ≡ self.old) }
+        ensures memory { IsOkUnless result Fail.OutOfMemory }
+        ensures same { self.new ≡ self.old }
+    {
+        let kept = share_parts(alloc, &self.parts)?;
         let shared = kept.copy()?;
         self.shared = Some(kept);
         Ok(shared)
@@ -266,6 +276,7 @@ impl SharedResponse {
 }
 
 /// A copy of the parts, to be held by many.
+#[inline(always)]
 fn share_parts(alloc: Global, parts: &ResponseParts) -> Result<SharedResponse>
     ensures ok { IfOk result (λ shared. shared ≡ parts.now) }
     ensures memory { IsOkUnless result Fail.OutOfMemory }
@@ -275,6 +286,7 @@ fn share_parts(alloc: Global, parts: &ResponseParts) -> Result<SharedResponse>
 }
 
 /// Equal parts.
+#[inline(always)]
 fn copy_parts(parts: &ResponseParts) -> Result<ResponseParts>
     ensures ok { IfOk result (λ copy. copy ≡ parts.now) }
     ensures memory { IsOkUnless result Fail.OutOfMemory }
@@ -287,6 +299,7 @@ fn copy_parts(parts: &ResponseParts) -> Result<ResponseParts>
     })
 }
 
+#[inline(always)]
 fn copy_shared(shared: &Option<SharedResponse>) -> Result<Option<SharedResponse>>
     ensures ok { IfOk result (λ copy. copy ≡ shared.now) }
     ensures memory { IsOkUnless result Fail.OutOfMemory }

@@ -22,6 +22,7 @@ impl<T> Model for Shared<T> {
 
 impl<T: Drop> Shared<T> {
     /// Holds the value. Without memory it is gone.
+    #[inline(always)]
     pub fn new(alloc: Global, value: T) -> Result<Shared<T>>
         ensures ok { IfOk result (λ shared. shared ≡ value) }
         ensures memory { IsOkUnless result Fail.OutOfMemory }
