@@ -1,13 +1,23 @@
-//! Bytes that wait for a link to take them.
-ghost use Rattle.std.specs.Prelude.{◌≡◌, ◌≤◌, ◌<◌, ◌==◌, length, drop};
+//! The bytes that wait for a link to take them.
+ghost use Rattle.std.specs.Prelude.{◌≡◌, ◌↔◌, ◌≤◌, ◌<◌, ◌==◌, ◌++◌, ◌∷◌, [], ℕ, List, length, take, drop, IfOk, IfErr, OnOk, OnErr, IsOkUnless, IsErrOf, IsTrue};
+ghost use Rattle.relay_tasks.specs.Error.{IsMemoryOr};
+ghost use Rattle.relay_h1.specs.BodyWire.{piece_text, after_piece, count_of, end_text, body_text, is_short, short_body, HasWritten, ReadsBackWhole};
 ghost use Rattle.relay_h1.specs.Move.{WritesOut, taken};
+ghost use Rattle.relay_h1.specs.Wire.{request_text, response_text};
+ghost use Rattle.relay_h1.specs.declared.framing.Framing.{Framing};
 
+use crate::body_writer::BodyWriter;
+use crate::wire::{write_request_head, write_response_head};
 use relay_links::{ByteLink, Put};
+use relay_tasks::{Fail, RequestHeader, ResponseHeader, Result};
+use std::alloc::Global;
 use std::marker::Model;
 
-/// Bytes that wait for a link, seen as the list of those that it has not taken.
+/// Bytes that wait for a link, seen as the list of those that it has not taken. What comes later
+/// stands behind them. Where memory is wanted, a call that pushes changes nothing.
 #[derive(Drop)]
 pub struct Output {
+    // What was taken stands before `start`, until room is needed or all was taken.
     bytes: Vec<u8>,
     start: usize,
 }
@@ -30,7 +40,19 @@ impl Output {
         Output { bytes, start: 0 }
     }
 
-    /// Whether all were taken.
+    /// Its allocator.
+    pub fn allocator(&self) -> Global {
+        *self.bytes.allocator()
+    }
+
+    /// How many bytes wait.
+    pub fn len(&self) -> usize
+        ensures { result ≡ length self.now }
+    {
+        self.bytes.len() - self.start
+    }
+
+    /// Whether no byte waits.
     pub fn is_empty(&self) -> bool
         ensures { result ≡ (length self.now == 0) }
     {
@@ -50,6 +72,70 @@ impl Output {
         ensures { self.new ≡ drop n self.old }
     {
         self.start += n;
+        self.forget_taken();
+    }
+
+    /// Drops the bytes behind the first `n`.
+    pub fn truncate(&mut self, n: usize)
+        ensures { self.new ≡ take n self.old }
+    {
+        if n < self.len() {
+            self.bytes.truncate(self.start + n);
+        }
+    }
+
+    /// Queues the text of a request's head. Its request line names HTTP/1.1, whatever the version.
+    pub fn push_request_head(&mut self, head: &RequestHeader) -> Result<()>
+        ensures ok { OnOk result (self.new ≡ self.old ++ request_text head.now) }
+        ensures err { OnErr result (self.new ≡ self.old) }
+        ensures memory { IsOkUnless result Fail.OutOfMemory }
+    {
+        self.make_room();
+        write_request_head(&mut self.bytes, head)
+    }
+
+    /// Queues the text of a response's head.
+    pub fn push_response_head(&mut self, head: &ResponseHeader) -> Result<()>
+        ensures ok { OnOk result (self.new ≡ self.old ++ response_text head.now) }
+        ensures err { OnErr result (self.new ≡ self.old) }
+        ensures memory { IsOkUnless result Fail.OutOfMemory }
+    {
+        self.make_room();
+        write_response_head(&mut self.bytes, head)
+    }
+
+    /// Queues the text of a piece of a body, as `BodyWriter::write` does.
+    pub fn push_piece(&mut self, body: &mut BodyWriter, piece: &[u8]) -> Result<Option<u64>>
+        ensures text { OnOk result (self.new ≡ self.old ++ piece_text body.old piece.now) }
+        ensures counted { IfOk result (λ count. count ≡ count_of body.old piece.now) }
+        ensures rest { OnOk result (body.new ≡ after_piece body.old piece.now) }
+        ensures so_far { OnOk result ((framing : Framing) (pieces : List (List ℕ)) (text : List ℕ)
+            → HasWritten framing pieces text body.old
+            → HasWritten framing (pieces ++ piece.now ∷ []) (text ++ piece_text body.old piece.now)
+            body.new) }
+        ensures err { OnErr result ((self.new ≡ self.old) × (body.new ≡ body.old)) }
+        ensures memory { IsOkUnless result Fail.OutOfMemory }
+    {
+        self.make_room();
+        body.write(&mut self.bytes, piece)
+    }
+
+    /// Queues the text of the end of a body, as `BodyWriter::finish` does.
+    pub fn push_end(&mut self, body: &mut BodyWriter) -> Result<()>
+        ensures text { OnOk result (self.new ≡ self.old ++ end_text body.old) }
+        ensures rest { OnOk result (body.new ≡ Framing.Empty) }
+        ensures whole { OnOk result ((framing : Framing) (pieces : List (List ℕ)) (text : List ℕ)
+            → HasWritten framing pieces text body.old
+            → text ++ end_text body.old ≡ body_text framing pieces) }
+        ensures reads_back { OnOk result ((framing : Framing) (pieces : List (List ℕ))
+            (text : List ℕ) → HasWritten framing pieces text body.old
+            → ReadsBackWhole framing pieces (text ++ end_text body.old)) }
+        ensures short { IsErrOf result (Fail.Error short_body) ↔ IsTrue (is_short body.old) }
+        ensures causes { IfErr result (IsMemoryOr short_body) }
+        ensures err { OnErr result ((self.new ≡ self.old) × (body.new ≡ body.old)) }
+    {
+        self.make_room();
+        body.finish(&mut self.bytes)
     }
 
     /// One write to the link of all the bytes that wait. What it takes leaves them.
@@ -61,6 +147,29 @@ impl Output {
         let put = link.write(self.front_bytes());
         self.drop_bytes(taken(put));
         put
+    }
+
+    /// Forgets the bytes that were taken, once these are all.
+    fn forget_taken(&mut self)
+        ensures { self.new ≡ self.old }
+    {
+        if self.start == self.bytes.len() {
+            self.bytes.clear();
+            self.start = 0;
+        }
+    }
+
+    /// Forgets the bytes that were taken, where they are more than those that wait.
+    fn make_room(&mut self)
+        ensures { self.new ≡ self.old }
+    {
+        let waiting = self.bytes.len() - self.start;
+        if self.start <= waiting {
+            return;
+        }
+        self.bytes.as_mut_slice().copy_within(self.start.., 0);
+        self.bytes.truncate(waiting);
+        self.start = 0;
     }
 }
 

@@ -8,8 +8,7 @@ ghost use Rattle.relay_h1.specs.Move.{WritesOut, taken};
 ghost use Rattle.relay_h1.specs.Verdict.{refused_from};
 ghost use Rattle.relay_peer.specs.RequestWriting.{Sent, SentSoFar, with_head, with_piece, with_end, rest_of, has_head, may_keep_writing, short_request};
 
-use crate::unsent::Unsent;
-use relay_h1::{BodyWriter, closes, request_framing};
+use relay_h1::{BodyWriter, Output, closes, request_framing};
 use relay_links::{ByteLink, Put};
 use relay_tasks::{Context, Error, ErrorSource, Fail, RequestHeader, Result};
 use std::alloc::Global;
@@ -34,7 +33,7 @@ pub(crate) enum RequestPlace {
 #[derive(Drop)]
 pub(crate) struct RequestWriting {
     pub(crate) request: RequestPlace,
-    pub(crate) unsent: Unsent,
+    pub(crate) unsent: Output,
 }
 
 impl RequestWriting {
@@ -44,7 +43,7 @@ impl RequestWriting {
     {
         RequestWriting {
             request: RequestPlace::NoHead,
-            unsent: Unsent::new(alloc),
+            unsent: Output::new(Vec::new(alloc)),
         }
     }
 
@@ -76,7 +75,7 @@ impl RequestWriting {
         if self.has_head() {
             return Ok(());
         }
-        self.unsent.push_head(&head)?;
+        self.unsent.push_request_head(&head)?;
         self.request = RequestPlace::Sending(Sending { head, body });
         Ok(())
     }

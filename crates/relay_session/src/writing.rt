@@ -13,10 +13,9 @@ ghost use Rattle.relay_session.specs.Response.{Holds, IsQueued, AreQueued, Takes
 use crate::batch::batch_refusal;
 use crate::front::Front;
 use crate::generated::{answer_with_body, generated_head};
-use crate::queue::Queue;
-use crate::task_text::{Place, Pushed, Request};
+use crate::task_text::{Place, Pushed, Request, push_head_at, push_piece_at};
 use bytes::Bytes;
-use relay_h1::BodyWriter;
+use relay_h1::{BodyWriter, Output};
 use relay_links::Put;
 use relay_tasks::{Error, Fail, Fault, HttpTask, ResponseHeader, Result, TaskList};
 use std::alloc::Global;
@@ -24,7 +23,7 @@ use std::alloc::Global;
 /// What waits for the client's link, or the fault of the first write that failed.
 #[derive(Drop)]
 enum Outgoing {
-    Open(Queue),
+    Open(Output),
     Broken(Fault),
 }
 
@@ -49,7 +48,7 @@ impl Writing {
         Writing {
             request,
             place: Place::NoHead,
-            output: Outgoing::Open(Queue::new(alloc)),
+            output: Outgoing::Open(Output::new(Vec::new(alloc))),
             body_bytes: 0,
         }
     }
@@ -88,7 +87,7 @@ impl Writing {
         match &mut self.output {
             Outgoing::Broken(fault) => Put::Failed(*fault),
             Outgoing::Open(queue) => {
-                let put = queue.write_to(client);
+                let put = client.write_out(queue);
                 self.keep_fault(put);
                 put
             }
@@ -315,7 +314,7 @@ impl Writing {
         match &mut self.output {
             Outgoing::Broken(fault) => Err(Fail::Error(error_of(*fault))),
             Outgoing::Open(queue) => {
-                let pushed = queue.push_head(&self.request, self.place, head, ends)?;
+                let pushed = push_head_at(&self.request, self.place, queue, head, ends)?;
                 self.place = pushed.place;
                 self.body_bytes = self.body_bytes.saturating_add(pushed.counted);
                 passed(pushed.refused)
@@ -331,7 +330,7 @@ impl Writing {
         match &mut self.output {
             Outgoing::Broken(fault) => Err(Fail::Error(error_of(*fault))),
             Outgoing::Open(queue) => {
-                let pushed = queue.push_piece(self.place, piece, ends)?;
+                let pushed = push_piece_at(self.place, queue, piece, ends)?;
                 self.place = pushed.place;
                 self.body_bytes = self.body_bytes.saturating_add(pushed.counted);
                 passed(pushed.refused)
