@@ -8,6 +8,7 @@ ghost use Rattle.relay_h1.specs.Move.{WritesOut, taken};
 ghost use Rattle.relay_h1.specs.Verdict.{refused_from};
 ghost use Rattle.relay_peer.specs.RequestWriting.{Sent, SentSoFar, with_head, with_piece, with_end, rest_of, has_head, may_keep_writing, short_request};
 
+use bytes::Bytes;
 use relay_h1::{BodyWriter, Output, closes, request_framing};
 use relay_links::{ByteLink, Put};
 use relay_tasks::{Context, Error, ErrorSource, Fail, RequestHeader, Result};
@@ -91,12 +92,12 @@ impl RequestWriting {
     }
 
     /// Queues a piece of the body.
-    pub(crate) fn write_body(&mut self, piece: &[u8]) -> Result<Option<u64>>
+    pub(crate) fn write_body(&mut self, piece: Bytes) -> Result<Option<u64>>
         ensures keeps { OnOk result ((sent : Sent) (taken : List ℕ)
             → SentSoFar sent taken self.old
-            → SentSoFar (with_piece sent piece.now) taken self.new) }
+            → SentSoFar (with_piece sent piece) taken self.new) }
         ensures counted { IfOk result (λ count. count ≡ count_of (rest_of self.old.request)
-            piece.now) }
+            piece) }
         ensures memory { IsOkUnless result Fail.OutOfMemory }
         ensures err { OnErr result (self.new ≡ self.old) }
     {

@@ -10,6 +10,7 @@ ghost use Rattle.relay_session.specs.Asked.{method_of, asks_of, request_of, unre
 ghost use Rattle.relay_session.specs.TaskWire.{piece_sent, piece_refusal, head_sent, head_refusal, with_text, framed_head_sent, framed_head_refusal, framing_of, shown, informed, head_at, head_refusal_at, piece_at, piece_refusal_at, IsFramedInside};
 ghost use Rattle.relay_session.specs.TaskSteps.{GoesOn, HeadGoesOn, HeadGoesOnAt, PieceGoesOnAt, HasPushed};
 
+use bytes::Bytes;
 use http::{Method, Version};
 use relay_h1::{BodyWriter, Framing, Output, client_framing, frame_for_client, is_sent_to};
 use relay_tasks::{Error, Fail, RequestHeader, ResponseHeader, Result};
@@ -127,19 +128,19 @@ impl Pushed {
 pub(crate) fn push_piece(
     rest: Framing,
     out: &mut Output,
-    piece: &[u8],
+    piece: Bytes,
     ends: bool,
 ) -> Result<Pushed>
-    ensures ok { IfOk result (HasPushed (piece_sent rest piece.now ends)
-        (piece_refusal rest piece.now ends) out.old out.new) }
+    ensures ok { IfOk result (HasPushed (piece_sent rest piece ends)
+        (piece_refusal rest piece ends) out.old out.new) }
     ensures memory { IsOkUnless result Fail.OutOfMemory }
     ensures kept { OnErr result (out.new ≡ out.old) }
-    ensures goes_on { OnOk result (GoesOn rest piece.now ends) }
+    ensures goes_on { OnOk result (GoesOn rest piece ends) }
 {
     let before = out.len();
+    let left = after_piece(rest, piece.as_slice());
     let mut body = BodyWriter::new(rest);
     let counted = out.push_piece(&mut body, piece)?.unwrap_or(0);
-    let left = after_piece(rest, piece);
     if !ends {
         return Ok(Pushed {
             counted,
@@ -163,6 +164,17 @@ pub(crate) fn push_piece(
             Err(Fail::OutOfMemory)
         }
     }
+}
+
+/// As `push_piece`, without a piece: the end alone, where it is asked for.
+fn push_empty(rest: Framing, out: &mut Output, ends: bool) -> Result<Pushed>
+    ensures ok { IfOk result (HasPushed (piece_sent rest [] ends)
+        (piece_refusal rest [] ends) out.old out.new) }
+    ensures memory { IsOkUnless result Fail.OutOfMemory }
+    ensures kept { OnErr result (out.new ≡ out.old) }
+    ensures goes_on { OnOk result (GoesOn rest [] ends) }
+{
+    push_piece(rest, out, Bytes::new(), ends)
 }
 
 /// How what is left of a body is framed once the piece was written.
@@ -254,7 +266,7 @@ fn push_framed(
 {
     let before = out.len();
     out.push_response_head(head)?;
-    match push_piece(framing, out, b"", ends) {
+    match push_empty(framing, out, ends) {
         Ok(pushed) => Ok(pushed),
         Err(fail) => {
             out.truncate(before);
@@ -330,7 +342,7 @@ pub(crate) fn push_head_at(
 {
     match place {
         Place::NoHead => push_head(request, out, head, ends),
-        Place::Body(rest) => push_piece(rest, out, b"", ends),
+        Place::Body(rest) => push_empty(rest, out, ends),
         Place::Done => Ok(Pushed::nothing_at(place)),
     }
 }
@@ -339,14 +351,14 @@ pub(crate) fn push_head_at(
 pub(crate) fn push_piece_at(
     place: Place,
     out: &mut Output,
-    piece: &[u8],
+    piece: Bytes,
     ends: bool,
 ) -> Result<Pushed>
-    ensures ok { IfOk result (HasPushed (piece_at place piece.now ends)
-        (piece_refusal_at place piece.now ends) out.old out.new) }
+    ensures ok { IfOk result (HasPushed (piece_at place piece ends)
+        (piece_refusal_at place piece ends) out.old out.new) }
     ensures memory { IsOkUnless result Fail.OutOfMemory }
     ensures kept { OnErr result (out.new ≡ out.old) }
-    ensures goes_on { OnOk result (PieceGoesOnAt place piece.now ends) }
+    ensures goes_on { OnOk result (PieceGoesOnAt place piece ends) }
 {
     match place {
         Place::NoHead | Place::Done => Ok(Pushed::nothing_at(place)),

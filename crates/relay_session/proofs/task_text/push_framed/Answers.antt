@@ -9,5 +9,5 @@ pub returns-in-Ok-clause-ok : goal.returns-in-Ok-clause-ok
 returns-in-Ok-clause-ok c =
     pushed_behind {E = Fail} (Ok c.in-Ok.pushed) (response_text c.args.head.now)
     (piece_sent c.args.framing [] c.args.ends) (piece_refusal c.args.framing [] c.args.ends)
-    c.args.out.now c.push_response_head.new.self c.push_piece.new.out
+    c.args.out.now c.push_response_head.new.self c.push_empty.new.out
     c.in_ok-push_response_head.ensures.ok c.in-Ok.ensures.ok

@@ -12,6 +12,6 @@ returns-then-not-ends-clause-goes_on c =
 pub returns-in-Err-Error-clause-goes_on : goal.returns-in-Err-Error-clause-goes_on
 returns-in-Err-Error-clause-goes_on c =
     let ends : c.args.ends ≡ true = search rules in
-    let left : is_short (after_piece c.args.rest c.args.piece.now) ≡ true = search rules in
-    short_goes c.args.rest c.args.piece.now c.args.ends ends left
+    let left : is_short (after_piece c.args.rest c.args.piece) ≡ true = search rules in
+    short_goes c.args.rest c.args.piece c.args.ends ends left
     (rw (← c.new-body.ensures.rest, ← c.in_ok-push_piece.ensures.rest) c.in_ok-push_piece.ensures.so_far)
