@@ -70,7 +70,7 @@ impl Output {
     }
 
     /// The bytes that the next write is offered.
-    pub fn front_bytes(&self) -> &[u8]
+    pub(crate) fn front_bytes(&self) -> &[u8]
         ensures front { result.now ≡ take (length result.now) self.now }
         ensures some { 0 < length self.now → 0 < length result.now }
     {
@@ -83,7 +83,7 @@ impl Output {
 
     /// Drops the first `n` bytes.
     #[tactic(auto, using(crate::proofs::OutputLemmas::drop_of_piece, crate::proofs::OutputLemmas::drop_past_piece))]
-    pub fn drop_bytes(&mut self, n: usize)
+    pub(crate) fn drop_bytes(&mut self, n: usize)
         requires { n ≤ length self.old }
         ensures { self.new ≡ drop n self.old }
     {
