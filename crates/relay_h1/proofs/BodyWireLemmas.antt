@@ -12,7 +12,7 @@ use Rattle.relay_h1.specs.declared.framing.Framing.TheVariants as framing
 use Rattle.relay_h1.specs.Wire as wire
 use Rattle.relay_h1.specs.Body.{BodyText, BodyMark, behind, counted_from, ended_text, open_text, Chunked, ChunkedPlace, Body, of_length}
 use Rattle.relay_h1.specs.Body as body
-use Rattle.relay_h1.specs.BodyWire.{size_line, chunk, piece_text, after_piece, pieces_text, after_pieces, body_part, end_text, is_full, is_short, HasWritten, ReadsBackOpen, ReadsBackWhole}
+use Rattle.relay_h1.specs.BodyWire.{size_line, chunk, piece_text, after_piece, pieces_text, after_pieces, body_part, end_text, is_full, is_raw, is_short, HasWritten, ReadsBackOpen, ReadsBackWhole}
 use Rattle.relay_h1.proofs.SizeLineLemmas.{size_line_starts}
 
 -- each piece is one that can be
@@ -324,6 +324,14 @@ after_pieces-push : (given : Framing) (pieces : List (List ℕ)) (piece : List �
 after_pieces-push given [] piece = refl
 after_pieces-push given (first ∷ pieces) piece =
     after_pieces-push (after_piece given first) pieces piece
+
+-- a body whose pieces are chunked has no length that it could come short of
+pub never_short : (rest : Framing) → is_raw rest ≡ false → is_short rest ≡ false
+never_short framing.Empty chunked = cc
+never_short (framing.Length left) chunked = cc
+never_short framing.Chunked chunked = refl
+never_short framing.UntilClose chunked = refl
+never_short framing.Tunnel chunked = refl
 
 -- a body that is full stays as it is
 pub full_stays : (rest : Framing) (piece : List ℕ) → is_full rest ≡ true

@@ -4,6 +4,7 @@ pub mod BodyReaderLemmas
 pub mod BodyStays
 pub mod ChunkLineLemmas
 pub mod CrlfLemmas
+pub mod OutputLemmas
 pub mod BodyWireLemmas
 pub mod ClientHeadLemmas
 pub mod HeadEndLemmas

@@ -65,6 +65,14 @@ is_full Chunked = false
 is_full UntilClose = false
 is_full Tunnel = false
 
+-- the text of a piece is the piece itself, as far as it belongs to the body
+abbrev pub is_raw : Framing → Bool
+is_raw Empty = true
+is_raw (Length left) = true
+is_raw Chunked = false
+is_raw UntilClose = true
+is_raw Tunnel = true
+
 -- the body may not end here: bytes of its length are missing
 abbrev pub is_short : Framing → Bool
 is_short Empty = false

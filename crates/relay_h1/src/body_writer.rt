@@ -1,11 +1,12 @@
 //! The text that a body is sent as, in its framing (RFC 9112, sections 6 and 7).
-ghost use Rattle.std.specs.Prelude.{◌≡◌, ℕ, ◌+◌, ◌≤◌, ◌↔◌, List, [], ◌∷◌, ◌++◌, length, vec_len, vec_capacity, IfOk, IfErr, OnOk, OnErr, IsOkUnless, IsErrOf, IsNone, IsTrue};
+ghost use Rattle.std.specs.Prelude.{◌≡◌, ℕ, true, ◌+◌, ◌≤◌, ◌↔◌, List, [], ◌∷◌, ◌++◌, length, vec_len, vec_capacity, IfOk, IfErr, OnOk, OnErr, IsOkUnless, IsErrOf, IsNone, IsTrue};
 ghost use Rattle.relay_tasks.specs.Error.{explained, IsMemoryOr};
-ghost use Rattle.relay_h1.specs.BodyWire.{body_part, piece_text, after_piece, chunk_text, end_text, body_text, is_full, is_short, count_of, short_body, HasWritten, ReadsBackOpen, ReadsBackWhole};
+ghost use Rattle.relay_h1.specs.BodyWire.{body_part, piece_text, after_piece, chunk_text, end_text, body_text, is_full, is_raw, is_short, count_of, short_body, HasWritten, ReadsBackOpen, ReadsBackWhole};
 ghost use Rattle.relay_h1.specs.declared.framing.Framing.{Framing};
 
 use crate::framing::Framing;
 use crate::size_line::SizeLine;
+use bytes::Bytes;
 use relay_tasks::{Context, Error, ErrorType, Fail, Result};
 use std::alloc::AllocError;
 use std::marker::Model;
@@ -60,13 +61,61 @@ impl BodyWriter {
         ensures kept { OnErr result (self.new ≡ self.old) }
         ensures memory { IsOkUnless result Fail.OutOfMemory }
     {
-        if is_full(self.rest) {
-            return Ok(None);
+        push_part(self.rest, out, body_part(self.rest, piece))?;
+        let count = self.count_of(piece);
+        self.go_past(piece);
+        Ok(count)
+    }
+
+    /// The text of a piece, where that is the piece itself, cut where the body ends. The writer goes
+    /// on as by `write`, and no byte is copied.
+    pub(crate) fn pass(&mut self, mut piece: Bytes) -> Bytes
+        requires { is_raw self.old ≡ true }
+        ensures text { result ≡ piece_text self.old piece }
+        ensures rest { self.new ≡ after_piece self.old piece }
+        ensures so_far { (framing : Framing) (pieces : List (List ℕ)) (text : List ℕ)
+            → HasWritten framing pieces text self.old
+            → HasWritten framing (pieces ++ piece ∷ []) (text ++ piece_text self.old piece)
+            self.new }
+    {
+        let len = body_part(self.rest, piece.as_slice()).len();
+        self.go_past(piece.as_slice());
+        piece.truncate(len);
+        piece
+    }
+
+    /// Whether the text of a piece is the piece itself, as far as it belongs to the body.
+    pub(crate) fn is_raw(&self) -> bool
+        ensures { result ≡ is_raw self.now }
+    {
+        match self.rest {
+            Framing::Chunked => false,
+            Framing::Empty | Framing::Length(_) | Framing::UntilClose | Framing::Tunnel => true,
         }
-        let part = body_part(self.rest, piece);
-        push_part(self.rest, out, part)?;
-        self.rest = after_piece(self.rest, part);
-        Ok(Some(part.len() as u64))
+    }
+
+    /// How many bytes of the piece belong to the body, and none where the body is done.
+    pub(crate) fn count_of(&self, piece: &[u8]) -> Option<u64>
+        ensures { result ≡ count_of self.now piece.now }
+    {
+        if is_full(self.rest) {
+            return None;
+        }
+        Some(body_part(self.rest, piece).len() as u64)
+    }
+
+    /// Goes on behind the piece.
+    fn go_past(&mut self, piece: &[u8])
+        ensures rest { self.new ≡ after_piece self.old piece.now }
+        ensures so_far { (framing : Framing) (pieces : List (List ℕ)) (text : List ℕ)
+            → HasWritten framing pieces text self.old
+            → HasWritten framing (pieces ++ piece.now ∷ []) (text ++ piece_text self.old piece.now)
+            self.new }
+        ensures reads_back { (framing : Framing) (pieces : List (List ℕ)) (text : List ℕ)
+            → HasWritten framing pieces text self.new
+            → ReadsBackOpen framing pieces text self.new }
+    {
+        self.rest = after_piece(self.rest, piece);
     }
 
     /// Appends the text of the end, and ends the body. It is Ok and writes nothing where the body

@@ -1,23 +1,39 @@
-//! Bytes that wait for a link to take them.
-ghost use Rattle.std.specs.Prelude.{◌≡◌, ◌≤◌, ◌<◌, ◌==◌, length, drop};
+//! The bytes that wait for a link to take them.
+ghost use Rattle.std.specs.Prelude.{◌≡◌, ◌↔◌, ◌≤◌, ◌<◌, ◌==◌, ◌++◌, ◌∷◌, [], ℕ, List, length, take, drop, IfOk, IfErr, OnOk, OnErr, IsOkUnless, IsErrOf, IsTrue};
+ghost use Rattle.relay_tasks.specs.Error.{IsMemoryOr};
+ghost use Rattle.relay_h1.specs.BodyWire.{piece_text, after_piece, count_of, end_text, body_text, is_short, short_body, HasWritten, ReadsBackWhole};
 ghost use Rattle.relay_h1.specs.Move.{WritesOut, taken};
+ghost use Rattle.relay_h1.specs.Wire.{request_text, response_text};
+ghost use Rattle.relay_h1.specs.declared.framing.Framing.{Framing};
 
+use crate::body_writer::BodyWriter;
+use crate::wire::{write_request_head, write_response_head};
+use bytes::Bytes;
 use relay_links::{ByteLink, Put};
+use relay_tasks::{Fail, RequestHeader, ResponseHeader, Result};
+use std::alloc::{AllocError, Global};
 use std::marker::Model;
 
-/// Bytes that wait for a link, seen as the list of those that it has not taken.
+/// Bytes that wait for a link, seen as the list of those that it has not taken. What comes later
+/// stands behind them. Where memory is wanted, a call that pushes changes nothing.
+///
+/// A piece of a body that comes where nothing waits is kept as it is, and offered so. What comes
+/// behind it is gathered with it: a write is offered all that waits.
 #[derive(Drop)]
 pub struct Output {
+    // A piece that waits alone, in front of what was gathered.
+    piece: Bytes,
+    // What was taken stands before `start`, until room is needed or all was taken.
     bytes: Vec<u8>,
     start: usize,
 }
 
 impl Model for Output {
-    ghost use Rattle.std.specs.Prelude.{List, ℕ, ◌≤◌, length, drop};
+    ghost use Rattle.std.specs.Prelude.{List, ℕ, ◌≤◌, ◌++◌, length, drop};
 
     ghost Value = { List ℕ };
 
-    ghost view = { λ o. drop o.start o.bytes.items };
+    ghost view = { λ o. o.piece ++ drop o.start o.bytes.items };
 
     ghost invariant = { λ o. o.start ≤ length o.bytes.items };
 }
@@ -27,29 +43,137 @@ impl Output {
     pub fn new(bytes: Vec<u8>) -> Output
         ensures { result ≡ bytes.items }
     {
-        Output { bytes, start: 0 }
+        Output {
+            piece: Bytes::new(),
+            bytes,
+            start: 0,
+        }
     }
 
-    /// Whether all were taken.
+    /// Its allocator.
+    pub fn allocator(&self) -> Global {
+        *self.bytes.allocator()
+    }
+
+    /// How many bytes wait.
+    pub fn len(&self) -> usize
+        ensures { result ≡ length self.now }
+    {
+        self.piece.len() + (self.bytes.len() - self.start)
+    }
+
+    /// Whether no byte waits.
     pub fn is_empty(&self) -> bool
         ensures { result ≡ (length self.now == 0) }
     {
-        self.start == self.bytes.len()
+        self.piece.is_empty() && self.start == self.bytes.len()
     }
 
-    /// The bytes that wait.
-    pub fn front_bytes(&self) -> &[u8]
-        ensures { result.now ≡ self.now }
+    /// The bytes that the next write is offered.
+    pub(crate) fn front_bytes(&self) -> &[u8]
+        ensures front { result.now ≡ take (length result.now) self.now }
+        ensures some { 0 < length self.now → 0 < length result.now }
     {
-        &self.bytes.as_slice()[self.start..]
+        if self.piece.is_empty() {
+            &self.bytes.as_slice()[self.start..]
+        } else {
+            self.piece.as_slice()
+        }
     }
 
     /// Drops the first `n` bytes.
-    pub fn drop_bytes(&mut self, n: usize)
+    #[tactic(auto, using(crate::proofs::OutputLemmas::drop_of_piece, crate::proofs::OutputLemmas::drop_past_piece))]
+    pub(crate) fn drop_bytes(&mut self, n: usize)
         requires { n ≤ length self.old }
         ensures { self.new ≡ drop n self.old }
     {
-        self.start += n;
+        if n < self.piece.len() {
+            self.piece.advance(n);
+            return;
+        }
+        self.start += n - self.piece.len();
+        self.piece = Bytes::new();
+        self.forget_taken();
+    }
+
+    /// Drops the bytes behind the first `n`.
+    #[tactic(auto, using(crate::proofs::OutputLemmas::take_of_piece, crate::proofs::OutputLemmas::take_past_piece))]
+    pub fn truncate(&mut self, n: usize)
+        ensures { self.new ≡ take n self.old }
+    {
+        if n <= self.piece.len() {
+            self.piece.truncate(n);
+            self.bytes.truncate(self.start);
+            return;
+        }
+        let behind = n - self.piece.len();
+        if behind < self.bytes.len() - self.start {
+            self.bytes.truncate(self.start + behind);
+        }
+    }
+
+    /// Queues the text of a request's head. Its request line names HTTP/1.1, whatever the version.
+    pub fn push_request_head(&mut self, head: &RequestHeader) -> Result<()>
+        ensures ok { OnOk result (self.new ≡ self.old ++ request_text head.now) }
+        ensures err { OnErr result (self.new ≡ self.old) }
+        ensures memory { IsOkUnless result Fail.OutOfMemory }
+    {
+        self.gather()?;
+        write_request_head(&mut self.bytes, head)
+    }
+
+    /// Queues the text of a response's head.
+    pub fn push_response_head(&mut self, head: &ResponseHeader) -> Result<()>
+        ensures ok { OnOk result (self.new ≡ self.old ++ response_text head.now) }
+        ensures err { OnErr result (self.new ≡ self.old) }
+        ensures memory { IsOkUnless result Fail.OutOfMemory }
+    {
+        self.gather()?;
+        write_response_head(&mut self.bytes, head)
+    }
+
+    /// Queues the text of a piece of a body, as `BodyWriter::write` does. Where nothing waits and
+    /// its bytes are its text, no byte is copied.
+    pub fn push_piece(&mut self, body: &mut BodyWriter, piece: Bytes) -> Result<Option<u64>>
+        ensures text { OnOk result (self.new ≡ self.old ++ piece_text body.old piece) }
+        ensures counted { IfOk result (λ count. count ≡ count_of body.old piece) }
+        ensures rest { OnOk result (body.new ≡ after_piece body.old piece) }
+        ensures so_far { OnOk result ((framing : Framing) (pieces : List (List ℕ)) (text : List ℕ)
+            → HasWritten framing pieces text body.old
+            → HasWritten framing (pieces ++ piece ∷ []) (text ++ piece_text body.old piece)
+            body.new) }
+        ensures err { OnErr result ((self.new ≡ self.old) × (body.new ≡ body.old)) }
+        ensures memory { IsOkUnless result Fail.OutOfMemory }
+    {
+        if self.is_empty() && body.is_raw() {
+            let count = body.count_of(&piece);
+            self.piece = body.pass(piece);
+            return Ok(count);
+        }
+        self.gather()?;
+        body.write(&mut self.bytes, piece.as_slice())
+    }
+
+    /// Queues the text of the end of a body, as `BodyWriter::finish` does.
+    #[tactic(auto, using(crate::proofs::BodyWireLemmas::never_short))]
+    pub fn push_end(&mut self, body: &mut BodyWriter) -> Result<()>
+        ensures text { OnOk result (self.new ≡ self.old ++ end_text body.old) }
+        ensures rest { OnOk result (body.new ≡ Framing.Empty) }
+        ensures whole { OnOk result ((framing : Framing) (pieces : List (List ℕ)) (text : List ℕ)
+            → HasWritten framing pieces text body.old
+            → text ++ end_text body.old ≡ body_text framing pieces) }
+        ensures reads_back { OnOk result ((framing : Framing) (pieces : List (List ℕ))
+            (text : List ℕ) → HasWritten framing pieces text body.old
+            → ReadsBackWhole framing pieces (text ++ end_text body.old)) }
+        ensures short { IsErrOf result (Fail.Error short_body) ↔ IsTrue (is_short body.old) }
+        ensures causes { IfErr result (IsMemoryOr short_body) }
+        ensures err { OnErr result ((self.new ≡ self.old) × (body.new ≡ body.old)) }
+    {
+        // A raw body ends with no text, so a piece that waits alone stays so.
+        if !body.is_raw() {
+            self.gather()?;
+        }
+        body.finish(&mut self.bytes)
     }
 
     /// One write to the link of all the bytes that wait. What it takes leaves them.
@@ -61,6 +185,47 @@ impl Output {
         let put = link.write(self.front_bytes());
         self.drop_bytes(taken(put));
         put
+    }
+
+    /// Forgets the bytes that were taken, once these are all.
+    fn forget_taken(&mut self)
+        ensures { self.new ≡ self.old }
+    {
+        if self.start == self.bytes.len() {
+            self.bytes.clear();
+            self.start = 0;
+        }
+    }
+
+    /// Puts a piece that waits alone to the text, so that what comes is gathered behind it.
+    fn gather(&mut self) -> std::result::Result<(), AllocError>
+        ensures { self.new ≡ self.old }
+    {
+        if self.piece.is_empty() {
+            self.make_room();
+            return Ok(());
+        }
+        if self.start != self.bytes.len() {
+            return Ok(());
+        }
+        self.bytes.clear();
+        self.start = 0;
+        self.bytes.extend_from_slice(self.piece.as_slice())?;
+        self.piece = Bytes::new();
+        Ok(())
+    }
+
+    /// Forgets the bytes that were taken, where they are more than those that wait.
+    fn make_room(&mut self)
+        ensures { self.new ≡ self.old }
+    {
+        let waiting = self.bytes.len() - self.start;
+        if self.start <= waiting {
+            return;
+        }
+        self.bytes.as_mut_slice().copy_within(self.start.., 0);
+        self.bytes.truncate(waiting);
+        self.start = 0;
     }
 }
 

@@ -1,10 +1,10 @@
 -- How the writing of a request goes on.
-use Rattle.std.proofs.Common.{◌≡◌, ℕ, ◌^◌, ◌<◌, false, List, [], ◌++◌, length, refl, sym, ap, subst, ◌∙◌, append-nil, append_assoc, Option, Some, Result, Ok, Err, OnOk, unwrap_or}
+use Rattle.std.proofs.Common.{◌≡◌, ℕ, ◌^◌, ◌<◌, false, List, [], ◌∷◌, ◌++◌, length, refl, sym, ap, subst, ◌∙◌, append-nil, append_assoc, Option, Some, Result, Ok, Err, OnOk, unwrap_or}
 use Rattle.std.proofs.lemmas.List.Elements.{All-nil}
 use Rattle.relay_tasks.specs.Head.{RequestHead}
 use Rattle.relay_h1.specs.declared.framing.Framing.{Framing}
 use Rattle.relay_h1.specs.declared.framing.Framing.TheVariants as framing
-use Rattle.relay_h1.specs.BodyWire.{HasWritten}
+use Rattle.relay_h1.specs.BodyWire.{HasWritten, after_piece, pieces_text, piece_text}
 use Rattle.relay_h1.specs.Framing.{request_framing, IsFramedBy}
 use Rattle.relay_h1.specs.Verdict.{refused_from}
 use Rattle.relay_h1.proofs.JudgeLemmas.{not_framed}
@@ -15,7 +15,7 @@ use Rattle.relay_h1.specs.Wire.{request_text}
 use Rattle.relay_peer.specs.declared.request_writing.RequestPlace.{RequestPlace}
 use Rattle.relay_peer.specs.declared.request_writing.RequestPlace.TheVariants as request
 use Rattle.relay_peer.specs.declared.request_writing.RequestWriting.{RequestWriting}
-use Rattle.relay_peer.specs.RequestWriting.{Sent, SentSoFar, Stands, with_head, has_head, body_framing}
+use Rattle.relay_peer.specs.RequestWriting.{Sent, SentSoFar, Stands, with_head, with_piece, has_head, body_framing}
 use Rattle.relay_peer.specs.RequestWriting as writing
 
 -- the framing of a head that has one
@@ -77,6 +77,73 @@ first_head sent taken old unsent head rest framed none queued so_far =
     (subst (λ (r : RequestPlace).
     SentSoFar sent taken (record { request = r; unsent = old.unsent }))
     none_yet so_far))
+
+-- what was written of a body goes on with the piece
+PieceGoesOn : Framing → List ℕ → Framing → Type 0
+PieceGoesOn rest piece after =
+    (given : Framing) (pieces : List (List ℕ)) (text : List ℕ)
+    → HasWritten given pieces text rest
+    → HasWritten given (pieces ++ piece ∷ []) (text ++ piece_text rest piece) after
+
+-- a piece is queued behind a head
+piece_queued : (sent : Sent) (taken old new piece : List ℕ) (head : RequestHead)
+    (rest after : Framing) → new ≡ old ++ piece_text rest piece → after ≡ after_piece rest piece
+    → PieceGoesOn rest piece after
+    → SentSoFar sent taken
+    (record { request = request.Sending (record { head = head; body = rest }); unsent = old })
+    → SentSoFar (with_piece sent piece) taken
+    (record { request = request.Sending (record { head = head; body = after }); unsent = new })
+unfolding PieceGoesOn
+piece_queued writing.Sent.nothing taken old new piece head rest after grown is goes so_far =
+    absurd so_far.stands
+piece_queued (writing.Sent.begun first pieces) taken old new piece head rest after grown is goes
+    so_far =
+    let given = body_framing first in
+    let w = goes given pieces (pieces_text given pieces) so_far.stands.1 in
+    record {
+      stands = (
+        so_far.stands.0,
+        subst (λ (t : List ℕ). HasWritten given (pieces ++ piece ∷ []) t after) w.is_text w,
+      );
+      text =
+          ap (λ (xs : List ℕ). taken ++ xs) grown
+          ∙ sym (append_assoc taken old (piece_text rest piece))
+          ∙ ap (λ (xs : List ℕ). xs ++ piece_text rest piece) so_far.text
+          ∙ append_assoc (request_text first) (pieces_text given pieces) (piece_text rest piece)
+          ∙ ap (λ (xs : List ℕ). request_text first ++ xs) w.is_text;
+    }
+piece_queued (writing.Sent.whole first pieces) taken old new piece head rest after grown is goes
+    so_far =
+    let ended : rest ≡ framing.Empty = so_far.stands.1 in
+    let stays : after ≡ framing.Empty =
+    is ∙ ap (λ (r : Framing). after_piece r piece) ended in
+    let none : new ≡ old =
+    grown ∙ ap (λ (r : Framing). old ++ piece_text r piece) ended ∙ append-nil old in
+    record {
+      stands = (so_far.stands.0, stays, so_far.stands.2);
+      text = ap (λ (xs : List ℕ). taken ++ xs) none ∙ so_far.text;
+    }
+
+-- the same, where the piece was queued
+pub piece_behind : {A E : Type 0} (result : Result A E) (old : RequestWriting)
+    (new piece : List ℕ) (head : RequestHead) (rest after : Framing)
+    → old.request ≡ request.Sending (record { head = head; body = rest })
+    → OnOk result (new ≡ old.unsent ++ piece_text rest piece)
+    → OnOk result (after ≡ after_piece rest piece)
+    → OnOk result ((given : Framing) (pieces : List (List ℕ)) (text : List ℕ)
+    → HasWritten given pieces text rest
+    → HasWritten given (pieces ++ piece ∷ []) (text ++ piece_text rest piece) after)
+    → OnOk result ((sent : Sent) (taken : List ℕ) → SentSoFar sent taken old
+    → SentSoFar (with_piece sent piece) taken
+    (record { request = request.Sending (record { head = head; body = after }); unsent = new }))
+unfolding PieceGoesOn
+piece_behind (Ok count) old new piece head rest after at grown is goes =
+    λ sent taken so_far.
+    piece_queued sent taken old.unsent new piece head rest after grown is goes
+    (subst (λ (r : RequestPlace).
+    SentSoFar sent taken (record { request = r; unsent = old.unsent }))
+    at so_far)
+piece_behind (Err error) old new piece head rest after at grown is goes = tt
 
 -- the head's framing was refused
 pub not_framed_in : (head : RequestHead) (inner outer : Error)

@@ -13,6 +13,7 @@ ghost use Rattle.relay_peer.specs.H1Client.{is_fault, may_keep_client};
 
 use crate::request_writing::{RequestPlace, RequestWriting};
 use crate::response_reading::ResponseReading;
+use bytes::Bytes;
 use http::Method;
 use relay_links::{ByteLink, Put};
 use relay_tasks::{Context, ErrorSource, Fail, HttpTask, Pause, RequestHeader, Result, Took};
@@ -72,12 +73,12 @@ impl<L> H1Client<L> {
     /// Queues a piece of the body in its framing, and gives how many of its bytes belong to the
     /// body: none past its length. None exactly where the body takes no more bytes, or no head was
     /// queued; nothing is queued then. When out of memory nothing changes.
-    pub fn write_body(&mut self, piece: &[u8]) -> Result<Option<u64>>
+    pub fn write_body(&mut self, piece: Bytes) -> Result<Option<u64>>
         ensures keeps { OnOk result ((sent : Sent) (taken : List ℕ)
             → SentSoFar sent taken self.old.request
-            → SentSoFar (with_piece sent piece.now) taken self.new.request) }
+            → SentSoFar (with_piece sent piece) taken self.new.request) }
         ensures count { IfOk result (λ count. count ≡ count_of (rest_of self.old.request.request)
-            piece.now) }
+            piece) }
         ensures sent { IfOk result (λ count. self.new.sent ≡ counted self.old.sent
             (unwrap_or count 0)) }
         ensures memory { IsOkUnless result Fail.OutOfMemory }

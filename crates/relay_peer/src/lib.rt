@@ -7,6 +7,5 @@ mod request_writing;
 mod response_reading;
 #[cfg(test)]
 mod tests;
-mod unsent;
 
 pub use h1_client::H1Client;

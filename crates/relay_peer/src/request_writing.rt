@@ -8,8 +8,8 @@ ghost use Rattle.relay_h1.specs.Move.{WritesOut, taken};
 ghost use Rattle.relay_h1.specs.Verdict.{refused_from};
 ghost use Rattle.relay_peer.specs.RequestWriting.{Sent, SentSoFar, with_head, with_piece, with_end, rest_of, has_head, may_keep_writing, short_request};
 
-use crate::unsent::Unsent;
-use relay_h1::{BodyWriter, closes, request_framing};
+use bytes::Bytes;
+use relay_h1::{BodyWriter, Output, closes, request_framing};
 use relay_links::{ByteLink, Put};
 use relay_tasks::{Context, Error, ErrorSource, Fail, RequestHeader, Result};
 use std::alloc::Global;
@@ -34,7 +34,7 @@ pub(crate) enum RequestPlace {
 #[derive(Drop)]
 pub(crate) struct RequestWriting {
     pub(crate) request: RequestPlace,
-    pub(crate) unsent: Unsent,
+    pub(crate) unsent: Output,
 }
 
 impl RequestWriting {
@@ -44,7 +44,7 @@ impl RequestWriting {
     {
         RequestWriting {
             request: RequestPlace::NoHead,
-            unsent: Unsent::new(alloc),
+            unsent: Output::new(Vec::new(alloc)),
         }
     }
 
@@ -76,7 +76,7 @@ impl RequestWriting {
         if self.has_head() {
             return Ok(());
         }
-        self.unsent.push_head(&head)?;
+        self.unsent.push_request_head(&head)?;
         self.request = RequestPlace::Sending(Sending { head, body });
         Ok(())
     }
@@ -92,12 +92,12 @@ impl RequestWriting {
     }
 
     /// Queues a piece of the body.
-    pub(crate) fn write_body(&mut self, piece: &[u8]) -> Result<Option<u64>>
+    pub(crate) fn write_body(&mut self, piece: Bytes) -> Result<Option<u64>>
         ensures keeps { OnOk result ((sent : Sent) (taken : List ℕ)
             → SentSoFar sent taken self.old
-            → SentSoFar (with_piece sent piece.now) taken self.new) }
+            → SentSoFar (with_piece sent piece) taken self.new) }
         ensures counted { IfOk result (λ count. count ≡ count_of (rest_of self.old.request)
-            piece.now) }
+            piece) }
         ensures memory { IsOkUnless result Fail.OutOfMemory }
         ensures err { OnErr result (self.new ≡ self.old) }
     {

@@ -1,18 +1,17 @@
 -- The check of a batch: the task that it refuses, and how it is found.
-use Rattle.std.proofs.Common.{◌≡◌, ℕ, suc, ◌+◌, ◌<◌, Bool, true, false, not, List, [], ◌∷◌, ◌++◌, length, drop, refl, sym, ◌∙◌, ap, subst, add-one, get_or, Option, Some, None, Result, Ok, Err, if◌then◌else◌, drop-cons, inl, inr}
+use Rattle.std.proofs.Common.{◌≡◌, ℕ, suc, ◌+◌, Bool, true, false, not, List, [], ◌∷◌, ◌++◌, drop, refl, sym, ◌∙◌, ap, add-one, Option, Some, None, Err, drop-cons, inl, inr}
 use Rattle.std.specs.List.{slice_get}
 use Rattle.std.proofs.lemmas.Bool.{cases_Bool}
 use Rattle.std.proofs.lemmas.Option.{slice_get_within, get_or_from_slice_get}
 use Rattle.relay_tasks.specs.declared.error.Error.{Error}
 use Rattle.relay_tasks.specs.declared.task.HttpTask.{HttpTask}
 use Rattle.relay_tasks.specs.declared.task.HttpTask.TheVariants as task
-use Rattle.relay_tasks.specs.Head.{ResponseHead}
 use Rattle.relay_h1.specs.declared.framing.Framing.{Framing}
 use Rattle.relay_h1.specs.ClientHead.{is_informational}
 use Rattle.relay_session.specs.declared.task_text.Request.{Request}
 use Rattle.relay_session.specs.declared.task_text.Place.{Place}
 use Rattle.relay_session.specs.declared.task_text.Place.TheVariants as place
-use Rattle.relay_session.specs.TaskWire.{IsFramedInside, framing_of, shown, bad_framing, informed, framed_head_sent, framed_head_refusal, task_sent, refusal, wire, settles, unframed, unframed_head, unframed_in, batch_refusal}
+use Rattle.relay_session.specs.TaskWire.{IsFramedInside, framing_of, framed_head_refusal, task_sent, refusal, wire, settles, unframed, unframed_head, unframed_in, batch_refusal}
 
 -- the refusal of a framing
 pub unframed_err : (found : Option Framing) (error : Error) → IsFramedInside (Err error) found

@@ -1,5 +1,5 @@
 -- How the response of a session goes on with its calls.
-use Rattle.std.proofs.Common.{◌≡◌, ℕ, ◌+◌, ◌≤◌, Bool, true, false, List, [], ◌∷◌, ◌++◌, length, min, refl, sym, ◌∙◌, ap, subst, arith, append-nil, append_assoc, Option, Some, None, Result, Ok, Err, OnOk, IfErr, inl, inr}
+use Rattle.std.proofs.Common.{◌≡◌, ℕ, ◌+◌, ◌≤◌, true, false, List, [], ◌∷◌, ◌++◌, length, min, refl, sym, ◌∙◌, ap, subst, arith, append-nil, append_assoc, Option, Some, None, Result, Ok, Err, OnOk, IfErr, inl, inr}
 use Rattle.std.proofs.lemmas.Bool.{cases_Bool}
 use Rattle.std.proofs.Math.Seq.{take-nil}
 use Rattle.relay_tasks.specs.Head.{ResponseHead}
@@ -19,9 +19,9 @@ use Rattle.relay_session.specs.declared.task_text.Request.{Request}
 use Rattle.relay_session.specs.declared.writing.Outgoing.{Outgoing}
 use Rattle.relay_session.specs.declared.writing.Outgoing.TheVariants as outgoing
 use Rattle.relay_session.specs.declared.writing.Writing.{Writing}
-use Rattle.relay_session.specs.TaskWire.{Sent, nothing_at, joined, only_piece, ends_short, framing_of, shown, framed_head_sent, framed_head_refusal, piece_sent, piece_refusal, piece_at, piece_refusal_at, head_at, head_refusal_at, task_sent, refusal, wire, first_refusal}
+use Rattle.relay_session.specs.TaskWire.{Sent, nothing_at, joined, framing_of, shown, framed_head_sent, framed_head_refusal, piece_at, piece_refusal_at, head_at, head_refusal_at, task_sent, refusal, wire}
 use Rattle.relay_session.specs.TaskSteps.{IsWire}
-use Rattle.relay_session.specs.Response.{IsText, Holds, HoldsOn, GoesOnWith, Grows, IsQueued, AreQueued, IsOpen, Given, Takes, passed, IsFailure, given_of, IsRefused, StopsOn, FailsOn, StopsAt, error_of}
+use Rattle.relay_session.specs.Response.{IsText, Holds, HoldsOn, GoesOnWith, Grows, IsQueued, AreQueued, IsOpen, Takes, passed, IsFailure, given_of, StopsOn, FailsOn, StopsAt}
 use Rattle.relay_session.proofs.WireSteps.{GoesOnAt, IsWire-push, wire-push, first_refusal-push, after_nothing, text_nothing}
 
 -- a count that stands still at its last value, counted on

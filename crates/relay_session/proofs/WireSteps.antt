@@ -1,8 +1,7 @@
 -- How the text of tasks grows by one task more.
-use Rattle.std.proofs.Common.{◌≡◌, ℕ, ◌+◌, ◌^◌, ◌<◌, ◌≤◌, Bool, true, false, List, [], ◌∷◌, ◌++◌, length, take, refl, sym, ◌∙◌, ap, subst, arith, append-nil, append_assoc, length-append, Option, Some, None, Result, Ok, Err, IfOk, if◌then◌else◌, ◌||◌, inl, inr}
+use Rattle.std.proofs.Common.{◌≡◌, ℕ, ◌+◌, ◌^◌, ◌<◌, Bool, true, false, List, [], ◌∷◌, ◌++◌, length, refl, sym, ◌∙◌, ap, subst, arith, append-nil, append_assoc, Option, Some, None, Result, Ok, Err, IfOk, if◌then◌else◌, inl, inr}
 use Rattle.std.specs.Prelude.{IsErrOf, IsTrue, ◌↔◌}
-use Rattle.std.proofs.Math.Seq.{take-append_seam, take-nil}
-use Rattle.std.proofs.lemmas.List.{take-take}
+use Rattle.std.proofs.Math.Seq.{take-nil}
 use Rattle.std.proofs.lemmas.List.Elements.{All-nil}
 use Rattle.std.proofs.Math.Bool.{or-false}
 use Rattle.std.proofs.lemmas.Bool.{or_parts, cases_Bool}
@@ -16,27 +15,13 @@ use Rattle.relay_h1.specs.declared.framing.Framing.{Framing}
 use Rattle.relay_h1.specs.declared.framing.Framing.TheVariants as framing
 use Rattle.relay_h1.specs.BodyWire.{HasWritten, ReadsBackWhole, piece_text, after_piece, after_pieces, end_text, is_short, short_body}
 use Rattle.relay_h1.specs.ClientHead.{is_informational}
-use Rattle.relay_h1.specs.Wire.{KeepsFront, response_text}
+use Rattle.relay_h1.specs.Wire.{response_text}
 use Rattle.relay_session.specs.declared.task_text.Request.{Request}
 use Rattle.relay_session.specs.declared.task_text.Place.{Place}
 use Rattle.relay_session.specs.declared.task_text.Pushed.{Pushed}
 use Rattle.relay_session.specs.declared.task_text.Place.TheVariants as place
 use Rattle.relay_session.specs.TaskWire.{Sent, IsFramedInside, with_text, piece_sent, piece_refusal, framed_head_refusal, bytes_of, nothing_at, joined, only_piece, only_end, ends_with, framing_of, shown, framed_head_sent, head_sent, head_at, piece_at, task_sent, refusal, wire, or_later, first_refusal}
 use Rattle.relay_session.specs.TaskSteps.{HasPushed, piece_of, pieces_of, ends_body, has_end, Parts, from_head, InBody, WholeBody, SaysBody, IsWire, GoesOnBy, GoesOn, HeadGoesOn, HeadGoesOnAt, PieceGoesOnAt}
-
--- what keeps a longer front keeps a shorter one
-pub KeepsFront-shorter : (old text middle new : List ℕ) → middle ≡ old ++ text
-    → KeepsFront middle new → KeepsFront old new
-KeepsFront-shorter old text middle new grown keeps =
-    let fits : length old ≤ length middle =
-    rw grown (omega (arith, length-append old text)) in
-    let front : take (length old) middle ≡ old = rw grown (take-append_seam old text) in
-    record {
-      front =
-          sym (take-take (length old) (length middle) new fits)
-          ∙ ap (λ (l : List ℕ). take (length old) l) keeps.front
-          ∙ front;
-    }
 
 -- ---- a piece
 

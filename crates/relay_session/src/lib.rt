@@ -5,7 +5,6 @@
 mod batch;
 mod front;
 mod generated;
-mod queue;
 mod reading;
 mod session;
 mod summary;

@@ -286,11 +286,11 @@ impl HttpSession {
     /// piece is queued then too, and the body stays open. `WriteError` or `WriteTimedout`, of the
     /// client's side: exactly where a write failed so before. Then, and where memory is wanted, the
     /// session stays as it was.
-    pub fn write_response_body(&mut self, piece: &[u8], end: bool) -> Result<()>
+    pub fn write_response_body(&mut self, piece: Bytes, end: bool) -> Result<()>
         ensures ok { OnOk result
-            (IsQueued self.old.writing (HttpTask.Body (Some piece.now) end) self.new.writing) }
+            (IsQueued self.old.writing (HttpTask.Body (Some piece) end) self.new.writing) }
         ensures err { IfErr result (FailsOn self.old.writing.output self.old.writing
-            (HttpTask.Body (Some piece.now) end) self.new.writing) }
+            (HttpTask.Body (Some piece) end) self.new.writing) }
         ensures reading { self.new ≡ record self.old { writing = self.new.writing } }
     {
         self.writing.write_response_body(piece, end)

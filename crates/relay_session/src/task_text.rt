@@ -1,19 +1,18 @@
 //! The text that a task of a response is sent as to a client of HTTP/1 (RFC 9112, sections 4, 6
 //! and 7).
-ghost use Rattle.std.specs.Prelude.{◌≡◌, [], false, None, IfOk, OnOk, IsOkUnless};
+ghost use Rattle.std.specs.Prelude.{◌≡◌, [], false, None, IfOk, OnOk, OnErr, IsOkUnless};
 ghost use Rattle.relay_tasks.specs.Head.{ResponseHead};
 ghost use Rattle.relay_h1.specs.Framing.{response_framing};
-ghost use Rattle.relay_h1.specs.Wire.{KeepsFront, response_text};
+ghost use Rattle.relay_h1.specs.Wire.{response_text};
 ghost use Rattle.relay_h1.specs.BodyWire.{after_piece};
 ghost use Rattle.relay_h1.specs.ClientHead.{client_framing, client_head};
 ghost use Rattle.relay_session.specs.Asked.{method_of, asks_of, request_of, unread};
 ghost use Rattle.relay_session.specs.TaskWire.{piece_sent, piece_refusal, head_sent, head_refusal, with_text, framed_head_sent, framed_head_refusal, framing_of, shown, informed, head_at, head_refusal_at, piece_at, piece_refusal_at, IsFramedInside};
 ghost use Rattle.relay_session.specs.TaskSteps.{GoesOn, HeadGoesOn, HeadGoesOnAt, PieceGoesOnAt, HasPushed};
 
+use bytes::Bytes;
 use http::{Method, Version};
-use relay_h1::{
-    BodyWriter, Framing, client_framing, frame_for_client, is_sent_to, write_response_head,
-};
+use relay_h1::{BodyWriter, Framing, Output, client_framing, frame_for_client, is_sent_to};
 use relay_tasks::{Error, Fail, RequestHeader, ResponseHeader, Result};
 
 /// What a response depends on of its request's method: a response to HEAD has no body.
@@ -99,7 +98,7 @@ pub enum Place {
     Done,
 }
 
-/// What was appended for a task: how many bytes of the body, where the response stands then, and
+/// What was queued for a task: how many bytes of the body, where the response stands then, and
 /// the error where the task is refused.
 #[derive(Clone, Copy)]
 pub(crate) struct Pushed {
@@ -109,7 +108,7 @@ pub(crate) struct Pushed {
 }
 
 impl Pushed {
-    /// Nothing was appended, and the response stays there.
+    /// Nothing is queued, and the response stays there.
     fn nothing_at(place: Place) -> Pushed
         ensures { result ≡ record { counted = 0; place = place; refused = None } }
     {
@@ -121,25 +120,27 @@ impl Pushed {
     }
 }
 
-/// Appends a piece of a body whose rest is framed so, and the end where it ends with the piece.
+/// Queues a piece of a body whose rest is framed so, and the end where it ends with the piece.
 ///
 /// It is refused with `PrematureBodyEnd`, of the client's side, exactly where the end comes short
-/// of a length. The piece is appended then too, and the body stays open.
+/// of a length. The piece is queued then too, and the body stays open. Where memory is wanted,
+/// nothing changes.
 pub(crate) fn push_piece(
     rest: Framing,
-    out: &mut Vec<u8>,
-    piece: &[u8],
+    out: &mut Output,
+    piece: Bytes,
     ends: bool,
 ) -> Result<Pushed>
-    ensures ok { IfOk result (HasPushed (piece_sent rest piece.now ends)
-        (piece_refusal rest piece.now ends) out.old.items out.new.items) }
+    ensures ok { IfOk result (HasPushed (piece_sent rest piece ends)
+        (piece_refusal rest piece ends) out.old out.new) }
     ensures memory { IsOkUnless result Fail.OutOfMemory }
-    ensures front { KeepsFront out.old.items out.new.items }
-    ensures goes_on { OnOk result (GoesOn rest piece.now ends) }
+    ensures kept { OnErr result (out.new ≡ out.old) }
+    ensures goes_on { OnOk result (GoesOn rest piece ends) }
 {
+    let before = out.len();
+    let left = after_piece(rest, piece.as_slice());
     let mut body = BodyWriter::new(rest);
-    let counted = body.write(out, piece)?.unwrap_or(0);
-    let left = after_piece(rest, piece);
+    let counted = out.push_piece(&mut body, piece)?.unwrap_or(0);
     if !ends {
         return Ok(Pushed {
             counted,
@@ -147,7 +148,7 @@ pub(crate) fn push_piece(
             refused: None,
         });
     }
-    match body.finish(out) {
+    match out.push_end(&mut body) {
         Ok(()) => Ok(Pushed {
             counted,
             place: Place::Done,
@@ -158,8 +159,22 @@ pub(crate) fn push_piece(
             place: Place::Body(left),
             refused: Some(error.into_down()),
         }),
-        Err(Fail::OutOfMemory) => Err(Fail::OutOfMemory),
+        Err(Fail::OutOfMemory) => {
+            out.truncate(before);
+            Err(Fail::OutOfMemory)
+        }
     }
+}
+
+/// As `push_piece`, without a piece: the end alone, where it is asked for.
+fn push_empty(rest: Framing, out: &mut Output, ends: bool) -> Result<Pushed>
+    ensures ok { IfOk result (HasPushed (piece_sent rest [] ends)
+        (piece_refusal rest [] ends) out.old out.new) }
+    ensures memory { IsOkUnless result Fail.OutOfMemory }
+    ensures kept { OnErr result (out.new ≡ out.old) }
+    ensures goes_on { OnOk result (GoesOn rest [] ends) }
+{
+    push_piece(rest, out, Bytes::new(), ends)
 }
 
 /// How what is left of a body is framed once the piece was written.
@@ -175,23 +190,23 @@ fn after_piece(rest: Framing, piece: &[u8]) -> Framing
     }
 }
 
-/// Appends a head where no final head was appended: for a final head its text as the client gets
-/// it, and the end of the body where it ends with the head; for a informational head its text,
+/// Queues a head where no final head was queued: for a final head its text as the client gets
+/// it, and the end of the body where it ends with the head; for an informational head its text,
 /// and nothing for a client of HTTP/1.0.
 ///
 /// It is refused with `InvalidHTTPHeader`, of the relay's own side, exactly where the framing of a
-/// final head is refused; nothing is appended then. It is refused with `PrematureBodyEnd`, of the
-/// client's side, exactly where the end comes short of a length; the head is appended then.
+/// final head is refused; nothing is queued then. It is refused with `PrematureBodyEnd`, of the
+/// client's side, exactly where the end comes short of a length; the head is queued then.
 fn push_head(
     request: &Request,
-    out: &mut Vec<u8>,
+    out: &mut Output,
     head: ResponseHeader,
     ends: bool,
 ) -> Result<Pushed>
     ensures ok { IfOk result (HasPushed (head_sent request.now head ends)
-        (head_refusal request.now head ends) out.old.items out.new.items) }
+        (head_refusal request.now head ends) out.old out.new) }
     ensures memory { IsOkUnless result Fail.OutOfMemory }
-    ensures front { KeepsFront out.old.items out.new.items }
+    ensures kept { OnErr result (out.new ≡ out.old) }
     ensures goes_on { OnOk result (HeadGoesOn request.now head ends) }
 {
     if head.is_informational() {
@@ -200,29 +215,29 @@ fn push_head(
     push_final(request, out, head, ends)
 }
 
-fn push_informing(request: &Request, out: &mut Vec<u8>, head: &ResponseHeader) -> Result<Pushed>
+fn push_informing(request: &Request, out: &mut Output, head: &ResponseHeader) -> Result<Pushed>
     ensures ok { IfOk result
-        (HasPushed (informed request.now head.now) None out.old.items out.new.items) }
+        (HasPushed (informed request.now head.now) None out.old out.new) }
     ensures memory { IsOkUnless result Fail.OutOfMemory }
-    ensures front { KeepsFront out.old.items out.new.items }
+    ensures kept { OnErr result (out.new ≡ out.old) }
 {
     if is_sent_to(request.version, head) {
-        write_response_head(out, head)?;
+        out.push_response_head(head)?;
     }
     Ok(Pushed::nothing_at(Place::NoHead))
 }
 
 fn push_final(
     request: &Request,
-    out: &mut Vec<u8>,
+    out: &mut Output,
     mut head: ResponseHeader,
     ends: bool,
 ) -> Result<Pushed>
     ensures ok { IfOk result (HasPushed
         (framed_head_sent (shown request.now head) ends (framing_of request.now head))
-        (framed_head_refusal ends (framing_of request.now head)) out.old.items out.new.items) }
+        (framed_head_refusal ends (framing_of request.now head)) out.old out.new) }
     ensures memory { IsOkUnless result Fail.OutOfMemory }
-    ensures front { KeepsFront out.old.items out.new.items }
+    ensures kept { OnErr result (out.new ≡ out.old) }
     ensures goes_on { OnOk result (HeadGoesOn request.now head ends) }
 {
     match frame(request, &mut head) {
@@ -235,22 +250,29 @@ fn push_final(
     }
 }
 
-/// Appends a final head as the client gets it, whose body is framed so.
+/// Queues a final head as the client gets it, whose body is framed so.
 fn push_framed(
     framing: Framing,
-    out: &mut Vec<u8>,
+    out: &mut Output,
     head: &ResponseHeader,
     ends: bool,
 ) -> Result<Pushed>
     ensures ok { IfOk result (HasPushed
         (with_text (response_text head.now) (piece_sent framing [] ends))
-        (piece_refusal framing [] ends) out.old.items out.new.items) }
+        (piece_refusal framing [] ends) out.old out.new) }
     ensures memory { IsOkUnless result Fail.OutOfMemory }
-    ensures front { KeepsFront out.old.items out.new.items }
+    ensures kept { OnErr result (out.new ≡ out.old) }
     ensures goes_on { OnOk result (GoesOn framing [] ends) }
 {
-    write_response_head(out, head)?;
-    push_piece(framing, out, b"", ends)
+    let before = out.len();
+    out.push_response_head(head)?;
+    match push_empty(framing, out, ends) {
+        Ok(pushed) => Ok(pushed),
+        Err(fail) => {
+            out.truncate(before);
+            Err(fail)
+        }
+    }
 }
 
 /// Makes the head the one that the client gets, and gives the framing of the body behind it.
@@ -304,39 +326,39 @@ fn framing_inside(
     }
 }
 
-/// Appends a head by where the response stands.
+/// Queues a head by where the response stands.
 pub(crate) fn push_head_at(
     request: &Request,
     place: Place,
-    out: &mut Vec<u8>,
+    out: &mut Output,
     head: ResponseHeader,
     ends: bool,
 ) -> Result<Pushed>
     ensures ok { IfOk result (HasPushed (head_at request.now place head ends)
-        (head_refusal_at request.now place head ends) out.old.items out.new.items) }
+        (head_refusal_at request.now place head ends) out.old out.new) }
     ensures memory { IsOkUnless result Fail.OutOfMemory }
-    ensures front { KeepsFront out.old.items out.new.items }
+    ensures kept { OnErr result (out.new ≡ out.old) }
     ensures goes_on { OnOk result (HeadGoesOnAt request.now place head ends) }
 {
     match place {
         Place::NoHead => push_head(request, out, head, ends),
-        Place::Body(rest) => push_piece(rest, out, b"", ends),
+        Place::Body(rest) => push_empty(rest, out, ends),
         Place::Done => Ok(Pushed::nothing_at(place)),
     }
 }
 
-/// Appends a piece of the body by where the response stands.
+/// Queues a piece of the body by where the response stands.
 pub(crate) fn push_piece_at(
     place: Place,
-    out: &mut Vec<u8>,
-    piece: &[u8],
+    out: &mut Output,
+    piece: Bytes,
     ends: bool,
 ) -> Result<Pushed>
-    ensures ok { IfOk result (HasPushed (piece_at place piece.now ends)
-        (piece_refusal_at place piece.now ends) out.old.items out.new.items) }
+    ensures ok { IfOk result (HasPushed (piece_at place piece ends)
+        (piece_refusal_at place piece ends) out.old out.new) }
     ensures memory { IsOkUnless result Fail.OutOfMemory }
-    ensures front { KeepsFront out.old.items out.new.items }
-    ensures goes_on { OnOk result (PieceGoesOnAt place piece.now ends) }
+    ensures kept { OnErr result (out.new ≡ out.old) }
+    ensures goes_on { OnOk result (PieceGoesOnAt place piece ends) }
 {
     match place {
         Place::NoHead | Place::Done => Ok(Pushed::nothing_at(place)),

@@ -13,10 +13,9 @@ ghost use Rattle.relay_session.specs.Response.{Holds, IsQueued, AreQueued, Takes
 use crate::batch::batch_refusal;
 use crate::front::Front;
 use crate::generated::{answer_with_body, generated_head};
-use crate::queue::Queue;
-use crate::task_text::{Place, Pushed, Request};
+use crate::task_text::{Place, Pushed, Request, push_head_at, push_piece_at};
 use bytes::Bytes;
-use relay_h1::BodyWriter;
+use relay_h1::{BodyWriter, Output};
 use relay_links::Put;
 use relay_tasks::{Error, Fail, Fault, HttpTask, ResponseHeader, Result, TaskList};
 use std::alloc::Global;
@@ -24,7 +23,7 @@ use std::alloc::Global;
 /// What waits for the client's link, or the fault of the first write that failed.
 #[derive(Drop)]
 enum Outgoing {
-    Open(Queue),
+    Open(Output),
     Broken(Fault),
 }
 
@@ -49,7 +48,7 @@ impl Writing {
         Writing {
             request,
             place: Place::NoHead,
-            output: Outgoing::Open(Queue::new(alloc)),
+            output: Outgoing::Open(Output::new(Vec::new(alloc))),
             body_bytes: 0,
         }
     }
@@ -88,7 +87,7 @@ impl Writing {
         match &mut self.output {
             Outgoing::Broken(fault) => Put::Failed(*fault),
             Outgoing::Open(queue) => {
-                let put = queue.write_to(client);
+                let put = client.write_out(queue);
                 self.keep_fault(put);
                 put
             }
@@ -160,11 +159,11 @@ impl Writing {
     /// piece is queued then too, and the body stays open. `WriteError` or `WriteTimedout`, of the
     /// client's side: exactly where a write failed so before. Then, and where memory is wanted, the
     /// response stays as it was.
-    pub fn write_response_body(&mut self, piece: &[u8], end: bool) -> Result<()>
+    pub fn write_response_body(&mut self, piece: Bytes, end: bool) -> Result<()>
         ensures ok { OnOk result
-            (IsQueued self.old (HttpTask.Body (Some piece.now) end) self.new) }
+            (IsQueued self.old (HttpTask.Body (Some piece) end) self.new) }
         ensures err { IfErr result
-            (FailsOn self.old.output self.old (HttpTask.Body (Some piece.now) end) self.new) }
+            (FailsOn self.old.output self.old (HttpTask.Body (Some piece) end) self.new) }
     {
         self.queue_piece(piece, end)
     }
@@ -181,7 +180,7 @@ impl Writing {
     {
         // read, so that its range is known
         let _bytes = self.body_bytes;
-        self.queue_piece(b"", true)
+        self.queue_end()
     }
 
     /// Queues the answer with that status, from 100 to 999, that has no body, as the relay makes it
@@ -289,10 +288,10 @@ impl Writing {
         let _bytes = self.body_bytes;
         match task {
             HttpTask::Header(head, ends) => self.queue_head(head, ends),
-            HttpTask::Body(piece, ends) => self.queue_piece(bytes_of(&piece), ends),
-            HttpTask::UpgradedBody(piece, ends) => self.queue_piece(bytes_of(&piece), ends),
-            HttpTask::Trailer(_) => self.queue_piece(b"", true),
-            HttpTask::Done => self.queue_piece(b"", true),
+            HttpTask::Body(piece, ends) => self.queue_piece(bytes_of(piece), ends),
+            HttpTask::UpgradedBody(piece, ends) => self.queue_piece(bytes_of(piece), ends),
+            HttpTask::Trailer(_) => self.queue_end(),
+            HttpTask::Done => self.queue_end(),
             HttpTask::Failed(error) => Err(self.failure(error)),
         }
     }
@@ -315,7 +314,7 @@ impl Writing {
         match &mut self.output {
             Outgoing::Broken(fault) => Err(Fail::Error(error_of(*fault))),
             Outgoing::Open(queue) => {
-                let pushed = queue.push_head(&self.request, self.place, head, ends)?;
+                let pushed = push_head_at(&self.request, self.place, queue, head, ends)?;
                 self.place = pushed.place;
                 self.body_bytes = self.body_bytes.saturating_add(pushed.counted);
                 passed(pushed.refused)
@@ -323,20 +322,29 @@ impl Writing {
         }
     }
 
-    fn queue_piece(&mut self, piece: &[u8], ends: bool) -> Result<()>
-        ensures { Takes self.old.output (piece_at self.old.place piece.now ends)
-            (piece_refusal_at self.old.place piece.now ends)
-            (PieceGoesOnAt self.old.place piece.now ends) self.old self.new result }
+    fn queue_piece(&mut self, piece: Bytes, ends: bool) -> Result<()>
+        ensures { Takes self.old.output (piece_at self.old.place piece ends)
+            (piece_refusal_at self.old.place piece ends)
+            (PieceGoesOnAt self.old.place piece ends) self.old self.new result }
     {
         match &mut self.output {
             Outgoing::Broken(fault) => Err(Fail::Error(error_of(*fault))),
             Outgoing::Open(queue) => {
-                let pushed = queue.push_piece(self.place, piece, ends)?;
+                let pushed = push_piece_at(self.place, queue, piece, ends)?;
                 self.place = pushed.place;
                 self.body_bytes = self.body_bytes.saturating_add(pushed.counted);
                 passed(pushed.refused)
             }
         }
+    }
+
+    /// Queues the end of the body.
+    fn queue_end(&mut self) -> Result<()>
+        ensures { Takes self.old.output (piece_at self.old.place [] true)
+            (piece_refusal_at self.old.place [] true)
+            (PieceGoesOnAt self.old.place [] true) self.old self.new result }
+    {
+        self.queue_piece(Bytes::new(), true)
     }
 }
 
@@ -358,11 +366,11 @@ fn error_of(fault: Fault) -> Error
 }
 
 /// The bytes of a piece, which may be none.
-fn bytes_of(piece: &Option<Bytes>) -> &[u8]
-    ensures { result.now ≡ bytes_of piece.now }
+fn bytes_of(piece: Option<Bytes>) -> Bytes
+    ensures { result ≡ bytes_of piece }
 {
     match piece {
-        Some(bytes) => bytes.as_slice(),
-        None => b"",
+        Some(bytes) => bytes,
+        None => Bytes::new(),
     }
 }

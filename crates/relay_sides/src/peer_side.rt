@@ -18,6 +18,7 @@ ghost use Rattle.relay_sides.specs.Body.{bytes_of};
 ghost use Rattle.relay_sides.specs.Peer.{IsPeerSide, PeerBlames, CutsTask, asks_to_close, IsNew, HandsOn, Queues, inside, none_passed, state_of, put_error};
 
 use crate::client_side::either;
+use bytes::Bytes;
 use http::{Method, Version};
 use relay_core::{Told, Up, UpKind};
 use relay_h1::{add_chunked, closes, is_sent_to, lacks_framing};
@@ -239,38 +240,33 @@ fn asks_to_close(task: &HttpTask) -> bool
 }
 
 /// The bytes of the body that a task brings.
-fn bytes_of(task: &HttpTask) -> &[u8]
-    ensures { result.now ≡ bytes_of task.now }
+fn bytes_of(task: HttpTask) -> Bytes
+    ensures { result ≡ bytes_of task }
 {
     match task {
-        HttpTask::Body(Some(piece), _) | HttpTask::UpgradedBody(Some(piece), _) => &piece[..],
+        HttpTask::Body(Some(piece), _) | HttpTask::UpgradedBody(Some(piece), _) => piece,
         HttpTask::Header(_, _)
         | HttpTask::Body(None, _)
         | HttpTask::UpgradedBody(None, _)
         | HttpTask::Trailer(_)
         | HttpTask::Done
-        | HttpTask::Failed(_) => &[],
+        | HttpTask::Failed(_) => Bytes::new(),
     }
 }
 
 /// Queues the bytes of a task, and the end where it carries it.
-fn queue_piece<L>(client: &mut H1Client<L>, task: &HttpTask) -> Result<()>
+fn queue_piece<L>(client: &mut H1Client<L>, task: HttpTask) -> Result<()>
     ensures queues { (sent : Sent) (taken : List ℕ) → SentSoFar sent taken client.old.request
-        → Queues sent taken task.now client.new.request result }
+        → Queues sent taken task client.new.request result }
     ensures same { client.new ≡ record client.old {
       request = client.new.request;
       sent = client.new.sent;
     } }
 {
+    let ends = task.is_end();
     match client.write_body(bytes_of(task)) {
         Err(why) => Err(why),
-        Ok(_) => {
-            if task.is_end() {
-                client.finish_body()
-            } else {
-                Ok(())
-            }
-        }
+        Ok(_) => { if ends { client.finish_body() } else { Ok(()) } }
     }
 }
 
@@ -341,7 +337,7 @@ impl<L: ByteLink> Up for PeerSide<L> {
                 self.send_failed = error_or(why, self.send_failed);
                 Err(why)
             }
-            None => match queue_piece(&mut self.client, &task) {
+            None => match queue_piece(&mut self.client, task) {
                 Ok(()) => Ok(()),
                 Err(why) => {
                     self.lost = Some(why);

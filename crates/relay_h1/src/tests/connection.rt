@@ -56,6 +56,21 @@ fn writes_what_waits(rt: HostRuntime) -> Checked {
 }
 
 #[test]
+fn gathers_what_comes_behind_a_piece(rt: HostRuntime) -> Checked {
+    let mut client = connection(rt.alloc(), b"", b"")?;
+    let mut body = BodyWriter::new(Framing::UntilClose);
+    let mut output = Output::new(Vec::new(rt.alloc()));
+    output.push_piece(&mut body, Bytes::from_static(b"0123456789"))?;
+    assert!(rt; !output.is_empty());
+    assert_eq!(rt; client.write_out(&mut output), Put::Took(8));
+    output.push_piece(&mut body, Bytes::from_static(b"abc"))?;
+    assert!(rt; output.front_bytes() == b"89abc".as_slice());
+    output.truncate(4);
+    assert!(rt; output.front_bytes() == b"89ab".as_slice());
+    Ok(())
+}
+
+#[test]
 fn keeps_a_value_between_requests(rt: HostRuntime) -> Checked {
     let mut client = connection(rt.alloc(), b"", b"")?;
     client.set_kept(7);

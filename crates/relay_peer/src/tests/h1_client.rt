@@ -45,10 +45,10 @@ fn post(alloc: Global, name: HeaderName, value: HeaderValue) -> relay_tasks::Res
 fn send<L: ByteLink>(
     client: &mut H1Client<L>,
     head: RequestHeader,
-    piece: &[u8],
+    piece: &'static [u8],
 ) -> relay_tasks::Result<()> {
     client.write_request_header(head)?;
-    client.write_body(piece)?;
+    client.write_body(Bytes::from_static(piece))?;
     client.finish_body()?;
     if client.has_pending() {
         client.write_pending();

@@ -78,7 +78,10 @@ fn queue_response(rt: &impl Abort, alloc: Global, session: &mut HttpSession) -> 
     let given = head(alloc, 5)?;
     assert_eq!(rt; session.write_response_header(given), Ok(()));
     assert!(rt; session.response_written() && !session.response_done());
-    assert_eq!(rt; session.write_response_body(b"hel", false), Ok(()));
+    assert_eq!(rt;
+        session.write_response_body(Bytes::from_static(b"hel"), false),
+        Ok(())
+    );
     let mut tasks = TaskList::new(alloc);
     tasks.push(HttpTask::Body(Some(Bytes::from_static(b"lo")), false))?;
     assert_eq!(rt; session.response_duplex_vec(tasks), Ok(true));
@@ -146,7 +149,10 @@ fn queues_a_piece_that_ends_its_body_short(rt: HostRuntime) -> Checked {
     let mut session = session_of(rt.alloc(), &mut client);
     let given = head(rt.alloc(), 2)?;
     assert_eq!(rt; session.write_response_header(given), Ok(()));
-    assert_eq!(rt; session.write_response_body(b"h", true), Err(short()));
+    assert_eq!(rt;
+        session.write_response_body(Bytes::from_static(b"h"), true),
+        Err(short())
+    );
     assert_eq!(rt; session.body_bytes_sent(), 1);
     assert_eq!(rt; session.finish_body(), Err(short()));
     assert!(rt; !session.response_done());

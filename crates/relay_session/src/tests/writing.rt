@@ -99,13 +99,22 @@ fn writes_to_a_client_of_http_10(rt: HostRuntime) -> Checked {
 fn writes_a_response_call_by_call(rt: HostRuntime) -> Checked {
     let mut writing = response(rt.alloc(), Asks::Other, Version::HTTP_11);
     assert!(rt; !writing.response_written());
-    assert_eq!(rt; writing.write_response_body(b"early", true), Ok(()));
+    assert_eq!(rt;
+        writing.write_response_body(Bytes::from_static(b"early"), true),
+        Ok(())
+    );
     let given = head(rt.alloc(), 200, CONTENT_LENGTH, b"7")?;
     assert_eq!(rt; writing.write_response_header(given), Ok(()));
     assert!(rt; writing.response_written() && !writing.response_done());
-    assert_eq!(rt; writing.write_response_body(b"hello", false), Ok(()));
+    assert_eq!(rt;
+        writing.write_response_body(Bytes::from_static(b"hello"), false),
+        Ok(())
+    );
     assert!(rt; !writing.response_done());
-    assert_eq!(rt; writing.write_response_body(b"world", false), Ok(()));
+    assert_eq!(rt;
+        writing.write_response_body(Bytes::from_static(b"world"), false),
+        Ok(())
+    );
     assert!(rt; writing.response_done());
     assert_eq!(rt; writing.finish_body(), Ok(()));
     assert_eq!(rt; writing.body_bytes_sent(), 7);
@@ -128,7 +137,7 @@ fn refuses_for_its_reasons_and_queues_what_is_given(rt: HostRuntime) -> Checked 
     assert_eq!(rt; writing.write_response_header(given), Ok(()));
     let short = Error::explain(ErrorType::PrematureBodyEnd, Context::BodyShort).into_down();
     assert_eq!(rt;
-        writing.write_response_body(b"ab", true),
+        writing.write_response_body(Bytes::from_static(b"ab"), true),
         Err(Fail::Error(short))
     );
     let gone = Error::new_up(ErrorType::ConnectionClosed);
@@ -201,10 +210,10 @@ fn writes_in_parts_and_keeps_the_first_fault(rt: HostRuntime) -> Checked {
     let mut writing = response(rt.alloc(), Asks::Other, Version::HTTP_11);
     writing.write_response_header(ResponseHeader::build(rt.alloc(), 200)?)?;
     assert_eq!(rt; write_once(&mut writing, &mut client), Some(Put::Took(19)));
-    writing.write_response_body(b"hello", false)?;
+    writing.write_response_body(Bytes::from_static(b"hello"), false)?;
     assert_eq!(rt; write_once(&mut writing, &mut client), Some(Put::NotReady));
     assert_eq!(rt; write_once(&mut writing, &mut client), Some(Put::Took(1)));
-    writing.write_response_body(b", world", false)?;
+    writing.write_response_body(Bytes::from_static(b", world"), false)?;
     assert_eq!(rt; write_once(&mut writing, &mut client), Some(Put::Took(4)));
     assert!(rt; writing.has_pending());
     assert_eq!(rt;
@@ -212,7 +221,7 @@ fn writes_in_parts_and_keeps_the_first_fault(rt: HostRuntime) -> Checked {
         Some(Put::Failed(fault))
     );
     assert!(rt; !writing.has_pending());
-    match writing.write_response_body(b"!", false) {
+    match writing.write_response_body(Bytes::from_static(b"!"), false) {
         Err(Fail::Error(error)) => {
             assert_eq!(rt; error.etype, ErrorType::WriteError);
             assert_eq!(rt; error.esource, ErrorSource::Downstream);

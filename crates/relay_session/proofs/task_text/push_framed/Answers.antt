@@ -1,16 +1,13 @@
-use Rattle.std.proofs.Common.{[]}
+use Rattle.std.proofs.Common.{[], Ok}
 use Rattle.relay_h1.specs.Wire.{response_text}
+use Rattle.relay_tasks.specs.declared.error.Fail.{Fail}
 use Rattle.relay_session.specs.TaskWire.{piece_sent, piece_refusal}
-use Rattle.relay_session.proofs.WireSteps.{KeepsFront-shorter, pushed_behind}
+use Rattle.relay_session.proofs.WireSteps.{pushed_behind}
 use Rattle.relay_session.proofs.task_text.push_framed.Goals as goal
 
-pub returns-clause-ok : goal.returns-clause-ok
-returns-clause-ok c =
-    pushed_behind c.push_piece.result (response_text c.args.head.now)
+pub returns-in-Ok-clause-ok : goal.returns-in-Ok-clause-ok
+returns-in-Ok-clause-ok c =
+    pushed_behind {E = Fail} (Ok c.in-Ok.pushed) (response_text c.args.head.now)
     (piece_sent c.args.framing [] c.args.ends) (piece_refusal c.args.framing [] c.args.ends)
-    c.args.out.now.items c.write_response_head.new.out.items c.push_piece.new.out.items
-    c.in_ok-write_response_head.ensures.ok c.push_piece.ensures.ok
-
-pub returns-clause-front : goal.returns-clause-front
-returns-clause-front c =
-    KeepsFront-shorter _ _ _ _ c.in_ok-write_response_head.ensures.ok c.push_piece.ensures.front
+    c.args.out.now c.push_response_head.new.self c.push_empty.new.out
+    c.in_ok-push_response_head.ensures.ok c.in-Ok.ensures.ok

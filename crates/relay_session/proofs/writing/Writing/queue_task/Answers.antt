@@ -42,26 +42,26 @@ returns-in-UpgradedBody-clause-err c =
 pub returns-in-Trailer-clause-ok : goal.returns-in-Trailer-clause-ok
 returns-in-Trailer-clause-ok c =
     rw c.in-Trailer.is
-    (takes_queued c.args.self.now.output c.args.self.now c.queue_piece-in-Trailer.new.self
-    (task.Trailer c.in-Trailer.field-0) c.queue_piece-in-Trailer.result c.queue_piece-in-Trailer.ensures)
+    (takes_queued c.args.self.now.output c.args.self.now c.queue_end.new.self
+    (task.Trailer c.in-Trailer.field-0) c.queue_end.result c.queue_end.ensures)
 
 pub returns-in-Trailer-clause-err : goal.returns-in-Trailer-clause-err
 returns-in-Trailer-clause-err c =
     rw c.in-Trailer.is
-    (takes_failed c.args.self.now.output c.args.self.now c.queue_piece-in-Trailer.new.self
-    (task.Trailer c.in-Trailer.field-0) c.queue_piece-in-Trailer.result c.queue_piece-in-Trailer.ensures)
+    (takes_failed c.args.self.now.output c.args.self.now c.queue_end.new.self
+    (task.Trailer c.in-Trailer.field-0) c.queue_end.result c.queue_end.ensures)
 
 pub returns-in-Done-clause-ok : goal.returns-in-Done-clause-ok
 returns-in-Done-clause-ok c =
     rw c.in-Done.is
-    (takes_queued c.args.self.now.output c.args.self.now c.queue_piece-in-Done.new.self
-    task.Done c.queue_piece-in-Done.result c.queue_piece-in-Done.ensures)
+    (takes_queued c.args.self.now.output c.args.self.now c.queue_end-in-Done.new.self
+    task.Done c.queue_end-in-Done.result c.queue_end-in-Done.ensures)
 
 pub returns-in-Done-clause-err : goal.returns-in-Done-clause-err
 returns-in-Done-clause-err c =
     rw c.in-Done.is
-    (takes_failed c.args.self.now.output c.args.self.now c.queue_piece-in-Done.new.self
-    task.Done c.queue_piece-in-Done.result c.queue_piece-in-Done.ensures)
+    (takes_failed c.args.self.now.output c.args.self.now c.queue_end-in-Done.new.self
+    task.Done c.queue_end-in-Done.result c.queue_end-in-Done.ensures)
 
 pub returns-clause-err : goal.returns-clause-err
 returns-clause-err c =

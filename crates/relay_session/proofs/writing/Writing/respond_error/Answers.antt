@@ -1,4 +1,4 @@
-use Rattle.std.proofs.Common.{true, sym, ◌∙◌, arith}
+use Rattle.std.proofs.Common.{true, sym, ◌∙◌}
 use Rattle.relay_tasks.specs.declared.task.HttpTask.TheVariants as task
 use Rattle.relay_session.proofs.AnswerLemmas.{place_before, answer_queued, answer_failure, answer_kept, answer_text}
 use Rattle.relay_session.proofs.ResponseLemmas.{takes_queued}

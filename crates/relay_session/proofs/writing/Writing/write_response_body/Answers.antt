@@ -6,9 +6,9 @@ use Rattle.relay_session.proofs.writing.Writing.write_response_body.Goals as goa
 pub returns-clause-ok : goal.returns-clause-ok
 returns-clause-ok c =
     takes_queued c.args.self.now.output c.args.self.now c.queue_piece.new.self
-    (task.Body (Some c.args.piece.now) c.args.end) c.queue_piece.result c.queue_piece.ensures
+    (task.Body (Some c.args.piece) c.args.end) c.queue_piece.result c.queue_piece.ensures
 
 pub returns-clause-err : goal.returns-clause-err
 returns-clause-err c =
     takes_failed c.args.self.now.output c.args.self.now c.queue_piece.new.self
-    (task.Body (Some c.args.piece.now) c.args.end) c.queue_piece.result c.queue_piece.ensures
+    (task.Body (Some c.args.piece) c.args.end) c.queue_piece.result c.queue_piece.ensures

@@ -49,8 +49,8 @@ returns-in-Ok-clause-goes g c = λ s q stands.
     (ap (λ (k : H1Client _). k.failed) c.queue_piece.ensures.same) c.in-Ok.ensures.queues
     stands.peer)
 
-pub returns-clause-goes : goal.returns-clause-goes
-returns-clause-goes g c = λ s q stands.
+pub returns-in-Err-clause-goes : goal.returns-in-Err-clause-goes
+returns-in-Err-clause-goes g c = λ s q stands.
     side_stays s _ _ _ _ c.args.self.now _ q _ _ _ _
     (ap (λ (k : H1Client _). g.L.ByteLink.start k.link) c.queue_piece.ensures.same) refl refl
     (λ calm still. calm_withheld c.args.self.now.told _ _ c.in-Err.why
