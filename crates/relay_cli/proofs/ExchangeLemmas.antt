@@ -2,9 +2,10 @@
 use Rattle.std.proofs.Common.{◌≡◌, ◌≢◌, inl, inr, Option, None, subst, ℕ, suc, ◌+◌, List, [], ◌∷◌, ◌++◌, map, drop, Some, refl, sym, ap, ◌∙◌, add-one, append_assoc, drop-cons}
 use Rattle.std.specs.List.{slice_get}
 use Rattle.std.proofs.lemmas.Option.{slice_get_within, get_or_from_slice_get, same_Some}
+use Rattle.relay_tasks.specs.declared.fault.Fault.{Fault}
 use Rattle.relay_links.specs.Link.{LinkState, LinkStart, LinkItems}
 use Rattle.relay_links.specs.ScriptLink.{script_state, script_start, IsFresh, AnswersBy}
-use Rattle.relay_links.specs.ScriptEntries.{links_returned, gets_failed, entry_items, items_left}
+use Rattle.relay_links.specs.ScriptEntries.{links_returned, gets_failed, faults_answered, entry_items, items_left}
 use Rattle.relay_links.specs.Told.{Since, told_length, more}
 use Rattle.relay_links.specs.declared.connector.Returned.{Returned}
 use Rattle.relay_links.specs.declared.read_script.ReadItem.{ReadItem}
@@ -88,29 +89,34 @@ own_is before after own none gained =
 
 -- a request over the links that a script makes, by the values that the code has
 pub runs_script : (made first last : ScriptLink) (connector old : ScriptConnector) (peer : PeerSpec)
-    (first_ahead ahead : List ℕ) (faults : ℕ) (after : List (Returned ScriptLink)) (turns : ℕ)
-    (processed : Processed)
+    (first_ahead ahead : List ℕ) (faults : ℕ) (after : List (Returned ScriptLink))
+    (refusals : Option (List Fault)) (turns : ℕ) (processed : Processed)
     → IsConnectorOf peer connector → first ≡ made → first_ahead ≡ [] → old ≡ connector
     → Processes script_state script_start
     (start_of (world_with (script_state first) first_ahead (gets_failed old)))
     (world_with (script_state last) ahead faults)
-    (Some (links_returned old)) (Some after) turns processed
+    (Some (links_returned old)) (Some after) (faults_answered old) refusals turns processed
     → Processes script_state script_start (start_of (first_world made connector))
     (world_with (script_state last) ahead faults)
-    (Some []) (Some after) turns processed
-runs_script made first last connector old peer first_ahead ahead faults after turns processed
-    offered is none same run =
+    (Some []) (Some after) (Some []) refusals turns processed
+runs_script made first last connector old peer first_ahead ahead faults after refusals turns
+    processed offered is none same run =
     let world : world_with (script_state first) first_ahead (gets_failed old)
     ≡ first_world made connector =
     rw (is, none, same) in
     let unreturned : links_returned old ≡ [] = rw same offered.returned in
+    let unrefused : faults_answered old ≡ Some [] = rw same offered.refusals in
     subst (λ (w : World). Processes script_state script_start (start_of w)
     (world_with (script_state last) ahead faults)
-    (Some []) (Some after) turns processed) world
+    (Some []) (Some after) (Some []) refusals turns processed) world
     (subst (λ (rs : List (Returned ScriptLink)). Processes script_state script_start
     (start_of (world_with (script_state first) first_ahead (gets_failed old)))
     (world_with (script_state last) ahead faults)
-    (Some rs) (Some after) turns processed) unreturned run)
+    (Some rs) (Some after) (Some []) refusals turns processed) unreturned
+    (subst (λ (told : Option (List Fault)). Processes script_state script_start
+    (start_of (world_with (script_state first) first_ahead (gets_failed old)))
+    (world_with (script_state last) ahead faults)
+    (Some (links_returned old)) (Some after) told refusals turns processed) unrefused run))
 
 -- the links that came back, where the connector had one link, are that one
 answer_by : (after : List (Returned ScriptLink)) (left : List (Option LinkItems))
@@ -156,18 +162,18 @@ still_answers first made last read write is fresh same =
 -- what is reported of a request over the links of a script is a run of the script
 pub is_run : (script : ScriptSpec) (made last : ScriptLink) (connector : ScriptConnector)
     (schedule : ListSchedule) (ahead : List ℕ) (faults : ℕ)
-    (after : List (Returned ScriptLink)) (processed : Processed)
+    (after : List (Returned ScriptLink)) (refusals : Option (List Fault)) (processed : Processed)
     → IsFresh made script.client script.client_write → IsConnectorOf script.peer connector
     → branches_left schedule ≡ script.schedule
     → AnswersBy last script.client script.client_write
     → AllAnswerBy after script.peer.read script.peer.write
     → Processes script_state script_start (start_of (first_world made connector))
     (world_with (script_state last) ahead faults)
-    (Some []) (Some after) script.turns processed
+    (Some []) (Some after) (Some []) refusals script.turns processed
     → processed.outcome ≢ ended.OutOfMemory
     → IsRun script (reported script.peer.name processed last after)
-is_run script made last connector schedule ahead faults after processed fresh offered named client
-    peer run printable =
+is_run script made last connector schedule ahead faults after refusals processed fresh offered named
+    client peer run printable =
     let own : after ≡ run.own = own_is [] after run.own refl run.gained in
     record {
       client = made;
@@ -182,6 +188,7 @@ is_run script made last connector schedule ahead faults after processed fresh of
       are_peer = peer;
       ahead = ahead;
       faults = faults;
+      refusals = refusals;
       processed = processed;
       run = run;
       printable = printable;
@@ -196,11 +203,12 @@ is_run script made last connector schedule ahead faults after processed fresh of
 
 -- the first link that came back starts within what it took
 pub first_starts_within : (s : Start) (w : World) (before after : List (Returned ScriptLink))
-    (turns : ℕ) (processed : Processed)
+    (told refusals : Option (List Fault)) (turns : ℕ) (processed : Processed)
     → before ≡ []
-    → Processes script_state script_start s w (Some before) (Some after) turns processed
+    → Processes script_state script_start s w (Some before) (Some after) told refusals turns
+    processed
     → FirstStartsWithin after
-first_starts_within s w before after turns processed none run =
+first_starts_within s w before after told refusals turns processed none run =
     let own : after ≡ run.own = own_is before after run.own none run.gained in
     subst FirstStartsWithin (sym own)
     (starts_within s run.passed w run.own processed.history.attempts processed.outcome

@@ -98,6 +98,7 @@ always_limit script client connector schedule processed fresh offered named outc
       are_peer = tt;
       ahead = [];
       faults = gets_failed connector;
+      refusals = Some [];
       processed = processed;
       run = record {
         passed = nothing;
@@ -120,6 +121,7 @@ always_limit script client connector schedule processed fresh offered named outc
           untouched = λ _. refl;
           ends = rw (outcome, attempts) (record { got = refl; sent = refl }, refl);
         };
+        refused = rw outcome refl;
         exact = rw outcome (record {
           no_request = λ _ _. inl (inl refl);
           refused = λ _ _ _ _. inl (inl refl);
@@ -152,6 +154,7 @@ schedule_free script request schedule run = record {
   are_peer = run.are_peer;
   ahead = run.ahead;
   faults = run.faults;
+  refusals = run.refusals;
   processed = run.processed;
   run = run.run;
   printable = run.printable;

@@ -1,10 +1,11 @@
 -- One exchange over scripted links, and what is reported of it.
-use Rattle.std.specs.Prelude.{◌≡◌, ◌≢◌, ℕ, ◌≤◌, List, [], ◌∷◌, length, drop, map, Some, None, unwrap_or}
+use Rattle.std.specs.Prelude.{◌≡◌, ◌≢◌, ℕ, ◌≤◌, List, [], ◌∷◌, length, drop, map, Option, Some, None, unwrap_or}
+use Rattle.relay_tasks.specs.declared.fault.Fault.{Fault}
 use Rattle.relay_links.specs.ScriptLink.{script_state, script_start, IsFresh, AnswersBy}
 use Rattle.relay_links.specs.declared.connector.Returned.{Returned}
 use Rattle.relay_links.specs.declared.read_script.ReadItem.{ReadItem}
 use Rattle.relay_links.specs.declared.write_script.WriteItem.{WriteItem}
-use Rattle.relay_links.specs.ScriptEntries.{next_entries, links_returned, links_out, gets_failed}
+use Rattle.relay_links.specs.ScriptEntries.{next_entries, links_returned, links_out, gets_failed, faults_answered}
 use Rattle.relay_links.specs.declared.script_connector.PeerScript.{PeerScript}
 use Rattle.relay_links.specs.declared.script_connector.ScriptConnector.{ScriptConnector}
 use Rattle.relay_links.specs.declared.script_link.ScriptLink.{ScriptLink}
@@ -65,6 +66,7 @@ pub record IsConnectorOf (peer : PeerSpec) (connector : ScriptConnector) : Type 
   pub returned : links_returned connector ≡ []
   pub out : links_out connector ≡ 0
   pub faults : gets_failed connector ≡ 0
+  pub refusals : faults_answered connector ≡ Some []
   pub entry : PeerScript
   pub entries : next_entries connector ≡ entry ∷ []
   pub name : entry.name ≡ peer.name
@@ -91,13 +93,15 @@ pub record IsRun (script : ScriptSpec) (request : RequestSpec) : Type 0 where
   pub is_client : AnswersBy last script.client script.client_write
   pub returned : List (Returned ScriptLink)
   pub are_peer : AllAnswerBy returned script.peer.read script.peer.write
+  -- the faults that the connector answered
+  pub refusals : Option (List Fault)
   -- the request over them, from its begin to its end
   pub ahead : List ℕ
   pub faults : ℕ
   pub processed : Processed
   pub run : Processes script_state script_start (start_of (first_world client connector))
       (world_with (script_state last) ahead faults)
-      (Some []) (Some returned) script.turns processed
+      (Some []) (Some returned) (Some []) refusals script.turns processed
   -- what is reported is the outcome and what passed
   pub printable : request.outcome ≢ OutOfMemory
   pub outcome : request.outcome ≡ processed.outcome

@@ -1,5 +1,6 @@
 pub mod BranchLemmas
 pub mod FrontLemmas
+pub mod GainsLemmas
 pub mod NumberLemmas
 pub mod ReadScriptLemmas
 pub mod ScriptLinkLemmas

@@ -3,14 +3,10 @@ use Rattle.std.specs.Prelude.{◌≡◌, Bool, false, List, [], ◌∷◌, Optio
 use Rattle.relay_tasks.specs.declared.error.RetryType.{RetryType}
 use Rattle.relay_tasks.specs.declared.error.RetryType.TheVariants.{Decided}
 use Rattle.relay_tasks.specs.declared.fault.Fault.{Fault}
-use Rattle.relay_tasks.specs.declared.fault.FaultKind.TheVariants.{Connect}
 use Rattle.relay_links.specs.declared.script_link.ScriptLink.{ScriptLink}
 use Rattle.relay_links.specs.declared.script_connector.PeerScript.{PeerScript}
+use Rattle.relay_links.specs.Connector.{connect_fault}
 use Rattle.relay_links.specs.ScriptLink.{script_state, KeepsScripts}
-
--- the fault of a connector, with that mark
-abbrev pub connect_fault : RetryType → Fault
-connect_fault retry = record { kind = Connect; retry = retry }
 
 -- the link is handed out as it stands, and not as used before
 pub record HandsOut (link : ScriptLink) (got : ScriptLink × Bool) : Type 0 where

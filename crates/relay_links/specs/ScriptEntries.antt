@@ -1,6 +1,10 @@
 -- What a connector that hands out listed links has left.
-use Rattle.std.specs.Prelude.{◌≡◌, ℕ, List, [], ◌∷◌, Option, Some, None}
+use Rattle.std.specs.Prelude.{◌≡◌, ℕ, ◌-◌, false, cond, nat_le, List, [], ◌∷◌, ◌++◌, replicate, vec_len, Option, Some, None}
 use Rattle.relay_tasks.specs.declared.error.RetryType.{RetryType}
+use Rattle.relay_tasks.specs.declared.error.RetryType.TheVariants.{Decided}
+use Rattle.relay_tasks.specs.declared.fault.Fault.{Fault}
+use Rattle.relay_links.specs.Connector.{connect_fault}
+use Rattle.relay_links.specs.Count.{last_count}
 use Rattle.relay_links.specs.Link.{LinkItems}
 use Rattle.relay_links.specs.ScriptLink.{script_start}
 use Rattle.relay_links.specs.declared.script_link.ScriptLink.{ScriptLink}
@@ -38,9 +42,22 @@ links_out connector = connector.out
 abbrev pub gets_failed : ScriptConnector → ℕ
 gets_failed connector = connector.faults
 
+-- the fault of a connector that is asked past its last entry
+abbrev pub fault_past : Fault
+fault_past = connect_fault (Decided false)
+
+-- the faults that the connector answered: those of its entries, and then those past the last one;
+-- not told once the count stands still
+abbrev pub faults_answered : ScriptConnector → Option (List Fault)
+faults_answered connector =
+    cond (nat_le last_count connector.faults) None
+    (Some (connector.refused.items
+    ++ replicate (connector.faults - vec_len connector.refused) fault_past))
+
 -- the connector has answered nothing, and has these entries
 pub record IsNew (connector : ScriptConnector) (entries : List PeerScript) : Type 0 where
   pub next : next_entries connector ≡ entries
   pub returned : links_returned connector ≡ []
   pub out : links_out connector ≡ 0
   pub faults : gets_failed connector ≡ 0
+  pub refusals : faults_answered connector ≡ Some []

@@ -5,6 +5,11 @@ use Rattle.std.specs.Prelude.{◌≡◌, ℕ, ◌≤◌, List, ◌++◌, length,
 abbrev pub more : {X : Type 0} → Option (List X) → List X → Option (List X)
 more told piece = option_map (λ xs. xs ++ piece) told
 
+-- the list with a piece at its end is the list that is told after, where one is told then
+abbrev pub Gains : {X : Type 0} → Option (List X) → List X → Option (List X) → Type 0
+Gains before piece None = Unit {0}
+Gains before piece (Some after) = more before piece ≡ Some after
+
 -- the length of the list, and 0 where it is not told
 abbrev pub told_length : {X : Type 0} → Option (List X) → ℕ
 told_length None = 0

@@ -1,8 +1,9 @@
 //! The connector: it hands out links to peers, and takes each of them back.
 ghost use Rattle.std.specs.Prelude.{◌≡◌, ℕ, ◌+◌, ◌<◌, ◌≤◌, List, [], ◌∷◌, Option, option_map, is_ok, if◌then◌else◌, IfOk, IfErr, OnOk};
 ghost use Rattle.relay_links.specs.declared.connector.Returned.{Returned};
+ghost use Rattle.relay_tasks.specs.declared.fault.Fault.{Fault};
 ghost use Rattle.relay_links.specs.Count.{last_count, Rose};
-ghost use Rattle.relay_links.specs.Told.{more};
+ghost use Rattle.relay_links.specs.Told.{more, Gains};
 ghost use Rattle.relay_links.specs.Link.{LinkItems, IsHandedOut};
 ghost use Rattle.relay_links.specs.Connector.{IsConnectFault};
 
@@ -19,8 +20,8 @@ pub struct Returned<L> {
 }
 
 /// Hands out links and takes them back. It means the list of the links handed back and the items of
-/// the links that it will hand out, in order, where it tells those, how many of its links are out,
-/// and how many of its calls failed.
+/// the links that it will hand out, in order, where it tells those, the faults that its calls
+/// answered, where it tells them, how many of its links are out, and how many of its calls failed.
 pub trait Connector {
     /// Its links.
     type Byte: ByteLink;
@@ -28,6 +29,8 @@ pub trait Connector {
     ghost returned: { Self → Option (List (Returned Self.Byte)) };
 
     ghost stock: { Self → Option (List (Option LinkItems)) };
+
+    ghost refusals: { Self → Option (List Fault) };
 
     ghost out: { Self → ℕ };
 
@@ -43,6 +46,9 @@ pub trait Connector {
         ensures first { IfOk result (λ got. stock self.old
             ≡ option_map (λ rest. (Self.Byte.start got.0).items ∷ rest) (stock self.new)) }
         ensures stays { IfErr result (λ _. stock self.new ≡ stock self.old) }
+        ensures calm { OnOk result (refusals self.new ≡ refusals self.old) }
+        ensures refused { IfErr result (λ fault.
+            Gains (refusals self.old) (fault ∷ []) (refusals self.new)) }
         ensures no_fault { OnOk result (fault_count self.new ≡ fault_count self.old) }
         ensures fault { IfErr result IsConnectFault }
         ensures rose { IfErr result (λ _. Rose (fault_count self.old) (fault_count self.new)) }
@@ -55,6 +61,7 @@ pub trait Connector {
         ensures returned { returned self.new
             ≡ more (returned self.old) (record { peer = peer; link = link; keep = keep } ∷ []) }
         ensures stock { stock self.new ≡ stock self.old }
+        ensures refusals { refusals self.new ≡ refusals self.old }
         ensures faults { fault_count self.new ≡ fault_count self.old };
 
     /// How many calls failed; the count stands still at its last value.

@@ -3,7 +3,7 @@ ghost use Rattle.std.specs.Prelude.{◌≡◌, ◌+◌, ◌≤◌, ◌<◌, [], 
 ghost use Rattle.std.specs.VecDeque.{deque_len};
 ghost use Rattle.relay_links.specs.Connector.{IsConnectFault};
 ghost use Rattle.relay_links.specs.Count.{last_count, Rose};
-ghost use Rattle.relay_links.specs.Told.{more};
+ghost use Rattle.relay_links.specs.Told.{more, Gains};
 ghost use Rattle.relay_links.specs.Link.{IsHandedOut};
 ghost use Rattle.relay_links.specs.ScriptLink.{script_state, script_start};
 ghost use Rattle.relay_links.specs.ScriptConnector.{AnswersGet};
@@ -15,6 +15,12 @@ use relay_tasks::{Fail, Fault, FaultKind, Peer, RetryType};
 use std::alloc::Global;
 use std::collections::VecDeque;
 
+/// The fault past the last entry.
+const PAST: Fault = Fault {
+    kind: FaultKind::Connect,
+    retry: RetryType::Decided(false),
+};
+
 /// An entry of a connector in memory: the name of its peer, its link, and the mark of the fault
 /// that is answered in place of the link, where there is one.
 #[derive(Drop)]
@@ -24,15 +30,19 @@ pub struct PeerScript {
     pub connect: Option<RetryType>,
 }
 
-/// A connector that answers each `get` by its next entry. The room for the links that come back is
-/// taken when it is made.
+/// A connector that answers each `get` by its next entry. The room for the links that come back,
+/// and for the faults of its entries, is taken when it is made.
 #[derive(Drop)]
 pub struct ScriptConnector {
     entries: VecDeque<PeerScript>,
     returned: Vec<Returned<ScriptLink>>,
+    refused: Vec<Fault>,
     out: usize,
     faults: u64,
     ghost room: { vec_len returned + out + deque_len entries ≤ vec_capacity returned },
+    ghost refused_room: { vec_len refused + deque_len entries ≤ vec_capacity refused },
+    ghost counted: { vec_len refused ≤ faults },
+    ghost in_order: { 0 < deque_len entries → faults ≡ vec_len refused },
 }
 
 impl ScriptConnector {
@@ -46,9 +56,13 @@ impl ScriptConnector {
         let Ok(returned) = Vec::with_capacity(alloc, peers.len()) else {
             return Err(Fail::OutOfMemory);
         };
+        let Ok(refused) = Vec::with_capacity(alloc, peers.len()) else {
+            return Err(Fail::OutOfMemory);
+        };
         Ok(ScriptConnector {
             entries: VecDeque::from(peers),
             returned,
+            refused,
             out: 0,
             faults: 0,
         })
@@ -65,11 +79,13 @@ impl ScriptConnector {
 impl Connector for ScriptConnector {
     type Byte = ScriptLink;
 
-    ghost use Rattle.relay_links.specs.ScriptEntries.{next_entries, links_returned, items_left, links_out, gets_failed};
+    ghost use Rattle.relay_links.specs.ScriptEntries.{next_entries, links_returned, items_left, faults_answered, links_out, gets_failed};
 
     ghost returned = { λ connector. Some (links_returned connector) };
 
     ghost stock = { λ connector. Some (items_left connector) };
+
+    ghost refusals = { faults_answered };
 
     ghost out = { links_out };
 
@@ -84,6 +100,9 @@ impl Connector for ScriptConnector {
         ensures first { IfOk result (λ got. items_left self.old
             ≡ (script_start got.0).items ∷ items_left self.new) }
         ensures stays { IfErr result (λ _. items_left self.new ≡ items_left self.old) }
+        ensures calm { OnOk result (faults_answered self.new ≡ faults_answered self.old) }
+        ensures refused { IfErr result (λ fault.
+            Gains (faults_answered self.old) (fault ∷ []) (faults_answered self.new)) }
         ensures no_fault { OnOk result (gets_failed self.new ≡ gets_failed self.old) }
         ensures fault { IfErr result IsConnectFault }
         ensures rose { IfErr result (λ _. Rose (gets_failed self.old) (gets_failed self.new)) }
@@ -94,17 +113,18 @@ impl Connector for ScriptConnector {
         let faults = self.faults;
         let Some(mut entry) = self.entries.pop_front() else {
             self.faults = faults.saturating_add(1);
-            return Err(Fault {
-                kind: FaultKind::Connect,
-                retry: RetryType::Decided(false),
-            });
+            return Err(PAST);
         };
         if let Some(retry) = entry.connect {
             self.faults = faults.saturating_add(1);
-            return Err(Fault {
+            let fault = Fault {
                 kind: FaultKind::Connect,
                 retry,
-            });
+            };
+            match self.refused.push(fault) {
+                Ok(()) => return Err(fault),
+                Err(_) => unreachable!(),
+            }
         }
         self.out += 1;
         entry.link.hand_out(false);

@@ -5,5 +5,6 @@ pub mod ConnectSteps
 pub mod RelaySteps
 pub mod StepLemmas
 mod StockLemmas
+mod RefusalLemmas
 pub mod ExactLemmas
 pub mod UnderWay

@@ -2,14 +2,16 @@
 use Rattle.std.specs.Global.{Box}
 use Rattle.std.proofs.Common.{◌≡◌, ◌≢◌, ℕ, Bool, true, false, List, [], ◌∷◌, ◌++◌, Option, None, Some, true≢false, refl, sym, ap, subst, ◌∙◌, inl, inr, append_assoc, append-nil}
 use Rattle.relay_links.specs.Link.{LinkState, LinkStart}
-use Rattle.relay_links.specs.Told.{more}
+use Rattle.relay_links.specs.Told.{more, Gains}
 use Rattle.relay_links.specs.declared.Returned.{Returned}
+use Rattle.relay_tasks.specs.declared.Fault.{Fault}
 use Rattle.relay_h1.specs.Verdict.{IsOpen}
 use Rattle.relay_exchange.specs.Exchange.{IsUnderWay}
 use Rattle.relay_exchange.specs.Passed.{Passed}
 use Rattle.relay_proxy.specs.Passed.{World, Start, origin_of, IsUnsent}
 use Rattle.relay_proxy.specs.Endings.{EndsLinked, EndsUnlinked, AttemptsUnlinked, EndsReturned, EndsWith}
 use Rattle.relay_proxy.specs.Phases.{IsLeased, IsGoing, IsRelaying, RunSoFar}
+use Rattle.relay_proxy.specs.Refusals.{faults_for, faults_before, faults_of_turn, AnswersFaults}
 use Rattle.relay_proxy.specs.Request.{StepsOn}
 use Rattle.relay_proxy.specs.Turn.{Advances, HasCause, IsStalled, is_over, is_end}
 use Rattle.relay_proxy.specs.Closing.{Hands, HandsBack, Settles, GivesUp, Finishes, IsQuietExchange, IsQuiet, Rests, TurnOf, Ends}
@@ -65,6 +67,7 @@ module _ {L C : Type 0} (state : L → LinkState) (start_at : L → LinkStart) w
     handed : List (Returned L)
     gained : after ≡ more before handed
     run : RunSoFar state start_at s p w handed settled
+    refused : faults_before [] next ≡ faults_before handed settled
 
   -- a phase that stays
   stays : (s : Start) (p : Passed) (w : World) (next settled : Phase L C)
@@ -74,6 +77,7 @@ module _ {L C : Type 0} (state : L → LinkState) (start_at : L → LinkStart) w
     handed = [];
     gained = kept ∙ more-nil before;
     run = subst (λ (n : Phase L C). RunSoFar state start_at s p w [] n) (sym same) run;
+    refused = ap (λ (n : Phase L C). faults_before [] n) (sym same);
   }
 
   -- settling keeps the run so far
@@ -101,6 +105,7 @@ module _ {L C : Type 0} (state : L → LinkState) (start_at : L → LinkStart) w
           holds = returned_ends state start_at s p w link lease keep outcome does.2.entry does.0
               run.holds.0 does.2.hands run.holds.1;
         });
+    refused = ap (λ (n : Phase L C). faults_before (does.2.entry ∷ []) n) (sym does.1);
   }
   settle_run s p w (Ended outcome attempts) settled before after does run =
       stays s p w (Ended outcome attempts) settled before after does.0 does.1 run
@@ -130,30 +135,50 @@ module _ {L C : Type 0} (state : L → LinkState) (start_at : L → LinkStart) w
       (sym (settles_same next settled before after does over)) cause
   settled_cause w x phase next settled step.Ended before after does over cause = tt
 
+  -- a request that has not ended was refused nothing, so far
+  live_unrefused : (phase next : Phase L C) → is_over phase ≡ false
+      → faults_before [] phase ++ faults_of_turn phase next ≡ faults_before [] next
+  live_unrefused ReadHead next live = refl
+  live_unrefused (Refuse answer e) next live = refl
+  live_unrefused (Connect context session) next live = refl
+  live_unrefused (Relay a) next live = refl
+  live_unrefused (Close link lease keep outcome) next live = absurd (true≢false live)
+  live_unrefused (Ended outcome attempts) next live = absurd (true≢false live)
+
   -- a turn of a request that has not ended, settled, is a step
   live_on : (s : Start) (p : Passed) (x : World) (phase next settled : Phase L C)
-      (before mid after : Option (List (Returned L))) → is_over phase ≡ false
+      (before mid after : Option (List (Returned L))) (told_before told_after : Option (List Fault))
+      → is_over phase ≡ false
       → Advances state start_at s x next → mid ≡ before → Settles next mid after settled
-      → StepsOn state start_at s p x [] before after phase settled
-  live_on s p x phase next settled before mid after live turn kept does =
+      → Gains told_before (faults_of_turn phase next) told_after
+      → StepsOn state start_at s p x [] before after told_before told_after phase settled
+  live_on s p x phase next settled before mid after told_before told_after live turn kept does
+      told =
       let done = settle_run s turn.passed x next settled mid after does turn.run in
       record {
         passed = turn.passed;
         handed = done.handed;
         gained = done.gained ∙ ap (λ (t : Option (List (Returned L))). more t done.handed) kept;
         run = done.run;
+        refused = record {
+          faults = faults_of_turn phase next;
+          gained = told;
+          are = live_unrefused phase next live ∙ done.refused;
+        };
         rested = λ over. absurd (true≢false (sym over ∙ live));
       }
 
   -- a request that has ended stays as it is
   ended_on : (s : Start) (p : Passed) (own : List (Returned L)) (w x : World) (outcome : Outcome)
       (attempts : List AttemptRecord) (next settled : Phase L C) (did : RunStep)
-      (before mid after : Option (List (Returned L)))
+      (before mid after : Option (List (Returned L))) (told_before told_after : Option (List Fault))
       → Rests {L = L} {C = C} w x (Ended outcome attempts) next did → mid ≡ before
-      → Settles next mid after settled
+      → Settles next mid after settled → Gains told_before [] told_after
       → RunSoFar {C = C} state start_at s p w own (Ended outcome attempts)
-      → StepsOn {C = C} state start_at s p x own before after (Ended outcome attempts) settled
-  ended_on s p own w x outcome attempts next settled did before mid after rests kept does run =
+      → StepsOn {C = C} state start_at s p x own before after told_before told_after
+      (Ended outcome attempts) settled
+  ended_on s p own w x outcome attempts next settled did before mid after told_before told_after
+      rests kept does told run =
       let stayed = subst (λ (k : Phase L C). Settles k mid after settled) rests.0 does in
       record {
         passed = p;
@@ -164,18 +189,27 @@ module _ {L C : Type 0} (state : L → LinkState) (start_at : L → LinkStart) w
             (subst (λ (rs : List (Returned L)). RunSoFar state start_at s p w rs settled)
             (sym (append-nil own))
             (subst (λ (k : Phase L C). RunSoFar state start_at s p w own k) (sym stayed.0) run));
+        refused = record {
+          faults = [];
+          gained = told;
+          are = append-nil (faults_for own outcome)
+              ∙ ap (λ (rs : List (Returned L)). faults_for rs outcome) (sym (append-nil own))
+              ∙ ap (λ (k : Phase L C). faults_before (own ++ []) k) (sym stayed.0);
+        };
         rested = λ over. refl;
       }
 
   -- a request that is to be closed is ended
   closed_on : (s : Start) (p : Passed) (w x : World) (link : L) (lease : Lease) (keep : Bool)
       (outcome : Outcome) (next settled : Phase L C) (did : RunStep)
-      (before mid after : Option (List (Returned L)))
+      (before mid after : Option (List (Returned L))) (told_before told_after : Option (List Fault))
       → Rests w x (Close link lease keep outcome) next did → mid ≡ before
-      → Settles next mid after settled
+      → Settles next mid after settled → Gains told_before [] told_after
       → RunSoFar {C = C} state start_at s p w [] (Close link lease keep outcome)
-      → StepsOn state start_at s p x [] before after (Close link lease keep outcome) settled
-  closed_on s p w x link lease keep outcome next settled did before mid after rests kept does run =
+      → StepsOn state start_at s p x [] before after told_before told_after
+      (Close link lease keep outcome) settled
+  closed_on s p w x link lease keep outcome next settled did before mid after told_before told_after
+      rests kept does told run =
       let done = settle_run s p w (Close link lease keep outcome) settled mid after
       (subst (λ (k : Phase L C). Settles k mid after settled) rests.0 does) run in
       record {
@@ -184,51 +218,62 @@ module _ {L C : Type 0} (state : L → LinkState) (start_at : L → LinkStart) w
         gained = done.gained ∙ ap (λ (t : Option (List (Returned L))). more t done.handed) kept;
         run = subst (λ (y : World). RunSoFar state start_at s p y done.handed settled)
             (sym rests.2) done.run;
+        refused = record { faults = []; gained = told; are = done.refused };
         rested = λ over. refl;
       }
 
   -- a step takes the run so far on
   pub step_on : (s : Start) (p : Passed) (own : List (Returned L)) (w x : World)
       (phase next settled : Phase L C) (did : RunStep)
-      (before mid after : Option (List (Returned L)))
+      (before mid after : Option (List (Returned L))) (told_before told_after : Option (List Fault))
       → (RunSoFar state start_at s p w [] phase → TurnOf state start_at s x phase next)
       → Rests w x phase next did → mid ≡ before → Settles next mid after settled
+      → Gains told_before (faults_of_turn phase next) told_after
       → RunSoFar state start_at s p w own phase
-      → StepsOn state start_at s p x own before after phase settled
-  step_on s p [] w x ReadHead next settled did before mid after turn rests kept does run =
-      live_on s p x ReadHead next settled before mid after refl (turn run) kept does
-  step_on s p [] w x (Refuse answer e) next settled did before mid after turn rests kept does run =
-      live_on s p x (Refuse answer e) next settled before mid after refl (turn run) kept does
-  step_on s p [] w x (Connect context session) next settled did before mid after turn rests kept
-      does run =
-      live_on s p x (Connect context session) next settled before mid after refl (turn run)
-      kept does
-  step_on s p [] w x (Relay a) next settled did before mid after turn rests kept does run =
-      live_on s p x (Relay a) next settled before mid after refl (turn run) kept does
-  step_on s p [] w x (Close link lease keep outcome) next settled did before mid after turn rests
-      kept does run =
-      closed_on s p w x link lease keep outcome next settled did before mid after rests kept does
-      run
-  step_on s p [] w x (Ended outcome attempts) next settled did before mid after turn rests kept
-      does run =
-      ended_on s p [] w x outcome attempts next settled did before mid after rests kept does run
-  step_on s p (r ∷ own) w x ReadHead next settled did before mid after turn rests kept does run =
+      → StepsOn state start_at s p x own before after told_before told_after phase settled
+  step_on s p [] w x ReadHead next settled did before mid after t u turn rests kept
+      does told run =
+      live_on s p x ReadHead next settled before mid after t u refl (turn run)
+      kept does told
+  step_on s p [] w x (Refuse answer e) next settled did before mid after t u turn rests kept
+      does told run =
+      live_on s p x (Refuse answer e) next settled before mid after t u refl (turn run)
+      kept does told
+  step_on s p [] w x (Connect context session) next settled did before mid after t u turn rests kept
+      does told run =
+      live_on s p x (Connect context session) next settled before mid after t u refl (turn run)
+      kept does told
+  step_on s p [] w x (Relay a) next settled did before mid after t u turn rests kept
+      does told run =
+      live_on s p x (Relay a) next settled before mid after t u refl (turn run)
+      kept does told
+  step_on s p [] w x (Close link lease keep outcome) next settled did before mid after t u turn rests kept
+      does told run =
+      closed_on s p w x link lease keep outcome next settled did before mid after t u rests kept
+      does told run
+  step_on s p [] w x (Ended outcome attempts) next settled did before mid after t u turn rests kept
+      does told run =
+      ended_on s p [] w x outcome attempts next settled did before mid after t u rests kept does
+      told run
+  step_on s p (r ∷ own) w x ReadHead next settled did before mid after t u turn rests kept
+      does told run =
       absurd run.holds
-  step_on s p (r ∷ own) w x (Refuse answer e) next settled did before mid after turn rests kept
-      does run =
+  step_on s p (r ∷ own) w x (Refuse answer e) next settled did before mid after t u turn rests kept
+      does told run =
       absurd run.holds
-  step_on s p (r ∷ own) w x (Connect context session) next settled did before mid after turn rests
-      kept does run =
+  step_on s p (r ∷ own) w x (Connect context session) next settled did before mid after t u turn rests kept
+      does told run =
       absurd run.holds
-  step_on s p (r ∷ own) w x (Relay a) next settled did before mid after turn rests kept does run =
+  step_on s p (r ∷ own) w x (Relay a) next settled did before mid after t u turn rests kept
+      does told run =
       absurd run.holds
-  step_on s p (r ∷ own) w x (Close link lease keep outcome) next settled did before mid after turn
-      rests kept does run =
+  step_on s p (r ∷ own) w x (Close link lease keep outcome) next settled did before mid after t u turn rests kept
+      does told run =
       absurd run.holds
-  step_on s p (r ∷ own) w x (Ended outcome attempts) next settled did before mid after turn rests
-      kept does run =
-      ended_on s p (r ∷ own) w x outcome attempts next settled did before mid after rests kept does
-      run
+  step_on s p (r ∷ own) w x (Ended outcome attempts) next settled did before mid after t u turn rests kept
+      does told run =
+      ended_on s p (r ∷ own) w x outcome attempts next settled did before mid after t u rests kept
+      does told run
 
   -- an attempt in which all that can be done asks a silent link
   quiet_over : (s : Start) (p : Passed) (w : World) (a : Box (Attempt L C))
@@ -252,9 +297,10 @@ module _ {L C : Type 0} (state : L → LinkState) (start_at : L → LinkStart) w
       → RunSoFar state start_at s p w [] phase → IsLeased p (state link) (start_at link) lease
       → EndsLinked s p w (state link) (start_at link) keep outcome
       → (IsStalled state start_at w phase → IsQuietExchange state start_at s p w link)
+      → faults_before [] phase ≡ []
       → Ends state start_at s p w [] before after phase ending
   linked_end s p w phase link lease keep before after ending outcome is back run leased ends
-      stalled = record {
+      stalled none = record {
         handed = back.entry ∷ [];
         gained = back.gained;
         ended = record {
@@ -267,6 +313,7 @@ module _ {L C : Type 0} (state : L → LinkState) (start_at : L → LinkStart) w
               (returned_ends state start_at s p w link lease keep outcome back.entry ending.attempts
               leased back.hands ends);
         };
+        refused = sym none;
         quiet = λ limit still. subst (λ (l : L). IsQuietExchange state start_at s p w l)
             (sym back.hands.is_link) (stalled still);
       }
@@ -276,8 +323,9 @@ module _ {L C : Type 0} (state : L → LinkState) (start_at : L → LinkStart) w
       (before after : Option (List (Returned L))) (ending : Ending) → GivesUp before after ending
       → RunSoFar state start_at s p w [] phase → IsUnsent p
       → (IsStalled state start_at w phase → IsQuiet state start_at s p w [])
+      → faults_before [] phase ≡ []
       → Ends state start_at s p w [] before after phase ending
-  unlinked_end s p w phase before after ending gives run unsent stalled = record {
+  unlinked_end s p w phase before after ending gives run unsent stalled none = record {
     handed = [];
     gained = gives.same ∙ more-nil before;
     ended = record {
@@ -287,6 +335,7 @@ module _ {L C : Type 0} (state : L → LinkState) (start_at : L → LinkStart) w
       ends = subst (λ (o : Outcome). EndsUnlinked s p w o × AttemptsUnlinked ending.attempts o)
           (sym gives.limit) (unsent, gives.none);
     };
+    refused = ap (λ (o : Outcome). faults_for {L = L} [] o) gives.limit ∙ sym none;
     quiet = λ limit still. stalled still;
   }
 
@@ -311,6 +360,8 @@ module _ {L C : Type 0} (state : L → LinkState) (start_at : L → LinkStart) w
           (subst (λ (rs : List (Returned L)). EndsWith state start_at s p w rs attempts outcome)
           (sym (append-nil own)) ends));
     };
+    refused = ap (λ (o : Outcome). faults_for (own ++ []) o) is
+        ∙ ap (λ (rs : List (Returned L)). faults_for rs outcome) (append-nil own);
     quiet = λ limit never. absurd never;
   }
 
@@ -321,13 +372,13 @@ module _ {L C : Type 0} (state : L → LinkState) (start_at : L → LinkStart) w
       → Ends state start_at s p w own before after phase ending
   end_of s p [] w ReadHead before after ending does run =
       unlinked_end s p w ReadHead before after ending does run run.holds.unsent
-      (λ h. inl (subst (λ (xs : List ℕ). IsOpen xs) run.holds.whole h.0, h.1))
+      (λ h. inl (subst (λ (xs : List ℕ). IsOpen xs) run.holds.whole h.0, h.1)) refl
   end_of s p [] w (Refuse answer e) before after ending does run =
       unlinked_end s p w (Refuse answer e) before after ending does run run.holds.unsent
-      (λ h. inr (half_answered s p answer e run.holds, h))
+      (λ h. inr (half_answered s p answer e run.holds, h)) refl
   end_of s p [] w (Connect context session) before after ending does run =
       unlinked_end s p w (Connect context session) before after ending does run run.holds.unsent
-      (λ h. absurd h)
+      (λ h. absurd h) refl
   end_of s p [] w (Relay a) before after ending does run =
       linked_end s p w (Relay a) a.value.exchange.peer.client.link a.value.lease false before after
       ending TurnLimit does.limit does.back run run.holds.leased (
@@ -335,10 +386,10 @@ module _ {L C : Type 0} (state : L → LinkState) (start_at : L → LinkStart) w
             run.holds.leased.reused run.holds.under_way.order,
         refl,
       )
-      (λ h. quiet_over s p w a run.holds h)
+      (λ h. quiet_over s p w a run.holds h) refl
   end_of s p [] w (Close link lease keep outcome) before after ending does run =
       linked_end s p w (Close link lease keep outcome) link lease keep before after ending outcome
-      does.0 does.1 run run.holds.0 run.holds.1 (λ h. absurd h)
+      does.0 does.1 run run.holds.0 run.holds.1 (λ h. absurd h) refl
   end_of s p [] w (Ended outcome attempts) before after ending does run =
       ended_end s p w [] outcome attempts before after ending run.holds does.0 does.1 does.2 run
   end_of s p (r ∷ own) w ReadHead before after ending does run = absurd run.holds

@@ -2,16 +2,20 @@
 use Rattle.std.proofs.Common.{◌≡◌, ◌≢◌, ℕ, ◌+◌, ◌≤◌, true, false, List, [], ◌++◌, Option, true≢false, refl, sym, ap, subst, ◌∙◌, inl, inr, arith}
 use Rattle.relay_links.specs.Count.{last_count, up}
 use Rattle.relay_links.specs.Link.{LinkState, LinkStart}
-use Rattle.relay_links.specs.Told.{more}
+use Rattle.relay_links.specs.Told.{more, Gains}
+use Rattle.relay_links.proofs.GainsLemmas.{Gains-nothing, Gains-twice}
 use Rattle.relay_links.specs.declared.Returned.{Returned}
+use Rattle.relay_tasks.specs.declared.Fault.{Fault}
 use Rattle.relay_tasks.specs.declared.took.Pause.TheVariants.{NotReady, Silent}
 use Rattle.relay_exchange.specs.Passed.{Passed}
 use Rattle.relay_proxy.specs.Passed.{World, Start, start_of, nothing}
 use Rattle.relay_proxy.specs.Phases.{RunSoFar}
+use Rattle.relay_proxy.specs.Refusals.{faults_for, faults_before}
 use Rattle.relay_proxy.specs.Request.{is_stop, Counts, StepsOn, ComesToEnd, Processes}
 use Rattle.relay_proxy.specs.Turn.{IsStalled, HasCause, is_over, is_end}
 use Rattle.relay_proxy.specs.declared.machine.Machine.{Machine}
 use Rattle.relay_proxy.specs.declared.machine.Phase.{Phase}
+use Rattle.relay_proxy.specs.declared.machine.Phase.TheVariants.{ReadHead, Refuse, Connect, Relay, Close, Ended}
 use Rattle.relay_proxy.specs.declared.machine.RunStep.{RunStep}
 use Rattle.relay_proxy.specs.declared.machine.RunStep.TheVariants as step
 use Rattle.relay_proxy.specs.declared.outcome.Outcome.TheVariants.{TurnLimit}
@@ -37,56 +41,77 @@ no_end step.Ended goes = absurd (true≢false goes)
 module _ {L C : Type 0} (state : L → LinkState) (start_at : L → LinkStart) where
   -- the run so far since the call began, and the turns that were taken
   pub record IsUnderWay
-      (s : Start) (w : World) (before now : Option (List (Returned L))) (m : Machine L C)
-      (turns : ℕ) : Type 0 where
+      (s : Start) (w : World) (before now : Option (List (Returned L)))
+      (told_before told_now : Option (List Fault)) (m : Machine L C) (turns : ℕ) : Type 0 where
     pub passed : Passed
     pub own : List (Returned L)
     pub gained : now ≡ more before own
     pub run : RunSoFar state start_at s passed w own m.phase
+    pub refused : Gains told_before (faults_before own m.phase) told_now
     pub counted : m.turns ≡ turns
 
+  -- a request that has not ended was refused nothing
+  none_before : (phase : Phase L C) → is_over phase ≡ false → faults_before [] phase ≡ []
+  none_before ReadHead going = refl
+  none_before (Refuse answer e) going = refl
+  none_before (Connect context session) going = refl
+  none_before (Relay a) going = refl
+  none_before (Close link lease keep outcome) going = refl
+  none_before (Ended outcome attempts) going = absurd (true≢false going)
+
   -- a request that was just begun
-  pub begun : (w x : World) (before now : Option (List (Returned L))) (m : Machine L C)
-      → now ≡ before → RunSoFar state start_at (start_of w) nothing x [] m.phase → m.turns ≡ 0
-      → IsUnderWay (start_of w) x before now m 0
-  begun w x before now m same run none = record {
+  pub begun : (w x : World) (before now : Option (List (Returned L)))
+      (told_before told_now : Option (List Fault)) (m : Machine L C) → now ≡ before
+      → told_now ≡ told_before → RunSoFar state start_at (start_of w) nothing x [] m.phase
+      → is_over m.phase ≡ false → m.turns ≡ 0
+      → IsUnderWay (start_of w) x before now told_before told_now m 0
+  begun w x before now told_before told_now m same told run going none = record {
     passed = nothing;
     own = [];
     gained = same ∙ more-nil before;
     run = run;
+    refused = subst (λ (fs : List Fault). Gains told_before fs told_now)
+        (sym (none_before m.phase going)) (Gains-nothing told_before told_now told);
     counted = none;
   }
 
   -- one more step that is counted
   pub goes_on : (s : Start) (w x : World) (before now after : Option (List (Returned L)))
-      (m n : Machine L C) (turns : ℕ) (under : IsUnderWay s w before now m turns)
-      → StepsOn state start_at s under.passed x under.own now after m.phase n.phase
+      (t u v : Option (List Fault)) (m n : Machine L C) (turns : ℕ)
+      (under : IsUnderWay s w before now t u m turns)
+      → StepsOn state start_at s under.passed x under.own now after u v m.phase n.phase
       → n.turns ≡ up m.turns → turns + 1 ≤ last_count
-      → IsUnderWay s x before after n (turns + 1)
-  goes_on s w x before now after m n turns under steps one few = record {
+      → IsUnderWay s x before after t v n (turns + 1)
+  goes_on s w x before now after t u v m n turns under steps one few = record {
     passed = steps.passed;
     own = under.own ++ steps.handed;
     gained = steps.gained
         ∙ ap (λ (t : Option (List (Returned L))). more t steps.handed) under.gained
         ∙ more-more before under.own steps.handed;
     run = steps.run;
+    refused = subst (λ (fs : List Fault). Gains t fs v) steps.refused.are
+        (Gains-twice t u v (faults_before under.own m.phase) steps.refused.faults under.refused
+        steps.refused.gained);
     counted = omega (arith, one, under.counted);
   }
 
   -- the end of a request whose turns were all taken
   pub all_taken : (s : Start) (w x : World) (before now after : Option (List (Returned L)))
-      (m : Machine L C) (turns most : ℕ) (processed : Processed)
-      (under : IsUnderWay s w before now m turns) → most ≡ turns
+      (t u v : Option (List Fault)) (m : Machine L C) (turns most : ℕ) (processed : Processed)
+      (under : IsUnderWay s w before now t u m turns) → most ≡ turns
       → ComesToEnd state start_at s under.passed x under.own now after m.phase processed
-      → processed.history.turns_taken ≡ m.turns
-      → Processes state start_at s x before after most processed
-  all_taken s w x before now after m turns most processed under all ends taken = record {
+      → v ≡ u → processed.history.turns_taken ≡ m.turns
+      → Processes state start_at s x before after t v most processed
+  all_taken s w x before now after t u v m turns most processed under all ends told taken = record {
     passed = under.passed;
     own = under.own ++ ends.handed;
     gained = ends.gained
         ∙ ap (λ (t : Option (List (Returned L))). more t ends.handed) under.gained
         ∙ more-more before under.own ends.handed;
     ended = ends.ended;
+    refused = subst (λ (fs : List Fault). Gains t fs v) (sym ends.refused)
+        (subst (λ (o : Option (List Fault)). Gains t (faults_before under.own m.phase) o) (sym told)
+        under.refused);
     exact = exact_of state start_at s under.passed x (under.own ++ ends.handed)
         processed.history.attempts processed.outcome ends.ended;
     limit = λ is. inl (taken ∙ under.counted ∙ sym all);
@@ -94,14 +119,15 @@ module _ {L C : Type 0} (state : L → LinkState) (start_at : L → LinkStart) w
 
   -- the end of a request after a step that ended it, or that met silence
   pub stopped : (s : Start) (w x y : World) (before now mid after : Option (List (Returned L)))
-      (m n : Machine L C) (turns most : ℕ) (processed : Processed)
-      (under : IsUnderWay s w before now m turns)
-      (steps : StepsOn state start_at s under.passed x under.own now mid m.phase n.phase)
+      (t u v z : Option (List Fault)) (m n : Machine L C) (turns most : ℕ) (processed : Processed)
+      (under : IsUnderWay s w before now t u m turns)
+      (steps : StepsOn state start_at s under.passed x under.own now mid u v m.phase n.phase)
       → ComesToEnd state start_at s steps.passed y (under.own ++ steps.handed) mid after n.phase
       processed
-      → (processed.outcome ≡ TurnLimit → IsStalled state start_at y n.phase)
-      → Processes state start_at s y before after most processed
-  stopped s w x y before now mid after m n turns most processed under steps ends stalled =
+      → z ≡ v → (processed.outcome ≡ TurnLimit → IsStalled state start_at y n.phase)
+      → Processes state start_at s y before after t z most processed
+  stopped s w x y before now mid after t u v z m n turns most processed under steps ends told
+      stalled =
       record {
         passed = steps.passed;
         own = (under.own ++ steps.handed) ++ ends.handed;
@@ -112,6 +138,11 @@ module _ {L C : Type 0} (state : L → LinkState) (start_at : L → LinkStart) w
             ∙ more-more before under.own steps.handed)
             ∙ more-more before (under.own ++ steps.handed) ends.handed;
         ended = ends.ended;
+        refused = subst (λ (fs : List Fault). Gains t fs z) (steps.refused.are ∙ sym ends.refused)
+            (subst (λ (o : Option (List Fault)). Gains t
+            (faults_before under.own m.phase ++ steps.refused.faults) o) (sym told)
+            (Gains-twice t u v (faults_before under.own m.phase) steps.refused.faults under.refused
+            steps.refused.gained));
         exact = exact_of state start_at s steps.passed y
             ((under.own ++ steps.handed) ++ ends.handed) processed.history.attempts
             processed.outcome ends.ended;

@@ -10,6 +10,7 @@ use Rattle.relay_exchange.specs.Passed.{Passed}
 use Rattle.relay_exchange.specs.declared.exchange.Exchange.{Exchange}
 use Rattle.relay_proxy.specs.Passed.{World, Start, origin_of, asked}
 use Rattle.relay_proxy.specs.Endings.{error_of, IsAskedPeer, IsHalfAnswered, IsEnded}
+use Rattle.relay_proxy.specs.Refusals.{faults_for, faults_before}
 use Rattle.relay_proxy.specs.Relayable.{IsRelayable}
 use Rattle.relay_proxy.specs.Turn.{IsStalled, Advances}
 use Rattle.relay_proxy.specs.declared.finish.Ending.{Ending}
@@ -133,5 +134,7 @@ module _ {L C : Type 0} (state : L → LinkState) (start_at : L → LinkStart) w
     pub handed : List (Returned L)
     pub gained : after ≡ more before handed
     pub ended : IsEnded state start_at s p w (own ++ handed) ending.attempts ending.outcome
+    -- the connector answered faults for no other request
+    pub refused : faults_for (own ++ handed) ending.outcome ≡ faults_before own phase
     pub quiet : ending.outcome ≡ TurnLimit → IsStalled state start_at w phase
         → IsQuiet state start_at s p w (own ++ handed)

@@ -7,6 +7,7 @@ pub mod Work
 pub mod Turn
 pub mod Closing
 pub mod Exact
+pub mod Refusals
 pub mod Request
 pub mod Reuse
 pub mod Stock

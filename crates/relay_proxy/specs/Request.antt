@@ -3,7 +3,8 @@
 use Rattle.std.specs.Prelude.{◌≡◌, ◌≢◌, ℕ, ◌⊎◌, Bool, true, false, List, ◌++◌, Option}
 use Rattle.relay_links.specs.Count.{up}
 use Rattle.relay_links.specs.Link.{LinkState, LinkStart}
-use Rattle.relay_links.specs.Told.{more}
+use Rattle.relay_links.specs.Told.{more, Gains}
+use Rattle.relay_tasks.specs.declared.Fault.{Fault}
 use Rattle.relay_tasks.specs.declared.took.Pause.TheVariants.{NotReady, Silent}
 use Rattle.relay_links.specs.declared.Returned.{Returned}
 use Rattle.relay_exchange.specs.Passed.{Passed}
@@ -11,6 +12,7 @@ use Rattle.relay_proxy.specs.Passed.{World, Start}
 use Rattle.relay_proxy.specs.Endings.{IsEnded}
 use Rattle.relay_proxy.specs.Exact.{IsExact}
 use Rattle.relay_proxy.specs.Phases.{RunSoFar}
+use Rattle.relay_proxy.specs.Refusals.{faults_for, faults_before, AnswersFaults}
 use Rattle.relay_proxy.specs.Turn.{IsStalled, is_over}
 use Rattle.relay_proxy.specs.Closing.{IsQuiet}
 use Rattle.relay_proxy.specs.declared.machine.Phase.{Phase}
@@ -43,14 +45,17 @@ ended_after ended TurnLimit = ended
 ended_after ended OutOfMemory = ended
 
 module _ {L C : Type 0} (state : L → LinkState) (start_at : L → LinkStart) where
-  -- a step took the run so far on from one phase to the next, and handed these links back
+  -- a step took the run so far on from one phase to the next, and handed these links back; the
+  -- connector answered no fault but the one of a request that ended so
   pub record StepsOn
       (s : Start) (p : Passed) (w : World) (own : List (Returned L))
-      (before after : Option (List (Returned L))) (phase next : Phase L C) : Type 0 where
+      (before after : Option (List (Returned L))) (told_before told_after : Option (List Fault))
+      (phase next : Phase L C) : Type 0 where
     pub passed : Passed
     pub handed : List (Returned L)
     pub gained : after ≡ more before handed
     pub run : RunSoFar state start_at s passed w (own ++ handed) next
+    pub refused : AnswersFaults told_before told_after own phase (own ++ handed) next
     -- a request that has ended passes nothing more
     pub rested : is_over phase ≡ true → passed ≡ p
 
@@ -63,20 +68,25 @@ module _ {L C : Type 0} (state : L → LinkState) (start_at : L → LinkStart) w
     pub gained : after ≡ more before handed
     pub ended : IsEnded state start_at s p w (own ++ handed) processed.history.attempts
         processed.outcome
+    -- it is the request for which the connector answered its faults
+    pub refused : faults_for (own ++ handed) processed.outcome ≡ faults_before own phase
     -- a request that has ended gives no `TurnLimit`
     pub over : is_over phase ≡ true → processed.outcome ≢ TurnLimit
     pub quiet : processed.outcome ≡ TurnLimit → IsStalled state start_at w phase
         → IsQuiet state start_at s p w (own ++ handed)
 
--- a whole request: what passed is told by the links, in order; the connector's list gained the
--- links that were handed back; and the outcome has its cause
+-- a whole request: what passed is told by the links, in order; the connector's lists gained the
+-- links that were handed back, and the fault with which it refused one; and the outcome has its
+-- cause
 pub record Processes {L : Type 0} (state : L → LinkState) (start_at : L → LinkStart)
-    (s : Start) (w : World) (before after : Option (List (Returned L))) (turns : ℕ)
-    (processed : Processed) : Type 0 where
+    (s : Start) (w : World) (before after : Option (List (Returned L)))
+    (told_before told_after : Option (List Fault)) (turns : ℕ) (processed : Processed) : Type 0 where
   pub passed : Passed
   pub own : List (Returned L)
   pub gained : after ≡ more before own
   pub ended : IsEnded state start_at s passed w own processed.history.attempts processed.outcome
+  -- the connector refused a link exactly where the request ended with that fault's error
+  pub refused : Gains told_before (faults_for own processed.outcome) told_after
   -- the other way round: where a cause stands, the outcome is its own
   pub exact : IsExact state start_at s passed w own processed.outcome
   -- a request that has not ended took all its turns, or all that it asks is silent

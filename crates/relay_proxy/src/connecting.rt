@@ -2,11 +2,13 @@
 ghost use Rattle.std.specs.Prelude.{◌≡◌, ◌+◌, ◌≤◌, [], ◌∷◌, ◌++◌, option_map, ℕ, List, Some, IfSome, false};
 ghost use Rattle.std.specs.Global.{Box};
 ghost use Rattle.relay_links.specs.Link.{LinkState, IsHandedOut};
+ghost use Rattle.relay_links.specs.Told.{Gains};
 ghost use Rattle.relay_exchange.specs.Passed.{Passed};
 ghost use Rattle.relay_session.specs.Reading.{head_of};
 ghost use Rattle.relay_proxy.specs.Endings.{IsInOrder, IsAskedPeer, fault_error, outcome_of};
 ghost use Rattle.relay_proxy.specs.Passed.{World, Start, TellsClient};
 ghost use Rattle.relay_proxy.specs.Phases.{IsRelaying, RunSoFar};
+ghost use Rattle.relay_proxy.specs.Refusals.{faults_before};
 ghost use Rattle.relay_proxy.specs.Stock.{items_held};
 ghost use Rattle.relay_proxy.specs.Turn.{world_with, DoesWork, is_over, is_end, links_held, Advances, HasCause};
 
@@ -69,6 +71,8 @@ pub(crate) fn connect<K: Connector, C: Drop>(
     ensures returned { K.returned connector.new ≡ K.returned connector.old }
     ensures stock { K.stock connector.old ≡ option_map
         (λ rest. items_held K.Byte.start result.phase ++ rest) (K.stock connector.new) }
+    ensures refusals { Gains (K.refusals connector.old) (faults_before [] result.phase)
+        (K.refusals connector.new) }
     ensures faults { K.fault_count connector.old ≤ K.fault_count connector.new }
 {
     let Ok(room) = AttemptRoom::new(alloc) else {

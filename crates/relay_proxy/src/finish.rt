@@ -31,6 +31,7 @@ fn release<K: Connector>(
         (K.returned connector.new) result }
     ensures out { K.out connector.new + 1 ≡ K.out connector.old }
     ensures faults { K.fault_count connector.new ≡ K.fault_count connector.old }
+    ensures refusals { K.refusals connector.new ≡ K.refusals connector.old }
     ensures stock { all_items K.Byte.start (K.returned connector.new) [] (K.stock connector.new)
         ≡ all_items K.Byte.start (K.returned connector.old) ((K.Byte.start link).items ∷ [])
         (K.stock connector.old) }
@@ -56,6 +57,7 @@ pub(crate) fn settle<K: Connector, C: Drop>(
     ensures out { K.out connector.new + links_held K.Byte.state K.Byte.start phase
         ≡ K.out connector.old + links_held K.Byte.state K.Byte.start result }
     ensures faults { K.fault_count connector.new ≡ K.fault_count connector.old }
+    ensures refusals { K.refusals connector.new ≡ K.refusals connector.old }
     ensures stock { all_items K.Byte.start (K.returned connector.new) (items_held K.Byte.start result)
         (K.stock connector.new) ≡ all_items K.Byte.start (K.returned connector.old)
         (items_held K.Byte.start phase) (K.stock connector.old) }
@@ -91,6 +93,7 @@ fn give_link_up<K: Connector>(connector: &mut K, link: K::Byte, lease: Lease) ->
         result }
     ensures out { K.out connector.new + 1 ≡ K.out connector.old }
     ensures faults { K.fault_count connector.new ≡ K.fault_count connector.old }
+    ensures refusals { K.refusals connector.new ≡ K.refusals connector.old }
     ensures stock { all_items K.Byte.start (K.returned connector.new) [] (K.stock connector.new)
         ≡ all_items K.Byte.start (K.returned connector.old) ((K.Byte.start link).items ∷ [])
         (K.stock connector.old) }
@@ -113,6 +116,7 @@ pub(crate) fn finish<K: Connector, C: Drop>(
     ensures out { K.out connector.new + links_held K.Byte.state K.Byte.start phase
         ≡ K.out connector.old }
     ensures faults { K.fault_count connector.new ≡ K.fault_count connector.old }
+    ensures refusals { K.refusals connector.new ≡ K.refusals connector.old }
     ensures stock { all_items K.Byte.start (K.returned connector.new) []
         (K.stock connector.new) ≡ all_items K.Byte.start (K.returned connector.old)
         (items_held K.Byte.start phase) (K.stock connector.old) }

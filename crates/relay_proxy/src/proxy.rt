@@ -136,7 +136,8 @@ impl<SV: ProxyHttp, K: Connector, P: Purger> HttpProxy<SV, K, P> {
     ) -> RunStep
         requires { links_held K.Byte.state K.Byte.start machine.old.machine.phase
             ≤ K.out self.old.connector }
-        // The run so far goes on, and these links were handed back.
+        // The run so far goes on, these links were handed back, and the connector answered no fault but
+        // the one of which the error of a request tells that ends so.
         ensures steps { (s : Start) (p : Passed) (own : List _)
             → RunSoFar K.Byte.state K.Byte.start s p
             (world_of D.state client.old (K.fault_count self.old.connector)) own
@@ -144,6 +145,7 @@ impl<SV: ProxyHttp, K: Connector, P: Purger> HttpProxy<SV, K, P> {
             → StepsOn K.Byte.state K.Byte.start s p
             (world_of D.state client.new (K.fault_count self.new.connector)) own
             (K.returned self.old.connector) (K.returned self.new.connector)
+            (K.refusals self.old.connector) (K.refusals self.new.connector)
             machine.old.machine.phase machine.new.machine.phase }
         // Before there is a link it moved something of the client, or went on to its next phase; it
         // waits only where a link answered so in this step; and in silence all that can be done asks
@@ -233,6 +235,7 @@ impl<SV: ProxyHttp, K: Connector, P: Purger> HttpProxy<SV, K, P> {
         // No hook is called yet.
         ensures log { result.0.history.log ≡ [] }
         ensures faults { K.fault_count self.new.connector ≡ K.fault_count self.old.connector }
+        ensures refusals { K.refusals self.new.connector ≡ K.refusals self.old.connector }
         ensures out { K.out self.new.connector
             + links_held K.Byte.state K.Byte.start machine.machine.phase
             ≡ K.out self.old.connector }
@@ -279,7 +282,8 @@ impl<SV: ProxyHttp, K: Connector, P: Purger> HttpProxy<SV, K, P> {
         ensures processes { Processes K.Byte.state K.Byte.start
             (start_of (world_of D.state client.old (K.fault_count self.old.connector)))
             (world_of D.state client.new (K.fault_count self.new.connector))
-            (K.returned self.old.connector) (K.returned self.new.connector) turns result }
+            (K.returned self.old.connector) (K.returned self.new.connector)
+            (K.refusals self.old.connector) (K.refusals self.new.connector) turns result }
         ensures within { result.history.turns_taken ≤ turns }
         // Each turn that was counted did some work.
         ensures worked { result.history.turns_taken ≤ result.history.items_used
@@ -332,6 +336,7 @@ impl<SV: ProxyHttp, K: Connector, P: Purger> HttpProxy<SV, K, P> {
         ensures used { result.history.items_used ≡ machine.machine.work.used }
         ensures sides { result.history.sides_ended ≡ machine.machine.work.ended }
         ensures faults { K.fault_count self.new.connector ≡ K.fault_count self.old.connector }
+        ensures refusals { K.refusals self.new.connector ≡ K.refusals self.old.connector }
         ensures out { K.out self.new.connector
             + links_held K.Byte.state K.Byte.start machine.machine.phase
             ≡ K.out self.old.connector }

@@ -1,9 +1,11 @@
 //! One turn of a request, by the phase in which it stands.
 ghost use Rattle.std.specs.Prelude.{◌≡◌, ◌+◌, ◌≤◌, []};
+ghost use Rattle.relay_links.specs.Told.{Gains};
 ghost use Rattle.relay_exchange.specs.Passed.{Passed};
 ghost use Rattle.relay_proxy.specs.Closing.{Rests, TurnOf};
 ghost use Rattle.relay_proxy.specs.Passed.{Start};
 ghost use Rattle.relay_proxy.specs.Phases.{RunSoFar};
+ghost use Rattle.relay_proxy.specs.Refusals.{faults_of_turn};
 ghost use Rattle.relay_proxy.specs.Stock.{items_held, all_items};
 ghost use Rattle.relay_proxy.specs.Turn.{world_of, links_held, is_over, is_end, WorksIn, HasCause};
 
@@ -44,6 +46,8 @@ pub(crate) fn take_turn<SV: ProxyHttp, K: Connector, D: ByteLink, U: Drop, H: Sc
     ensures out { K.out connector.new + links_held K.Byte.state K.Byte.start phase
         ≡ K.out connector.old + links_held K.Byte.state K.Byte.start result.phase }
     ensures returned { K.returned connector.new ≡ K.returned connector.old }
+    ensures refusals { Gains (K.refusals connector.old) (faults_of_turn phase result.phase)
+        (K.refusals connector.new) }
     ensures faults { K.fault_count connector.old ≤ K.fault_count connector.new }
     ensures kept { client.new.kept ≡ client.old.kept }
     ensures client_start { D.start client.new.link ≡ D.start client.old.link }

@@ -2,6 +2,7 @@
 use Rattle.std.proofs.Common.{◌≡◌, ◌≢◌, ℕ, ◌+◌, ◌≤◌, ◌<◌, Bool, true, false, true≢false, List, [], ◌∷◌, ◌++◌, Option, Some, None, refl, sym, ap, subst, ◌∙◌, arith}
 use Rattle.std.proofs.lemmas.List.{append-nil, append_assoc}
 use Rattle.relay_h1.specs.declared.Connection.{Connection}
+use Rattle.relay_tasks.specs.declared.Fault.{Fault}
 use Rattle.relay_links.specs.Link.{LinkState, LinkStart}
 use Rattle.relay_links.specs.Told.{more}
 use Rattle.relay_links.specs.declared.Returned.{Returned}
@@ -145,16 +146,16 @@ module _ {L C D U : Type 0}
 
   -- a turn behind which the request goes on
   pub goes_on : (before old now : Books L) (visit next : Visit D U L C)
-      (rest : List (Visit D U L C))
+      (rest : List (Visit D U L C)) (t u : Option (List Fault))
       → Serves state start_at client_state before old (visit ∷ rest)
       → now.requests_ended ≡ old.requests_ended → old.faults ≤ now.faults
       → ((s : Start) (p : Passed) (own : List (Returned L))
       → RunSoFar state start_at s p (world_of client_state visit.client old.faults) own visit.phase
       → StepsOn state start_at s p (world_of client_state next.client now.faults) own
-      old.returned now.returned visit.phase next.phase)
+      old.returned now.returned t u visit.phase next.phase)
       → is_over next.phase ≡ false
       → Serves state start_at client_state before now (next ∷ rest)
-  goes_on before old now visit next rest serves same later steps going =
+  goes_on before old now visit next rest t u serves same later steps going =
       let under = serves.under_way.0 in
       let taken = steps under.start under.passed [] under.run in
       let w = world_of client_state next.client now.faults in
@@ -180,16 +181,16 @@ module _ {L C D U : Type 0}
 
   -- a turn behind which the request has ended
   pub ends_now : (before old now : Books L) (visit next : Visit D U L C)
-      (rest : List (Visit D U L C))
+      (rest : List (Visit D U L C)) (t u : Option (List Fault))
       → Serves state start_at client_state before old (visit ∷ rest)
       → now.requests_ended ≡ old.requests_ended → old.faults ≤ now.faults
       → ((s : Start) (p : Passed) (own : List (Returned L))
       → RunSoFar state start_at s p (world_of client_state visit.client old.faults) own visit.phase
       → StepsOn state start_at s p (world_of client_state next.client now.faults) own
-      old.returned now.returned visit.phase next.phase)
+      old.returned now.returned t u visit.phase next.phase)
       → is_over next.phase ≡ true
       → EndsOne state start_at client_state before now next rest
-  ends_now before old now visit next rest serves same later steps over =
+  ends_now before old now visit next rest t u serves same later steps over =
       let under = serves.under_way.0 in
       let taken = steps under.start under.passed [] under.run in
       record {

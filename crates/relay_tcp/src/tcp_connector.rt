@@ -1,11 +1,12 @@
 //! A connector that opens a TCP connection to a fixed address, whatever the peer is. It tells no
-//! list of the links that come back.
-ghost use Rattle.std.specs.Prelude.{◌≡◌, ◌+◌, ◌≤◌, ◌<◌, None, false, IfOk, IfErr, OnOk, IsOkUnless, is_ok, if◌then◌else◌};
+//! list of the links that come back; its faults it tells, since they are all the same.
+ghost use Rattle.std.specs.Prelude.{◌≡◌, ◌+◌, ◌≤◌, ◌<◌, [], ◌∷◌, None, false, IfOk, IfErr, OnOk, IsOkUnless, is_ok, if◌then◌else◌};
 ghost use Rattle.relay_links.specs.Count.{last_count, up, Rose};
 ghost use Rattle.relay_links.specs.Connector.{IsConnectFault};
 ghost use Rattle.relay_links.specs.Link.{IsHandedOut};
+ghost use Rattle.relay_links.specs.Told.{Gains};
 ghost use Rattle.relay_tcp.specs.TcpLink.{tcp_state, tcp_start, IsUnused};
-ghost use Rattle.relay_tcp.specs.TcpConnector.{links_out, gets_failed, IsNew, OpensSocket};
+ghost use Rattle.relay_tcp.specs.TcpConnector.{links_out, gets_failed, faults_answered, IsNew, OpensSocket};
 
 use crate::readiness::{Origin, Readiness, Seat, watch};
 use crate::tcp_link::TcpLink;
@@ -68,6 +69,8 @@ impl<R: Net + Clone + Drop> Connector for TcpConnector<R> {
 
     ghost stock = { λ _. None };
 
+    ghost refusals = { faults_answered };
+
     ghost out = { links_out };
 
     ghost fault_count = { gets_failed };
@@ -79,6 +82,9 @@ impl<R: Net + Clone + Drop> Connector for TcpConnector<R> {
             IsHandedOut (tcp_state got.0) (tcp_start got.0) got.1) }
         ensures out { links_out self.new
             ≡ (if is_ok result then links_out self.old + 1 else links_out self.old) }
+        ensures calm { OnOk result (faults_answered self.new ≡ faults_answered self.old) }
+        ensures refused { IfErr result (λ fault.
+            Gains (faults_answered self.old) (fault ∷ []) (faults_answered self.new)) }
         ensures no_fault { OnOk result (gets_failed self.new ≡ gets_failed self.old) }
         ensures fault { IfErr result IsConnectFault }
         ensures rose { IfErr result (λ _. Rose (gets_failed self.old) (gets_failed self.new)) }

@@ -12,6 +12,7 @@ returns-in-Ok c =
       returned = fresh.returned;
       out = fresh.out;
       faults = fresh.faults;
+      refusals = fresh.refusals;
       entry = entry;
       entries = fresh.next ∙ c.in_ok-push.ensures.items
           ∙ ap (λ xs. xs ++ entry ∷ []) c.new-entries.ensures.items;

@@ -2,6 +2,7 @@
 use Rattle.relay_proxy.specs.Turn.{world_with}
 use Rattle.relay_proxy.proofs.ConnectSteps.{not_connected}
 use Rattle.relay_proxy.proofs.StockLemmas.{none_out}
+use Rattle.relay_proxy.proofs.RefusalLemmas.{none_added, one_added, none_before_link}
 use Rattle.relay_proxy.proofs.connecting.connect.Goals as goal
 
 pub returns-in-Ok-get-clause-run : goal.returns-in-Ok-get-clause-run
@@ -29,3 +30,13 @@ returns-in-Ok-get-clause-cause g c = λ client ahead.
     c.begin.ensures.cause
     (world_with client ahead (g.K.Connector.fault_count c.args.connector.now))
     (world_with client ahead (g.K.Connector.fault_count c.get.new.self))
+
+pub returns-in-Ok-get-clause-refusals : goal.returns-in-Ok-get-clause-refusals
+returns-in-Ok-get-clause-refusals g c =
+    none_added _ _ _ (none_before_link g.K.Byte.ByteLink.state g.K.Byte.ByteLink.start
+    c.begin.result.phase c.begin.ensures.linked) c.in-Ok-get.ensures.calm
+
+pub returns-in-Err-clause-refusals : goal.returns-in-Err-clause-refusals
+returns-in-Err-clause-refusals g c =
+    rw c.refused_link.ensures.phase (one_added c.in-Err.fault _ _ c.in-Err.ensures.fault
+    c.in-Err.ensures.refused)

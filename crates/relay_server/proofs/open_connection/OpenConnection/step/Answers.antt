@@ -13,8 +13,7 @@ returns-clause-goes g c = λ before rest goes serves.
     (books returned faults c.args.proxy.now) (books returned faults c.step-step.new.self)
     (record { client = c.self.inside.client; phase = c.self.inside.machine.machine.phase })
     (record { client = c.step-step.new.client; phase = c.step-step.new.machine.machine.phase })
-    rest
-    (rw c.self.view_is serves)
+    rest _ _ (rw c.self.view_is serves)
     (ap (λ (p : HttpProxy g.row.SV.Denot g.row.K.Denot g.row.P.Denot). p.requests_ended)
     c.step-step.ensures.same)
     c.step-step.ensures.faults c.step-step.ensures.steps
@@ -28,8 +27,7 @@ returns-clause-ends g c = λ before rest ends serves.
     (books returned faults c.args.proxy.now) (books returned faults c.step-step.new.self)
     (record { client = c.self.inside.client; phase = c.self.inside.machine.machine.phase })
     (record { client = c.step-step.new.client; phase = c.step-step.new.machine.machine.phase })
-    rest
-    (rw c.self.view_is serves)
+    rest _ _ (rw c.self.view_is serves)
     (ap (λ (p : HttpProxy g.row.SV.Denot g.row.K.Denot g.row.P.Denot). p.requests_ended)
     c.step-step.ensures.same)
     c.step-step.ensures.faults c.step-step.ensures.steps
