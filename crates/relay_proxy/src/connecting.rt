@@ -2,7 +2,8 @@
 ghost use Rattle.std.specs.Prelude.{◌≡◌, ◌+◌, ◌≤◌, [], ◌∷◌, ◌++◌, option_map, ℕ, List, Some, IfSome, false};
 ghost use Rattle.std.specs.Global.{Box};
 ghost use Rattle.relay_links.specs.Link.{LinkState, IsHandedOut};
-ghost use Rattle.relay_exchange.specs.Passed.{Passed};
+ghost use Rattle.relay_attempt.specs.Head.{link_of};
+ghost use Rattle.relay_attempt.specs.Passed.{Passed};
 ghost use Rattle.relay_session.specs.Reading.{head_of};
 ghost use Rattle.relay_proxy.specs.Endings.{IsInOrder, IsAskedPeer, fault_error, outcome_of};
 ghost use Rattle.relay_proxy.specs.Passed.{World, Start, TellsClient};
@@ -15,7 +16,7 @@ use crate::outcome::Outcome;
 use crate::record::{AttemptList, AttemptRecord, AttemptRoom};
 use crate::work::Work;
 use bytes::Bytes;
-use relay_exchange::{Exchange, Unbegun};
+use relay_attempt::{H1Exchange, Unbegun};
 use relay_links::{ByteLink, Connector};
 use relay_session::HttpSession;
 use relay_tasks::{Error, ErrorSource, Fail, Fault, Peer, RequestHeader};
@@ -144,7 +145,7 @@ fn begin<L: ByteLink, C: Drop>(
     ensures linked { links_held L.state L.start result.phase ≡ 1 }
     ensures items { items_held L.start result.phase ≡ (L.start link).items ∷ [] }
 {
-    match Exchange::begin(alloc, Box::into_inner(session), link, head) {
+    match H1Exchange::begin(alloc, Box::into_inner(session), link, head) {
         Ok(exchange) => hold(
             alloc,
             Attempt {
@@ -173,7 +174,7 @@ fn hold<L: ByteLink, C: Drop>(alloc: Global, attempt: Attempt<L, C>) -> Next<L, 
     ensures over { is_over result.phase ≡ is_end result.step }
     ensures linked { links_held L.state L.start result.phase ≡ 1 }
     ensures items { items_held L.start result.phase
-        ≡ (L.start attempt.exchange.peer.client.link).items ∷ [] }
+        ≡ (L.start (link_of attempt.exchange)).items ∷ [] }
 {
     match Box::new(alloc, attempt) {
         Ok(attempt) => Next {
