@@ -15,7 +15,7 @@ use Rattle.relay_links.specs.declared.script_link.ScriptLink.{ScriptLink}
 use Rattle.relay_links.specs.declared.list_schedule.ListSchedule.{ListSchedule}
 use Rattle.relay_links.specs.ListSchedule.{branches_left}
 use Rattle.relay_proxy.specs.Endings.{EndsUnlinked, EndsWith}
-use Rattle.relay_exchange.specs.Passed.{Passed}
+use Rattle.relay_attempt.specs.Passed.{Passed}
 use Rattle.relay_proxy.specs.Passed.{World, Start, start_of}
 use Rattle.relay_proxy.specs.Request.{Processes}
 use Rattle.relay_proxy.specs.Stock.{items_back, all_items}

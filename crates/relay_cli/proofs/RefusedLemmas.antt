@@ -11,7 +11,7 @@ use Rattle.relay_links.specs.declared.connector.Returned.{Returned}
 use Rattle.relay_links.specs.declared.read_script.ReadItem.{ReadItem}
 use Rattle.relay_links.specs.declared.read_script.ReadItem.TheVariants as item
 use Rattle.relay_links.specs.declared.script_link.ScriptLink.{ScriptLink}
-use Rattle.relay_exchange.specs.Passed.{Passed}
+use Rattle.relay_attempt.specs.Passed.{Passed}
 use Rattle.relay_proxy.specs.Endings.{EndsWith, IsNoRequest, IsInOrder, is_nothing}
 use Rattle.relay_proxy.specs.Passed.{World, Start, start_of, nothing}
 use Rattle.relay_proxy.specs.declared.outcome.Processed.{Processed}

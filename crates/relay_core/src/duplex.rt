@@ -122,6 +122,13 @@ impl Duplex {
         self.word
     }
 
+    /// The error with which nothing more could be sent to the upstream, where there was one.
+    pub fn send_error(&self) -> Option<Error>
+        ensures { result ≡ self.now.send_error }
+    {
+        self.send_error
+    }
+
     /// Whether a half failed.
     fn has_failed(&self) -> bool
         ensures { result ≡ is_failed self.now.word }

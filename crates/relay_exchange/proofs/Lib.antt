@@ -1,11 +1,2 @@
-pub mod SentLemmas
-pub mod ToldLemmas
-pub mod FitLemmas
-pub mod OrderLemmas
-pub mod ValidLemmas
-pub mod KeepLemmas
-pub mod EndLemmas
-pub mod TurnLemmas
 pub mod RoundLemmas
-pub mod WholeLemmas
-pub mod ServeLemmas
+pub mod TurnLemmas

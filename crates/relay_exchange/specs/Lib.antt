@@ -1,5 +1,1 @@
-pub mod Passed
-pub mod Order
-pub mod Valid
 pub mod Exchange
-pub mod Head

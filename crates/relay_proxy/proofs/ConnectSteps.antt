@@ -24,12 +24,11 @@ use Rattle.relay_sides.specs.Client.{BeginsBehind}
 use Rattle.relay_sides.specs.declared.client_side.ClientSide.{ClientSide}
 use Rattle.relay_sides.specs.declared.peer_side.PeerSide.{PeerSide}
 use Rattle.relay_core.specs.Past.{Origin, DownPast, UpPast}
-use Rattle.relay_exchange.specs.Exchange.{IsUnderWay, StageHolds, UpHolds}
-use Rattle.relay_exchange.specs.Passed.{Passed}
-use Rattle.relay_exchange.specs.declared.exchange.Exchange.{Exchange}
-use Rattle.relay_exchange.specs.declared.exchange.Stage.{Stage}
-use Rattle.relay_exchange.specs.declared.exchange.Stage.TheVariants as stage
-use Rattle.relay_exchange.specs.Order as exchange
+use Rattle.relay_attempt.specs.Exchange.{IsUnderWay, UpHolds}
+use Rattle.relay_attempt.specs.Passed.{Passed}
+use Rattle.relay_attempt.specs.declared.h1_exchange.H1Exchange.{H1Exchange}
+use Rattle.relay_attempt.specs.Order as exchange
+use Rattle.relay_attempt.specs.Head.{link_of}
 use Rattle.relay_proxy.specs.Relayable.{IsRelayable}
 use Rattle.relay_proxy.specs.Endings.{IsInOrder, IsAskedPeer, IsPartRelayed, EndsLinked, fault_error, outcome_of}
 use Rattle.relay_proxy.specs.Passed.{World, Start, origin_of, TellsClient, IsUnsent}
@@ -95,32 +94,25 @@ part_relayed s p head reused link start relayable same order = record {
 }
 
 module _ {L : Type 0} (state : L → LinkState) (start_at : L → LinkStart) where
-  -- the past of the peer's side holds at each stage
-  up_holds : (o : Origin) (p : DownPast) (q : UpPast) (link : LinkState) (ahead : List ℕ)
-      (down : ClientSide) (up : PeerSide L) (at : Stage)
-      → StageHolds state start_at o p q link ahead down up at → UpHolds state start_at up o q
-  up_holds o p q link ahead down up stage.Head begins = begins.0.up_holds
-  up_holds o p q link ahead down up (stage.Bodies duplex) flows = flows.so_far.up
-
   -- an exchange that is under way is over a link that tells what passed
   leased_under_way : (o : Origin) (p : Passed) (client : LinkState) (ahead : List ℕ)
-      (x : Exchange L) (lease : Lease) → o.reused ≡ lease.reused → IsAskedPeer lease.peer
+      (x : H1Exchange L) (lease : Lease) → o.reused ≡ lease.reused → IsAskedPeer lease.peer
       → IsUnderWay state start_at o p client ahead x
-      → IsLeased p (state x.peer.client.link) (start_at x.peer.client.link) lease
+      → IsLeased p (state (link_of x)) (start_at (link_of x)) lease
   leased_under_way o p client ahead x lease reused peer under = record {
     tells = record {
-      got = subst (λ (xs : List ℕ). Since [] (start_at x.peer.client.link).given
-          (state x.peer.client.link).given xs) under.got side.peer.got;
-      sent = subst (λ (xs : List ℕ). Since [] (start_at x.peer.client.link).taken
-          (state x.peer.client.link).taken xs) under.sent side.peer.sent;
+      got = subst (λ (xs : List ℕ). Since [] (start_at (link_of x)).given
+          (state (link_of x)).given xs) under.got side.peer.got;
+      sent = subst (λ (xs : List ℕ). Since [] (start_at (link_of x)).taken
+          (state (link_of x)).taken xs) under.sent side.peer.sent;
       faults = side.peer.faults;
     };
     peer = peer;
     reused = side.reused ∙ reused;
   }
     where
-      side : UpHolds state start_at x.peer o under.up
-      side = up_holds o under.down under.up client ahead x.client x.peer x.stage under.holds
+      side : UpHolds state start_at x.exchange.up o under.up
+      side = under.holds.so_far.up
 
 module _ {L C : Type 0} (state : L → LinkState) (start_at : L → LinkStart) where
   -- the exchange is under way, and nothing was sent or written yet
@@ -175,7 +167,7 @@ module _ {L C : Type 0} (state : L → LinkState) (start_at : L → LinkStart) w
   pub not_held : (s : Start) (p : Passed) (w : World) (a : Attempt L C) → TellsClient s p w
       → IsInOrder s p → IsRelaying state start_at s p w a
       → Advances {C = C} state start_at s w
-      (Close a.exchange.peer.client.link a.lease false outcome.OutOfMemory)
+      (Close (link_of a.exchange) a.lease false outcome.OutOfMemory)
   not_held s p w a tells order relaying = record {
     passed = p;
     run = record {

@@ -19,10 +19,10 @@ use Rattle.relay_peer.specs.ResponseReading as reading
 use Rattle.relay_peer.specs.ResponseReading.{untold, with_head, with_task}
 use Rattle.relay_peer.proofs.ExactLemmas.{Tasks-unique}
 use Rattle.relay_sides.specs.Peer.{is_switch, told_behind}
-use Rattle.relay_exchange.specs.Order.{FailsFor, IsRelayed}
-use Rattle.relay_exchange.specs.Order as order
-use Rattle.relay_exchange.specs.Passed.{Passed}
-use Rattle.relay_exchange.specs.Valid.{AsksFor, AnswersWith, IsValid}
+use Rattle.relay_attempt.specs.Order.{FailsFor, IsRelayed}
+use Rattle.relay_attempt.specs.Order as order
+use Rattle.relay_attempt.specs.Passed.{Passed}
+use Rattle.relay_attempt.specs.Valid.{AsksFor, AnswersWith, IsValid}
 use Rattle.relay_proxy.specs.Relayable.{IsConnect, IsRelayable}
 use Rattle.relay_proxy.specs.Passed.{World, Start, origin_of, asked}
 use Rattle.relay_proxy.specs.Endings as endings

@@ -19,7 +19,7 @@ use Rattle.relay_session.specs.Response.{Holds}
 use Rattle.relay_session.specs.declared.session.HttpSession.{HttpSession}
 use Rattle.relay_session.specs.declared.writing.Outgoing.TheVariants.{Open}
 use Rattle.relay_sides.specs.Client.{BeginsBehind}
-use Rattle.relay_exchange.specs.Passed.{Passed}
+use Rattle.relay_attempt.specs.Passed.{Passed}
 use Rattle.relay_proxy.specs.Relayable.{IsRelayable}
 use Rattle.relay_proxy.specs.Passed.{World, Start, start_of, origin_of, nothing, asked, TellsClient, IsUnsent}
 use Rattle.relay_proxy.specs.Endings.{IsInOrder, IsLeftAlone, IsTurnedDown, IsHalfAnswered, EndsUnlinked, AttemptsUnlinked, ended_outcome, left_early, fault_error}

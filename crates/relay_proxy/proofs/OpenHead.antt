@@ -4,8 +4,8 @@ use Rattle.relay_tasks.specs.Head.{RequestHead}
 use Rattle.relay_tasks.specs.declared.Error.{Error}
 use Rattle.relay_h1.specs.Verdict.{IsOpen}
 use Rattle.relay_h1.proofs.VerdictLemmas.{HasRequest-IsOpen, IsRefusedRequest-IsOpen}
-use Rattle.relay_exchange.specs.Order as exchange
-use Rattle.relay_exchange.specs.Passed.{Passed}
+use Rattle.relay_attempt.specs.Order as exchange
+use Rattle.relay_attempt.specs.Passed.{Passed}
 use Rattle.relay_proxy.specs.Passed.{Start, origin_of, asked}
 use Rattle.relay_proxy.specs.Endings as endings
 use Rattle.relay_proxy.specs.Endings.{IsTurnedDown}

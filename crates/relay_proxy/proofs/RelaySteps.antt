@@ -22,13 +22,13 @@ use Rattle.relay_session.specs.Reading.{head_of, is_body_done}
 use Rattle.relay_core.specs.Asked.{WaitRose}
 use Rattle.relay_core.specs.Past.{Origin}
 use Rattle.relay_core.specs.declared.step.Step.TheVariants as step
-use Rattle.relay_exchange.specs.Exchange as exchange_meets
-use Rattle.relay_exchange.specs.Exchange.{AreTold, IsUnderWay, IsFinished, IsFailed, Turns}
-use Rattle.relay_exchange.specs.Head.{may_keep}
-use Rattle.relay_exchange.specs.Order as exchange
-use Rattle.relay_exchange.specs.Order.{Leaves, FailsFor}
-use Rattle.relay_exchange.specs.Passed.{Passed}
-use Rattle.relay_exchange.specs.declared.exchange.Exchange.{Exchange}
+use Rattle.relay_attempt.specs.Exchange as exchange_meets
+use Rattle.relay_attempt.specs.Exchange.{AreTold, IsUnderWay, IsFinished, IsFailed, Turns}
+use Rattle.relay_attempt.specs.Head.{link_of, may_keep}
+use Rattle.relay_attempt.specs.Order as exchange
+use Rattle.relay_attempt.specs.Order.{Leaves, FailsFor}
+use Rattle.relay_attempt.specs.Passed.{Passed}
+use Rattle.relay_attempt.specs.declared.h1_exchange.H1Exchange.{H1Exchange}
 use Rattle.relay_proxy.specs.Relayable.{IsRelayable}
 use Rattle.relay_proxy.specs.Endings.{IsClientReusable, IsRelayedWhole, IsInOrder, EndsLinked, outcome_of}
 use Rattle.relay_proxy.specs.Passed.{World, Start, origin_of, asked, TellsClient}
@@ -89,10 +89,10 @@ all_pass a b c d e five =
     rw (five.answers, five.nothing_ahead, five.ended, five.version, five.asks) refl
 
 -- what is known of a finished exchange says exactly whether its client may ask for more
-reusable : {L : Type 0} (x : Exchange L) (o : Origin) (p : Passed) (closed : Bool)
+reusable : {L : Type 0} (x : H1Exchange L) (o : Origin) (p : Passed) (closed : Bool)
     (order : exchange.IsInOrder o p closed) (ahead : List ℕ) (keeps : Bool)
-    → head_of x.client.session.reading ≡ Some o.head
-    → Leaves o p closed order ahead (is_body_done x.client.session.reading) x.peer.closes keeps
+    → head_of x.exchange.down.session.reading ≡ Some o.head
+    → Leaves o p closed order ahead (is_body_done x.exchange.down.session.reading) x.exchange.up.closes keeps
     → IsTrue (client_reusable x ahead) ↔ IsClientReusable o p closed order ahead
 reusable x o p closed order ahead keeps is_head leaves = (
   λ passes. by_tests (five_pass closing none done is_11 asks (sym tests ∙ passes)),
@@ -106,13 +106,13 @@ reusable x o p closed order ahead keeps is_head leaves = (
 )
   where
     closing : Bool
-    closing = x.peer.closes
+    closing = x.exchange.up.closes
 
     none : Bool
     none = length ahead == 0
 
     done : Bool
-    done = is_body_done x.client.session.reading
+    done = is_body_done x.exchange.down.session.reading
 
     is_11 : Bool
     is_11 = is_http_11 o.head.version
@@ -170,11 +170,11 @@ order_of o p client link start e (FailsFor.by_peer order lost blames) = order
 
 module _ {L : Type 0} (state : L → LinkState) (start_at : L → LinkStart) where
   -- a finished exchange relayed its request whole
-  relayed_whole : (s : Start) (p : Passed) (w : World) (head : RequestHead) (x : Exchange L)
+  relayed_whole : (s : Start) (p : Passed) (w : World) (head : RequestHead) (x : H1Exchange L)
       → IsRelayable head → w.client.faults ≡ s.faults
-      → IsFinished state start_at (origin_of s head (start_at x.peer.client.link).reused) p w.ahead
+      → IsFinished state start_at (origin_of s head (start_at (link_of x)).reused) p w.ahead
       x
-      → IsRelayedWhole s p w (state x.peer.client.link) (start_at x.peer.client.link) (may_keep x)
+      → IsRelayedWhole s p w (state (link_of x)) (start_at (link_of x)) (may_keep x)
       (client_reusable x w.ahead)
   relayed_whole s p w head x relayable calm finished = record {
     head = head;
@@ -184,8 +184,8 @@ module _ {L : Type 0} (state : L → LinkState) (start_at : L → LinkStart) whe
     kept = finished.leaves.serves;
     faultless = finished.faultless;
     keeps = finished.keeps;
-    goes_back = reusable x (origin_of s head (start_at x.peer.client.link).reused) p
-        (state x.peer.client.link).ended finished.relayed.order w.ahead (may_keep x)
+    goes_back = reusable x (origin_of s head (start_at (link_of x)).reused) p
+        (state (link_of x)).ended finished.relayed.order w.ahead (may_keep x)
         finished.is_head finished.leaves;
     behind = λ ended. finished.leaves.behind (finished.leaves.ended.1 ended);
   }
@@ -193,7 +193,7 @@ module _ {L : Type 0} (state : L → LinkState) (start_at : L → LinkStart) whe
 -- ---- a turn
 
 -- an attempt where it stands, once its exchange has come to that
-abbrev turned : {L C : Type 0} → Box (Attempt L C) → Exchange L → Box (Attempt L C)
+abbrev turned : {L C : Type 0} → Box (Attempt L C) → H1Exchange L → Box (Attempt L C)
 turned a x =
     with_value a (record { exchange = x; lease = a.value.lease; context = a.value.context })
 
@@ -206,9 +206,9 @@ module _ {L C : Type 0} (state : L → LinkState) (start_at : L → LinkStart) w
 
   -- the exchange goes on, and so does the attempt
   going_on : (s : Start) (p q : Passed) (v : World) (client : LinkState) (ahead : List ℕ)
-      (a : Box (Attempt L C)) (x : Exchange L) (run : RunSoFar state start_at s p v [] (Relay a))
+      (a : Box (Attempt L C)) (x : H1Exchange L) (run : RunSoFar state start_at s p v [] (Relay a))
       → AreTold state start_at (origin_of s run.holds.head a.value.lease.reused) q client
-      (state x.peer.client.link) (start_at x.peer.client.link)
+      (state (link_of x)) (start_at (link_of x))
       → IsUnderWay state start_at (origin_of s run.holds.head a.value.lease.reused) q client ahead x
       → client.faults ≡ s.faults → RunSoFar {C = C} state start_at s q (world_with client ahead v.connect_faults) []
       (Relay (turned a x))
@@ -231,7 +231,7 @@ module _ {L C : Type 0} (state : L → LinkState) (start_at : L → LinkStart) w
 
   -- a turn that moved
   pub moves : (s : Start) (p : Passed) (v : World) (client : LinkState) (ahead : List ℕ)
-      (a : Box (Attempt L C)) (x : Exchange L) (run : RunSoFar state start_at s p v [] (Relay a))
+      (a : Box (Attempt L C)) (x : H1Exchange L) (run : RunSoFar state start_at s p v [] (Relay a))
       → Turns state start_at (origin_of s run.holds.head a.value.lease.reused) client ahead x
       step.Moved
       → client.faults ≡ v.client.faults → Advances {C = C} state start_at s (world_with client ahead v.connect_faults)
@@ -244,7 +244,7 @@ module _ {L C : Type 0} (state : L → LinkState) (start_at : L → LinkStart) w
 
   -- a turn that waited
   pub waits : (s : Start) (p : Passed) (v : World) (client : LinkState) (ahead : List ℕ)
-      (a : Box (Attempt L C)) (x : Exchange L) (pause : Pause)
+      (a : Box (Attempt L C)) (x : H1Exchange L) (pause : Pause)
       (run : RunSoFar state start_at s p v [] (Relay a))
       → Turns state start_at (origin_of s run.holds.head a.value.lease.reused) client ahead x
       (step.Waited pause)
@@ -258,16 +258,16 @@ module _ {L C : Type 0} (state : L → LinkState) (start_at : L → LinkStart) w
   }
 
   -- a turn of the exchange waited, and so did that of the attempt, as its pointer lends it
-  pub has_waited : (w x : World) (a : Box (Attempt L C)) (given : Attempt L C) (y : Exchange L)
+  pub has_waited : (w x : World) (a : Box (Attempt L C)) (given : Attempt L C) (y : H1Exchange L)
       → given ≡ a.value
-      → WaitRose w.client x.client (state given.exchange.peer.client.link)
-      (state y.peer.client.link)
+      → WaitRose w.client x.client (state (link_of given.exchange))
+      (state (link_of y))
       → HasWaited state start_at w x (Relay a) (Relay (turned (with_value a given) y))
   has_waited w x a given y same (inl rose) = inl rose
   has_waited w x a given y same (inr rose) = inr (rw same at rose)
 
   -- a turn of the exchange met silence, and so did that of the attempt
-  pub has_stalled : (w x : World) (a : Box (Attempt L C)) (given : Attempt L C) (y : Exchange L)
+  pub has_stalled : (w x : World) (a : Box (Attempt L C)) (given : Attempt L C) (y : H1Exchange L)
       → given ≡ a.value
       → exchange_meets.MeetsSilence state start_at w.client x.client given.exchange y
       → MeetsSilence state start_at w x (Relay a) (Relay (turned (with_value a given) y))
@@ -275,20 +275,20 @@ module _ {L C : Type 0} (state : L → LinkState) (start_at : L → LinkStart) w
     stalled = meets.silent;
     client_same = meets.client_same;
     held_same = ap Some (meets.peer_same
-        ∙ ap (λ (b : Attempt L C). state b.exchange.peer.client.link) same);
+        ∙ ap (λ (b : Attempt L C). state (link_of b.exchange)) same);
   }
 
   -- the exchange is over, and its link is to be handed back
   closing : (s : Start) (p q : Passed) (v : World) (client : LinkState) (ahead : List ℕ)
-      (a : Box (Attempt L C)) (x : Exchange L) (keep : Bool) (outcome : Outcome)
+      (a : Box (Attempt L C)) (x : H1Exchange L) (keep : Bool) (outcome : Outcome)
       (run : RunSoFar state start_at s p v [] (Relay a))
       → AreTold state start_at (origin_of s run.holds.head a.value.lease.reused) q client
-      (state x.peer.client.link) (start_at x.peer.client.link)
+      (state (link_of x)) (start_at (link_of x))
       → IsInOrder s q → ¬ (IsOpen (asked s q)) → outcome ≢ TurnLimit
-      → EndsLinked s q (world_with client ahead v.connect_faults) (state x.peer.client.link)
-      (start_at x.peer.client.link) keep outcome
+      → EndsLinked s q (world_with client ahead v.connect_faults) (state (link_of x))
+      (start_at (link_of x)) keep outcome
       → RunSoFar {C = C} state start_at s q (world_with client ahead v.connect_faults) []
-      (Close x.peer.client.link a.value.lease keep outcome)
+      (Close (link_of x) a.value.lease keep outcome)
   closing s p q v client ahead a x keep outcome run told order ended_head going ends = record {
     tells = tells_client state start_at s run.holds.head a.value.lease.reused p q v client _ _ ahead
         run.tells told;
@@ -304,11 +304,11 @@ module _ {L C : Type 0} (state : L → LinkState) (start_at : L → LinkStart) w
 
   -- a turn that finished the exchange
   pub finishes : (s : Start) (p : Passed) (v : World) (client : LinkState) (ahead : List ℕ)
-      (a : Box (Attempt L C)) (x : Exchange L) (run : RunSoFar state start_at s p v [] (Relay a))
+      (a : Box (Attempt L C)) (x : H1Exchange L) (run : RunSoFar state start_at s p v [] (Relay a))
       → Turns state start_at (origin_of s run.holds.head a.value.lease.reused) client ahead x
       step.Finished
       → client.faults ≡ v.client.faults → Advances {C = C} state start_at s (world_with client ahead v.connect_faults)
-      (Close x.peer.client.link a.value.lease (may_keep x) (Served None (client_reusable x ahead)))
+      (Close (link_of x) a.value.lease (may_keep x) (Served None (client_reusable x ahead)))
   finishes s p v client ahead a x run turns calm =
       let head = run.holds.head in
       let relayable = run.holds.relayable in
@@ -329,12 +329,12 @@ module _ {L C : Type 0} (state : L → LinkState) (start_at : L → LinkStart) w
 
   -- a turn that failed
   pub fails : (s : Start) (p : Passed) (v : World) (client : LinkState) (ahead : List ℕ)
-      (a : Box (Attempt L C)) (x : Exchange L) (why : Fail)
+      (a : Box (Attempt L C)) (x : H1Exchange L) (why : Fail)
       (run : RunSoFar state start_at s p v [] (Relay a))
       → Turns state start_at (origin_of s run.holds.head a.value.lease.reused) client ahead x
       (step.Failed why)
       → Advances {C = C} state start_at s (world_with client ahead v.connect_faults)
-      (Close x.peer.client.link a.value.lease false (outcome_of why))
+      (Close (link_of x) a.value.lease false (outcome_of why))
   fails s p v client ahead a x fail.OutOfMemory run turns = record {
     passed = turns.passed;
     run = closing s p turns.passed v client ahead a x _ _ run turns.told
@@ -349,7 +349,7 @@ module _ {L C : Type 0} (state : L → LinkState) (start_at : L → LinkStart) w
   fails s p v client ahead a x (fail.Error e) run turns =
       let head = run.holds.head in
       let told = turns.told in
-      let start = start_at x.peer.client.link in
+      let start = start_at (link_of x) in
       let failed = subst
       (λ (reused : Bool). IsFailed state start_at (origin_of s head reused) turns.passed client
       x e)

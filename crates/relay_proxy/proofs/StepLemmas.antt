@@ -6,8 +6,9 @@ use Rattle.relay_links.specs.Told.{more, Gains}
 use Rattle.relay_links.specs.declared.Returned.{Returned}
 use Rattle.relay_tasks.specs.declared.Fault.{Fault}
 use Rattle.relay_h1.specs.Verdict.{IsOpen}
-use Rattle.relay_exchange.specs.Exchange.{IsUnderWay}
-use Rattle.relay_exchange.specs.Passed.{Passed}
+use Rattle.relay_attempt.specs.Exchange.{IsUnderWay}
+use Rattle.relay_attempt.specs.Passed.{Passed}
+use Rattle.relay_attempt.specs.Head.{link_of}
 use Rattle.relay_proxy.specs.Passed.{World, Start, origin_of, IsUnsent}
 use Rattle.relay_proxy.specs.Endings.{EndsLinked, EndsUnlinked, AttemptsUnlinked, EndsReturned, EndsWith}
 use Rattle.relay_proxy.specs.Phases.{IsLeased, IsGoing, IsRelaying, RunSoFar}
@@ -278,7 +279,7 @@ module _ {L C : Type 0} (state : L → LinkState) (start_at : L → LinkStart) w
   -- an attempt in which all that can be done asks a silent link
   quiet_over : (s : Start) (p : Passed) (w : World) (a : Box (Attempt L C))
       → IsRelaying state start_at s p w a.value → IsStalled {C = C} state start_at w (Relay a)
-      → IsQuietExchange state start_at s p w a.value.exchange.peer.client.link
+      → IsQuietExchange state start_at s p w (link_of a.value.exchange)
   quiet_over s p w a holds stalled = record {
     exchange = a.value.exchange;
     is_link = refl;
@@ -380,7 +381,7 @@ module _ {L C : Type 0} (state : L → LinkState) (start_at : L → LinkStart) w
       unlinked_end s p w (Connect context session) before after ending does run run.holds.unsent
       (λ h. absurd h) refl
   end_of s p [] w (Relay a) before after ending does run =
-      linked_end s p w (Relay a) a.value.exchange.peer.client.link a.value.lease false before after
+      linked_end s p w (Relay a) (link_of a.value.exchange) a.value.lease false before after
       ending TurnLimit does.limit does.back run run.holds.leased (
         part_relayed s p run.holds.head a.value.lease.reused _ _ run.holds.relayable
             run.holds.leased.reused run.holds.under_way.order,

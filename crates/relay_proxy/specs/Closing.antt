@@ -5,9 +5,10 @@ use Rattle.relay_links.specs.Link.{LinkState, LinkStart}
 use Rattle.relay_links.specs.Told.{more}
 use Rattle.relay_links.specs.declared.Returned.{Returned}
 use Rattle.relay_h1.specs.Verdict.{IsOpen}
-use Rattle.relay_exchange.specs.Exchange.{IsUnderWay, SilentIn}
-use Rattle.relay_exchange.specs.Passed.{Passed}
-use Rattle.relay_exchange.specs.declared.exchange.Exchange.{Exchange}
+use Rattle.relay_attempt.specs.Exchange.{IsUnderWay, SilentIn}
+use Rattle.relay_attempt.specs.Passed.{Passed}
+use Rattle.relay_attempt.specs.declared.h1_exchange.H1Exchange.{H1Exchange}
+use Rattle.relay_attempt.specs.Head.{link_of}
 use Rattle.relay_proxy.specs.Passed.{World, Start, origin_of, asked}
 use Rattle.relay_proxy.specs.Endings.{error_of, IsAskedPeer, IsHalfAnswered, IsEnded}
 use Rattle.relay_proxy.specs.Refusals.{faults_for, faults_before}
@@ -80,7 +81,7 @@ Finishes ReadHead before after ending = GivesUp before after ending
 Finishes (Refuse answer error) before after ending = GivesUp before after ending
 Finishes (Connect context session) before after ending = GivesUp before after ending
 Finishes (Relay a) before after ending =
-    GivesLinkUp a.value.exchange.peer.client.link a.value.lease before after ending
+    GivesLinkUp (link_of a.value.exchange) a.value.lease before after ending
 Finishes (Close link lease keep outcome) before after ending =
     (ending.outcome ≡ outcome) × HandsBack link lease keep outcome before after ending.attempts
 Finishes (Ended outcome attempts) before after ending =
@@ -100,13 +101,13 @@ Rests w x (Ended outcome attempts) next did =
 module _ {L : Type 0} (state : L → LinkState) (start_at : L → LinkStart) where
   -- an exchange is under way over this link, and all that can be done in it asks a silent link
   pub record IsQuietExchange (s : Start) (p : Passed) (w : World) (link : L) : Type 0 where
-    pub exchange : Exchange L
-    pub is_link : exchange.peer.client.link ≡ link
+    pub exchange : H1Exchange L
+    pub is_link : link_of exchange ≡ link
     pub head : RequestHead
     pub relayable : IsRelayable head
     pub under_way : IsUnderWay state start_at (origin_of s head (start_at link).reused) p w.client
         w.ahead exchange
-    pub silent : SilentIn state start_at w.client exchange.client exchange.peer exchange.stage
+    pub silent : SilentIn state start_at w.client exchange
 
   -- all that a request asks is silent: without a link the client, that is to give more of an open
   -- head or to take more of a generated answer

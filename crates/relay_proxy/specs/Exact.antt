@@ -6,8 +6,8 @@ use Rattle.relay_links.specs.Count.{Rose}
 use Rattle.relay_links.specs.Link.{LinkState, LinkStart}
 use Rattle.relay_links.specs.declared.Returned.{Returned}
 use Rattle.relay_h1.specs.Tasks.{Tasks, ResponseText, broken, cut_off}
-use Rattle.relay_exchange.specs.Passed.{Passed}
-use Rattle.relay_exchange.specs.Valid.{AsksFor, AnswersWith}
+use Rattle.relay_attempt.specs.Passed.{Passed}
+use Rattle.relay_attempt.specs.Valid.{AsksFor, AnswersWith}
 use Rattle.relay_proxy.specs.Relayable.{IsRelayable}
 use Rattle.relay_proxy.specs.Passed.{World, Start, origin_of, asked}
 use Rattle.relay_proxy.specs.Endings.{IsAccepted, IsTurnedDown, IsLeftAlone}

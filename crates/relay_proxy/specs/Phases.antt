@@ -7,8 +7,9 @@ use Rattle.relay_links.specs.declared.Returned.{Returned}
 use Rattle.relay_session.specs.Reading.{head_of}
 use Rattle.relay_session.specs.declared.session.HttpSession.{HttpSession}
 use Rattle.relay_sides.specs.Client.{BeginsBehind}
-use Rattle.relay_exchange.specs.Exchange.{IsUnderWay}
-use Rattle.relay_exchange.specs.Passed.{Passed}
+use Rattle.relay_attempt.specs.Exchange.{IsUnderWay}
+use Rattle.relay_attempt.specs.Passed.{Passed}
+use Rattle.relay_attempt.specs.Head.{link_of}
 use Rattle.relay_proxy.specs.Relayable.{IsRelayable}
 use Rattle.relay_proxy.specs.Passed.{World, Start, origin_of, asked, TellsClient, TellsLink, IsUnsent, IsUntouched}
 use Rattle.relay_proxy.specs.Endings.{IsAccepted, IsTurnedDown, IsInOrder, EndsUnlinked, EndsLinked, EndsWith, IsAskedPeer, AttemptsUnlinked}
@@ -52,8 +53,8 @@ pub record IsLeased (p : Passed) (link : LinkState) (start : LinkStart) (lease :
 module _ {L C : Type 0} (state : L → LinkState) (start_at : L → LinkStart) where
   -- the exchange of an attempt is under way
   pub record IsRelaying (s : Start) (p : Passed) (w : World) (a : Attempt L C) : Type 0 where
-    pub leased : IsLeased p (state a.exchange.peer.client.link)
-        (start_at a.exchange.peer.client.link) a.lease
+    pub leased : IsLeased p (state (link_of a.exchange))
+        (start_at (link_of a.exchange)) a.lease
     pub head : RequestHead
     pub relayable : IsRelayable head
     pub under_way : IsUnderWay state start_at (origin_of s head a.lease.reused) p w.client w.ahead

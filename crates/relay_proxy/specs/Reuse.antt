@@ -6,7 +6,7 @@ use Rattle.relay_h1.specs.Options.{closes}
 use Rattle.relay_peer.specs.ResponseReading.{is_http_11}
 use Rattle.relay_session.specs.Reading.{head_of, is_body_done}
 use Rattle.relay_session.specs.declared.session.HttpSession.{HttpSession}
-use Rattle.relay_exchange.specs.declared.exchange.Exchange.{Exchange}
+use Rattle.relay_attempt.specs.declared.h1_exchange.H1Exchange.{H1Exchange}
 
 -- the head lets its client ask for more: HTTP/1.1, and no option `close`
 abbrev pub lets_ask : Option RequestHead → Bool
@@ -19,6 +19,6 @@ lets_ask_again session = is_body_done session.reading && lets_ask (head_of sessi
 
 -- the client may ask for more: its request lets it, the response does not ask to close, and no byte
 -- is ahead
-abbrev pub client_reusable : {L : Type 0} → Exchange L → List ℕ → Bool
+abbrev pub client_reusable : {L : Type 0} → H1Exchange L → List ℕ → Bool
 client_reusable x ahead =
-    (not x.peer.closes && (length ahead == 0)) && lets_ask_again x.client.session
+    (not x.exchange.up.closes && (length ahead == 0)) && lets_ask_again x.exchange.down.session

@@ -3,6 +3,7 @@
 use Rattle.std.specs.Prelude.{List, [], ◌∷◌, ◌++◌, map, Option, Some, None}
 use Rattle.relay_links.specs.Link.{LinkStart, LinkItems}
 use Rattle.relay_links.specs.declared.Returned.{Returned}
+use Rattle.relay_attempt.specs.Head.{link_of}
 use Rattle.relay_proxy.specs.declared.machine.Phase.{Phase}
 use Rattle.relay_proxy.specs.declared.machine.Phase.TheVariants.{ReadHead, Refuse, Connect, Relay, Close, Ended}
 
@@ -11,7 +12,7 @@ abbrev pub items_held : {L C : Type 0} → (L → LinkStart) → Phase L C → L
 items_held start ReadHead = []
 items_held start (Refuse answer error) = []
 items_held start (Connect context session) = []
-items_held start (Relay a) = (start a.value.exchange.peer.client.link).items ∷ []
+items_held start (Relay a) = (start (link_of a.value.exchange)).items ∷ []
 items_held start (Close link lease keep outcome) = (start link).items ∷ []
 items_held start (Ended outcome attempts) = []
 

@@ -5,8 +5,9 @@ use Rattle.relay_links.specs.Link.{LinkState, LinkStart, GivesBytes, TakesBytes}
 use Rattle.relay_tasks.specs.declared.took.Pause.TheVariants.{NotReady, Silent}
 use Rattle.relay_h1.specs.Verdict.{IsOpen}
 use Rattle.relay_h1.specs.declared.Connection.{Connection}
-use Rattle.relay_exchange.specs.Exchange.{SilentIn}
-use Rattle.relay_exchange.specs.Passed.{Passed}
+use Rattle.relay_attempt.specs.Exchange.{SilentIn}
+use Rattle.relay_attempt.specs.Passed.{Passed}
+use Rattle.relay_attempt.specs.Head.{link_of}
 use Rattle.relay_proxy.specs.Passed.{World, Start}
 use Rattle.relay_proxy.specs.Phases.{RunSoFar}
 use Rattle.relay_proxy.specs.Work.{total_work}
@@ -47,7 +48,7 @@ abbrev pub held_state : {L C : Type 0} → (L → LinkState) → Phase L C → O
 held_state state ReadHead = None
 held_state state (Refuse answer error) = None
 held_state state (Connect context session) = None
-held_state state (Relay a) = Some (state a.value.exchange.peer.client.link)
+held_state state (Relay a) = Some (state (link_of a.value.exchange))
 held_state state (Close link lease keep outcome) = Some (state link)
 held_state state (Ended outcome attempts) = None
 
@@ -87,8 +88,7 @@ module _ {L C : Type 0} (state : L → LinkState) (start_at : L → LinkStart) w
   IsStalled w (Refuse answer error) = w.client.silent_on_write ≡ true
   IsStalled w (Connect context session) = ⊥
   IsStalled w (Relay a) =
-      SilentIn state start_at w.client a.value.exchange.client a.value.exchange.peer
-      a.value.exchange.stage
+      SilentIn state start_at w.client a.value.exchange
   IsStalled w (Close link lease keep outcome) = ⊥
   IsStalled w (Ended outcome attempts) = ⊥
 

@@ -3,7 +3,8 @@ ghost use Rattle.std.specs.Prelude.{◌≡◌, ◌+◌, ◌≤◌, [], ◌∷◌
 ghost use Rattle.std.specs.Global.{Box};
 ghost use Rattle.relay_links.specs.Link.{LinkState, IsHandedOut};
 ghost use Rattle.relay_links.specs.Told.{Gains};
-ghost use Rattle.relay_exchange.specs.Passed.{Passed};
+ghost use Rattle.relay_attempt.specs.Head.{link_of};
+ghost use Rattle.relay_attempt.specs.Passed.{Passed};
 ghost use Rattle.relay_session.specs.Reading.{head_of};
 ghost use Rattle.relay_proxy.specs.Endings.{IsInOrder, IsAskedPeer, fault_error, outcome_of};
 ghost use Rattle.relay_proxy.specs.Passed.{World, Start, TellsClient};
@@ -17,7 +18,7 @@ use crate::outcome::Outcome;
 use crate::record::{AttemptList, AttemptRecord, AttemptRoom};
 use crate::work::Work;
 use bytes::Bytes;
-use relay_exchange::{Exchange, Unbegun};
+use relay_attempt::{H1Exchange, Unbegun};
 use relay_links::{ByteLink, Connector};
 use relay_session::HttpSession;
 use relay_tasks::{Error, ErrorSource, Fail, Fault, Peer, RequestHeader};
@@ -148,7 +149,7 @@ fn begin<L: ByteLink, C: Drop>(
     ensures linked { links_held L.state L.start result.phase ≡ 1 }
     ensures items { items_held L.start result.phase ≡ (L.start link).items ∷ [] }
 {
-    match Exchange::begin(alloc, Box::into_inner(session), link, head) {
+    match H1Exchange::begin(alloc, Box::into_inner(session), link, head) {
         Ok(exchange) => hold(
             alloc,
             Attempt {
@@ -177,7 +178,7 @@ fn hold<L: ByteLink, C: Drop>(alloc: Global, attempt: Attempt<L, C>) -> Next<L, 
     ensures over { is_over result.phase ≡ is_end result.step }
     ensures linked { links_held L.state L.start result.phase ≡ 1 }
     ensures items { items_held L.start result.phase
-        ≡ (L.start attempt.exchange.peer.client.link).items ∷ [] }
+        ≡ (L.start (link_of attempt.exchange)).items ∷ [] }
 {
     match Box::new(alloc, attempt) {
         Ok(attempt) => Next {

@@ -14,7 +14,7 @@ use crate::outcome::Outcome;
 use crate::pending::Pending;
 use crate::record::{AttemptList, AttemptRoom};
 use crate::work::Work;
-use relay_exchange::Exchange;
+use relay_attempt::H1Exchange;
 use relay_session::HttpSession;
 use relay_tasks::{Error, Pause, Peer};
 use std::mem;
@@ -42,7 +42,7 @@ pub(crate) struct Lease {
 /// An attempt at a request: its exchange, which has the link. It is large, so its phase holds it
 /// behind a pointer, and a turn works on it where it stands.
 pub(crate) struct Attempt<L, C> {
-    pub(crate) exchange: Exchange<L>,
+    pub(crate) exchange: H1Exchange<L>,
     pub(crate) lease: Lease,
     pub(crate) context: C,
 }

@@ -1,7 +1,7 @@
 //! The proxy: requests are begun, stepped and ended, or processed in one call.
 ghost use Rattle.std.specs.Prelude.{◌≡◌, ◌⊎◌, ◌+◌, ◌≤◌, [], List, None, true, false};
 ghost use Rattle.relay_links.specs.Count.{Rose};
-ghost use Rattle.relay_exchange.specs.Passed.{Passed};
+ghost use Rattle.relay_attempt.specs.Passed.{Passed};
 ghost use Rattle.relay_proxy.specs.Passed.{Start, start_of, nothing};
 ghost use Rattle.relay_proxy.specs.Phases.{RunSoFar};
 ghost use Rattle.relay_proxy.specs.Request.{is_stop, ended_after, Counts, StepsOn, ComesToEnd, Processes};

@@ -4,9 +4,9 @@ ghost use Rattle.std.specs.Prelude.{◌≡◌, ℕ, [], ◌∷◌, None, false};
 ghost use Rattle.relay_core.specs.Asked.{WaitRose};
 ghost use Rattle.relay_core.specs.Causes.{says_failed};
 ghost use Rattle.relay_core.specs.Past.{Origin};
-ghost use Rattle.relay_exchange.specs.Exchange.{IsUnderWay, Turns, MeetsSilence};
-ghost use Rattle.relay_exchange.specs.Head.{may_keep};
-ghost use Rattle.relay_exchange.specs.Passed.{Passed};
+ghost use Rattle.relay_attempt.specs.Exchange.{IsUnderWay, Turns, MeetsSilence};
+ghost use Rattle.relay_attempt.specs.Head.{link_of, may_keep};
+ghost use Rattle.relay_attempt.specs.Passed.{Passed};
 ghost use Rattle.relay_proxy.specs.Endings.{outcome_of};
 ghost use Rattle.relay_proxy.specs.Passed.{Start};
 ghost use Rattle.relay_proxy.specs.Phases.{RunSoFar};
@@ -19,8 +19,9 @@ use crate::machine::{Attempt, Next, Phase, RunStep};
 use crate::outcome::Outcome;
 use crate::work::{Work, work_of};
 use http::Version;
+use relay_attempt::H1Exchange;
 use relay_core::Step;
-use relay_exchange::{Exchange, Turn};
+use relay_exchange::Turn;
 use relay_h1::{Connection, closes};
 use relay_links::{ByteLink, Schedule};
 use relay_session::HttpSession;
@@ -44,7 +45,7 @@ pub(crate) fn relay<D: ByteLink, U: Drop, L: ByteLink, H: Schedule, C: Drop>(
     ensures over { is_over result.phase ≡ is_end result.step }
     ensures linked { links_held L.state L.start result.phase ≡ 1 }
     ensures items { items_held L.start result.phase
-        ≡ (L.start attempt.value.exchange.peer.client.link).items ∷ [] }
+        ≡ (L.start (link_of attempt.value.exchange)).items ∷ [] }
     ensures kept { client.new.kept ≡ client.old.kept }
     ensures client_start { D.start client.new.link ≡ D.start client.old.link }
 {
@@ -76,7 +77,7 @@ fn close_finished<D, U, L: ByteLink, C: Drop>(
     attempt: Box<Attempt<L, C>>,
 ) -> Next<L, C>
     ensures phase { let x = attempt.value.exchange in
-        result.phase ≡ Phase.Close x.peer.client.link attempt.value.lease (may_keep x)
+        result.phase ≡ Phase.Close (link_of x) attempt.value.lease (may_keep x)
         (Outcome.Served None (client_reusable x client.now.ahead)) }
     ensures step { result.step ≡ RunStep.Ended }
     ensures work { result.work ≡ Work.ENDED }
@@ -98,7 +99,7 @@ fn close_finished<D, U, L: ByteLink, C: Drop>(
 
 /// The end of an attempt whose exchange failed: its link is to go back, and is not kept.
 fn close_failed<L: ByteLink, C: Drop>(attempt: Box<Attempt<L, C>>, why: Fail) -> Next<L, C>
-    ensures phase { result.phase ≡ Phase.Close attempt.value.exchange.peer.client.link
+    ensures phase { result.phase ≡ Phase.Close (link_of attempt.value.exchange)
         attempt.value.lease false (outcome_of why) }
     ensures step { result.step ≡ RunStep.Ended }
     ensures work { result.work ≡ Work.ENDED }
@@ -118,7 +119,7 @@ fn close_failed<L: ByteLink, C: Drop>(attempt: Box<Attempt<L, C>>, why: Fail) ->
 /// One turn of an exchange over the client's connection. An exchange knows nothing of the value
 /// that the connection keeps, so that is set aside.
 fn turn_over<D: ByteLink, U: Drop, L: ByteLink, H: Schedule>(
-    exchange: &mut Exchange<L>,
+    exchange: &mut H1Exchange<L>,
     client: &mut Connection<D, U>,
     schedule: &mut H,
 ) -> Turn
@@ -128,14 +129,14 @@ fn turn_over<D: ByteLink, U: Drop, L: ByteLink, H: Schedule>(
         result.step }
     ensures waits { result.step ≡ Step.Waited Pause.NotReady
         → WaitRose (D.state client.old.link) (D.state client.new.link)
-        (L.state exchange.old.peer.client.link) (L.state exchange.new.peer.client.link) }
+        (L.state (link_of exchange.old)) (L.state (link_of exchange.new)) }
     ensures quiet { result.step ≡ Step.Waited Pause.Silent
         → MeetsSilence L.state L.start (D.state client.old.link) (D.state client.new.link)
         exchange.old exchange.new }
     ensures calm { says_failed result.step ≡ false
         → (D.state client.new.link).faults ≡ (D.state client.old.link).faults }
-    ensures peer_start { L.start exchange.new.peer.client.link
-        ≡ L.start exchange.old.peer.client.link }
+    ensures peer_start { L.start (link_of exchange.new)
+        ≡ L.start (link_of exchange.old) }
     ensures kept { client.new.kept ≡ client.old.kept }
     ensures client_start { D.start client.new.link ≡ D.start client.old.link }
 {
@@ -149,7 +150,10 @@ fn turn_over<D: ByteLink, U: Drop, L: ByteLink, H: Schedule>(
 }
 
 /// Whether the client may ask for more behind a finished exchange.
-fn is_client_reusable<D, U, L: ByteLink>(exchange: &Exchange<L>, client: &Connection<D, U>) -> bool
+fn is_client_reusable<D, U, L: ByteLink>(
+    exchange: &H1Exchange<L>,
+    client: &Connection<D, U>,
+) -> bool
     ensures { result ≡ client_reusable exchange.now client.now.ahead }
 {
     if exchange.asks_to_close() || !client.ahead().is_empty() {

@@ -1,7 +1,7 @@
 //! One turn of a request, by the phase in which it stands.
 ghost use Rattle.std.specs.Prelude.{◌≡◌, ◌+◌, ◌≤◌, []};
 ghost use Rattle.relay_links.specs.Told.{Gains};
-ghost use Rattle.relay_exchange.specs.Passed.{Passed};
+ghost use Rattle.relay_attempt.specs.Passed.{Passed};
 ghost use Rattle.relay_proxy.specs.Closing.{Rests, TurnOf};
 ghost use Rattle.relay_proxy.specs.Passed.{Start};
 ghost use Rattle.relay_proxy.specs.Phases.{RunSoFar};

@@ -6,7 +6,7 @@ use Rattle.relay_tasks.specs.declared.Fault.{Fault}
 use Rattle.relay_links.specs.Link.{LinkState, LinkStart}
 use Rattle.relay_links.specs.Told.{more}
 use Rattle.relay_links.specs.declared.Returned.{Returned}
-use Rattle.relay_exchange.specs.Passed.{Passed}
+use Rattle.relay_attempt.specs.Passed.{Passed}
 use Rattle.relay_proxy.specs.Passed.{World, Start, TellsClient, start_of, nothing}
 use Rattle.relay_proxy.specs.Phases.{RunSoFar, IsCalm, PhaseHolds, IsAt, IsReadingHead, IsRefusing, IsConnecting, IsRelaying}
 use Rattle.relay_proxy.specs.Request.{StepsOn, ComesToEnd, ended_after}

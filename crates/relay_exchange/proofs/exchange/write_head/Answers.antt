@@ -1,19 +1,14 @@
--- The error of a write that failed is that of its fault, on the peer's side.
-use Rattle.std.proofs.Common.{◌≡◌, ◌∙◌, ap, sym, subst, Some}
-use Rattle.relay_tasks.specs.declared.error.Error.{Error}
-use Rattle.relay_tasks.specs.declared.error.ErrorSource.TheVariants.{Upstream}
-use Rattle.relay_core.specs.Past.{Origin, UpPast, UpGoes}
-use Rattle.relay_core.specs.Told.{fault_of}
-use Rattle.relay_exchange.specs.Exchange.{UpHolds, Blames}
+-- A write of the head is a step of the duplex, and fails for the send error that is kept.
+use Rattle.std.proofs.Common.{sym, ◌∙◌}
+use Rattle.relay_exchange.proofs.TurnLemmas.{turns_on, turns_failed}
 use Rattle.relay_exchange.proofs.exchange.write_head.Goals as goal
 
-pub returns-in-Failed-clause-goes : goal.returns-in-Failed-clause-goes
-returns-in-Failed-clause-goes g c =
-    let error : c.into_up.result ≡ fault_of Upstream c.in-Failed.fault = c.into_up.ensures
-    ∙ ap (λ (e : Error). record e { esource = Upstream }) c.of_fault.ensures in
-    let On : Origin → UpPast → Error → Type 0 = λ s q e.
-    UpGoes (UpHolds g.L.ByteLink.state g.L.ByteLink.start c.write_pending.new.self s)
-    (Blames g.L.ByteLink.state g.L.ByteLink.start c.args.peer.now s)
-    (Blames g.L.ByteLink.state g.L.ByteLink.start c.write_pending.new.self s) q q.read q.taken
-    q.lost (Some e) in
-    λ s q holds. subst (On s q) (sym error) (c.in-Failed.ensures.goes s q holds)
+pub returns-in-Some-clause-goes : goal.returns-in-Some-clause-goes
+returns-in-Some-clause-goes g c = λ s p q under.
+    turns_failed _ _ _ _ _ _ p q _ c.step-step.result c.in-Some.error
+    (c.step-step.ensures.goes s p q under.so_far) (sym c.send_error.ensures ∙ c.in-Some.is)
+
+pub returns-in-None-clause-goes : goal.returns-in-None-clause-goes
+returns-in-None-clause-goes g c = λ s p q under.
+    turns_on _ _ _ _ _ _ p q _ c.step-step.result (c.step-step.ensures.goes s p q under.so_far)
+    c.step-step.ensures.tells

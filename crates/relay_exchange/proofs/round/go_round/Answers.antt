@@ -1,12 +1,12 @@
 -- Behind silent branches the next one goes on from where they left the exchange.
-use Rattle.std.proofs.Common.{◌≡◌, ℕ, ◌+◌, ◌%◌, ◌<◌, true, false, ◌⊎◌, get_or, ◌∙◌, ap, refl, sym, subst, arith}
+use Rattle.std.proofs.Common.{◌≡◌, ℕ, ◌+◌, ◌%◌, true, ◌⊎◌, get_or, ◌∙◌, ap, refl, sym, subst, arith}
 use Rattle.relay_tasks.specs.declared.took.Pause.TheVariants as pause
 use Rattle.relay_links.specs.Link.{LinkState}
 use Rattle.relay_links.specs.declared.branch.Branch.{Branch}
 use Rattle.relay_links.specs.declared.branch.Branch.TheVariants as branch
 use Rattle.relay_links.specs.declared.branch.TheConstants.{BRANCHES}
 use Rattle.relay_core.specs.Asked.{is_silent_for}
-use Rattle.relay_core.specs.Causes.{Tells, says_failed}
+use Rattle.relay_core.specs.Causes.{Tells}
 use Rattle.relay_core.specs.Moves.{Goes}
 use Rattle.relay_core.specs.Past.{Origin, DownPast, UpPast}
 use Rattle.relay_core.specs.Table.{State, core, enabled}
@@ -15,8 +15,7 @@ use Rattle.relay_core.specs.declared.step.Step.TheVariants as step
 use Rattle.relay_core.proofs.BoolLemmas.{clash}
 use Rattle.relay_core.proofs.KeepLemmas.{goes_then}
 use Rattle.relay_exchange.specs.Exchange.{IsSilentLink}
-use Rattle.relay_exchange.proofs.RoundLemmas.{behind, all_round, passed_first, passed_more, met, comes_first, silent_link}
-use Rattle.relay_exchange.proofs.round.go_round.Given.{Over}
+use Rattle.relay_exchange.proofs.RoundLemmas.{all_round, passed_first, passed_more, met, silent_link}
 use Rattle.relay_exchange.proofs.round.go_round.Goals as goal
 
 pub loop-turn-init : goal.loop-turn-init

@@ -4,7 +4,7 @@
 --   never_refused   no task is refused behind the front of them that was sent
 --   over_is_whole   a front that is sent as a text that is over tells the response whole
 --   over_has_end    and then the end of the response was handed on
-use Rattle.std.proofs.Common.{◌≡◌, ℕ, ◌+◌, ◌-◌, ◌≤◌, nat_le, Bool, true, false, ◌||◌, ◌⊎◌, List, [], ◌∷◌, ◌++◌, length, take, drop, map, codes, refl, sym, ap, subst, ◌∙◌, append-nil, length-append, length-take, arith, inl, inr, Option, Some, None, is_some, Result, Ok, Err, option_map, MatchOption, if◌then◌else◌, eqb-true, leb-true, le-leb}
+use Rattle.std.proofs.Common.{◌≡◌, ℕ, ◌+◌, ◌-◌, ◌≤◌, nat_le, Bool, true, false, ◌||◌, ◌⊎◌, List, [], ◌∷◌, ◌++◌, length, take, drop, map, codes, refl, sym, ap, subst, ◌∙◌, append-nil, length-append, length-take, arith, inl, inr, Option, Some, None, is_some, option_map, MatchOption, if◌then◌else◌, eqb-true, leb-true, le-leb}
 use Rattle.std.specs.List.{list_any}
 use Rattle.std.proofs.lemmas.Bool.{cases_Bool}
 use Rattle.http_header.specs.FieldValue.{FieldValue}
@@ -27,7 +27,6 @@ use Rattle.relay_h1.specs.Head.{kept_field}
 use Rattle.relay_h1.specs.Tasks.{HasFinal, Tasks, ResponseText, ResponseMark, ended, open_mark, mark_of}
 use Rattle.relay_h1.specs.Tasks as texts
 use Rattle.relay_h1.specs.Verdict.{HasResponse, settled}
-use Rattle.relay_h1.specs.Wire.{response_text}
 use Rattle.relay_h1.proofs.ClientHeadLemmas.{finds_framing, added_is_chunked}
 use Rattle.relay_peer.specs.ResponseReading.{ToldResponse, untold, with_task, with_head, with_piece, says}
 use Rattle.relay_peer.proofs.ExactLemmas.{Tasks-unique}
@@ -43,8 +42,8 @@ use Rattle.relay_sides.specs.Body.{IsFrontOf}
 use Rattle.relay_peer.specs.declared.response_reading.ResponseReading.{ResponseReading}
 use Rattle.relay_sides.specs.Peer.{handed, told_behind, told_of}
 use Rattle.relay_sides.specs.Peer.{Follow, AreHeads, AreTasks}
-use Rattle.relay_exchange.specs.Order.{AreOf}
-use Rattle.relay_exchange.proofs.WholeLemmas.{IsFull, full_has_end}
+use Rattle.relay_attempt.specs.Order.{AreOf}
+use Rattle.relay_attempt.proofs.WholeLemmas.{IsFull, full_has_end}
 
 -- ---- the fields of a head that came
 

@@ -34,9 +34,9 @@ use Rattle.relay_core.specs.Past.{Origin}
 use Rattle.relay_sides.specs.Body.{bytes_of, sent_as, sent_behind, sent_with}
 use Rattle.relay_sides.specs.Peer.{PeerBlames}
 use Rattle.relay_sides.specs.Peer as peer
-use Rattle.relay_exchange.specs.Order.{IsInOrder, up_past}
-use Rattle.relay_exchange.specs.Passed.{Passed}
-use Rattle.relay_exchange.proofs.ValidLemmas.{request_unshort}
+use Rattle.relay_attempt.specs.Order.{IsInOrder, up_past}
+use Rattle.relay_attempt.specs.Passed.{Passed}
+use Rattle.relay_attempt.proofs.ValidLemmas.{request_unshort}
 
 -- ---- no request ends short
 

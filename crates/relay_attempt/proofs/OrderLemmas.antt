@@ -1,20 +1,19 @@
--- What both sides hold is in order: the order of an exchange from the pasts of its sides.
+-- What both sides hold is in order: the order of an exchange from an attempt between its halves.
 --
---   order_of       from HasPassed, IsPeer, what was put as what was taken and is held, ResponseHeld
---                  and Steady: IsInOrder, whose pieces, taken, read, batched and closing are those
---                  of the pasts, by computing
---   order_so_far   the same from SoFar
---   begin_order    the same from Begins
---   told_of_sides  AreTold, from HasPassed and IsPeer
-use Rattle.std.proofs.Common.{All, ◌≡◌, ℕ, ◌-◌, Bool, true, false, ◌||◌, ◌⊎◌, List, [], ◌∷◌, ◌++◌, length, drop, map, refl, sym, ap, subst, ◌∙◌, append-nil, inl, inr, Option, Some, None, Ok}
+--   down_half        from HasPassed: the client's half
+--   up_half          from IsPeer: the upstream's half
+--   order_of         from an attempt between both halves: IsInOrder, whose pieces, taken, read, batched
+--                    and closing are those of the pasts, by computing
+--   told_of_attempt  the same for AreTold
+--   attempt_so_far   from SoFar: that attempt
+--   order_so_far     so its order
+use Rattle.std.proofs.Common.{All, ◌≡◌, ℕ, ◌-◌, Bool, true, false, ◌⊎◌, List, [], ◌∷◌, ◌++◌, length, drop, map, refl, sym, ap, subst, ◌∙◌, append-nil, inl, inr, Option, Some, None}
 use Rattle.std.specs.List.{list_any}
-use Rattle.std.proofs.lemmas.List.Folds.{list_any-append}
-use Rattle.relay_tasks.specs.declared.error.Error.{Error}
 use Rattle.relay_tasks.specs.declared.error.Fail.{Fail}
 use Rattle.relay_tasks.specs.declared.fault.Fault.{Fault}
 use Rattle.relay_tasks.specs.declared.task.HttpTask.{HttpTask}
 use Rattle.relay_tasks.specs.declared.task.HttpTask.TheVariants as task
-use Rattle.relay_tasks.specs.Head.{RequestHead}
+use Rattle.relay_tasks.specs.Head.{RequestHead, ResponseHead}
 use Rattle.relay_tasks.specs.Task.{is_end}
 use Rattle.relay_links.specs.Link.{LinkState, LinkStart}
 use Rattle.relay_h1.specs.declared.framing.Framing.{Framing}
@@ -39,26 +38,26 @@ use Rattle.relay_session.specs.declared.reading.Reading.TheVariants as reading
 use Rattle.relay_session.specs.declared.session.HttpSession.{HttpSession}
 use Rattle.relay_session.specs.declared.task_text.Place.TheVariants as place
 use Rattle.relay_session.specs.declared.task_text.Request.{Request}
-use Rattle.relay_core.specs.Moves.{EndsLast, ResponseHeld, SoFar, Steady, failure_task}
+use Rattle.relay_core.specs.Moves.{EndsLast, ResponseHeld, SoFar}
+use Rattle.relay_core.specs.Down.{DownState}
 use Rattle.relay_core.specs.Past.{Origin, DownPast, UpPast}
 use Rattle.relay_core.specs.Pipe.{is_failure}
-use Rattle.relay_core.specs.Table.{core}
-use Rattle.relay_core.specs.Up.{UpState}
 use Rattle.relay_core.specs.declared.duplex.Duplex.{Duplex}
-use Rattle.relay_core.specs.declared.told.Told.{Told}
 use Rattle.relay_sides.specs.Body.{IsFrontOf, body_of, sent_as}
-use Rattle.relay_sides.specs.Client.{HasPassed, IsClient, given_to, queued, state_of}
-use Rattle.relay_sides.specs.Peer.{IsPeer, AreTasks, HasRoom, handed}
+use Rattle.relay_sides.specs.Client.{HasPassed, IsClient, given_to, queued}
+use Rattle.relay_sides.specs.Peer.{IsPeer, AreTasks, HasRoom, handed, told_of}
 use Rattle.relay_sides.specs.declared.client_side.ClientSide.{ClientSide}
 use Rattle.relay_sides.specs.declared.peer_side.PeerSide.{PeerSide}
 use Rattle.relay_sides.proofs.FrontLemmas.{front_then}
 use Rattle.relay_sides.proofs.TaskLemmas.{ended_whole}
-use Rattle.relay_exchange.specs.Exchange.{DownHolds, UpHolds, Blames, core_of, Begins, AreTold}
-use Rattle.relay_exchange.specs.Order.{ArePieces, AreOf, IsInOrder}
-use Rattle.relay_exchange.specs.Passed.{Passed}
-use Rattle.relay_exchange.proofs.SentLemmas.{IsWritten, ends_over, closed_passes, written_of}
-use Rattle.relay_exchange.proofs.FitLemmas.{front_passes}
-use Rattle.relay_exchange.proofs.ToldLemmas.{given_follow, given_informed, given_final, given_framed, given_body, given_ends_last, given_all}
+use Rattle.relay_attempt.specs.Attempt.{DownHalf, IsAttempt, UpHalf}
+use Rattle.relay_attempt.specs.Exchange.{DownHolds, UpHolds, Blames, down_state, core_of, AreTold}
+use Rattle.relay_attempt.specs.Order.{ArePieces, AreOf, IsInOrder}
+use Rattle.relay_attempt.specs.Passed.{Passed}
+use Rattle.relay_attempt.proofs.AttemptLemmas.{attempt_of, batches, with_halves}
+use Rattle.relay_attempt.proofs.SentLemmas.{IsWritten, ends_over, closed_passes, written_of}
+use Rattle.relay_attempt.proofs.FitLemmas.{front_passes}
+use Rattle.relay_attempt.proofs.ToldLemmas.{given_follow, given_informed, given_final, given_framed, given_body, given_ends_last, given_all}
 
 -- what passed, by the pasts of both sides
 abbrev pub passed_by : DownPast → UpPast → Passed
@@ -219,52 +218,16 @@ module _
               tasks_own;
         }
 
--- what a batch was given of what was read: no failure, since those are not sent
-plain_front : (read batched held : List HttpTask) (failed over ended : Bool)
-    → ResponseHeld read batched held failed over ended → list_any is_failure batched ≡ false
-    → IsFrontOf batched read
-plain_front read batched held failed over ended h none =
-    on h.refused h.is_batched
-  where
-    never : (given : List HttpTask) (error : Error)
-        → list_any is_failure (given ++ task.Failed error ∷ []) ≡ false → ⊥
-    never given error none = found (list_any is_failure given)
-        (sym (list_any-append is_failure given (task.Failed error ∷ [])) ∙ none)
-      where
-        found : (b : Bool) → (b || true) ≡ false → ⊥
-        found true wrong = absurd (cc)
-        found false wrong = absurd (cc)
-
-    on : (refused : Option Error) → batched ≡ h.given ++ failure_task refused
-        → IsFrontOf batched read
-    on None is = record {
-      rest = h.rest;
-      joined = ap (λ (l : List HttpTask). l ++ h.rest) (is ∙ append-nil h.given) ∙ sym h.front;
-    }
-    on (Some error) is =
-        absurd (never h.given error
-        (subst (λ (l : List HttpTask). list_any is_failure l ≡ false) is none))
+    -- an end among them stands behind a final head
+    pub headed : list_any is_end u.given ≡ true
+        → (head : ResponseHead) × ((told_of u.given).final ≡ Some head)
+    headed ends =
+        let method = s.head.method in
+        let said = ended_whole method q.got link.ended u.given client.response
+        (given_all method link.ended q.got u.given u.withheld client.response tasks_own ends) ends in
+        (said.head, said.final)
 
 -- ---- the order
-
--- why an end of the response was asked for
-abbrev pub ClosesLate : DownPast → Bool → Type 0
-ClosesLate p done =
-    (p.closing ≡ []) ⊎ ((list_any is_end p.batched ≡ true) ⊎ (done ≡ true))
-
--- where an end was asked for, the response had ended or was over behind its batches
-pub late : (s : Origin) (p : DownPast) (link : LinkState) (ahead : List ℕ) (session : HttpSession)
-    (done finished : Bool) (broken : Option Fault)
-    (h : HasPassed s p link ahead session done finished broken) → ClosesLate p done
-    → (p.closing ≡ []) ⊎ ((list_any is_end p.batched ≡ true)
-    ⊎ (is_over (wire (request_of s.head) place.NoHead p.batched).place ≡ true))
-late s p link ahead session done finished broken h (inl none) = inl none
-late s p link ahead session done finished broken h (inr (inl ends)) = inr (inl ends)
-late s p link ahead session done finished broken h (inr (inr is)) =
-    inr
-    (inr
-    (subst (λ (r : Request). is_over (wire r place.NoHead p.batched).place ≡ true)
-    (answers_own s p link ahead session h.client) (h.over is)))
 
 -- a task ends its response as it is handed on where it did before
 handed_ends : (method : List ℕ) (one : HttpTask) → is_end (handed method one) ≡ is_end one
@@ -327,35 +290,29 @@ end_given method given batched rest joined last ends =
     }
 
 module _
-    {L : Type 0} (s : Origin) (start : LinkStart) (link : LinkState) (client : H1Client L)
-    (stopped lost : Option Fail) (q : UpPast) (u : IsPeer s start link client stopped lost q)
-    (batched : List HttpTask) (front : IsFrontOf batched q.read)
+    (s : Origin) (closed : Bool) (got : List ℕ) (read : List HttpTask)
+    (are_of : AreOf s.head.method closed got read)
+    (headed : list_any is_end are_of.given ≡ true
+    → (head : ResponseHead) × ((told_of are_of.given).final ≡ Some head))
+    (batched : List HttpTask) (front : IsFrontOf batched read)
   where
     -- none of the tasks that were queued is refused
     pub batched_passes : first_refusal (request_of s.head) place.NoHead batched ≡ None
     batched_passes =
-        front_passes s.head link.ended q.got q.read
-        (tasks_of s start link client stopped lost q u) batched front.rest (sym front.joined)
+        front_passes s.head closed got read are_of batched front.rest (sym front.joined)
 
     -- with an end among the tasks the response is over
     pub over_by_end : list_any is_end batched ≡ true
         → is_over (wire (request_of s.head) place.NoHead batched).place ≡ true
     over_by_end ends =
         let method = s.head.method in
-        let tasks = tasks_own s start link client stopped lost q u in
-        let last = given_ends_last method link.ended q.got u.given u.withheld client.response tasks
-        in
-        let end = end_given method u.given batched front.rest
-        (front.joined
-        ∙ subst (λ (h : RequestHead). q.read ≡ map (handed h.method) u.given) u.own u.is_read) last
-        ends in
-        let said = ended_whole method q.got link.ended u.given client.response
-        (given_all method link.ended q.got u.given u.withheld client.response tasks end.found)
-        end.found in
+        let end = end_given method are_of.given batched front.rest (front.joined ∙ are_of.are)
+        are_of.ends_last ends in
+        let final = headed end.found in
         subst
         (λ (l : List HttpTask). is_over (wire (request_of s.head) place.NoHead l).place ≡ true)
         (sym end.all)
-        (ends_over (request_of s.head) method u.given said.head last end.found said.final
+        (ends_over (request_of s.head) method are_of.given final.0 are_of.ends_last end.found final.1
         (subst
         (λ (l : List HttpTask). first_refusal (request_of s.head) place.NoHead l ≡ None)
         end.all batched_passes))
@@ -378,121 +335,134 @@ module _
         closed_passes (request_of s.head) place.NoHead batched closing batched_passes plain
         (over_late closing closes)
 
--- what both sides hold is in order, where the pieces are the front of what was put, and the batches
--- that of what was read
-abbrev pub order_with : {L : Type 0} (s : Origin) (p : DownPast) (q : UpPast) (link : LinkState)
-    (ahead : List ℕ) (session : HttpSession) (done finished : Bool) (broken : Option Fault)
-    (start : LinkStart) (peer_link : LinkState) (client : H1Client L) (stopped lost : Option Fail)
-    → HasPassed s p link ahead session done finished broken
-    → IsPeer s start peer_link client stopped lost q
-    → IsFrontOf q.taken p.put → IsFrontOf p.batched q.read → EndsLast p.put → ClosesLate p done
-    → IsInOrder s (passed_by p q) peer_link.ended
-order_with s p q link ahead session done finished broken start peer_link client stopped lost h u
-    taken batched last closes =
-    record {
-      asks = record {
-        framing = h.client.framing;
-        len = h.client.len;
-        has = own_request s p link ahead session h.client;
-      };
-      pieces = p.put;
-      are_pieces = pieces_said s p link ahead session h.client last;
-      taken = q.taken;
-      first_taken = taken;
-      sent = sent_front s start peer_link client stopped lost q u;
-      read = q.read;
-      are_of = tasks_of s start peer_link client stopped lost q u;
-      batched = p.batched;
-      first_batched = batched;
-      closing = p.closing;
-      passes = all_pass s start peer_link client stopped lost q u p.batched batched p.closing
-          h.plain_end (late s p link ahead session done finished broken h closes);
-      closes_late = late s p link ahead session done finished broken h closes;
-      written = front_own s p link ahead session h.client;
-    }
-
 -- the tasks that were queued are a front of what was read
 pub batched_front : (p : DownPast) (read held : List HttpTask) (failed over ended : Bool)
     → list_any is_failure p.batched ≡ false
     → ResponseHeld read p.batched held failed over ended → IsFrontOf p.batched read
 batched_front p read held failed over ended plain h =
-    plain_front read p.batched held failed over ended h plain
+    batches p.batched h.given read h.refused h.is_batched
+    (record { rest = h.rest; joined = sym h.front }) plain
 
--- the order, from what both sides hold and what moved between them
-abbrev pub order_of : {L : Type 0} (s : Origin) (p : DownPast) (q : UpPast) (link : LinkState)
-    (ahead : List ℕ) (session : HttpSession) (told : Told) (done finished : Bool)
-    (broken : Option Fault) (start : LinkStart) (peer_link : LinkState) (client : H1Client L)
-    (stopped lost : Option Fail) (duplex : Duplex) (up : UpState) (held rheld : List HttpTask)
-    (failed over ended : Bool)
-    → HasPassed s p link ahead session done finished broken
-    → IsPeer s start peer_link client stopped lost q
-    → p.put ≡ q.taken ++ held → ResponseHeld q.read p.batched rheld failed over ended
-    → Steady (core duplex (state_of session told done finished broken) up) p
-    → IsInOrder s (passed_by p q) peer_link.ended
-order_of s p q link ahead session told done finished broken start peer_link client stopped lost
-    duplex up held rheld failed over ended h u puts responses steady =
-    order_with s p q link ahead session done finished broken start peer_link client stopped lost h u
-    (record { rest = held; joined = sym puts })
-    (batched_front p q.read rheld failed over ended h.plain responses)
-    steady.ends_last steady.closed
+-- ---- the halves
 
--- nothing passed is in order
-pub none_ends_last : (tasks : List HttpTask) → tasks ≡ [] → EndsLast tasks
-none_ends_last tasks none = λ front behind same found. none_behind front behind (sym none ∙ same)
+-- what the client's side holds is its half of an attempt
+abbrev pub down_half : (s : Origin) (p : DownPast) (link : LinkState) (ahead : List ℕ)
+    (session : HttpSession) (done finished : Bool) (broken : Option Fault)
+    → HasPassed s p link ahead session done finished broken → DownHalf s link done p
+down_half s p link ahead session done finished broken h = record {
+  came = h.client.came;
+  written = h.client.written;
+  faults = h.client.faults;
+  tells = h.client.tells;
+  framing = h.client.framing;
+  len = h.client.len;
+  asks = own_request s p link ahead session h.client;
+  are_pieces = pieces_said s p link ahead session h.client;
+  plain = h.plain;
+  plain_end = h.plain_end;
+  over = λ is.
+      subst (λ (r : Request). is_over (wire r place.NoHead p.batched).place ≡ true)
+      (answers_own s p link ahead session h.client) (h.over is);
+  is_written = front_own s p link ahead session h.client;
+}
+
+-- what the peer's side holds is its half
+abbrev pub up_half : {L : Type 0} (s : Origin) (start : LinkStart) (link : LinkState)
+    (client : H1Client L) (stopped lost : Option Fail) (q : UpPast)
+    → IsPeer s start link client stopped lost q → start.reused ≡ s.reused → UpHalf s start link q
+up_half s start link client stopped lost q u reused = record {
+  got = u.got;
+  sent = u.sent;
+  faults = u.faults;
+  reused = reused;
+  are_of = tasks_of s start link client stopped lost q u;
+  headed = headed s start link client stopped lost q u;
+  is_sent = sent_front s start link client stopped lost q u;
+}
+
+-- ---- the order
+
+-- the halves of an attempt, each of which took the front of what the other put, are in order
+module _
+    (s : Origin) (client link : LinkState) (start : LinkStart) (side : DownState)
+    (plain : side.upgraded ≡ false)
+    (a : IsAttempt (DownHalf s client side.response_done) (UpHalf s start link) side)
   where
-    none_behind : (front behind : List HttpTask) → [] ≡ front ++ behind → behind ≡ []
-    none_behind [] behind same = sym same
-    none_behind (one ∷ front) behind same = absurd (cc)
+    -- the tasks that were queued are a front of those that were read
+    pub first_batched : IsFrontOf a.p.batched a.q.read
+    first_batched =
+        batches a.p.batched a.given a.q.read a.refused a.batched a.responses a.is_down.plain
 
--- an empty list is the front of all
-pub none_front : (xs ys : List HttpTask) → xs ≡ [] → IsFrontOf xs ys
-none_front xs ys none =
-    subst (λ (l : List HttpTask). IsFrontOf l ys) (sym none) (record { rest = ys; joined = refl })
+    -- where an end was asked for, the response had ended or was over behind its batches
+    pub late : (a.p.closing ≡ []) ⊎ ((list_any is_end a.p.batched ≡ true)
+        ⊎ (is_over (wire (request_of s.head) place.NoHead a.p.batched).place ≡ true))
+    late = elim (a.asked plain) [
+      | inl none ↦ inl none
+      | inr (inl ends) ↦ inr (inl ends)
+      | inr (inr done) ↦ inr (inr (a.is_down.over done))
+    ]
+
+    abbrev pub order_of : IsInOrder s (passed_by a.p a.q) link.ended
+    order_of = record {
+      asks = record {
+        framing = a.is_down.framing;
+        len = a.is_down.len;
+        has = a.is_down.asks;
+      };
+      pieces = a.p.put;
+      are_pieces = a.is_down.are_pieces (a.ends_last plain);
+      taken = a.q.taken;
+      first_taken = a.requests;
+      sent = a.is_up.is_sent;
+      read = a.q.read;
+      are_of = a.is_up.are_of;
+      batched = a.p.batched;
+      first_batched = first_batched;
+      closing = a.p.closing;
+      passes = all_pass s link.ended a.q.got a.q.read a.is_up.are_of a.is_up.headed a.p.batched
+          first_batched a.p.closing a.is_down.plain_end late;
+      closes_late = late;
+      written = a.is_down.is_written;
+    }
 
 module _ {L : Type 0} (state : L → LinkState) (start_at : L → LinkStart) where
-  -- the order, from the exchange so far
-  abbrev pub order_so_far : (s : Origin) (p : DownPast) (q : UpPast) (link : LinkState)
-      (ahead : List ℕ) (down : ClientSide) (up : PeerSide L) (duplex : Duplex)
-      → SoFar (DownHolds link ahead down s) (UpHolds state start_at up s)
-      (Blames state start_at up s) (core_of state start_at duplex down up) p q
-      → IsInOrder s (passed_by p q) (state up.client.link).ended
-  order_so_far s p q link ahead down up duplex so_far =
-      order_with s p q link ahead down.session down.done down.finished down.broken
-      (start_at up.client.link) (state up.client.link) up.client up.stopped up.lost
-      so_far.down so_far.up.peer
-      (record { rest = duplex.requests.tasks; joined = sym so_far.requests })
-      (batched_front p q.read _ _ _ _ so_far.down.plain so_far.responses)
-      (so_far.steady refl).ends_last (so_far.steady refl).closed
-
-  -- the order of an exchange whose head is being sent
-  abbrev pub begin_order : (s : Origin) (p : DownPast) (q : UpPast) (link : LinkState)
-      (ahead : List ℕ) (down : ClientSide) (up : PeerSide L)
-      → Begins state start_at s p q link ahead down up
-      → IsInOrder s (passed_by p q) (state up.client.link).ended
-  begin_order s p q link ahead down up begins =
-      order_with s p q link ahead down.session down.done down.finished down.broken
-      (start_at up.client.link) (state up.client.link) up.client up.stopped up.lost
-      begins.down_holds begins.up_holds.peer (none_front q.taken p.put begins.none_taken)
-      (none_front p.batched q.read begins.none_batched)
-      (none_ends_last p.put begins.none_put) (inl begins.none_closing)
-
   -- what passed is told by both links
-  pub told_of_sides : (s : Origin) (p : DownPast) (q : UpPast) (link : LinkState)
-      (ahead : List ℕ) (session : HttpSession) (done finished : Bool) (broken : Option Fault)
-      (start : LinkStart) (peer_link : LinkState) (client : H1Client L)
-      (stopped lost : Option Fail)
-      → HasPassed s p link ahead session done finished broken
-      → IsPeer s start peer_link client stopped lost q → start.reused ≡ s.reused
-      → AreTold state start_at s (passed_by p q) link peer_link start
-  told_of_sides s p q link ahead session done finished broken start peer_link client stopped lost h
-      u reused =
-      record {
-        came = h.client.came;
-        written = h.client.written;
-        faults = h.client.faults;
-        got = u.got;
-        sent = u.sent;
-        peer_faults = u.faults;
-        reused = reused;
-        client_tells = h.client.tells;
-      }
+  pub told_of_attempt : (s : Origin) (client link : LinkState) (start : LinkStart)
+      (side : DownState)
+      (a : IsAttempt (DownHalf s client side.response_done) (UpHalf s start link) side)
+      → AreTold state start_at s (passed_by a.p a.q) client link start
+  told_of_attempt s client link start side a = record {
+    came = a.is_down.came;
+    written = a.is_down.written;
+    faults = a.is_down.faults;
+    got = a.is_up.got;
+    sent = a.is_up.sent;
+    peer_faults = a.is_up.faults;
+    reused = a.is_up.reused;
+    client_tells = a.is_down.tells;
+  }
+
+module _ {L : Type 0} (state : L → LinkState) (start_at : L → LinkStart)
+    (s : Origin) (p : DownPast) (q : UpPast) (link : LinkState) (ahead : List ℕ)
+    (down : ClientSide) (up : PeerSide L) (duplex : Duplex)
+    (so_far : SoFar (DownHolds link ahead down s) (UpHolds state start_at up s)
+    (Blames state start_at up s) (core_of state start_at duplex down up) p q)
+  where
+    -- what passed between a client and a peer is an attempt
+    abbrev pub attempt_so_far : IsAttempt (DownHalf s link down.done)
+        (UpHalf s (start_at up.client.link) (state up.client.link)) (down_state down)
+    attempt_so_far =
+        with_halves (DownHolds link ahead down s) (DownHalf s link down.done)
+        (UpHolds state start_at up s)
+        (UpHalf s (start_at up.client.link) (state up.client.link)) (down_state down)
+        (λ r h. down_half s r link ahead down.session down.done down.finished down.broken h)
+        (λ r u. up_half s (start_at up.client.link) (state up.client.link) up.client up.stopped
+        up.lost r u.peer u.reused)
+        (attempt_of (DownHolds link ahead down s) (UpHolds state start_at up s)
+        (Blames state start_at up s) (core_of state start_at duplex down up) p q so_far)
+
+    -- so it is in order
+    abbrev pub order_so_far : IsInOrder s (passed_by p q) (state up.client.link).ended
+    order_so_far =
+        order_of s link (state up.client.link) (start_at up.client.link) (down_state down) refl
+        attempt_so_far

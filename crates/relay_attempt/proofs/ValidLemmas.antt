@@ -41,9 +41,9 @@ use Rattle.relay_sides.specs.Client as client_side
 use Rattle.relay_sides.specs.Peer.{PeerBlames}
 use Rattle.relay_sides.specs.Peer as peer_side
 use Rattle.relay_sides.proofs.FrontLemmas.{front_then}
-use Rattle.relay_exchange.specs.Order.{IsInOrder, up_past}
-use Rattle.relay_exchange.specs.Passed.{Passed, asked}
-use Rattle.relay_exchange.specs.Valid.{IsRequest, IsRelayedHead, IsResponse, IsValid}
+use Rattle.relay_attempt.specs.Order.{IsInOrder, up_past}
+use Rattle.relay_attempt.specs.Passed.{Passed, asked}
+use Rattle.relay_attempt.specs.Valid.{IsRequest, IsRelayedHead, IsResponse, IsValid}
 
 -- a flag is not both
 never_both : {flag : Bool} → flag ≡ true → flag ≡ false → ⊥

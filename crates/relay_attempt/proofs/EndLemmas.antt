@@ -1,13 +1,9 @@
 -- How an exchange ends: both directions were relayed, or one side answers for the error.
 --
 --   finished_of   from SoFar and Finishes: IsFinished
---   fails_client  from SoFar and an error for which the client's side answers: FailsFor
---   fails_peer    the same for the peer's side
---   fails_tasks   the same for tasks that the client's side refuses
---   fails_ending  the same where the response cannot end
---   fails_begun   from Begins and an error for which the peer's side answers: FailsFor
+--   fails_for     from SoFar and the reason of an error: FailsFor
 --   failed_of     from FailsFor: IsFailed
-use Rattle.std.proofs.Common.{◌≡◌, ℕ, Bool, true, false, not, ◌==◌, ◌⊎◌, List, [], ◌∷◌, ◌++◌, length, drop, map, refl, sym, ap, subst, ◌∙◌, append-nil, append_assoc, inl, inr, Option, Some, None, Result, Ok, Err, arith}
+use Rattle.std.proofs.Common.{◌≡◌, ℕ, Bool, true, false, not, ◌==◌, ◌⊎◌, List, [], ◌∷◌, ◌++◌, length, drop, map, refl, sym, ap, subst, ◌∙◌, append-nil, append_assoc, inl, inr, Option, Some, None, arith}
 use Rattle.std.specs.Prelude.{◌||◌, ◌&&◌, is_some, is_none}
 use Rattle.std.specs.List.{list_any}
 use Rattle.std.proofs.lemmas.Bool.Decides.{nat_tests}
@@ -33,8 +29,7 @@ use Rattle.relay_session.specs.Asked.{request_of}
 use Rattle.relay_session.specs.Reading.{is_body_done, IsWhole}
 use Rattle.relay_session.specs.declared.task_text.Request.{Request}
 use Rattle.relay_session.specs.TaskWire.{refusal, wire}
-use Rattle.relay_core.specs.Down.{DownState}
-use Rattle.relay_core.specs.Moves.{SoFar, Finishes, Refused, Unended}
+use Rattle.relay_core.specs.Moves.{SoFar, Finishes, HasReason, Refused, Unended}
 use Rattle.relay_core.specs.Table as core
 use Rattle.relay_core.specs.declared.step.UpKind.{UpKind}
 use Rattle.relay_core.proofs.BoolLemmas.{and_right, and_both, clash, decide, not_false}
@@ -48,23 +43,23 @@ use Rattle.relay_sides.specs.Peer.{IsPeer, AreTasks, PeerBlames, IsWriteError, h
 use Rattle.relay_sides.specs.declared.client_side.ClientSide.{ClientSide}
 use Rattle.relay_sides.specs.declared.peer_side.PeerSide.{PeerSide}
 use Rattle.relay_sides.proofs.ClientPast.{open_is_whole}
-use Rattle.relay_sides.proofs.TaskLemmas.{ended_whole}
-use Rattle.relay_exchange.specs.Exchange.{DownHolds, UpHolds, Blames, core_of, Begins, IsFinished, IsFailed}
-use Rattle.relay_exchange.specs.Head.{may_keep, may_keep_at}
-use Rattle.relay_exchange.specs.Passed.{Passed}
-use Rattle.relay_exchange.specs.Valid.{IsValid}
-use Rattle.relay_exchange.specs.declared.exchange.Exchange.{Exchange}
+use Rattle.relay_attempt.specs.Exchange.{DownHolds, UpHolds, Blames, down_state, core_of, IsFinished, IsFailed}
+use Rattle.relay_exchange.specs.Exchange.{may_keep_at}
+use Rattle.relay_attempt.specs.Head.{link_of, may_keep}
+use Rattle.relay_attempt.specs.Passed.{Passed}
+use Rattle.relay_attempt.specs.Valid.{IsValid}
 use Rattle.relay_exchange.specs.declared.exchange.Stage.{Stage}
 use Rattle.relay_exchange.specs.declared.exchange.Stage.TheVariants as stage
-use Rattle.relay_exchange.specs.Order.{FailsFor, SendsWhole, IsRelayed, IsInOrder, Leaves, MayServe}
-use Rattle.relay_exchange.specs.Order as order
-use Rattle.relay_exchange.proofs.SentLemmas.{IsWritten, stays_over}
-use Rattle.relay_exchange.proofs.ToldLemmas.{given_ends_last, given_all}
-use Rattle.relay_exchange.proofs.OrderLemmas.{passed_by, own_request, answers_own, text_written, tasks_own, batched_front, handed_any, IsEndGiven, end_given, over_by_end, ended_said, order_so_far, begin_order}
-use Rattle.relay_exchange.proofs.FitLemmas.{never_refused, over_is_whole, over_has_end}
-use Rattle.relay_exchange.proofs.KeepLemmas.{kept_parts, kept_unfailed, sent_whole, read_whole, over_ends}
-use Rattle.relay_exchange.proofs.ServeLemmas.{never_short, ended_stands, kept_writing, kept_reading, all_keep}
-use Rattle.relay_exchange.proofs.ValidLemmas.{client_blameless, peer_blameless, framing_is}
+use Rattle.relay_attempt.specs.declared.h1_exchange.H1Exchange.{H1Exchange}
+use Rattle.relay_attempt.specs.Order.{FailsFor, SendsWhole, IsRelayed, IsInOrder, Leaves, MayServe}
+use Rattle.relay_attempt.specs.Order as order
+use Rattle.relay_attempt.proofs.SentLemmas.{IsWritten, stays_over}
+use Rattle.relay_attempt.proofs.ToldLemmas.{given_ends_last}
+use Rattle.relay_attempt.proofs.OrderLemmas.{passed_by, own_request, answers_own, text_written, tasks_own, batched_front, handed_any, IsEndGiven, end_given, headed, over_by_end, ended_said, order_so_far}
+use Rattle.relay_attempt.proofs.FitLemmas.{never_refused, over_is_whole, over_has_end}
+use Rattle.relay_attempt.proofs.KeepLemmas.{kept_parts, kept_unfailed, sent_whole, read_whole, over_ends}
+use Rattle.relay_attempt.proofs.ServeLemmas.{never_short, ended_stands, kept_writing, kept_reading, all_keep}
+use Rattle.relay_attempt.proofs.ValidLemmas.{client_blameless, peer_blameless, framing_is}
 
 -- what is not awaited is empty
 none_waits : (waits : List ℕ) → not (length waits == 0) ≡ false → waits ≡ []
@@ -95,21 +90,6 @@ own_blames state start_at s q up u e blames =
     PeerBlames (start_at up.client.link) (state up.client.link) h q e)
     (same_head blames.0 u.peer.head (sym blames.1 ∙ u.peer.is_head) ∙ u.peer.own) blames.2
 
--- the state of the client's side
-abbrev pub down_state : ClientSide → DownState
-down_state down =
-    client.state_of down.session down.told down.done down.finished down.broken
-
--- while the head is being sent only the peer's side can fail
-pub fails_begun : {L : Type 0} (state : L → LinkState) (start_at : L → LinkStart) (s : Origin)
-    (p : DownPast) (q : UpPast) (link : LinkState) (ahead : List ℕ) (down : ClientSide)
-    (up : PeerSide L) (e : Error) → Begins state start_at s p q link ahead down up
-    → Blames state start_at up s q e
-    → FailsFor s (passed_by p q) link (state up.client.link) (start_at up.client.link) e
-fails_begun state start_at s p q link ahead down up e begins blames =
-    order.FailsFor.by_peer (begin_order state start_at s p q link ahead down up begins) q.lost
-    (own_blames state start_at s q up begins.up_holds e blames)
-
 module _ {L : Type 0} (state : L → LinkState) (start_at : L → LinkStart)
     (s : Origin) (p : DownPast) (q : UpPast) (link : LinkState) (ahead : List ℕ)
     (down : ClientSide) (up : PeerSide L) (duplex : Duplex)
@@ -117,14 +97,14 @@ module _ {L : Type 0} (state : L → LinkState) (start_at : L → LinkStart)
     (Blames state start_at up s) (core_of state start_at duplex down up) p q)
   where
     -- the client's side answers for the error
-    pub fails_client : (e : Error) → ClientBlames s p link e
+    fails_client : (e : Error) → ClientBlames s p link e
         → FailsFor s (passed_by p q) link (state up.client.link) (start_at up.client.link) e
     fails_client e blames =
         order.FailsFor.by_client
         (order_so_far state start_at s p q link ahead down up duplex so_far) blames
 
     -- the peer's side answers for the error
-    pub fails_peer : (e : Error) → Blames state start_at up s q e
+    fails_peer : (e : Error) → Blames state start_at up s q e
         → FailsFor s (passed_by p q) link (state up.client.link) (start_at up.client.link) e
     fails_peer e blames =
         order.FailsFor.by_peer (order_so_far state start_at s p q link ahead down up duplex so_far)
@@ -169,8 +149,9 @@ module _ {L : Type 0} (state : L → LinkState) (start_at : L → LinkStart)
     over_behind : (list_any is_end p.batched ≡ true) ⊎ (down.done ≡ true)
         → is_over (wire (request_of s.head) place.NoHead p.batched).place ≡ true
     over_behind (inl ends) =
-        over_by_end s (start_at up.client.link) (state up.client.link) up.client up.stopped up.lost q
-        peer_holds p.batched front ends
+        over_by_end s (state up.client.link).ended q.got q.read in_order.are_of
+        (headed s (start_at up.client.link) (state up.client.link) up.client up.stopped up.lost q
+        peer_holds) p.batched front ends
     over_behind (inr done) =
         subst (λ (r : Request). is_over (wire r place.NoHead p.batched).place ≡ true)
         (answers_own s p link ahead down.session so_far.down.client) (so_far.down.over done)
@@ -406,7 +387,7 @@ module _ {L : Type 0} (state : L → LinkState) (start_at : L → LinkStart)
 
     -- the client's side refuses tasks that the peer gave: only where its link failed, since no task
     -- of a response is refused, and no end was asked for
-    pub fails_tasks : (e : Error)
+    fails_tasks : (e : Error)
         → Refused (λ r left e. ClientRefuses s r link left e) false p q e
         → FailsFor s (passed_by p q) link (state up.client.link) (start_at up.client.link) e
     fails_tasks e r = on r.refused
@@ -435,7 +416,7 @@ module _ {L : Type 0} (state : L → LinkState) (start_at : L → LinkStart)
 
     -- the response cannot end where its end was asked for: only where the client's link failed,
     -- since an end is asked for behind one among its tasks, or where the response is over
-    pub fails_ending : (e : Error)
+    fails_ending : (e : Error)
         → Unended (λ r e. ClientBlames s r link e ⊎ CannotEnd s r e) (down_state down) p e
         → FailsFor s (passed_by p q) link (state up.client.link) (start_at up.client.link) e
     fails_ending e u = elim u.why [
@@ -454,44 +435,56 @@ module _ {L : Type 0} (state : L → LinkState) (start_at : L → LinkStart)
             refusal (request_of h) (wire (request_of h) place.NoHead (queued p)).place task.Done
             ≡ Some e) own cannot.refused)
 
+    -- the error has its cause in what passed
+    pub fails_for : (e : Error)
+        → HasReason (λ r e. ClientBlames s r link e) (λ r left e. ClientRefuses s r link left e)
+        (λ r e. ClientBlames s r link e ⊎ CannotEnd s r e) (Blames state start_at up s)
+        (down_state down) p q e
+        → FailsFor s (passed_by p q) link (state up.client.link) (start_at up.client.link) e
+    fails_for e (inl blames) = fails_client e blames
+    fails_for e (inr (inl blames)) = fails_peer e blames
+    fails_for e (inr (inr (inl refused))) = fails_tasks e refused
+    fails_for e (inr (inr (inr unended))) = fails_ending e unended
+
 module _ {L : Type 0} (state : L → LinkState) (start_at : L → LinkStart) where
   -- an exchange that finished, and what it leaves
   pub finished_of : (s : Origin) (p : DownPast) (q : UpPast) (link : LinkState) (ahead : List ℕ)
-      (x : Exchange L) (duplex : Duplex) → x.stage ≡ stage.Bodies duplex
-      → SoFar (DownHolds link ahead x.client s) (UpHolds state start_at x.peer s)
-      (Blames state start_at x.peer s) (core_of state start_at duplex x.client x.peer) p q
-      → Finishes (core_of state start_at duplex x.client x.peer) p q
+      (x : H1Exchange L) → x.exchange.stage ≡ stage.Bodies
+      → SoFar (DownHolds link ahead x.exchange.down s) (UpHolds state start_at x.exchange.up s)
+      (Blames state start_at x.exchange.up s)
+      (core_of state start_at x.exchange.duplex x.exchange.down x.exchange.up) p q
+      → Finishes (core_of state start_at x.exchange.duplex x.exchange.down x.exchange.up) p q
       → IsFinished state start_at s (passed_by p q) ahead x
-  finished_of s p q link ahead x duplex is f finishes =
-      let relayed = relayed_of state start_at s p q link ahead x.client x.peer duplex f finishes in
+  finished_of s p q link ahead x is f finishes =
+      let down = x.exchange.down in
+      let up = x.exchange.up in
+      let duplex = x.exchange.duplex in
+      let relayed = relayed_of state start_at s p q link ahead down up duplex f finishes in
       let c = f.down.client in
-      let client_keeps : may_keep x ≡ true → may_keep_client x.peer.client ≡ true =
-      λ kept. and_right (core.may_keep duplex.kind duplex) _
-      (subst (λ (at : Stage). may_keep_at x.peer at ≡ true) is kept) in
+      let client_keeps : may_keep x ≡ true → may_keep_client up.client ≡ true =
+      λ kept. and_right (may_keep_at x.exchange.stage duplex) _ kept in
       record {
         relayed = relayed;
         is_head = c.is_head ∙ ap (λ (h : RequestHead). Some h) c.own;
-        leaves = leaves_of state start_at s p q link ahead x.client x.peer duplex f (may_keep x)
-            relayed.n relayed.whole
-            client_keeps;
-        faultless = λ kept. f.up.peer.calm (kept_unfailed x.peer.client (client_keeps kept));
+        leaves = leaves_of state start_at s p q link ahead down up duplex f (may_keep x) relayed.n
+            relayed.whole client_keeps;
+        faultless = λ kept. f.up.peer.calm (kept_unfailed up.client (client_keeps kept));
         keeps = λ serves faultless.
-            subst (λ (at : Stage). may_keep_at x.peer at ≡ true) (sym is)
-            (keeps_of state start_at s p q link ahead x.client x.peer duplex f finishes serves
-            faultless);
+            subst (λ (at : Stage). may_keep_at at duplex && may_keep_client up.client ≡ true)
+            (sym is)
+            (keeps_of state start_at s p q link ahead down up duplex f finishes serves faultless);
       }
 
   -- an exchange that failed for a cause, which no valid one has
-  pub failed_of : (s : Origin) (p : Passed) (link : LinkState) (x : Exchange L) (e : Error)
-      → FailsFor s p link (state x.peer.client.link) (start_at x.peer.client.link) e
+  pub failed_of : (s : Origin) (p : Passed) (link : LinkState) (x : H1Exchange L) (e : Error)
+      → FailsFor s p link (state (link_of x)) (start_at (link_of x)) e
       → IsFailed state start_at s p link x e
   failed_of s p link x e why = record { why = why; invalid = λ valid. never why valid }
     where
-      never : FailsFor s p link (state x.peer.client.link) (start_at x.peer.client.link) e
-          → IsValid s p link (state x.peer.client.link) (start_at x.peer.client.link) → ⊥
+      never : FailsFor s p link (state (link_of x)) (start_at (link_of x)) e
+          → IsValid s p link (state (link_of x)) (start_at (link_of x)) → ⊥
       never (order.FailsFor.by_client o blames) valid =
-          client_blameless s p link (state x.peer.client.link) (start_at x.peer.client.link) valid
+          client_blameless s p link (state (link_of x)) (start_at (link_of x)) valid
           (order.down_past o) refl e blames
       never (order.FailsFor.by_peer o lost blames) valid =
-          peer_blameless s p link (state x.peer.client.link) (start_at x.peer.client.link) valid o
-          lost e blames
+          peer_blameless s p link (state (link_of x)) (start_at (link_of x)) valid o lost e blames

@@ -28,7 +28,7 @@ use Rattle.relay_core.specs.Past.{Origin, DownPast, UpPast}
 use Rattle.relay_sides.specs.Body.{IsFrontOf, body_of, sent_as}
 use Rattle.relay_sides.specs.Client.{ClientBlames}
 use Rattle.relay_sides.specs.Peer.{handed, told_of, EndFramed, Follow, PeerBlames, is_switch, HasRoom, asks_to_close, IsWriteError}
-use Rattle.relay_exchange.specs.Passed.{Passed, asked}
+use Rattle.relay_attempt.specs.Passed.{Passed, asked}
 
 -- the client's bytes begin with the head of the request
 pub record Asks (s : Origin) (p : Passed) : Type 0 where

@@ -1,6 +1,6 @@
 -- What tasks are sent as to the client: none of them is a failure, and an end behind a final head
 -- ends the response.
-use Rattle.std.proofs.Common.{◌≡◌, ℕ, Bool, true, false, List, [], ◌∷◌, ◌++◌, map, ◌||◌, Option, Some, None, Result, Ok, Err, refl, sym, ◌∙◌, ap, subst, append-nil, inl, inr, ◌⊎◌, if◌then◌else◌}
+use Rattle.std.proofs.Common.{◌≡◌, ℕ, Bool, true, false, List, [], ◌∷◌, ◌++◌, map, ◌||◌, Option, Some, None, refl, sym, ◌∙◌, ap, subst, append-nil, inl, inr, ◌⊎◌, if◌then◌else◌}
 use Rattle.std.specs.List.{list_any}
 use Rattle.std.proofs.lemmas.Bool.{cases_Bool, or_parts}
 use Rattle.relay_tasks.specs.declared.error.Error.{Error}
@@ -11,10 +11,8 @@ use Rattle.relay_tasks.specs.Task.{is_end}
 use Rattle.relay_h1.specs.declared.framing.Framing.{Framing}
 use Rattle.relay_h1.specs.declared.framing.Framing.TheVariants as framing
 use Rattle.relay_h1.specs.BodyWire.{is_short, is_full, after_piece}
-use Rattle.relay_h1.specs.ClientHead.{is_informational, lacks_framing, chunked_head, client_framing, client_head}
-use Rattle.relay_h1.specs.Wire.{response_text}
+use Rattle.relay_h1.specs.ClientHead.{is_informational, lacks_framing, chunked_head}
 use Rattle.relay_peer.specs.ResponseReading.{ToldResponse, untold, with_task, with_head, with_piece}
-use Rattle.relay_session.specs.Asked.{method_of}
 use Rattle.relay_session.specs.Response.{Holds, HoldsOn, has_head, is_over, pending}
 use Rattle.relay_session.specs.TaskWire.{Sent, framing_of, shown, piece_sent, piece_refusal, piece_at, piece_refusal_at, framed_head_sent, framed_head_refusal, head_at, head_refusal_at, task_sent, refusal, wire, or_later, first_refusal}
 use Rattle.relay_session.proofs.WireSteps.{wire-append, first_refusal-append}

@@ -1,7 +1,8 @@
 //! What the tests of an exchange share: links from texts, and a run to its end.
-use crate::{Exchange, Turn, Unbegun};
+use crate::{H1Exchange, Unbegun};
 use bytes::Bytes;
 use relay_core::Step;
+use relay_exchange::Turn;
 use relay_h1::Connection;
 use relay_links::{Branch, ListSchedule, ReadItem, ScriptLink};
 use relay_session::HttpSession;
@@ -97,7 +98,7 @@ pub(super) fn exchange(
     }
     let head = session.req_header().copy().ok()?;
     let link = ScriptLink::new(alloc, from_peer, Vec::new(alloc));
-    let mut under_way = match Exchange::begin(alloc, session, link, head) {
+    let mut under_way = match H1Exchange::begin(alloc, session, link, head) {
         Ok(begun) => begun,
         Err(Unbegun { link: _, why: _ }) => return None,
     };

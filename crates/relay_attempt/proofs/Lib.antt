@@ -1,0 +1,11 @@
+pub mod SentLemmas
+pub mod ToldLemmas
+pub mod FitLemmas
+pub mod AttemptLemmas
+pub mod OrderLemmas
+pub mod ValidLemmas
+pub mod KeepLemmas
+pub mod EndLemmas
+pub mod TurnLemmas
+pub mod WholeLemmas
+pub mod ServeLemmas

@@ -1,0 +1,69 @@
+-- An exchange begins once its head was queued; it is not begun where the head is refused.
+use Rattle.std.proofs.Common.{[], refl, sym, ap, subst, ◌∙◌}
+use Rattle.relay_links.specs.Link.{IsHandedOut}
+use Rattle.relay_session.specs.Reading.{is_body_done}
+use Rattle.relay_session.specs.declared.session.HttpSession.{HttpSession}
+use Rattle.relay_sides.specs.Client as client
+use Rattle.relay_sides.specs.Client.{begun_past}
+use Rattle.relay_sides.specs.Peer as peer
+use Rattle.relay_sides.specs.Peer.{none_passed}
+use Rattle.relay_sides.specs.declared.client_side.ClientSide.{ClientSide}
+use Rattle.relay_sides.specs.declared.peer_side.PeerSide.{PeerSide}
+use Rattle.relay_exchange.specs.declared.exchange.Exchange.{Exchange}
+use Rattle.relay_exchange.specs.declared.exchange.Stage.TheVariants as stage
+use Rattle.relay_exchange.proofs.TurnLemmas.{begun}
+use Rattle.relay_attempt.specs.Exchange.{Blames, DownHolds, IsUnderWay, UpHolds}
+use Rattle.relay_attempt.proofs.TurnLemmas.{under_way, refused_as}
+use Rattle.relay_attempt.proofs.h1_exchange.H1Exchange.begin.Goals as goal
+
+pub returns-in-Ok-clause-begins : goal.returns-in-Ok-clause-begins
+returns-in-Ok-clause-begins g c =
+    let state = g.L.ByteLink.state in
+    let start_at = g.L.ByteLink.start in
+    let down = c.new-client.result in
+    let up = c.write_request_header.new.self in
+    let done = ap (λ (x : HttpSession). is_body_done x.reading) c.new-client.ensures.session
+    ∙ sym c.is_body_done-body_done.ensures.value in
+    λ s came link ahead reused own behind out used.
+    let Begun : Exchange ClientSide (PeerSide g.row.L.Denot) → Type 0 = λ x.
+    IsUnderWay state start_at s (record { came = came; written = []; got = []; sent = [] }) link
+    ahead (record { exchange = x }) in
+    subst Begun (sym c.begin-exchange.ensures.exact)
+    (under_way state start_at s (begun_past came) none_passed link ahead
+    (record {
+      exchange = record {
+        down = down;
+        up = up;
+        duplex = c.begin-exchange.result.duplex;
+        stage = stage.Head;
+      };
+    })
+    (begun (DownHolds link ahead down s) (UpHolds state start_at up s) (Blames state start_at up s)
+    c.is_body_done-body_done.result
+    (client.state_of down.session down.told down.done down.finished down.broken) (peer.state_of up)
+    (begun_past came) none_passed
+    (record {
+      down_holds = c.new-client.ensures.begins s came link ahead behind;
+      up_holds = c.in-Ok.ensures.begins s own c.new-peer.ensures.fresh reused
+          (subst (λ l. IsHandedOut (state l) (start_at l) reused) (sym c.new-peer.ensures.link) out)
+          used;
+      none_put = refl;
+      none_batched = refl;
+      none_closing = refl;
+      none_read = refl;
+      none_taken = refl;
+      none_lost = refl;
+      body_done = done;
+      request_ended = done;
+      unread = ap (λ (k : PeerSide g.row.L.Denot). k.read_failed) c.write_request_header.ensures.same
+          ∙ c.new-peer.ensures.fresh.unread;
+      unsent = ap (λ (k : PeerSide g.row.L.Denot). k.send_failed) c.write_request_header.ensures.same
+          ∙ c.new-peer.ensures.fresh.unsent;
+    })
+    c.begin-exchange.result.duplex c.begin-exchange.ensures.fresh
+    (c.begin-exchange.ensures.sound
+    (client.state_of down.session down.told down.done down.finished down.broken) done)))
+
+pub returns-in-Err-clause-refused : goal.returns-in-Err-clause-refused
+returns-in-Err-clause-refused g c =
+    refused_as c.into_link.result c.in-Err.why _ c.in-Err.ensures.refused

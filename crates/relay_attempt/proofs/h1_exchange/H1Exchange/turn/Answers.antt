@@ -1,0 +1,21 @@
+-- A turn between both sides is one over all that passed, and that is an attempt.
+use Rattle.relay_attempt.proofs.OrderLemmas.{attempt_so_far}
+use Rattle.relay_attempt.proofs.TurnLemmas.{turned}
+use Rattle.relay_attempt.proofs.h1_exchange.H1Exchange.turn.Goals as goal
+
+pub returns-clause-goes : goal.returns-clause-goes
+returns-clause-goes g c =
+    λ s p under.
+    turned g.L.ByteLink.state g.L.ByteLink.start s (g.F.Front.state c.turn.new.client)
+    (g.F.Front.ahead c.turn.new.client) under.down under.up
+    (record { exchange = c.turn.new.self }) c.turn.result.step c.turn.ensures.bodies
+    (c.turn.ensures.goes s under.down under.up under.holds)
+
+pub returns-clause-attempt : goal.returns-clause-attempt
+returns-clause-attempt g c =
+    λ s p under.
+    let x = c.turn.new.self in
+    let went = c.turn.ensures.goes s under.down under.up under.holds in
+    attempt_so_far g.L.ByteLink.state g.L.ByteLink.start s went.p went.q
+    (g.F.Front.state c.turn.new.client) (g.F.Front.ahead c.turn.new.client) x.down x.up x.duplex
+    went.so_far

@@ -1,0 +1,135 @@
+-- An exchange so far over HTTP/1 links, and what a turn makes of it.
+use Rattle.std.specs.Prelude.{◌≡◌, ℕ, true, ◌⊎◌, ◌≤◌, List, [], Some}
+use Rattle.relay_tasks.specs.declared.error.Error.{Error}
+use Rattle.relay_tasks.specs.declared.error.Fail.TheVariants as fail
+use Rattle.relay_tasks.specs.Head.{RequestHead}
+use Rattle.relay_links.specs.Count.{Rose}
+use Rattle.relay_links.specs.Link.{LinkState, LinkStart}
+use Rattle.relay_links.specs.Told.{Since}
+use Rattle.relay_peer.specs.RequestWriting.{head_in}
+use Rattle.relay_session.specs.Reading.{head_of, is_body_done}
+use Rattle.relay_core.specs.Down.{DownState}
+use Rattle.relay_core.specs.Past.{Origin, DownPast, UpPast}
+use Rattle.relay_core.specs.Table.{State, core}
+use Rattle.relay_core.specs.declared.duplex.Duplex.{Duplex}
+use Rattle.relay_core.specs.declared.step.Step.{Step}
+use Rattle.relay_core.specs.declared.step.Step.TheVariants as step
+use Rattle.relay_sides.specs.Client.{HasPassed}
+use Rattle.relay_sides.specs.Client as client
+use Rattle.relay_sides.specs.Faults.{TellsSince}
+use Rattle.relay_sides.specs.Peer.{IsPeerSide, PeerBlames}
+use Rattle.relay_sides.specs.Peer as peer
+use Rattle.relay_sides.specs.declared.client_side.ClientSide.{ClientSide}
+use Rattle.relay_sides.specs.declared.peer_side.PeerSide.{PeerSide}
+use Rattle.relay_exchange.specs.Exchange.{IsSilentLink}
+use Rattle.relay_exchange.specs.Exchange as over
+use Rattle.relay_attempt.specs.declared.h1_exchange.H1Exchange.{H1Exchange}
+use Rattle.relay_attempt.specs.Head.{link_of, may_keep}
+use Rattle.relay_attempt.specs.Order.{IsInOrder, FailsFor, IsRelayed, Leaves, MayServe}
+use Rattle.relay_attempt.specs.Passed.{Passed}
+use Rattle.relay_attempt.specs.Valid.{IsValid}
+
+-- the past of the client's side holds
+abbrev pub DownHolds : LinkState → List ℕ → ClientSide → Origin → DownPast → Type 0
+DownHolds link ahead side s p =
+    HasPassed s p link ahead side.session side.done side.finished side.broken
+
+-- the state of the client's side
+abbrev pub down_state : ClientSide → DownState
+down_state side = client.state_of side.session side.told side.done side.finished side.broken
+
+module _ {L : Type 0} (state : L → LinkState) (start_at : L → LinkStart) where
+  -- the past of the peer's side holds
+  abbrev pub UpHolds : PeerSide L → Origin → UpPast → Type 0
+  UpHolds side s q =
+      IsPeerSide s (start_at side.client.link) (state side.client.link) side q
+
+  -- the peer's side answers for the error
+  abbrev pub Blames : PeerSide L → Origin → UpPast → Error → Type 0
+  Blames side s q e =
+      (head : RequestHead) × (head_in side.client.request.request ≡ Some head)
+      × PeerBlames (start_at side.client.link) (state side.client.link) head q e
+
+  -- the core of an exchange that moves bodies
+  abbrev pub core_of : Duplex → ClientSide → PeerSide L → State
+  core_of duplex down up = core duplex (down_state down) (peer.state_of up)
+
+  -- the exchange so far, over all that passed: what was sent and written is in order, and it is under
+  -- way between both sides
+  pub record IsUnderWay (s : Origin) (p : Passed) (link : LinkState) (ahead : List ℕ)
+      (x : H1Exchange L) : Type 0 where
+    pub order : IsInOrder s p (state (link_of x)).ended
+    pub down : DownPast
+    pub up : UpPast
+    pub came : down.came ≡ p.came
+    pub written : down.written ≡ p.written
+    pub got : up.got ≡ p.got
+    pub sent : up.sent ≡ p.sent
+    pub holds : over.IsUnderWay (DownHolds link ahead x.exchange.down s) (UpHolds x.exchange.up s)
+        (Blames x.exchange.up s) (core_of x.exchange.duplex x.exchange.down x.exchange.up) down up
+
+  -- what passed is told by both links, and the client's link tells its faults
+  pub record AreTold (s : Origin) (p : Passed) (link peer_link : LinkState) (start : LinkStart)
+      : Type 0 where
+    pub came : Since [] s.given link.given p.came
+    pub written : Since [] s.taken link.taken p.written
+    pub faults : s.faults ≤ link.faults
+    pub got : Since [] start.given peer_link.given p.got
+    pub sent : Since [] start.taken peer_link.taken p.sent
+    pub peer_faults : start.faults ≤ peer_link.faults
+    pub reused : start.reused ≡ s.reused
+    pub client_tells : TellsSince s.read_faults s.write_faults link
+
+  -- both directions were relayed, which leaves both links so
+  pub record IsFinished (s : Origin) (p : Passed) (ahead : List ℕ) (x : H1Exchange L) : Type 0 where
+    pub relayed : IsRelayed s p (state (link_of x)) (start_at (link_of x))
+    pub is_head : head_of x.exchange.down.session.reading ≡ Some s.head
+    pub leaves : Leaves s p (state (link_of x)).ended relayed.order ahead
+        (is_body_done x.exchange.down.session.reading) x.exchange.up.closes (may_keep x)
+    -- a link of which a call failed is not kept
+    pub faultless : may_keep x ≡ true
+        → (state (link_of x)).faults ≡ (start_at (link_of x)).faults
+    -- and one that may serve another request is, where none failed
+    pub keeps : MayServe s p (state (link_of x)).ended relayed.order
+        → ¬ (Rose (start_at (link_of x)).faults (state (link_of x)).faults)
+        → may_keep x ≡ true
+
+  -- it failed for a cause, which no valid exchange has
+  pub record IsFailed (s : Origin) (p : Passed) (link : LinkState) (x : H1Exchange L) (e : Error)
+      : Type 0 where
+    pub why : FailsFor s p link (state (link_of x)) (start_at (link_of x)) e
+    pub invalid : ¬ (IsValid s p link (state (link_of x)) (start_at (link_of x)))
+
+  -- what a turn made of it, by its answer: it goes on; both directions were relayed; or it failed,
+  -- for a cause
+  abbrev pub ComesTo : Origin → Passed → LinkState → List ℕ → H1Exchange L → Step → Type 0
+  ComesTo s p link ahead x step.Moved = IsUnderWay s p link ahead x
+  ComesTo s p link ahead x (step.Waited pause) = IsUnderWay s p link ahead x
+  ComesTo s p link ahead x step.Finished = IsFinished s p ahead x
+  ComesTo s p link ahead x (step.Failed (fail.Error e)) = IsFailed s p link x e
+  ComesTo s p link ahead x (step.Failed fail.OutOfMemory) =
+      IsInOrder s p (state (link_of x)).ended
+
+  -- a turn went on to this
+  pub record Turns (s : Origin) (link : LinkState) (ahead : List ℕ) (x : H1Exchange L) (result : Step)
+      : Type 0 where
+    pub passed : Passed
+    pub told : AreTold s passed link (state (link_of x)) (start_at (link_of x))
+    pub comes_to : ComesTo s passed link ahead x result
+
+  -- all that can be done asks a link that is silent on it: the write of the head, or each branch
+  -- that can be taken
+  abbrev pub SilentIn : LinkState → H1Exchange L → Type 0
+  SilentIn link x =
+      over.SilentIn x.exchange.stage (core_of x.exchange.duplex x.exchange.down x.exchange.up) link
+      (state (link_of x))
+
+  -- a link of the exchange is silent
+  abbrev pub IsSilent : LinkState → H1Exchange L → Type 0
+  IsSilent link x = IsSilentLink link ⊎ IsSilentLink (state (link_of x))
+
+  -- a turn met silence, and neither link changed
+  pub record MeetsSilence (before after : LinkState) (old new : H1Exchange L) : Type 0 where
+    pub silent : SilentIn after new
+    pub client_same : after ≡ before
+    pub peer_same : state (link_of new) ≡ state (link_of old)

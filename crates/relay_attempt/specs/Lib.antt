@@ -1,0 +1,6 @@
+pub mod Passed
+pub mod Order
+pub mod Valid
+pub mod Attempt
+pub mod Head
+pub mod Exchange

@@ -1,0 +1,148 @@
+//! One exchange between a client and an HTTP/1 link to a peer (RFC 9112, sections 6, 7 and 9.3).
+ghost use Rattle.std.specs.declared.alloc.Global.{Global};
+ghost use Rattle.std.specs.Prelude.{◌≡◌, ◌↔◌, Bool, ℕ, List, [], None, false, IfOk, IfErr};
+ghost use Rattle.relay_tasks.specs.Error.{IsMemoryOr};
+ghost use Rattle.relay_links.specs.Link.{LinkState, IsHandedOut};
+ghost use Rattle.relay_h1.specs.Framing.{request_framing};
+ghost use Rattle.relay_h1.specs.Verdict.{refused_from};
+ghost use Rattle.relay_core.specs.Asked.{WaitRose};
+ghost use Rattle.relay_core.specs.Causes.{says_failed};
+ghost use Rattle.relay_core.specs.Past.{Origin};
+ghost use Rattle.relay_sides.specs.Client.{BeginsBehind};
+ghost use Rattle.relay_attempt.specs.Passed.{Passed};
+ghost use Rattle.relay_attempt.specs.Head.{IsRefusedFor, link_of, may_keep};
+ghost use Rattle.relay_attempt.specs.Attempt.{DownHalf, IsAttempt, UpHalf};
+ghost use Rattle.relay_attempt.specs.Exchange.{IsUnderWay, Turns, MeetsSilence, IsSilent, down_state};
+
+use relay_core::Step;
+use relay_exchange::{Exchange, Turn};
+use relay_links::{ByteLink, Schedule};
+use relay_session::{Front, HttpSession};
+use relay_sides::{ClientSide, PeerSide};
+use relay_tasks::{Context, ErrorSource, Fail, Pause, RequestHeader};
+use std::alloc::Global;
+
+/// A request whose head was read, and its response, over one link to a peer.
+#[derive(Drop)]
+pub struct H1Exchange<L> {
+    pub(crate) exchange: Exchange<ClientSide, PeerSide<L>>,
+}
+
+/// An exchange that was not begun: the link, and why.
+pub struct Unbegun<L> {
+    pub link: L,
+    pub why: Fail,
+}
+
+impl<L: ByteLink> H1Exchange<L> {
+    /// An exchange for the session's request over that link, which was just handed out. `head` is
+    /// the head that is sent.
+    ///
+    /// `InvalidHTTPHeader` of the source `Internal`, about `BadFraming`: exactly where
+    /// `request_framing` refuses the head. Then, and where memory is wanted, the link comes back,
+    /// and the session is dropped.
+    pub fn begin(
+        alloc: Global,
+        session: HttpSession,
+        link: L,
+        head: RequestHeader,
+    ) -> std::result::Result<H1Exchange<L>, Unbegun<L>>
+        ensures begins { IfOk result (λ x. (s : Origin) (came : List ℕ) (client : LinkState)
+            (ahead : List ℕ) (reused : Bool) → head ≡ s.head
+            → BeginsBehind s came client ahead session
+            → IsHandedOut (L.state link) (L.start link) reused → s.reused ≡ reused
+            → IsUnderWay L.state L.start s
+            (record { came = came; written = []; got = []; sent = [] }) client ahead x) }
+        ensures session { IfOk result (λ x. x.exchange.down.session ≡ session) }
+        ensures over { IfOk result (λ x. link_of x ≡ link) }
+        ensures link { IfErr result (λ unbegun. unbegun.link ≡ link) }
+        ensures refused { IsRefusedFor result
+            (Fail.Error (refused_from ErrorSource.Internal Context.BadFraming))
+            ↔ (request_framing head ≡ None) }
+        ensures causes { IfErr result (λ unbegun.
+            IsMemoryOr (refused_from ErrorSource.Internal Context.BadFraming) unbegun.why) }
+    {
+        let mut peer = PeerSide::new(alloc, link);
+        match peer.write_request_header(head) {
+            Ok(()) => {
+                let body_done = session.is_body_done();
+                let client = ClientSide::new(alloc, session);
+                let exchange = Exchange::begin(alloc, client, body_done, peer);
+                Ok(H1Exchange { exchange })
+            }
+            Err(why) => Err(Unbegun {
+                link: peer.into_link(),
+                why,
+            }),
+        }
+    }
+
+    /// One turn, as in `Exchange::turn`: one write of the request's head, or one branch of the
+    /// duplex.
+    ///
+    /// `Finished`: the response was written whole, and the request was sent whole, or the peer took
+    /// no more of it. `Failed` with an error says why one of both failed: nothing more is written or
+    /// sent from then on. After `Finished` and `Failed` no turn is to follow.
+    pub fn turn<F: Front, H: Schedule>(&mut self, client: &mut F, schedule: &mut H) -> Turn
+        ensures goes { (s : Origin) (p : Passed)
+            → IsUnderWay L.state L.start s p (F.state client.old) (F.ahead client.old) self.old
+            → Turns L.state L.start s (F.state client.new) (F.ahead client.new) self.new
+            result.step }
+        // What passed is an attempt: each side was given the front of what the other put.
+        ensures attempt { (s : Origin) (p : Passed)
+            → IsUnderWay L.state L.start s p (F.state client.old) (F.ahead client.old) self.old
+            → IsAttempt (DownHalf s (F.state client.new) self.new.exchange.down.done)
+            (UpHalf s (L.start (link_of self.new)) (L.state (link_of self.new)))
+            (down_state self.new.exchange.down) }
+        // It waits only where a link answered so in this turn.
+        ensures waits { result.step ≡ Step.Waited Pause.NotReady
+            → WaitRose (F.state client.old) (F.state client.new)
+            (L.state (link_of self.old)) (L.state (link_of self.new)) }
+        ensures silent { result.step ≡ Step.Waited Pause.Silent
+            → IsSilent L.state L.start (F.state client.new) self.new }
+        // In silence all that can be done asks a link that is silent on it, and neither link changed.
+        ensures quiet { result.step ≡ Step.Waited Pause.Silent
+            → MeetsSilence L.state L.start (F.state client.old) (F.state client.new) self.old
+            self.new }
+        // A turn that does not fail leaves the count of the client's faults.
+        ensures calm { says_failed result.step ≡ false
+            → (F.state client.new).faults ≡ (F.state client.old).faults }
+        ensures client_start { F.start client.new ≡ F.start client.old }
+        ensures peer_start { L.start (link_of self.new) ≡ L.start (link_of self.old) }
+    {
+        self.exchange.turn(client, schedule)
+    }
+
+    /// The session of the request.
+    pub fn session(&self) -> &HttpSession
+        ensures { result.now ≡ self.now.exchange.down.session }
+    {
+        self.exchange.down().session()
+    }
+
+    /// Whether a final head of the response that was handed on asks for the connection to be closed
+    /// (RFC 9112, section 9.6).
+    pub fn asks_to_close(&self) -> bool
+        ensures { result ≡ self.now.exchange.up.closes }
+    {
+        self.exchange.up().asks_to_close()
+    }
+
+    /// Whether the link may be kept for a next request: not while the head is being sent, and then
+    /// where both the duplex and the peer's side say so.
+    pub fn may_keep(&self) -> bool
+        ensures { result ≡ may_keep self.now }
+    {
+        self.exchange.upstream_may_keep() && self.exchange.up().may_keep()
+    }
+}
+
+impl<L> H1Exchange<L> {
+    /// The link alone.
+    pub fn into_link(self) -> L
+        ensures { result ≡ link_of self }
+    {
+        let H1Exchange { exchange } = self;
+        exchange.into_up().into_link()
+    }
+}
