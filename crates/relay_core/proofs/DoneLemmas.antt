@@ -134,7 +134,8 @@ batch_ends d side side' tasks (Ok done) reading over =
     (upgrade_reads d (accepts side side') reading) over in (
       and_right (list_any is_end tasks) side'.upgraded both,
       or_inr d'.client_response.upstream_done (list_any is_end tasks || done)
-          (or_inl (list_any is_end tasks) done (and_left (list_any is_end tasks) side'.upgraded both)),
+          (or_inl (list_any is_end tasks) done
+          (and_left (list_any is_end tasks) side'.upgraded both)),
     )
 batch_ends d side side' tasks (Err why) reading over = clash _ reading over
 
@@ -267,7 +268,8 @@ piece_ends : (old new : State) (rest : List HttpTask) (piece : HttpTask)
 piece_ends old new rest piece answer is open_yet over =
     let d : Duplex = with_piece_sent (with_requests old.duplex rest) old.down.upgraded piece in
     let told : (old.duplex.upstream_response_done || ends_tunnel old.down.upgraded piece) ≡ true =
-    sym (ap (λ (x : Duplex). x.upstream_response_done) is ∙ (same_piece d answer).response) ∙ over in
+    sym (ap (λ (x : Duplex). x.upstream_response_done) is ∙ (same_piece d answer).response)
+    ∙ over in
     elim (or_cases old.duplex.upstream_response_done (ends_tunnel old.down.upgraded piece) told) [
       | inl before ↦ clash old.duplex.upstream_response_done before open_yet
       | inr here ↦ (let both = tunnel_piece old.down.upgraded piece here in record {

@@ -1,5 +1,5 @@
--- What went through the response pipe: what the upstream gave is what the client was given, what was
--- dropped and what is held.
+-- What went through the response pipe: what the upstream gave is what the client was given, what
+-- was dropped and what is held.
 use Rattle.std.proofs.Common.{◌≡◌, Bool, true, false, List, [], ◌∷◌, ◌++◌, Option, Some, None, refl, sym, ap, ◌∙◌, append-nil, append_assoc}
 use Rattle.std.specs.List.{list_any}
 use Rattle.relay_tasks.specs.declared.error.Error.{Error}

@@ -31,7 +31,7 @@ use Rattle.relay_core.specs.Past.{DownPast, UpPast, BatchGoes, put_in, task_in, 
 use Rattle.relay_core.specs.Pipe.{places, is_failure, is_empty}
 use Rattle.relay_core.specs.Sound.{Runs, ends_with}
 use Rattle.relay_core.specs.State.{is_response_done, is_reading, is_done}
-use Rattle.relay_core.specs.Steps.{StepsTo, with_requests, with_responses, UpWritesOn, DownWritesOn, UpTakesOn, LosesBatchOn, DownTakesOn, UpReadsOn, DownReadsOn, DownEndsOn}
+use Rattle.relay_core.specs.Steps.{StepsTo, with_requests, with_responses, UpWritesOn, DownWritesOn, UpTakes, UpTakesOn, LosesBatchOn, DownTakesOn, UpReads, UpReadsOn, DownReadsOn, DownEndsOn}
 use Rattle.relay_core.specs.Table.{State, core, enabled, down_runs, up_runs, is_failed, is_finished, failed, after_up_write, step_of_up_write, after_down_write, step_of_down_write, after_piece, with_piece_sent, step_of_up_take, after_batch, step_of_batch, after_up_read, step_of_up_read, told_error, after_down_read, step_of_down_read, custom_error, step_of_up_finish, step_of_half, step_of_down_finish}
 use Rattle.relay_core.specs.Up.{UpState, ReadsTask}
 use Rattle.relay_core.proofs.BoolLemmas.{decide, clash, and_left, and_right, or_right, or_inl, or_inr, or_cases, or_false, or-true, not_true}
@@ -495,9 +495,11 @@ extends_then p p' p'' q q' q'' a b = record {
   put = a.put ++ b.put;
   is_put = joined p.put a.put b.put p'.put p''.put a.is_put b.is_put;
   batched = a.batched ++ b.batched;
-  is_batched = joined p.batched a.batched b.batched p'.batched p''.batched a.is_batched b.is_batched;
+  is_batched =
+      joined p.batched a.batched b.batched p'.batched p''.batched a.is_batched b.is_batched;
   closing = a.closing ++ b.closing;
-  is_closing = joined p.closing a.closing b.closing p'.closing p''.closing a.is_closing b.is_closing;
+  is_closing =
+      joined p.closing a.closing b.closing p'.closing p''.closing a.is_closing b.is_closing;
   read = a.read ++ b.read;
   is_read = joined q.read a.read b.read q'.read q''.read a.is_read b.is_read;
   taken = a.taken ++ b.taken;
@@ -510,6 +512,11 @@ extends_then p p' p'' q q' q'' a b = record {
         two ∙ ap (λ (l : List HttpTask). l ++ last) one ∙ append_assoc xs more last
 
 -- ---- the branches, over what both sides then mean
+
+-- what can be taken can be taken by its name
+pub taken : (s : State) (b named : Branch) → b ≡ named → enabled s b ≡ true
+    → enabled s named ≡ true
+taken s b named is on = let On : Branch → Type 0 = λ b. enabled s b ≡ true in subst On is on
 
 module _
     (holds : DownPast → Type 0) (down_blames : DownPast → Error → Type 0)
@@ -564,8 +571,8 @@ module _
       → (new.down.upgraded ≡ false → Steady new p')
       → (is_failed new.duplex.word ≡ false → new.down.upgraded ≡ false → Ordinary new p' q')
       → Marks new q' → SoFar dp up ub old p q → SoFar holds up_holds up_blames new p' q'
-  quiet dp up ub b old new result p p' q q' on by leaves put batched read taken down_stands up_stands
-      keeps kept steady ordinary marks f =
+  quiet dp up ub b old new result p p' q q' on by leaves put batched read taken down_stands
+      up_stands keeps kept steady ordinary marks f =
       record {
         down = down_stands;
         up = up_stands;
@@ -602,8 +609,8 @@ module _
       goes_by branch.UpWrite old new result on by p q p g.past
       (extends_up p q g.past [] [] (more_none _ _ g.is_read) (more_none _ _ g.is_taken))
       (quiet holds up ub branch.UpWrite old new result p p q g.past on by
-      (leaves_at _ _ _ w.duplex (leaves_up_write old.duplex w.answer)) refl refl g.is_read g.is_taken
-      f.down g.stands g.keeps
+      (leaves_at _ _ _ w.duplex (leaves_up_write old.duplex w.answer)) refl refl g.is_read
+      g.is_taken f.down g.stands g.keeps
       (λ e h. kept_write (up_blames g.past) old.duplex w.answer
       (λ e h. g.keeps e (f.send_error e h)) g.blamed e
       (sym (ap (λ (d : Duplex). d.send_error) w.duplex) ∙ h))
@@ -655,13 +662,13 @@ module _
       (down_write_error w.answer) h)))
 
   -- a piece went to the upstream
-  pub goes_up_take : (up : UpPast → Type 0) (ub : UpPast → Error → Type 0) (old new : State)
+  goes_up_take_so : (up : UpPast → Type 0) (ub : UpPast → Error → Type 0) (old new : State)
       (result : Step) (p : DownPast) (q : UpPast) → enabled old branch.UpTake ≡ true
       → StepsTo branch.UpTake old new result
       → UpTakesOn up_holds ub up_blames q old.down.upgraded old.duplex old.up new.duplex new.up
       result → SoFar holds up ub old p q
       → Goes holds down_blames refuses cannot_end up_holds up_blames p q new result
-  goes_up_take up ub old new result p q on by w f =
+  goes_up_take_so up ub old new result p q on by w f =
       let d = old.duplex in
       let g = w.goes in
       let alive = enabled_sound branch.UpTake old on in
@@ -705,6 +712,21 @@ module _
             w.takes leaves.ended g.is_read f.marks;
       })
       (λ e h. no_error result (step_of_up_take w.answer) e w.step (up_take_error w.answer) h)
+
+  -- a piece went to the upstream, in a tunnel or not
+  pub goes_up_take : (up : UpPast → Type 0) (ub : UpPast → Error → Type 0) (old new : State)
+      (result : Step) (p : DownPast) (q : UpPast) → enabled old branch.UpTake ≡ true
+      → (tunnel : Bool) → tunnel ≡ old.down.upgraded
+      → UpTakes tunnel old.duplex old.up new.duplex new.up result → new.down ≡ old.down
+      → UpTakesOn up_holds ub up_blames q tunnel old.duplex old.up new.duplex new.up result
+      → SoFar holds up ub old p q
+      → Goes holds down_blames refuses cannot_end up_holds up_blames p q new result
+  goes_up_take up ub old new result p q on tunnel is does down w f =
+      let T : Bool → Type 0 = λ b. UpTakes b old.duplex old.up new.duplex new.up result in
+      let W : Bool → Type 0 = λ b.
+      UpTakesOn up_holds ub up_blames q b old.duplex old.up new.duplex new.up result in
+      goes_up_take_so up ub old new result p q on (record { does = subst T is does; down = down })
+      (subst W is w) f
 
   -- a task of the response was dropped
   pub goes_down_drop : (old new : State) (result : Step) (p : DownPast) (q : UpPast)
@@ -798,13 +820,13 @@ module _
       (λ e h. no_error result step.Moved e w.step refl h)
 
   -- one read of the upstream
-  pub goes_up_read : (up : UpPast → Type 0) (ub : UpPast → Error → Type 0) (old new : State)
+  goes_up_read_so : (up : UpPast → Type 0) (ub : UpPast → Error → Type 0) (old new : State)
       (result : Step) (p : DownPast) (q : UpPast) → enabled old branch.UpRead ≡ true
       → StepsTo branch.UpRead old new result
       → UpReadsOn up_holds ub up_blames q old.down.upgraded old.duplex old.up new.duplex new.up
       result → SoFar holds up ub old p q
       → Goes holds down_blames refuses cannot_end up_holds up_blames p q new result
-  goes_up_read up ub old new result p q on by w f =
+  goes_up_read_so up ub old new result p q on by w f =
       let d = old.duplex in
       let g = w.goes in
       let tunnel = old.down.upgraded in
@@ -854,6 +876,21 @@ module _
             (f.unended (unread old on)) g.is_read f.marks;
       })
       (λ e h. no_error result (step_of_up_read w.answer) e w.step (up_read_error w.answer) h)
+
+  -- one read of the upstream, in a tunnel or not
+  pub goes_up_read : (up : UpPast → Type 0) (ub : UpPast → Error → Type 0) (old new : State)
+      (result : Step) (p : DownPast) (q : UpPast) → enabled old branch.UpRead ≡ true
+      → (tunnel : Bool) → tunnel ≡ old.down.upgraded
+      → UpReads tunnel old.duplex old.up new.duplex new.up result → new.down ≡ old.down
+      → UpReadsOn up_holds ub up_blames q tunnel old.duplex old.up new.duplex new.up result
+      → SoFar holds up ub old p q
+      → Goes holds down_blames refuses cannot_end up_holds up_blames p q new result
+  goes_up_read up ub old new result p q on tunnel is does down w f =
+      let T : Bool → Type 0 = λ b. UpReads b old.duplex old.up new.duplex new.up result in
+      let W : Bool → Type 0 = λ b.
+      UpReadsOn up_holds ub up_blames q b old.duplex old.up new.duplex new.up result in
+      goes_up_read_so up ub old new result p q on (record { does = subst T is does; down = down })
+      (subst W is w) f
 
   -- one read of the client
   pub goes_down_read : (dp : DownPast → Type 0) (old new : State) (result : Step) (p : DownPast)
@@ -1044,8 +1081,8 @@ module _
         steady = λ plain. steady_of new g.past q (ordinary plain);
         ordinary = λ now plain. ordinary plain;
         marks =
-            let keeps = keep_at _ _ _ is (keep_batch mid old.down new.down (batch_of held) (Ok done))
-            in
+            let keeps = keep_at _ _ _ is
+            (keep_batch mid old.down new.down (batch_of held) (Ok done)) in
             marks_same old new q q (record { kind = keeps.kind; sends = keeps.sends }) by.up
             leaves.ended refl f.marks;
       })
@@ -1092,8 +1129,9 @@ module _
             (f.ordinary alive (not_before old.down.upgraded new.down.upgraded takes.upgraded_stays
             plain));
         ordinary = λ now plain. clash true refl (alive_then new.duplex (failed mid) is now);
-        marks = marks_same old new q q (keep_at _ _ _ is (record { kind = refl; sends = refl })) by.up
-            leaves.ended refl f.marks;
+        marks = marks_same old new q q
+            (keep_at _ _ _ is (record { kind = refl; sends = refl })) by.up leaves.ended refl
+            f.marks;
       })
       (λ e h. let fails : step.Failed why ≡ step.Failed (fail.Error e) = sym same ∙ h in
       inr (blamed e cc)) in

@@ -1,4 +1,5 @@
--- Without a failure and without a tunnel, what is done is done for its cause, whatever step is taken.
+-- Without a failure and without a tunnel, what is done is done for its cause, whatever step is
+-- taken.
 use Rattle.std.proofs.Common.{◌≡◌, Bool, true, false, ◌&&◌, ◌||◌, not, if◌then◌else◌, List, [], ◌∷◌, ◌++◌, option_to_list, Option, Some, None, Result, Ok, Err, refl, sym, ap, ◌∙◌, subst, inl, inr, ◌⊎◌, append_assoc, append-nil, ◌==◌, length, arith}
 use Rattle.std.specs.List.{list_any}
 use Rattle.relay_tasks.specs.declared.error.Error.{Error}
@@ -100,7 +101,8 @@ pub ordinary_up_write : (d : Duplex) (side : DownState) (u u' : UpState) (answer
     (p : DownPast) (q : UpPast) → d.upstream_finished ≡ false → Ordinary (core d side u) p q
     → is_failed (after_up_write d answer).word ≡ false
     → Ordinary (core (after_up_write d answer) side u') p q
-ordinary_up_write d side u u' (put.Took n) p q runs o alive = ordinary_written d side u u' p q runs o
+ordinary_up_write d side u u' (put.Took n) p q runs o alive =
+    ordinary_written d side u u' p q runs o
 ordinary_up_write d side u u' put.NotReady p q runs o alive =
     ordinary_written d side u u' p q runs o
 ordinary_up_write d side u u' put.Silent p q runs o alive = ordinary_written d side u u' p q runs o
@@ -138,32 +140,28 @@ ordinary_side d side side' u p q runs same o = record {
   closed = o.closed;
 }
 
-same_ends : (old new : DownState) → new ≡ old → SameEnds old new
-same_ends old new is = record {
-  request = ap (λ (s : DownState). s.request_ended) is;
-  response = ap (λ (s : DownState). s.response_done) is;
+-- a side that became one with the same ends keeps them
+ends_of : (old mid new : DownState) → new ≡ mid → mid.request_ended ≡ old.request_ended
+    → mid.response_done ≡ old.response_done → SameEnds old new
+ends_of old mid new is request response = record {
+  request = ap (λ (s : DownState). s.request_ended) is ∙ request;
+  response = ap (λ (s : DownState). s.response_done) is ∙ response;
 }
 
+-- a side that stayed as it was keeps its ends
+same_ends : (old new : DownState) → new ≡ old → SameEnds old new
+same_ends old new is = ends_of old old new is refl refl
+
+-- a write to the client leaves both ends
 down_writes_ends : (old new : DownState) (answer : Put) → down.Writes old new answer
     → SameEnds old new
-down_writes_ends old new (put.Took n) is = record {
-  request = ap (λ (s : DownState). s.request_ended) is;
-  response = ap (λ (s : DownState). s.response_done) is;
-}
-down_writes_ends old new put.NotReady is = record {
-  request = ap (λ (s : DownState). s.request_ended) is;
-  response = ap (λ (s : DownState). s.response_done) is;
-}
-down_writes_ends old new put.Silent is = record {
-  request = ap (λ (s : DownState). s.request_ended) is;
-  response = ap (λ (s : DownState). s.response_done) is;
-}
-down_writes_ends old new (put.Failed fault) is = record {
-  request = ap (λ (s : DownState). s.request_ended) is;
-  response = ap (λ (s : DownState). s.response_done) is;
-}
+down_writes_ends old new (put.Took n) is = ends_of old _ new is refl refl
+down_writes_ends old new put.NotReady is = ends_of old _ new is refl refl
+down_writes_ends old new put.Silent is = ends_of old _ new is refl refl
+down_writes_ends old new (put.Failed fault) is = ends_of old _ new is refl refl
 down_writes_ends old new put.OutOfMemory is = same_ends old new is
 
+-- one write to the client
 pub ordinary_down_write : (d : Duplex) (side side' : DownState) (u : UpState) (answer : Put)
     (p : DownPast) (q : UpPast) → d.client_finished ≡ false → down.Writes side side' answer
     → Ordinary (core d side u) p q → is_failed (after_down_write d answer).word ≡ false
@@ -299,8 +297,8 @@ ordinary_given : (d : Duplex) (accepted upgraded done : Bool) (side side' : Down
     → Ordinary (core (with_request_done (with_response_done
     (with_upgrade (with_responses d rest) accepted) (list_any is_end batch || done))
     (list_any is_end batch && upgraded)) side' u) p' q
-ordinary_given d true upgraded done side side' u batch rest p p' q once plain runs open_yet ended said
-    is_put is_batched is_closing o = clash true refl once
+ordinary_given d true upgraded done side side' u batch rest p p' q once plain runs open_yet ended
+    said is_put is_batched is_closing o = clash true refl once
 ordinary_given d false upgraded done side side' u batch rest p p' q once plain runs open_yet ended
     said is_put is_batched is_closing o = record {
       ends_last = let P : List HttpTask → Type 0 = λ xs. EndsLast xs in
@@ -329,7 +327,8 @@ ordinary_given d false upgraded done side side' u batch rest p p' q once plain r
                 (and_both d.client_response.upstream_done d.client_response.cached_done before
                 (and_right _ d.client_response.cached_done h)) open_yet
             | inr now ↦ elim (or_cases (list_any is_end batch) done now) [
-              | inl end ↦ inl (ap (list_any is_end) is_batched ∙ any_right is_end p.batched batch end)
+              | inl end ↦ inl (ap (list_any is_end) is_batched
+                  ∙ any_right is_end p.batched batch end)
               | inr told ↦ inr (said ∙ told)
             ]
           ];
@@ -490,8 +489,8 @@ ordinary_piece : (d : Duplex) (tunnel : Bool) (side side' : DownState) (u : UpSt
     → d.client_finished ≡ false → GivesPiece side side' piece
     → p'.put ≡ p.put ++ put_of tunnel piece → p'.batched ≡ p.batched → p'.closing ≡ p.closing
     → Ordinary (core d side u) p q → Ordinary (core (with_piece_read d tunnel piece) side' u) p' q
-ordinary_piece d true side side' u piece p p' q same plain runs gives is_put is_batched is_closing o =
-    clash true refl plain
+ordinary_piece d true side side' u piece p p' q same plain runs gives is_put is_batched is_closing
+    o = clash true refl plain
 ordinary_piece d false side side' u piece p p' q same plain runs gives is_put is_batched is_closing
     o =
     let stops : side.request_ended ≡ true → put_of false piece ≡ [] =
@@ -582,11 +581,8 @@ ordinary_down_read d side side' u took.More p p' q plain runs reads is_put is_ba
     is_closing o
 ordinary_down_read d side side' u (took.Waited why) p p' q plain runs reads is_put is_batched
     is_closing o alive =
-    ordinary_idle d side side' u p p' q runs
-    (record {
-      request = ap (λ (s : DownState). s.request_ended) reads;
-      response = ap (λ (s : DownState). s.response_done) reads;
-    }) is_put is_batched is_closing o
+    ordinary_idle d side side' u p p' q runs (ends_of side _ side' reads refl refl) is_put
+    is_batched is_closing o
 ordinary_down_read d side side' u took.End p p' q plain runs reads is_put is_batched is_closing o
     alive = absurd reads
 ordinary_down_read d side side' u (took.Failed why) p p' q plain runs reads is_put is_batched
@@ -643,8 +639,37 @@ ordinary_up_finish d side u None p q open_yet through quiet r o alive =
       closed = o.closed;
     }
 
--- the client's half, with its request and its response done, ended the response's body: with nothing
--- pending it finished
+-- the client's half, with its response done, asked for the end of the response's body
+ordinary_ended : (d : Duplex) (side side' : DownState) (u : UpState) (p p' : DownPast)
+    (q : UpPast) → d.client_finished ≡ false → is_response_done d.client_response ≡ true
+    → SameEnds side side' → p'.put ≡ p.put → p'.batched ≡ p.batched → Ordinary (core d side u) p q
+    → Ordinary (core d side' u) p' q
+ordinary_ended d side side' u p p' q runs response same is_put is_batched o =
+    let w = ordinary_side d side side' u p q runs same o in
+    record {
+      ends_last = let P : List HttpTask → Type 0 = λ xs. EndsLast xs in
+          subst P (sym is_put) w.ends_last;
+      ended = λ h. w.ended (ap (list_any is_end) (sym is_put) ∙ h);
+      request_done = w.request_done;
+      unlost = w.unlost;
+      whole = w.whole;
+      put_end = λ h. elim (w.put_end h) [
+        | inl end ↦ inl (ap (list_any is_end) is_put ∙ end)
+        | inr over ↦ inr over
+      ];
+      taken_end = w.taken_end;
+      sent = w.sent;
+      through = w.through;
+      answered = λ h. elim (w.answered h) [
+        | inl given ↦ inl (ap (list_any is_end) is_batched ∙ given)
+        | inr told ↦ inr told
+      ];
+      client_done = w.client_done;
+      closed = inr response;
+    }
+
+-- the client's half, with its request and its response done, ended the response's body: with
+-- nothing pending it finished
 pub ordinary_down_finish : (d : Duplex) (side side' : DownState) (u : UpState) (pending : Bool)
     (answer : Result Unit Fail) (p p' : DownPast) (q : UpPast) → side'.pending ≡ pending
     → d.client_finished ≡ false → is_reading d.client_request ≡ false
@@ -658,63 +683,25 @@ ordinary_down_finish d side side' u false (Err why) p p' q is runs request respo
     is_batched o alive = clash true refl alive
 ordinary_down_finish d side side' u true (Ok done) p p' q is runs request response ends is_put
     is_batched o alive =
-    let ended : side'.request_ended ≡ side.request_ended =
-    ap (λ (s : DownState). s.request_ended) ends.exact in
-    let said : side'.response_done ≡ side.response_done =
-    ap (λ (s : DownState). s.response_done) ends.exact in
-    record {
-      ends_last = let P : List HttpTask → Type 0 = λ xs. EndsLast xs in
-          subst P (sym is_put) o.ends_last;
-      ended = λ h. ended ∙ o.ended (ap (list_any is_end) (sym is_put) ∙ h);
-      request_done = λ h. elim (o.request_done h) [
-        | inl over ↦ inl (ended ∙ over)
-        | inr closed ↦ inr closed
-      ];
-      unlost = o.unlost;
-      whole = λ h over. let w = o.whole h over in (w.0, ended ∙ w.1);
-      put_end = λ h. elim (o.put_end (sym ended ∙ h)) [
-        | inl end ↦ inl (ap (list_any is_end) is_put ∙ end)
-        | inr over ↦ inr over
-      ];
-      taken_end = λ h none. o.taken_end (sym ended ∙ h) none;
-      sent = λ h fin. let w = o.sent h fin in (w.0, ended ∙ w.1, w.2);
-      through = o.through;
-      answered = λ h. elim (o.answered h) [
-        | inl given ↦ inl (ap (list_any is_end) is_batched ∙ given)
-        | inr told ↦ inr (said ∙ told)
-      ];
-      client_done = λ fin. clash d.client_finished fin runs;
-      closed = inr response;
-    }
+    ordinary_ended d side side' u p p' q runs response (ends_of side _ side' ends.exact refl refl)
+    is_put is_batched o
 ordinary_down_finish d side side' u false (Ok done) p p' q is runs request response ends is_put
     is_batched o alive =
-    let ended : side'.request_ended ≡ side.request_ended =
-    ap (λ (s : DownState). s.request_ended) ends.exact in
-    let said : side'.response_done ≡ side.response_done =
-    ap (λ (s : DownState). s.response_done) ends.exact in
+    let w = ordinary_ended d side side' u p p' q runs response
+    (ends_of side _ side' ends.exact refl refl) is_put is_batched o in
     record {
-      ends_last = let P : List HttpTask → Type 0 = λ xs. EndsLast xs in
-          subst P (sym is_put) o.ends_last;
-      ended = λ h. ended ∙ o.ended (ap (list_any is_end) (sym is_put) ∙ h);
-      request_done = λ h. elim (o.request_done h) [
-        | inl over ↦ inl (ended ∙ over)
-        | inr closed ↦ inr closed
-      ];
-      unlost = o.unlost;
-      whole = λ h over. let w = o.whole h over in (w.0, ended ∙ w.1);
-      put_end = λ h. elim (o.put_end (sym ended ∙ h)) [
-        | inl end ↦ inl (ap (list_any is_end) is_put ∙ end)
-        | inr over ↦ inr over
-      ];
-      taken_end = λ h none. o.taken_end (sym ended ∙ h) none;
-      sent = λ h fin. let w = o.sent h fin in (w.0, ended ∙ w.1, w.2);
+      ends_last = w.ends_last;
+      ended = w.ended;
+      request_done = w.request_done;
+      unlost = w.unlost;
+      whole = w.whole;
+      put_end = w.put_end;
+      taken_end = w.taken_end;
+      sent = w.sent;
       through = λ fin. inr refl;
-      answered = λ h. elim (o.answered h) [
-        | inl given ↦ inl (ap (list_any is_end) is_batched ∙ given)
-        | inr told ↦ inr (said ∙ told)
-      ];
+      answered = w.answered;
       client_done = λ fin. (request, response, is);
-      closed = inr response;
+      closed = w.closed;
     }
 
 -- ---- whether a half failed or not

@@ -188,11 +188,14 @@ ended_after d batch rest done b u c parts r tunnel h =
           d.client_response.cached_done before)
       | inr other ↦ elim (or_cases (ends_with d.responses.tasks) (u && d.upstream_request_done)
           other) [
-            | inl last ↦ elim (ends_in_parts false batch rest (ap (λ (xs : List HttpTask). ends_with xs)
-                parts ∙ last)) [
+            | inl last ↦ elim (ends_in_parts false batch rest
+                (ap (λ (xs : List HttpTask). ends_with xs) parts ∙ last)) [
                   | inl behind ↦ or_inr (now && d.client_response.cached_done) (ends_with rest || c)
                       (or_inl (ends_with rest) c behind)
-                  | inr first ↦ elim first [ inl never ↦ clash false never refl | inr end ↦ by_end end ]
+                  | inr first ↦ elim first [
+                    | inl never ↦ clash false never refl
+                    | inr end ↦ by_end end
+                  ]
                 ]
             | inr ended ↦ or_inr (now && d.client_response.cached_done) (ends_with rest || c)
                 (or_inr (ends_with rest) c (tunnel ended))
@@ -380,42 +383,32 @@ pub record SameBody (old new : DownState) : Type 0 where
   pub body : new.body_done ≡ old.body_done
   pub upgraded : new.upgraded ≡ old.upgraded
 
-same_body : (old new : DownState) → new ≡ old → SameBody old new
-same_body old new is = record {
-  body = ap (λ (s : DownState). s.body_done) is;
-  upgraded = ap (λ (s : DownState). s.upgraded) is;
+-- a side that became one with the same body and upgrade keeps them
+body_of : (old mid new : DownState) → new ≡ mid → mid.body_done ≡ old.body_done
+    → mid.upgraded ≡ old.upgraded → SameBody old new
+body_of old mid new is body upgraded = record {
+  body = ap (λ (s : DownState). s.body_done) is ∙ body;
+  upgraded = ap (λ (s : DownState). s.upgraded) is ∙ upgraded;
 }
 
+-- a side that stayed as it was keeps both
+same_body : (old new : DownState) → new ≡ old → SameBody old new
+same_body old new is = body_of old old new is refl refl
+
+-- a write to the client leaves both
 pub down_writes_body : (old new : DownState) (answer : Put) → down.Writes old new answer
     → SameBody old new
-down_writes_body old new (put.Took n) is = record {
-  body = ap (λ (s : DownState). s.body_done) is;
-  upgraded = ap (λ (s : DownState). s.upgraded) is;
-}
-down_writes_body old new put.NotReady is = record {
-  body = ap (λ (s : DownState). s.body_done) is;
-  upgraded = ap (λ (s : DownState). s.upgraded) is;
-}
-down_writes_body old new put.Silent is = record {
-  body = ap (λ (s : DownState). s.body_done) is;
-  upgraded = ap (λ (s : DownState). s.upgraded) is;
-}
-down_writes_body old new (put.Failed fault) is = record {
-  body = ap (λ (s : DownState). s.body_done) is;
-  upgraded = ap (λ (s : DownState). s.upgraded) is;
-}
+down_writes_body old new (put.Took n) is = body_of old _ new is refl refl
+down_writes_body old new put.NotReady is = body_of old _ new is refl refl
+down_writes_body old new put.Silent is = body_of old _ new is refl refl
+down_writes_body old new (put.Failed fault) is = body_of old _ new is refl refl
 down_writes_body old new put.OutOfMemory is = same_body old new is
 
+-- the end of the response's body leaves both
 pub down_ends_body : (old new : DownState) (answer : Result Unit Fail) → Finishes old new answer
     → SameBody old new
-down_ends_body old new (Ok done) ends = record {
-  body = ap (λ (s : DownState). s.body_done) ends.exact;
-  upgraded = ap (λ (s : DownState). s.upgraded) ends.exact;
-}
-down_ends_body old new (Err why) is = record {
-  body = ap (λ (s : DownState). s.body_done) is;
-  upgraded = ap (λ (s : DownState). s.upgraded) is;
-}
+down_ends_body old new (Ok done) ends = body_of old _ new ends.exact refl refl
+down_ends_body old new (Err why) is = body_of old _ new is refl refl
 
 -- what holds after the effect of a branch holds of the new state
 runs_then : (wanted : Duplex) (old new : State) → new.duplex ≡ wanted

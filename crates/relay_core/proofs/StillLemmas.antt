@@ -172,10 +172,11 @@ half_moves false = refl
 
 up_finish_moves : (d : Duplex) (why : UpKind)
     → waits (step_of_up_finish d (custom_error why d.send_error)) ≡ false
-up_finish_moves d why = elim (custom_error why d.send_error) as (λ kept. waits (step_of_up_finish d kept) ≡ false) [
-  | None ↦ half_moves d.client_finished
-  | Some error ↦ refl
-]
+up_finish_moves d why = by_kept (custom_error why d.send_error)
+  where
+    by_kept : (kept : Option Error) → waits (step_of_up_finish d kept) ≡ false
+    by_kept None = half_moves d.client_finished
+    by_kept (Some error) = refl
 
 down_finish_moves : (d : Duplex) (pending : Bool) (answer : Result Unit Fail)
     → waits (step_of_down_finish d pending answer) ≡ false

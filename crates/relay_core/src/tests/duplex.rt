@@ -200,11 +200,11 @@ fn has_failure(tasks: &TaskList) -> bool
 
 /// Keeps the tasks behind the others, unless one is a failure.
 fn keep(batches: &mut Vec<TaskList>, tasks: TaskList) -> bool
-    ensures kept { IsTrue result
-        → flat_map (λ batch. batch) batches.new.items ≡ flat_map (λ batch. batch) batches.old.items ++ tasks }
+    ensures kept { IsTrue result → flat_map (λ batch. batch) batches.new.items
+        ≡ flat_map (λ batch. batch) batches.old.items ++ tasks }
     ensures plain { IsTrue result → list_any is_failure tasks ≡ false }
-    ensures same { result ≡ false
-        → flat_map (λ batch. batch) batches.new.items ≡ flat_map (λ batch. batch) batches.old.items ++ [] }
+    ensures same { result ≡ false → flat_map (λ batch. batch) batches.new.items
+        ≡ flat_map (λ batch. batch) batches.old.items ++ [] }
 {
     if has_failure(&tasks) {
         return false;
