@@ -34,6 +34,7 @@ pub record SameEnds (d d' : Duplex) : Type 0 where
   pub request : d'.client_request ≡ d.client_request
   pub response : d'.upstream_response_done ≡ d.upstream_response_done
 
+-- a write to the upstream leaves what is done
 same_up_write : (d : Duplex) (answer : Put) → SameEnds d (after_up_write d answer)
 same_up_write d (put.Took n) = record { request = refl; response = refl }
 same_up_write d put.NotReady = record { request = refl; response = refl }
@@ -41,6 +42,7 @@ same_up_write d put.Silent = record { request = refl; response = refl }
 same_up_write d (put.Failed fault) = record { request = refl; response = refl }
 same_up_write d put.OutOfMemory = record { request = refl; response = refl }
 
+-- so does a write to the client
 same_down_write : (d : Duplex) (answer : Put) → SameEnds d (after_down_write d answer)
 same_down_write d (put.Took n) = record { request = refl; response = refl }
 same_down_write d put.NotReady = record { request = refl; response = refl }
@@ -48,15 +50,18 @@ same_down_write d put.Silent = record { request = refl; response = refl }
 same_down_write d (put.Failed fault) = record { request = refl; response = refl }
 same_down_write d put.OutOfMemory = record { request = refl; response = refl }
 
+-- and the answer on a piece
 same_piece : (d : Duplex) (answer : Result Unit Fail) → SameEnds d (after_piece d answer)
 same_piece d (Ok done) = record { request = refl; response = refl }
 same_piece d (Err (fail.Error error)) = record { request = refl; response = refl }
 same_piece d (Err fail.OutOfMemory) = record { request = refl; response = refl }
 
+-- and the end of the upstream half
 same_up_finish : (d : Duplex) (why : Option Error) → SameEnds d (after_up_finish d why)
 same_up_finish d None = record { request = refl; response = refl }
 same_up_finish d (Some error) = record { request = refl; response = refl }
 
+-- and the end of the response's body
 same_down_finish : (d : Duplex) (pending : Bool) (answer : Result Unit Fail)
     → SameEnds d (after_down_finish d pending answer)
 same_down_finish d true (Ok done) = record { request = refl; response = refl }
@@ -89,6 +94,7 @@ response_upgrade : (d : Duplex) (accepted : Bool)
 response_upgrade d true = refl
 response_upgrade d false = refl
 
+-- a batch leaves the upstream's response
 response_batch : (d : Duplex) (side side' : DownState) (tasks : List HttpTask)
     (answer : Result Bool Fail)
     → (after_batch d side tasks side' answer).upstream_response_done ≡ d.upstream_response_done
@@ -116,6 +122,7 @@ reset_reads Reading reading = refl
 reset_reads ReadingFinished reading = refl
 reset_reads Errored reading = reading
 
+-- a request that is read is read after a 101 too
 upgrade_reads : (d : Duplex) (accepted : Bool) → is_reading d.client_request ≡ true
     → is_reading (with_upgrade d accepted).client_request ≡ true
 upgrade_reads d true reading = reset_reads d.client_request reading

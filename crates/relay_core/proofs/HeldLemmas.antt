@@ -20,6 +20,7 @@ pub record Plain (read batched held : List HttpTask) (over ended : Bool) : Type 
   pub none_dropped : over ≡ false → dropped ≡ []
   pub none_failed : ended ≡ false → failure ≡ None
 
+-- where no half failed, no failure was refused
 pub plainly : (read batched held : List HttpTask) (over ended : Bool)
     → ResponseHeld read batched held false over ended → Plain read batched held over ended
 plainly read batched held over ended r =

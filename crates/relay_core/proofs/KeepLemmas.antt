@@ -51,6 +51,7 @@ use Rattle.relay_core.proofs.TaskLemmas.{none_left, alone_or_plain, alone_part, 
 up_open : (d : Duplex) → up_runs d ≡ true → d.upstream_finished ≡ false
 up_open d runs = not_true d.upstream_finished (and_left (not d.upstream_finished) _ runs)
 
+-- a client's half that goes on has not finished
 down_open : (d : Duplex) → down_runs d ≡ true → d.client_finished ≡ false
 down_open d runs = not_true d.client_finished (and_left (not d.client_finished) _ runs)
 
@@ -109,6 +110,7 @@ step_error (step.Waited pause) = None
 step_error step.Finished = None
 step_error (step.Failed why) = error_of_fail why
 
+-- a write to the upstream fails with no error
 up_write_error : (answer : Put) → step_error (step_of_up_write answer) ≡ None
 up_write_error (put.Took n) = refl
 up_write_error put.NotReady = refl
@@ -116,6 +118,7 @@ up_write_error put.Silent = refl
 up_write_error (put.Failed fault) = refl
 up_write_error put.OutOfMemory = refl
 
+-- a write to the client fails with the error of its fault
 down_write_error : (answer : Put)
     → step_error (step_of_down_write answer) ≡ error_of_put Downstream answer
 down_write_error (put.Took n) = refl
@@ -124,11 +127,13 @@ down_write_error put.Silent = refl
 down_write_error (put.Failed fault) = refl
 down_write_error put.OutOfMemory = refl
 
+-- a piece for the upstream fails with no error
 up_take_error : (answer : Result Unit Fail) → step_error (step_of_up_take answer) ≡ None
 up_take_error (Ok done) = refl
 up_take_error (Err (fail.Error error)) = refl
 up_take_error (Err fail.OutOfMemory) = refl
 
+-- so does a read of the upstream
 up_read_error : (answer : Took HttpTask) → step_error (step_of_up_read answer) ≡ None
 up_read_error (took.Item new) = refl
 up_read_error took.More = refl
@@ -137,6 +142,7 @@ up_read_error took.End = refl
 up_read_error (took.Failed (fail.Error error)) = refl
 up_read_error (took.Failed fail.OutOfMemory) = refl
 
+-- a read of the client fails with the error that it answers
 down_read_error : (answer : Took Piece)
     → step_error (step_of_down_read answer) ≡ error_of_took answer
 down_read_error (took.Item piece) = refl
@@ -145,10 +151,12 @@ down_read_error (took.Waited why) = refl
 down_read_error took.End = refl
 down_read_error (took.Failed why) = refl
 
+-- a half that finishes fails with no error
 half_error : (other : Bool) → step_error (step_of_half other) ≡ None
 half_error true = refl
 half_error false = refl
 
+-- the end of the response's body fails with the error that it is answered with
 down_finish_error : (d : Duplex) (pending : Bool) (answer : Result Unit Fail)
     → step_error (step_of_down_finish d pending answer) ≡ error_of_result answer
 down_finish_error d true (Ok done) = refl
@@ -254,6 +262,7 @@ record LeavesResponses (old new : Duplex) : Type 0 where
   over : is_over new ≡ false → is_over old ≡ false
   ended : new.upstream_response_done ≡ false → old.upstream_response_done ≡ false
 
+-- a read of the client leaves the response
 leaves_read : (d : Duplex) (upgraded : Bool) (answer : Took Piece)
     → LeavesResponses d (after_down_read d upgraded answer)
 leaves_read d upgraded (took.Item piece) = record {

@@ -97,6 +97,7 @@ ordinary_unsent d error side u u' p q q' runs o = record {
   closed = o.closed;
 }
 
+-- one write to the upstream
 pub ordinary_up_write : (d : Duplex) (side : DownState) (u u' : UpState) (answer : Put)
     (p : DownPast) (q : UpPast) → d.upstream_finished ≡ false → Ordinary (core d side u) p q
     → is_failed (after_up_write d answer).word ≡ false
@@ -246,6 +247,7 @@ ordinary_sent d false side u u' piece rest p q q' plain runs unsent parts is_los
   closed = o.closed;
 }
 
+-- the upstream answered on a piece
 pub ordinary_up_take : (d : Duplex) (tunnel : Bool) (side : DownState) (u u' : UpState)
     (piece : HttpTask) (rest : List HttpTask) (answer : Result Unit Fail) (p : DownPast)
     (q q' : UpPast) → tunnel ≡ false → d.upstream_finished ≡ false
@@ -347,6 +349,7 @@ not_accepted side side' plain = none (not side.upgraded) side'.upgraded plain
     none true b h = h
     none false b h = refl
 
+-- the client took a batch
 pub ordinary_batch : (d : Duplex) (side side' : DownState) (u : UpState)
     (batch rest : List HttpTask) (done : Bool) (p p' : DownPast) (q : UpPast)
     → side'.upgraded ≡ false → d.client_finished ≡ false
@@ -427,6 +430,7 @@ ordinary_task d tunnel side u u' new p q plain runs o = record {
   closed = o.closed;
 }
 
+-- one read of the upstream
 pub ordinary_up_read : (d : Duplex) (tunnel : Bool) (side : DownState) (u u' : UpState)
     (answer : Took HttpTask) (p : DownPast) (q : UpPast) → tunnel ≡ false
     → d.upstream_finished ≡ false → Ordinary (core d side u) p q
@@ -455,6 +459,7 @@ put_by piece false h = elim (or_cases piece.upstream_end false h) [
   | inr never ↦ clash false never refl
 ]
 
+-- a piece of which an end is put is the last of the request
 put_end : (piece : Piece) → list_any is_end (put_of false piece) ≡ true
     → piece.upstream_end ≡ true
 put_end piece h = put_by piece (is_empty piece.bytes && not piece.upstream_end) h
@@ -564,6 +569,7 @@ ordinary_idle d side side' u p p' q runs same is_put is_batched is_closing o =
     ordinary_at (core d side' u) p p' q q (is_put ∙ append-nil p.put) is_batched is_closing refl
     (ordinary_side d side side' u p q runs same o)
 
+-- one read of the client
 pub ordinary_down_read : (d : Duplex) (side side' : DownState) (u : UpState)
     (answer : Took Piece) (p p' : DownPast) (q : UpPast) → side.upgraded ≡ false
     → d.client_finished ≡ false → ReadsPiece side side' answer

@@ -70,6 +70,7 @@ read_before Errored set h = cc
 runs_failed : (d : Duplex) (b u : Bool) → is_failed (failed d).word ≡ false → Runs (failed d) b u
 runs_failed d b u h = clash true refl h
 
+-- a send error is kept
 runs_send_error : (d : Duplex) (error : Error) (b u : Bool) → Runs d b u
     → Runs (with_send_error d error) b u
 runs_send_error d error b u r = record {
@@ -83,6 +84,7 @@ runs_send_error d error b u r = record {
   complete = r.complete;
 }
 
+-- one write to the upstream
 runs_up_write : (d : Duplex) (answer : Put) (b u : Bool) → Runs d b u
     → is_failed (after_up_write d answer).word ≡ false → Runs (after_up_write d answer) b u
 runs_up_write d (put.Took n) b u r h = r
@@ -91,6 +93,7 @@ runs_up_write d put.Silent b u r h = r
 runs_up_write d (put.Failed fault) b u r h = runs_send_error d _ b u r
 runs_up_write d put.OutOfMemory b u r h = runs_failed d b u h
 
+-- one write to the client
 runs_down_write : (d : Duplex) (answer : Put) (b u : Bool) → Runs d b u
     → is_failed (after_down_write d answer).word ≡ false → Runs (after_down_write d answer) b u
 runs_down_write d (put.Took n) b u r h = r
@@ -99,6 +102,7 @@ runs_down_write d put.Silent b u r h = r
 runs_down_write d (put.Failed fault) b u r h = runs_failed d b u h
 runs_down_write d put.OutOfMemory b u r h = runs_failed d b u h
 
+-- other tasks are held of the request
 runs_requests : (d : Duplex) (tasks : List HttpTask) (b u : Bool) → Runs d b u
     → Runs (with_requests d tasks) b u
 runs_requests d tasks b u r = record {
@@ -122,6 +126,7 @@ ends_both tunnel (task.Trailer fields) h = cc
 ends_both tunnel task.Done h = cc
 ends_both tunnel (task.Failed error) h = cc
 
+-- a piece went to the upstream
 runs_sent : (d : Duplex) (piece : HttpTask) (b u : Bool) → Runs d b u
     → Runs (with_piece_sent d u piece) b u
 runs_sent d piece b u r = record {
@@ -143,6 +148,7 @@ runs_sent d piece b u r = record {
   complete = r.complete;
 }
 
+-- the upstream answered on it
 runs_piece : (d : Duplex) (answer : Result Unit Fail) (b u : Bool) → Runs d b u
     → is_failed (after_piece d answer).word ≡ false → Runs (after_piece d answer) b u
 runs_piece d (Ok done) b u r h = r
@@ -163,6 +169,7 @@ ends_in_parts so_far (x ∷ xs) ys h =
       ]
     ]
 
+-- a list ends where its last task is an end
 pub ends-append : (so_far : Bool) (xs : List HttpTask) (task : HttpTask)
     → ends_from so_far (xs ++ task ∷ []) ≡ is_end task
 ends-append so_far [] task = refl
@@ -236,6 +243,7 @@ runs_batch d batch rest done false b b' u u' parts was once stays r = record {
 accepts_once : (side side' : DownState) → side.upgraded ≡ true → accepts side side' ≡ false
 accepts_once side side' is = rw is refl
 
+-- the client answered on a batch
 runs_after_batch : (d : Duplex) (side side' : DownState) (batch rest : List HttpTask)
     (answer : Result Bool Fail) → batch ++ rest ≡ d.responses.tasks
     → TakesBatch side batch side' answer → Runs d side.body_done side.upgraded
@@ -262,6 +270,7 @@ runs_drop d rest b u done r = record {
   complete = r.complete;
 }
 
+-- the response is done
 runs_response_done : (d : Duplex) (done b u : Bool) → Runs d b u
     → Runs (with_response_done d done) b u
 runs_response_done d done b u r = record {
@@ -291,6 +300,7 @@ runs_request_done d done b b' u same r = record {
   complete = r.complete;
 }
 
+-- the upstream gave a task
 runs_task_read : (d : Duplex) (tunnel : Bool) (task : HttpTask) (b u : Bool)
     → d.upstream_response_done ≡ false → Runs d b u → Runs (with_task_read d tunnel task) b u
 runs_task_read d tunnel task b u runs r = record {
@@ -308,6 +318,7 @@ runs_task_read d tunnel task b u runs r = record {
   complete = r.complete;
 }
 
+-- one read of the upstream
 runs_up_read : (d : Duplex) (tunnel : Bool) (answer : Took HttpTask) (b u : Bool)
     → d.upstream_response_done ≡ false → Runs d b u
     → is_failed (after_up_read d tunnel answer).word ≡ false
@@ -325,6 +336,7 @@ body_stays : (b end : Bool) → end ≡ false → (b || end) ≡ b
 body_stays true end is = refl
 body_stays false end is = is
 
+-- one read of the client
 runs_down_read : (d : Duplex) (side side' : DownState) (answer : Took Piece)
     → ReadsPiece side side' answer → Runs d side.body_done side.upgraded
     → is_failed (after_down_read d side.upgraded answer).word ≡ false
@@ -349,6 +361,7 @@ runs_down_read d side side' took.End reads r h = absurd reads
 runs_down_read d side side' (took.Failed why) reads r h =
     runs_failed d side'.body_done side'.upgraded h
 
+-- the upstream half came to its end
 runs_up_finish : (d : Duplex) (why : Option Error) (b u : Bool) → Runs d b u
     → is_failed (after_up_finish d why).word ≡ false → Runs (after_up_finish d why) b u
 runs_up_finish d None b u r h = record {
@@ -362,6 +375,7 @@ runs_up_finish d None b u r h = record {
 }
 runs_up_finish d (Some error) b u r h = runs_failed d b u h
 
+-- the response's body was ended
 runs_down_finish : (d : Duplex) (pending : Bool) (answer : Result Unit Fail) (b u : Bool)
     → Runs d b u → is_failed (after_down_finish d pending answer).word ≡ false
     → Runs (after_down_finish d pending answer) b u
@@ -425,6 +439,7 @@ runs_then wanted old new is same made h =
 up_sound : (d : Duplex) → up_runs d ≡ true → is_failed d.word ≡ false
 up_sound d runs = not_true (is_failed d.word) (and_right (not d.upstream_finished) _ runs)
 
+-- a client's half that goes on has not failed
 down_sound : (d : Duplex) → down_runs d ≡ true → is_failed d.word ≡ false
 down_sound d runs = not_true (is_failed d.word) (and_right (not d.client_finished) _ runs)
 
@@ -496,6 +511,7 @@ record Fits (d : Duplex) : Type 0 where
   requests : length d.requests.tasks ≤ places
   responses : length d.responses.tasks ≤ places
 
+-- pipes that hold no more than before fit
 fits_left : (old new : Duplex) → Leaves old new → Fits old → Fits new
 fits_left old new leaves f = record {
   requests = rw (leaves.requests) f.requests;
@@ -523,6 +539,7 @@ few_put : (task : Option HttpTask) → length (option_to_list task) ≤ 1
 few_put None = omega arith
 few_put (Some task) = omega arith
 
+-- a read of the upstream puts a task where there is room
 fits_up_read : (d : Duplex) (tunnel : Bool) (answer : Took HttpTask)
     → has_room d.responses ≡ true → Fits d → Fits (after_up_read d tunnel answer)
 fits_up_read d tunnel (took.Item task) room f = record {
@@ -540,6 +557,7 @@ fits_up_read d tunnel (took.Failed (fail.Error error)) room f = record {
 fits_up_read d tunnel (took.Failed fail.OutOfMemory) room f =
     record { requests = f.requests; responses = f.responses }
 
+-- a read of the client puts one where there is room
 fits_down_read : (d : Duplex) (upgraded : Bool) (answer : Took Piece)
     → has_room d.requests ≡ true → Fits d → Fits (after_down_read d upgraded answer)
 fits_down_read d upgraded (took.Item piece) room f = record {
@@ -553,10 +571,12 @@ fits_down_read d upgraded took.End room f = f
 fits_down_read d upgraded (took.Failed why) room f =
     record { requests = f.requests; responses = f.responses }
 
+-- a request pipe of four tasks at most fits
 fits_requests : (d : Duplex) (tasks : List HttpTask) → length tasks ≤ places → Fits d
     → Fits (with_requests d tasks)
 fits_requests d tasks few f = record { requests = few; responses = f.responses }
 
+-- so does such a response pipe
 fits_responses : (d : Duplex) (tasks : List HttpTask) → length tasks ≤ places → Fits d
     → Fits (with_responses d tasks)
 fits_responses d tasks few f = record { requests = f.requests; responses = few }

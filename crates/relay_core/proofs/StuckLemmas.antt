@@ -114,6 +114,7 @@ pub record Waiting (s : State) : Type 0 where
   pub not_done : (is_done s.duplex.client_request && is_response_done s.duplex.client_response)
       ≡ false
 
+-- a stuck client's half that goes on waits
 down_waits : (s : State) → Stuck s → down_runs s.duplex ≡ true → Waiting s
 down_waits s stuck runs =
     let quiet = off (down_runs s.duplex) s.down.pending runs (stuck.none branch.DownWrite) in

@@ -144,6 +144,7 @@ pub record BatchRefused
   pub refused : (e : Error) → list_any is_failure tasks ≡ false → why ≡ fail.Error e
       → refuses past left e
 
+-- what passed after a batch, by its answer
 abbrev pub BatchGoes :
     (DownPast → Type 0) → (DownPast → Error → Type 0) → (DownPast → List HttpTask → Error → Type 0)
     → DownPast → List HttpTask → Result Bool Fail → Type 0
