@@ -203,6 +203,7 @@ either_stands : (a b : Bool) → a ≡ true → a || b ≡ true
 either_stands true b is = refl
 either_stands false b is = absurd (cc)
 
+-- one of two holds where the second does
 either_right : (a b : Bool) → b ≡ true → a || b ≡ true
 either_right true b is = refl
 either_right false b is = is
@@ -257,6 +258,7 @@ front_error : (tasks : List HttpTask) (error found : Error) → tasks ≡ task.F
 front_error tasks error found alone is =
     let there : Some error ≡ Some found = rw alone at is in cc
 
+-- a failure that is given alone stands in front
 no_front_error : (tasks : List HttpTask) (error : Error) → tasks ≡ task.Failed error ∷ []
     → ¬ (failure_in_front tasks ≡ None)
 no_front_error tasks error alone is =
@@ -423,7 +425,8 @@ module _
       → ((e : Error) → why ≡ fail.Error e
       → ClientRefuses s (past_queued p (p.batched ++ front) p.closing) link left e)
       → BatchRefused
-      (λ q. HasPassed s q link ahead new (left_done done finished new.writing.place) finished broken)
+      (λ q.
+      HasPassed s q link ahead new (left_done done finished new.writing.place) finished broken)
       (λ q left e. ClientRefuses s q link left e) p tasks why
   stopped front left parts request queue is_open goes stays plain refused =
       let holds = follow new.writing p.batched p.closing front p.written (h.unasked unasked)
@@ -485,7 +488,8 @@ module _
   stops_on : (stops : StopsAt old.writing tasks new.writing why) (given : Fail) → why ≡ given
       → StopsOn stops.mid stops.at new.writing given
       → BatchRefused
-      (λ q. HasPassed s q link ahead new (left_done done finished new.writing.place) finished broken)
+      (λ q.
+      HasPassed s q link ahead new (left_done done finished new.writing.place) finished broken)
       (λ q left e. ClientRefuses s q link left e) p tasks why
   stops_on stops fail.OutOfMemory is same =
       let grown = stops.queued.grows.grown in
@@ -538,7 +542,8 @@ module _
       → StopsBatch checked old.writing tasks new.writing why
       → (new.writing ≡ old.writing → new ≡ old)
       → BatchRefused
-      (λ q. HasPassed s q link ahead new (left_done done finished new.writing.place) finished broken)
+      (λ q.
+      HasPassed s q link ahead new (left_done done finished new.writing.place) finished broken)
       (λ q left e. ClientRefuses s q link left e) p tasks why
   stops_batch None is stops same = stops_on stops why refl stops.stops
   stops_batch (Some error) is stops same =
@@ -557,7 +562,8 @@ module _
       → FailsBatch output old.writing tasks new.writing why
       → (new.writing ≡ old.writing → new ≡ old)
       → BatchRefused
-      (λ q. HasPassed s q link ahead new (left_done done finished new.writing.place) finished broken)
+      (λ q.
+      HasPassed s q link ahead new (left_done done finished new.writing.place) finished broken)
       (λ q left e. ClientRefuses s q link left e) p tasks why
   stops_by (outgoing.Open queue) is fails same =
       stops_batch (batch_refusal old.writing.request old.writing.place tasks) refl fails same
@@ -624,6 +630,7 @@ wire_again request tasks text counted place.Done closed wire =
     (record { text = text; counted = counted; place = place.Done }) task.Done wire tt in
     rw (append-nil, add-zero) at pushed
 
+-- the text of the tasks at a place that is closed stays
 text_again : (now : Writing) (tasks : List HttpTask) (text : List ℕ) → IsClosed now.place
     → IsText now tasks text → IsText now (tasks ++ task.Done ∷ []) text
 text_again now tasks text closed is = record {
@@ -632,6 +639,7 @@ text_again now tasks text closed is = record {
   counts = is.counts;
 }
 
+-- what the session holds on stays at that place
 holds_again : (now : Writing) (output : Outgoing) (tasks : List HttpTask) (taken : List ℕ)
     → IsClosed now.place → HoldsOn now output tasks taken
     → HoldsOn now output (tasks ++ task.Done ∷ []) taken
@@ -717,6 +725,7 @@ ends_on s p link ahead old new done finished broken unasked h reading one = reco
   blamed = λ e is. absurd (cc);
 }
 
+-- the error of an answer is that of its failure
 same_why : (why : Fail) (e : Error) → error_of_result {T = Unit {0}} (Err why) ≡ Some e
     → why ≡ fail.Error e
 same_why fail.OutOfMemory e is = absurd (cc)

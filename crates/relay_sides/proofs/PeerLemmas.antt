@@ -47,7 +47,8 @@ use Rattle.relay_sides.specs.Peer as peer
 use Rattle.relay_sides.proofs.FaultLemmas.{grew_same, tells_on}
 use Rattle.relay_sides.proofs.FrontLemmas.{own_front}
 use Rattle.relay_sides.proofs.TaskLemmas.{tasks_push, tasks_kept, final_in, lacking_final}
-use Rattle.relay_sides.proofs.MoveLemmas.{GoesOn, blames_keep, ReadMoves, read_moves}
+use Rattle.relay_sides.proofs.MarkLemmas.{marked_task}
+use Rattle.relay_sides.proofs.MoveLemmas.{GoesOn, blames_keep, ReadMoves, read_moves, some_error}
 
 -- ---- a call
 
@@ -57,6 +58,7 @@ Blamed start link client q e =
     (head : RequestHead) × (head_in client.request.request ≡ Some head)
     × PeerBlames start link head q e
 
+-- one head was queued
 same_head : (a b : RequestHead) → Some a ≡ Some b → a ≡ b
 same_head a b same = cc
 
@@ -70,8 +72,8 @@ pub goes : {L : Type 0} (o : Origin) (start started : LinkStart) (before after :
     → ((e : Error) → error ≡ Some e → PeerBlames start after head p e)
     → UpGoes (λ r. IsPeer o started after new stopped lost r) (λ r e. Blamed start before old r e)
     (λ r e. Blamed started after new r e) q read taken gone error
-goes {L} o start started before after old new stopped lost q p head read taken gone error same was is
-    on stands reads takes loses blamed =
+goes {L} o start started before after old new stopped lost q p head read taken gone error same was
+    is on stands reads takes loses blamed =
     subst (λ (s : LinkStart).
     UpGoes (λ r. IsPeer o s after new stopped lost r) (λ r e. Blamed start before old r e)
     (λ r e. Blamed s after new r e) q read taken gone error) (sym same)
@@ -98,14 +100,13 @@ method_is request.NoHead head is = absurd (cc)
 method_is (request.Sending sending) head is =
     ap (λ (h : RequestHead). h.method) (same_head sending.head head is)
 
-some_error : (a b : Error) → Some a ≡ Some b → a ≡ b
-some_error a b same = cc
-
-fail_is : (why : Fail) (e : Error) → error_of_fail why ≡ Some e → why ≡ fail.Error e
+-- a failure with that error is that error
+pub fail_is : (why : Fail) (e : Error) → error_of_fail why ≡ Some e → why ≡ fail.Error e
 fail_is fail.OutOfMemory e told = cc
 fail_is (fail.Error error) e told = ap fail.Error (some_error error e told)
 
-some_fail : (a b : Fail) → Some a ≡ Some b → a ≡ b
+-- one failure is kept
+pub some_fail : (a b : Fail) → Some a ≡ Some b → a ≡ b
 some_fail a b same = cc
 
 -- ---- reads
@@ -114,6 +115,7 @@ some_fail a b same = cc
 abbrev pub after_read : UpPast → List ℕ → List HttpTask → UpPast
 after_read q came read = record q { got = q.got ++ came; read = read }
 
+-- a read goes on from what passed before
 read_on : (start : LinkStart) (before after : LinkState) (q : UpPast) (came : List ℕ)
     (read : List HttpTask) (asked : Option Got) → ReadMoves start before after q.got came asked
     → GoesOn start before after q (after_read q came read)
@@ -146,8 +148,8 @@ calm_read start before after had came asked was now answer moves fails is calm n
     apart same = cc
 
 -- a side that read on: these tasks were handed on, and these withheld
-peer_read : {L : Type 0} (o : Origin) (start : LinkStart) (before after : LinkState) (old new : H1Client L)
-    (stopped_before stopped lost : Option Fail) (q : UpPast) (came : List ℕ)
+peer_read : {L : Type 0} (o : Origin) (start : LinkStart) (before after : LinkState)
+    (old new : H1Client L) (stopped_before stopped lost : Option Fail) (q : UpPast) (came : List ℕ)
     (read given withheld : List HttpTask) (asked : Option Got)
     (stands : IsPeer o start before old stopped_before lost q)
     → new.request ≡ old.request → ReadMoves start before after q.got came asked
@@ -220,6 +222,7 @@ refusal_blamed start before after head q came read told asked error moves
     (reading.Refuses.is_cut_off was is said) =
     peer.PeerBlames.is_cut_off told (moves.over was) is said
 
+-- the side answers for the error of a read
 answer_blamed : (start : LinkStart) (before after : LinkState) (head : RequestHead)
     (q : UpPast) (came : List ℕ) (read : List HttpTask) (told : ToldResponse) (asked : Option Got)
     (old : ResponsePlace) (new : ResponseReading) (answer : Took HttpTask)
@@ -280,8 +283,9 @@ read_none {L} o start started before after old new stopped lost q answer same ke
     old.response.place new.response answer moves answers)
 
 -- a call that answers why the side stopped, and changes nothing
-pub stopped_still : {L : Type 0} (o : Origin) (start : LinkStart) (link : LinkState) (client : H1Client L)
-    (stopped lost : Option Fail) (why : Fail) (q : UpPast) → stopped ≡ Some why
+pub stopped_still : {L : Type 0} (o : Origin) (start : LinkStart) (link : LinkState)
+    (client : H1Client L) (stopped lost : Option Fail) (why : Fail) (q : UpPast)
+    → stopped ≡ Some why
     → IsPeer o start link client stopped lost q
     → UpGoes (λ r. IsPeer o start link client stopped lost r) (λ r e. Blamed start link client r e)
     (λ r e. Blamed start link client r e) q (q.read ++ []) q.taken q.lost (error_of_fail why)
@@ -322,6 +326,7 @@ handed_end method (task.Trailer fields) = refl
 handed_end method task.Done = refl
 handed_end method (task.Failed error) = refl
 
+-- tasks that are handed on end the response where they did
 handed_ends : (method : List ℕ) (tasks : List HttpTask)
     → list_any is_end (map (handed method) tasks) ≡ list_any is_end tasks
 handed_ends method [] = refl
@@ -346,8 +351,8 @@ end_read {L} o start before after old new stopped lost q open_yet reads stands =
 -- ---- tasks
 
 -- a read that gave a task: what of it the side goes on with
-record Brings {L : Type 0} (o : Origin) (start : LinkStart) (before after : LinkState) (old new : H1Client L)
-    (lost : Option Fail) (q : UpPast) (item : HttpTask)
+record Brings {L : Type 0} (o : Origin) (start : LinkStart) (before after : LinkState)
+    (old new : H1Client L) (lost : Option Fail) (q : UpPast) (item : HttpTask)
     (stands : IsPeer o start before old None lost q) : Type 0 where
   pub came : List ℕ
   pub asked : Option Got
@@ -361,6 +366,7 @@ record Brings {L : Type 0} (o : Origin) (start : LinkStart) (before after : Link
   pub tasks : AreTasks stands.head.method after.ended (q.got ++ came)
       (stands.given ++ item ∷ []) new.response
 
+-- a response that has ended gives no task
 never_item : (over : Bool) (item : HttpTask) → (over ≡ true → took.Item item ≡ took.End)
     → over ≡ false
 never_item true item rests = absurd (apart (rests refl))
@@ -369,8 +375,9 @@ never_item true item rests = absurd (apart (rests refl))
     apart same = cc
 never_item false item rests = refl
 
-brings : {L : Type 0} (o : Origin) (start : LinkStart) (before after : LinkState) (old new : H1Client L)
-    (lost : Option Fail) (q : UpPast) (item : HttpTask)
+-- what a read that gave a task brings
+brings : {L : Type 0} (o : Origin) (start : LinkStart) (before after : LinkState)
+    (old new : H1Client L) (lost : Option Fail) (q : UpPast) (item : HttpTask)
     → ReadsTask (method_of old.request.request) before after old.response new.response
     (took.Item item)
     → (stands : IsPeer o start before old None lost q)
@@ -411,8 +418,8 @@ pub read_hands : {L : Type 0} (o : Origin) (start started : LinkStart) (before a
     → IsPeer o start before old stopped lost q
     → UpGoes (λ r. IsPeer o started after new stopped lost r) (λ r e. Blamed start before old r e)
     (λ r e. Blamed started after new r e) q (q.read ++ given ∷ []) q.taken q.lost None
-read_hands {L} o start started before after old new stopped lost q item given open_yet same kept reads
-    is_given plain room failed stood =
+read_hands {L} o start started before after old new stopped lost q item given open_yet same kept
+    reads is_given plain room failed stood =
     let stands = subst (λ (s : Option Fail). IsPeer o start before old s lost q) open_yet stood in
     let b = brings o start before after old new lost q item reads stands in
     let method = ap (λ (w : RequestWriting). method_of w.request) kept
@@ -440,8 +447,8 @@ read_hands {L} o start started before after old new stopped lost q item given op
     (All-push (HasRoom stands.head.method) stands.given item stands.have_room
     (subst (λ (m : List ℕ). HasRoom m item) method room))
     (λ none. refl) tt (λ e none. absurd (cc))
-    (calm_read start before after q.got b.came b.asked old.failed new.failed (took.Item item) b.moves
-    b.fails failed stands.calm))
+    (calm_read start before after q.got b.came b.asked old.failed new.failed (took.Item item)
+    b.moves b.fails failed stands.calm))
     refl refl refl (λ e none. absurd (cc)))
 
 -- the error for which a task is withheld is blamed
@@ -524,8 +531,8 @@ read_stops {L} o start started before after old new stopped lost q item why open
       tt,
     )
     (λ e is. blamed e (some_fail why (fail.Error e) is))
-    (calm_read start before after q.got b.came b.asked old.failed new.failed (took.Item item) b.moves
-    b.fails failed stands.calm))
+    (calm_read start before after q.got b.came b.asked old.failed new.failed (took.Item item)
+    b.moves b.fails failed stands.calm))
     (sym (append-nil q.read)) refl refl (λ e told. blamed e (fail_is why e told))
 
 -- ---- the side
@@ -554,7 +561,8 @@ side_goes {L} o start started before after old new q read taken gone error same 
             (sym went.is_read);
         calm = calm;
         marked = subst (λ (s : LinkStart).
-            AreMarked s after new.client.failed new.read_failed new.send_failed new.lost) (sym same) marked;
+            AreMarked s after new.client.failed new.read_failed new.send_failed new.lost)
+            (sym same) marked;
       };
       is_read = went.is_read;
       is_taken = went.is_taken;
@@ -582,6 +590,36 @@ side_stays {L} o start started before after old new q read taken gone error same
     (stays ∙ stands.closes ∙ ap (λ (ts : List HttpTask). list_any asks_to_close ts) (sym none))
     (calm stands.calm) marked
 
+-- a read of a side that had not stopped, of which no task is handed on
+pub side_reads : {L : Type 0} (o : Origin) (start started : LinkStart) (before after : LinkState)
+    (old : PeerSide L) (client : H1Client L) (told : Told) (failed : Bool) (q : UpPast)
+    (answer : Took HttpTask) → started ≡ start → client.request ≡ old.client.request
+    → ReadsTask (method_of old.client.request.request) before after old.client.response
+    client.response answer
+    → is_item answer ≡ false
+    → is_over client.response.place ≡ is_over old.client.response.place
+    → client.failed ≡ old.client.failed || is_error answer
+    → failed ≡ old.read_failed || is_error answer
+    → ((old.told.errors ≡ 0 → old.client.failed ≡ false)
+    → told.errors ≡ 0 → client.failed ≡ false)
+    → IsPeerSide o start before old q
+    → UpGoes
+    (λ r. IsPeerSide o started after
+    (record old { client = client; told = told; read_failed = failed }) r)
+    (λ r e. Blamed start before old.client r e) (λ r e. Blamed started after client r e) q
+    (q.read ++ []) q.taken q.lost (error_of_took answer)
+side_reads {L} o start started before after old client told failed q answer same kept reads none
+    over fails marks calm stands =
+    let new : PeerSide L = record old { client = client; told = told; read_failed = failed } in
+    side_stays o start started before after old new q (q.read ++ []) q.taken q.lost
+    (error_of_took answer) same refl (append-nil q.read) calm
+    (marked_task (method_of old.client.request.request) start before after old.client.response
+    client.response answer old.client.failed client.failed old.read_failed failed old.send_failed
+    old.lost reads fails marks stands.peer.faults stands.marked)
+    stands
+    (read_none o start started before after old.client client old.stopped old.lost q answer same
+    kept reads none over fails stands.peer)
+
 -- a call that handed one on
 pub side_hands : {L : Type 0} (o : Origin) (start started : LinkStart) (before after : LinkState)
     (old new : PeerSide L) (q : UpPast) (given : HttpTask) (taken : List HttpTask) (gone : Bool)
@@ -605,6 +643,7 @@ side_hands {L} o start started before after old new q given taken gone error sam
     ∙ sym (list_any-append asks_to_close q.read (given ∷ [])))
     (calm stands.calm) marked
   where
+    -- a test or one that fails is that test
     or_none : (b : Bool) → (b || false) ≡ b
     or_none true = refl
     or_none false = refl
@@ -666,6 +705,7 @@ told_before : (why : Fail) (told : Told) → (failed why told).errors ≡ 0 → 
 told_before fail.OutOfMemory told none = none
 told_before (fail.Error e) told none = absurd (never_none told.errors none)
 
+-- a test or one that fails is that test
 pub or_none : (b : Bool) → (b || false) ≡ b
 or_none true = refl
 or_none false = refl
