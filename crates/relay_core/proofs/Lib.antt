@@ -13,3 +13,6 @@ pub mod DoneLemmas
 pub mod KeepLemmas
 pub mod StillLemmas
 pub mod MarkLemmas
+pub mod UpGoes
+pub mod DownGoes
+pub mod BatchGoes

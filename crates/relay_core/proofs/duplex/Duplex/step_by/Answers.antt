@@ -1,7 +1,10 @@
 -- The exchange so far goes on by each branch.
 use Rattle.std.proofs.Common.{refl}
 use Rattle.relay_core.specs.Table.{core}
-use Rattle.relay_core.proofs.KeepLemmas.{taken, unread, goes_up_write, goes_down_write, goes_up_take, goes_down_take, goes_down_drop, goes_down_end, goes_down_closed, goes_up_read, goes_down_read, goes_up_finish, goes_down_finish}
+use Rattle.relay_core.proofs.BatchGoes.{goes_down_take}
+use Rattle.relay_core.proofs.DownGoes.{goes_down_write, goes_down_drop, goes_down_end, goes_down_closed, goes_down_read, goes_down_finish}
+use Rattle.relay_core.proofs.KeepLemmas.{taken, unread}
+use Rattle.relay_core.proofs.UpGoes.{goes_up_write, goes_up_take, goes_up_read, goes_up_finish}
 use Rattle.relay_core.proofs.duplex.Duplex.step_by.Goals as goal
 
 -- one write to the upstream
