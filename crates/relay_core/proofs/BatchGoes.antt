@@ -23,7 +23,8 @@ use Rattle.relay_core.proofs.CauseLemmas.{kept_batch}
 use Rattle.relay_core.proofs.HeldLemmas.{at_last, passed_none, passed_batch, passed_front, passed_failure, passed_drop, passed_refused}
 use Rattle.relay_core.proofs.MoveLemmas.{batch-rest, Leaves, leaves_at, leaves_failed, leaves_batch}
 use Rattle.relay_core.proofs.MarkLemmas.{keep_at, keep_batch, marks_same}
-use Rattle.relay_core.proofs.OrdinaryLemmas.{ordinary_batch, steady_of, steady_same, not_yet_asked, steady_refused}
+use Rattle.relay_core.proofs.OrdinaryDown.{ordinary_batch}
+use Rattle.relay_core.proofs.SteadyLemmas.{steady_of, steady_same, not_yet_asked, steady_refused}
 use Rattle.relay_core.proofs.SoundLemmas.{step_sound, enabled_sound}
 use Rattle.relay_core.proofs.TaskLemmas.{none_left, alone_or_plain, alone_part}
 use Rattle.relay_core.proofs.KeepLemmas.{down_open, held_so_far, open_held, ordinary_then, alive_then, no_error, held_behind, not_before, more_none, extends_same, extends_down, goes_by}

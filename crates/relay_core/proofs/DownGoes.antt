@@ -17,7 +17,9 @@ use Rattle.relay_core.proofs.CauseLemmas.{kept_down_read, kept_down_write, kept_
 use Rattle.relay_core.proofs.HeldLemmas.{at_last, passed_none, passed_drop}
 use Rattle.relay_core.proofs.MoveLemmas.{Leaves, leaves_same, leaves_at, leaves_response_done, leaves_request_done, leaves_down_write, leaves_down_finish}
 use Rattle.relay_core.proofs.MarkLemmas.{keep_at, keep_down_write, keep_down_read, keep_down_finish, marks_same}
-use Rattle.relay_core.proofs.OrdinaryLemmas.{ordinary_at, ordinary_down_write, ordinary_drop, ordinary_closed, ordinary_down_read, ordinary_down_finish, steady_same, steady_down_write, steady_down_read, asked_when_done, steady_down_finish}
+use Rattle.relay_core.proofs.OrdinaryDown.{ordinary_down_write, ordinary_drop, ordinary_closed, ordinary_down_read, ordinary_down_finish}
+use Rattle.relay_core.proofs.OrdinaryLemmas.{ordinary_at}
+use Rattle.relay_core.proofs.SteadyLemmas.{steady_same, steady_down_write, steady_down_read, asked_when_done, steady_down_finish}
 use Rattle.relay_core.proofs.SoundLemmas.{step_sound, enabled_sound, down_writes_body, down_ends_body}
 use Rattle.relay_core.proofs.KeepLemmas.{down_open, held_so_far, ordinary_then, alive_then, down_write_error, down_read_error, down_finish_error, no_error, error_is, held_behind, LeavesResponses, leaves_read, tasks_read, read_upgraded, sends, no_end, more_none, extends_same, extends_down, goes_by, quiet}
 

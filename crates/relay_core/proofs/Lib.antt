@@ -16,3 +16,6 @@ pub mod MarkLemmas
 pub mod UpGoes
 pub mod DownGoes
 pub mod BatchGoes
+pub mod OrdinaryUp
+pub mod OrdinaryDown
+pub mod SteadyLemmas

@@ -17,7 +17,9 @@ use Rattle.relay_core.proofs.CauseLemmas.{kept_up_read, kept_up_finish}
 use Rattle.relay_core.proofs.HeldLemmas.{at_last, passed_none}
 use Rattle.relay_core.proofs.MoveLemmas.{Leaves, leaves_at, leaves_next, leaves_up_write, leaves_piece, leaves_sent, leaves_up_finish}
 use Rattle.relay_core.proofs.MarkLemmas.{keep_at, keep_up_finish, marks_same, marks_write, marks_take, marks_read}
-use Rattle.relay_core.proofs.OrdinaryLemmas.{ordinary_at, ordinary_up_write, ordinary_up_take, ordinary_up_read, ordinary_up_finish, steady_same}
+use Rattle.relay_core.proofs.OrdinaryLemmas.{ordinary_at}
+use Rattle.relay_core.proofs.OrdinaryUp.{ordinary_up_write, ordinary_up_take, ordinary_up_read, ordinary_up_finish}
+use Rattle.relay_core.proofs.SteadyLemmas.{steady_same}
 use Rattle.relay_core.proofs.SoundLemmas.{step_sound, enabled_sound}
 use Rattle.relay_core.proofs.KeepLemmas.{up_open, unread, held_so_far, unended_held, ordinary_then, alive_then, step_error, up_write_error, up_take_error, up_read_error, up_finish_error, no_error, kept_write, kept_piece, held_read, response_read, unended_read, quiet_up, requests_stay, more_none, extends_same, extends_up, goes_by, quiet}
 
