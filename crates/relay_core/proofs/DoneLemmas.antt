@@ -27,7 +27,7 @@ use Rattle.relay_core.specs.State.{is_reading, finished, reset_to_reading, is_re
 use Rattle.relay_core.specs.Steps.{StepsTo, with_requests, with_responses}
 use Rattle.relay_core.specs.Table.{State, enabled, down_runs, after_up_write, after_down_write, after_piece, with_piece_sent, ends_request, ends_tunnel, with_upgrade, after_batch, after_up_read, told_error, after_down_read, custom_error, after_up_finish, after_down_finish}
 use Rattle.relay_core.proofs.BoolLemmas.{clash, and_left, and_right, or_cases, or_inl, or_inr}
-use Rattle.relay_core.proofs.SoundLemmas.{ends-append}
+use Rattle.relay_core.proofs.RunsLemmas.{ends-append}
 
 -- what a duplex says of the client's request and of the upstream's response
 pub record SameEnds (d d' : Duplex) : Type 0 where

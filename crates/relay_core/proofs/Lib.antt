@@ -19,3 +19,5 @@ pub mod BatchGoes
 pub mod OrdinaryUp
 pub mod OrdinaryDown
 pub mod SteadyLemmas
+pub mod RunsLemmas
+pub mod FitsLemmas

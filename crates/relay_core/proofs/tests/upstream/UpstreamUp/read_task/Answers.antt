@@ -1,6 +1,6 @@
 -- The task that was read stands behind those read before.
 use Rattle.std.proofs.Common.{refl}
-use Rattle.relay_core.proofs.tests.duplex.UpstreamUp.read_task.Goals as goal
+use Rattle.relay_core.proofs.tests.upstream.UpstreamUp.read_task.Goals as goal
 
 -- a piece is given
 pub returns-in-Some-clause-goes : goal.returns-in-Some-clause-goes

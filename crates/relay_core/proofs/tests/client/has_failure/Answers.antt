@@ -2,8 +2,8 @@
 use Rattle.std.proofs.Common.{◌∙◌, sym, arith}
 use Rattle.relay_core.specs.Pipe.{is_failure}
 use Rattle.relay_core.proofs.BatchLemmas.{any_found, any_passed, none_within}
-use Rattle.relay_core.proofs.tests.duplex.has_failure.Goals as goal
-use Rattle.relay_core.proofs.tests.duplex.has_failure.Goals.{in-Some+else-is_failure, in_default}
+use Rattle.relay_core.proofs.tests.client.has_failure.Goals as goal
+use Rattle.relay_core.proofs.tests.client.has_failure.Goals.{in-Some+else-is_failure, in_default}
 
 -- the task at the place is a failure
 pub returns-then-is_failure : goal.returns-then-is_failure

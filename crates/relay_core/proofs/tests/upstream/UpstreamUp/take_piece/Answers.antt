@@ -2,7 +2,7 @@
 use Rattle.std.proofs.Common.{◌||◌, false, true, List, [], ◌∷◌, ◌++◌, refl, sym, ap, ◌∙◌}
 use Rattle.relay_tasks.specs.declared.task.HttpTask.{HttpTask}
 use Rattle.relay_core.proofs.BoolLemmas.{clash, or_left, or-true}
-use Rattle.relay_core.proofs.tests.duplex.UpstreamUp.take_piece.Goals as goal
+use Rattle.relay_core.proofs.tests.upstream.UpstreamUp.take_piece.Goals as goal
 
 -- the piece is refused
 pub returns-in-Some-clause-goes : goal.returns-in-Some-clause-goes
