@@ -1,7 +1,7 @@
 -- The end was asked for before, it was queued, or it was refused.
 use Rattle.std.proofs.Common.{ap}
 use Rattle.relay_session.specs.declared.session.HttpSession.{HttpSession}
-use Rattle.relay_sides.proofs.ClientTasks.{ends_again, ends_on, ends_refused}
+use Rattle.relay_sides.proofs.ClientEnds.{ends_again, ends_on, ends_refused}
 use Rattle.relay_sides.proofs.client_side.ClientSideDown.finish.Goals as goal
 
 -- the end was asked for before

@@ -1,6 +1,6 @@
 -- All tasks were queued, or those in front of a refused one.
 use Rattle.std.proofs.Common.{ap}
-use Rattle.relay_sides.proofs.ClientTasks.{queues_state, refuses_state, queues_on, refuses_on}
+use Rattle.relay_sides.proofs.ClientBatch.{queues_state, refuses_state, queues_on, refuses_on}
 use Rattle.relay_sides.proofs.client_side.ClientSideDown.take_batch.Goals as goal
 
 -- the batch was queued

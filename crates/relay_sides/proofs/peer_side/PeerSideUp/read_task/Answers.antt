@@ -2,7 +2,10 @@
 use Rattle.std.proofs.Common.{Bool, ◌||◌, [], None, refl, sym, ap, ◌∙◌, append-nil}
 use Rattle.relay_peer.specs.declared.h1_client.H1Client.{H1Client}
 use Rattle.relay_tasks.specs.declared.took.Took.TheVariants as took
-use Rattle.relay_sides.proofs.PeerLemmas.{more_gave, end_read, stopped_still, read_hands, read_stops, side_reads, side_stays, side_hands, calm_same, calm_failed, calm_withheld, calm_paused, cuts_handed, cuts_none, or_none}
+use Rattle.relay_sides.proofs.CutLemmas.{cuts_handed, cuts_none}
+use Rattle.relay_sides.proofs.PeerLemmas.{more_gave, end_read, stopped_still}
+use Rattle.relay_sides.proofs.PeerTasks.{read_hands, read_stops}
+use Rattle.relay_sides.proofs.SideLemmas.{side_reads, side_stays, side_hands, calm_same, calm_failed, calm_withheld, calm_paused, or_none}
 use Rattle.relay_sides.proofs.MarkLemmas.{marked_more, marked_task, same_error}
 use Rattle.relay_sides.proofs.peer_side.PeerSideUp.read_task.Goals as goal
 

@@ -4,7 +4,7 @@ use Rattle.relay_tasks.specs.declared.error.Error.{Error}
 use Rattle.relay_peer.specs.declared.h1_client.H1Client.{H1Client}
 use Rattle.relay_sides.specs.Peer.{AreMarked}
 use Rattle.relay_sides.proofs.MarkLemmas.{marked_write}
-use Rattle.relay_sides.proofs.PeerLemmas.{side_stays, calm_put}
+use Rattle.relay_sides.proofs.SideLemmas.{side_stays, calm_put}
 use Rattle.relay_sides.proofs.SendLemmas.{write_goes}
 use Rattle.relay_sides.proofs.peer_side.PeerSideUp.write_pending.Goals as goal
 
