@@ -355,25 +355,19 @@ ordinary_ended : (d : Duplex) (side side' : DownState) (u : UpState) (p p' : Dow
     → SameEnds side side' → p'.put ≡ p.put → p'.batched ≡ p.batched → Ordinary (core d side u) p q
     → Ordinary (core d side' u) p' q
 ordinary_ended d side side' u p p' q runs response same is_put is_batched o =
-    let w = ordinary_side d side side' u p q runs same o in
+    let w = ordinary_at (core d side' u) p (record p' { closing = p.closing }) q q is_put is_batched
+    refl refl (ordinary_side d side side' u p q runs same o) in
     record {
-      ends_last = let P : List HttpTask → Type 0 = λ xs. EndsLast xs in
-          subst P (sym is_put) w.ends_last;
-      ended = λ h. w.ended (ap (list_any is_end) (sym is_put) ∙ h);
+      ends_last = w.ends_last;
+      ended = w.ended;
       request_done = w.request_done;
       unlost = w.unlost;
       whole = w.whole;
-      put_end = λ h. elim (w.put_end h) [
-        | inl end ↦ inl (ap (list_any is_end) is_put ∙ end)
-        | inr over ↦ inr over
-      ];
+      put_end = w.put_end;
       taken_end = w.taken_end;
       sent = w.sent;
       through = w.through;
-      answered = λ h. elim (w.answered h) [
-        | inl given ↦ inl (ap (list_any is_end) is_batched ∙ given)
-        | inr told ↦ inr told
-      ];
+      answered = w.answered;
       client_done = w.client_done;
       closed = inr response;
     }

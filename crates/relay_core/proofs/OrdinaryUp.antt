@@ -20,7 +20,7 @@ use Rattle.relay_core.specs.Pipe as pipe
 use Rattle.relay_core.specs.Sound.{Runs}
 use Rattle.relay_core.specs.State.{is_complete, finished}
 use Rattle.relay_core.specs.Steps.{with_requests}
-use Rattle.relay_core.specs.Table.{core, is_failed, with_send_error, after_up_write, after_up_take, with_piece_sent, ends_request, after_up_read, with_task_read, told_error, after_up_finish, up_is_through}
+use Rattle.relay_core.specs.Table.{core, is_failed, with_send_error, after_up_write, after_up_take, with_piece_sent, ends_request, ends_tunnel, after_up_read, with_task_read, told_error, after_up_finish, up_is_through}
 use Rattle.relay_core.specs.Up.{UpState}
 use Rattle.relay_core.proofs.BoolLemmas.{clash, and_left, and_right, and-true, or_inl, or_inr, or_cases, or_false}
 use Rattle.std.proofs.lemmas.Bool.{eqb-true}
@@ -45,10 +45,15 @@ ordinary_written d side u u' p q runs o = record {
 }
 
 -- with a send error nothing is said of the upstream's request
-ordinary_unsent : (d : Duplex) (error : Error) (side : DownState) (u u' : UpState) (p : DownPast)
-    (q q' : UpPast) → d.upstream_finished ≡ false → Ordinary (core d side u) p q
-    → Ordinary (core (with_send_error d error) side u') p q'
-ordinary_unsent d error side u u' p q q' runs o = record {
+ordinary_unsent : (d : Duplex) (rest : List HttpTask) (request response : Bool) (error : Error)
+    (side : DownState) (u u' : UpState) (p : DownPast) (q q' : UpPast)
+    → d.upstream_finished ≡ false → Ordinary (core d side u) p q
+    → Ordinary (core (with_send_error (record d {
+      requests = record d.requests { tasks = rest };
+      upstream_request_done = request;
+      upstream_response_done = response;
+    }) error) side u') p q'
+ordinary_unsent d rest request response error side u u' p q q' runs o = record {
   ends_last = o.ends_last;
   ended = o.ended;
   request_done = o.request_done;
@@ -74,7 +79,8 @@ ordinary_up_write d side u u' put.NotReady p q runs o alive =
     ordinary_written d side u u' p q runs o
 ordinary_up_write d side u u' put.Silent p q runs o alive = ordinary_written d side u u' p q runs o
 ordinary_up_write d side u u' (put.Failed fault) p q runs o alive =
-    ordinary_unsent d _ side u u' p q q runs o
+    ordinary_unsent d d.requests.tasks d.upstream_request_done d.upstream_response_done _ side u u'
+    p q q runs o
 ordinary_up_write d side u u' put.OutOfMemory p q runs o alive = clash true refl alive
 
 -- without a tunnel, a piece with which the upstream's request ends is an end
@@ -159,20 +165,9 @@ ordinary_up_take d tunnel side u u' piece rest (Ok done) p q q' plain runs unsen
     alive =
     ordinary_sent d tunnel side u u' piece rest p q q' plain runs unsent parts is_lost o
 ordinary_up_take d tunnel side u u' piece rest (Err (fail.Error error)) p q q' plain runs unsent
-    parts is_lost o alive = record {
-      ends_last = o.ends_last;
-      ended = o.ended;
-      request_done = o.request_done;
-      unlost = λ h. cc;
-      whole = λ h done. cc;
-      put_end = λ h. inr refl;
-      taken_end = λ h none. refl;
-      sent = λ h fin. clash d.upstream_finished fin runs;
-      through = λ fin. clash d.upstream_finished fin runs;
-      answered = o.answered;
-      client_done = o.client_done;
-      closed = o.closed;
-    }
+    parts is_lost o alive =
+    ordinary_unsent d rest (d.upstream_request_done || ends_request tunnel piece)
+    (d.upstream_response_done || ends_tunnel tunnel piece) error side u u' p q q' runs o
 ordinary_up_take d tunnel side u u' piece rest (Err fail.OutOfMemory) p q q' plain runs unsent
     parts is_lost o alive = clash true refl alive
 

@@ -148,8 +148,8 @@ past_queued p batched closing = record {
 }
 
 -- what passed, where only the response went on
-pub requeued : (s : Origin) (p : DownPast) (link : LinkState) (ahead : List ℕ) (old new : HttpSession)
-    (batched closing : List HttpTask) → IsClient s p link ahead old
+pub requeued : (s : Origin) (p : DownPast) (link : LinkState) (ahead : List ℕ)
+    (old new : HttpSession) (batched closing : List HttpTask) → IsClient s p link ahead old
     → new.reading ≡ old.reading → new.writing.request ≡ old.writing.request
     → Holds new.writing (batched ++ closing) p.written
     → ((fault : Fault) → new.writing.output ≡ outgoing.Broken fault → FailsWrite s link fault)

@@ -119,8 +119,9 @@ neither_failed true now none = absurd (cc)
 neither_failed false now none = (refl, none)
 
 -- where no error was answered by a read, no fault came in it
-pub calm_read : (start : LinkStart) (before after : LinkState) (had came : List ℕ) (asked : Option Got)
-    (was now : Bool) (answer : Took HttpTask) → ReadMoves start before after had came asked
+pub calm_read : (start : LinkStart) (before after : LinkState) (had came : List ℕ)
+    (asked : Option Got) (was now : Bool) (answer : Took HttpTask)
+    → ReadMoves start before after had came asked
     → ((fault : Fault) → asked ≡ Some (got.Failed fault)
     → answer ≡ took.Failed (fail.Error (fault_error fault)))
     → now ≡ (was || is_error answer) → (was ≡ false → before.faults ≡ start.faults)

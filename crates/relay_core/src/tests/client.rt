@@ -107,7 +107,7 @@ impl Down<()> for Client {
 
     ghost cannot_end = { λ c client s p e. c.told.last ≡ Some e };
 
-    ghost link = { λ client. record (mute_state (record { ended = false; used = 0; reused = false })) {
+    ghost link = { λ _. record (mute_state (record { ended = false; used = 0; reused = false })) {
       silent_on_read = true;
       silent_on_write = true;
     } };

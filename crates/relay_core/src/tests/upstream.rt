@@ -36,7 +36,7 @@ impl Up for Upstream {
 
     ghost blames = { λ u s q e. u.refuses ≡ Some e };
 
-    ghost link = { λ u. record (mute_state (record { ended = false; used = 0; reused = false })) {
+    ghost link = { λ _. record (mute_state (record { ended = false; used = 0; reused = false })) {
       silent_on_read = true;
       silent_on_write = true;
     } };
