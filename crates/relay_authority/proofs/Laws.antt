@@ -89,44 +89,54 @@ module _ (scheme host rest : List ℕ) (first : is_ascii_alphabetic (get_or sche
     (named : PassBelow is_scheme_byte scheme (length scheme)) (filled : 0 < length scheme)
     (valid : IsAuthority host)
     (ends : 0 < length rest → not (ends_authority (get_or rest 0 0)) ≡ false) where
+  -- the target of these parts
   abbrev whole : List ℕ
   whole = scheme ++ (58 ∷ 47 ∷ 47 ∷ (host ++ rest))
 
+  -- the bytes of its scheme end where the scheme ends
   scheme_ends : scheme_len whole ≡ length scheme
   scheme_ends = run-append is_scheme_byte scheme (58 ∷ 47 ∷ 47 ∷ (host ++ rest)) named (λ _. refl)
 
+  -- its scheme
   scheme_is : scheme_of whole ≡ scheme
   scheme_is = ap (λ n. take n whole) scheme_ends
       ∙ take-append_seam scheme (58 ∷ 47 ∷ 47 ∷ (host ++ rest))
 
+  -- what stands behind its scheme
   behind_is : behind_scheme whole ≡ 58 ∷ 47 ∷ 47 ∷ (host ++ rest)
   behind_is = ap (λ n. drop n whole) scheme_ends
       ∙ drop-append_seam scheme (58 ∷ 47 ∷ 47 ∷ (host ++ rest))
 
+  -- what stands behind its slashes
   after_is : behind_slashes whole ≡ host ++ rest
   after_is = ap (drop 3) behind_is
 
+  -- its authority
   host_is : authority_of whole ≡ host
   host_is =
       ap (λ text. take (authority_len text) text) after_is
       ∙ ap (λ n. take n (host ++ rest)) (cut host rest valid ends)
       ∙ take-append_seam host rest
 
+  -- what stands behind its authority
   rest_is : rest_of whole ≡ rest
   rest_is =
       ap (λ text. drop (authority_len text) text) after_is
       ∙ ap (λ n. drop n (host ++ rest)) (cut host rest valid ends)
       ∙ drop-append_seam host rest
 
+  -- it has a scheme and two slashes
   has_both : (has_scheme whole ≡ true) × (has_slashes whole ≡ true)
   has_both =
       let letter : get_or whole 0 0 ≡ get_or scheme 0 0 =
       get_or_append_left scheme (58 ∷ 47 ∷ 47 ∷ (host ++ rest)) 0 0 filled in
       (rw (letter, behind_is, first) refl, rw behind_is refl)
 
+  -- it is absolute
   absolute_is : is_absolute whole ≡ true
   absolute_is = rw (has_both.0, has_both.1, host_is, plain host valid) refl
 
+  -- it reads as its parts
   reads_as : absolute_parts whole ≡ Some (record { scheme = scheme; authority = host; rest = rest })
   reads_as = rw (absolute_is, scheme_is, host_is, rest_is) refl
 
@@ -150,6 +160,7 @@ record IsCut (target : List ℕ) (parts : Parts) : Type 0 where
   rest : parts.rest ≡ rest_of target
   letter : is_ascii_alphabetic (get_or target 0 0) ≡ true
 
+-- the parts of an absolute target are those that it is cut into
 cut_into : (target : List ℕ) (parts : Parts) → absolute_parts target ≡ Some parts
     → IsCut target parts
 cut_into target parts absolute =
@@ -338,6 +349,7 @@ same_rests : (head new : RequestHead) (host : List ℕ) → new ≡ head
     → ReconcilesWith head host (Left head) → Rests head new host
 same_rests head new host left rests = rw left record { fields = refl; with_host = rests }
 
+-- an absolute target that followed Host rests
 parts_rest : (head new : RequestHead) (host : List ℕ) (parts : Parts) → uri_authority_of head ≡ None
     → absolute_parts head.target ≡ Some parts → ReconcilesTarget head parts host (Left new)
     → Rests head new host
@@ -360,6 +372,7 @@ parts_rest head new host parts none absolute (inr (differ, inr (valid, inr (shor
           (moved_reads head.target host parts absolute authority))));
     }
 
+-- a head without the authority of a URI that followed Host rests
 raw_rests : (head new : RequestHead) (host : List ℕ) → uri_authority_of head ≡ None
     → ReconcilesRaw head host (Left new) → Rests head new host
 raw_rests head new host none table = by (absolute_parts head.target) refl table
@@ -371,6 +384,7 @@ raw_rests head new host none table = by (absolute_parts head.target) refl table
         (rw (none, absent) refl)
     by (Some parts) absolute t = parts_rest head new host parts none absolute t
 
+-- a head with the authority of a URI that followed Host rests
 uri_rests : (head new : RequestHead) (host : List ℕ) → ReconcilesUri head host (Left new)
     → Rests head new host
 uri_rests head new host (inl bad) = absurd (done head new _ bad.1)
@@ -388,6 +402,7 @@ uri_rests head new host (inr (was, inr (differ, inr (valid, (moved, is_moved, te
           is_moved.2.1 (λ no. no text);
     }
 
+-- a head that followed Host rests, with a URI or without
 with_rests : (head new : RequestHead) (host : List ℕ) → ReconcilesWith head host (Left new)
     → Rests head new host
 with_rests head new host table = by (uri_authority_of head) refl table

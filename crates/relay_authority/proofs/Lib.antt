@@ -1,5 +1,6 @@
 pub mod AttemptLemmas
 pub mod AuthorityLemmas
+pub mod EntryLemmas
 pub mod HostLemmas
 pub mod Laws
 pub mod MovedTarget

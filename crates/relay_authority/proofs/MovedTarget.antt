@@ -20,6 +20,7 @@ record VisibleParts (parts : Parts) : Type 0 where
   scheme : All IsVisible parts.scheme
   rest : All IsVisible parts.rest
 
+-- the scheme and the rest of a visible target are visible
 parts_visible : (target : List ℕ) (parts : Parts) → absolute_parts target ≡ Some parts
     → All IsVisible target → VisibleParts parts
 parts_visible target parts absolute visible = by (is_absolute target) absolute

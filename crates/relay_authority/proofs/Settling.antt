@@ -45,11 +45,12 @@ pub not_below-not : (m n : ℕ) (test : Bool) → test ≡ ltb m n → IsTrue (n
 not_below-not m n test is fails below = let on = lt-ltb m n below in
     let holds : test ≡ true = is ∙ on in absurd (let off = rw holds at fails in cc)
 
--- a test that holds is what it computes, and one that fails is not
+-- what a test that holds computes holds
 pub test_holds : (test : Bool) (a b : List ℕ) (f : List ℕ → Bool) → test ≡ f a → a ≡ b → test ≡ true
     → IsTrue (f b)
 test_holds test a b f is same holds = rw (← same, ← is) holds
 
+-- what a test that fails computes does not hold
 pub test_fails : (test : Bool) (a b : List ℕ) (f : List ℕ → Bool) → test ≡ f a → a ≡ b
     → test ≡ false → ¬ (IsTrue (f b))
 test_fails test a b f is same fails on = let h = rw (← same, ← is) at on in cc
@@ -97,11 +98,12 @@ answers_refusal T why given is table = rw is (why, refl, table)
 pub done_not_refused : {T E : Type 0} (x : T) (e : E) (P : Type 0) → (IsErrOf (Ok x) e ↔ P) → ¬ P
 done_not_refused x e P exact holds = let refusal = exact.1 holds in absurd cc
 
--- a test whose opposite holds refutes what it decides, and one whose opposite fails proves it
+-- a test whose opposite holds refutes what it decides
 pub refuted-not : {P : Type 0} (test : Bool) → (IsTrue test ↔ P) → not test ≡ true → ¬ P
 refuted-not true decides fails holds = absurd cc
 refuted-not false decides fails holds = let passes = decides.1 holds in absurd cc
 
+-- a test whose opposite fails proves what it decides
 pub passed : {P : Type 0} (test : Bool) → (IsTrue test ↔ P) → not test ≡ false → P
 passed true decides fails = decides.0 refl
 passed false decides fails = absurd cc

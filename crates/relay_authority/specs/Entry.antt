@@ -36,16 +36,21 @@ HostDisagreesWith head authority =
 abbrev pub HostDisagrees : RequestHead → Type 0
 HostDisagrees head = IsSomeAnd (head_authority head) (HostDisagreesWith head)
 
--- the head is refused with that context, or accepted
+-- the head is refused for its target with that context, or accepted
+abbrev pub ValidatedTarget : RequestHead → Option Context → Type 0
+ValidatedTarget head answer =
+    Line (IsTrue (is_ambiguous head.target)) (answer ≡ Some about.Ambiguous)
+    (Line (AuthorityHasUserinfo head) (answer ≡ Some about.Userinfo)
+    (Line (HostDisagrees head) (answer ≡ Some about.HostMismatch)
+    (answer ≡ None)))
+
+-- the head is refused with that context, first for its Host, or accepted
 abbrev pub Validated : RequestHead → Option Context → Type 0
 Validated head answer =
     Line (HasManyHosts head) (answer ≡ Some about.HostCount)
     (Line (HostHasUserinfo head) (answer ≡ Some about.UserinfoHost)
     (Line (HostIsNoAuthority head) (answer ≡ Some about.HostInvalid)
-    (Line (IsTrue (is_ambiguous head.target)) (answer ≡ Some about.Ambiguous)
-    (Line (AuthorityHasUserinfo head) (answer ≡ Some about.Userinfo)
-    (Line (HostDisagrees head) (answer ≡ Some about.HostMismatch)
-    (answer ≡ None))))))
+    (ValidatedTarget head answer)))
 
 -- a head of HTTP/1.1 that has no Host
 abbrev pub LacksHost : RequestHead → Type 0

@@ -8,10 +8,11 @@ use Rattle.relay_tasks.specs.Head.{RequestHead}
 use Rattle.relay_authority.specs.Sent.{PutsField}
 use Rattle.relay_authority.specs.Table.{Line, Outcome, Leaves}
 
--- the names of the fields
+-- the name of the field Content-Length
 abbrev pub content_length : List ℕ
 content_length = codes "content-length"
 
+-- the name of the field Transfer-Encoding
 abbrev pub transfer_encoding : List ℕ
 transfer_encoding = codes "transfer-encoding"
 

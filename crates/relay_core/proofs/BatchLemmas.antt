@@ -62,6 +62,7 @@ moving_task start begun next tasks task plain moving =
           (sym (append_assoc moving.moved (task ∷ []) next.tasks));
     }
 
+-- a task was taken from the pipe, and stands behind those that moved
 pub moving_on : (start : Held) (begun : List HttpTask) (pipe next : Held) (tasks : List HttpTask)
     (task : HttpTask) → pipe ≡ record next { tasks = task ∷ next.tasks }
     → begins_plain pipe.tasks ≡ true → Moving start begun pipe tasks

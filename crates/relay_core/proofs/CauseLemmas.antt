@@ -60,6 +60,7 @@ failing : (why : Fail) (before after : Told) (kept : Option Error) → after ≡
 failing fail.OutOfMemory before after kept is = tt
 failing (fail.Error error) before after kept is = inl (rose error before after is)
 
+-- a write to the upstream
 up_write : (side side' : UpState) (kept : Option Error) (answer : Put)
     → up.Writes side side' answer
     → HasCause side.told side'.told kept (step_of_up_write answer)
@@ -71,6 +72,7 @@ up_write side side' kept put.Silent writes =
 up_write side side' kept (put.Failed fault) writes = tt
 up_write side side' kept put.OutOfMemory writes = tt
 
+-- a write to the client
 down_write : (side side' : DownState) (kept : Option Error) (answer : Put)
     → down.Writes side side' answer
     → HasCause side.told side'.told kept (step_of_down_write answer)
@@ -84,12 +86,14 @@ down_write side side' kept (put.Failed fault) writes =
     (ap (λ (s : DownState). s.told) writes))
 down_write side side' kept put.OutOfMemory writes = tt
 
+-- a piece for the upstream: its error is kept, and no step fails with it
 up_take : (before after : Told) (kept : Option Error) (answer : Result Unit Fail)
     → HasCause before after kept (step_of_up_take answer)
 up_take before after kept (Ok done) = tt
 up_take before after kept (Err (fail.Error error)) = tt
 up_take before after kept (Err fail.OutOfMemory) = tt
 
+-- a batch for the client
 batch : (side side' : DownState) (tasks : List HttpTask) (kept : Option Error)
     (answer : Result Bool Fail) → TakesBatch side tasks side' answer
     → HasCause side.told side'.told kept (step_of_batch answer)
@@ -97,6 +101,7 @@ batch side side' tasks kept (Ok done) takes = tt
 batch side side' tasks kept (Err why) takes =
     failing why side.told side'.told kept (ap (λ (s : DownState). s.told) takes.exact)
 
+-- a read of the upstream: its error is put, and no step fails with it
 up_read : (side side' : UpState) (kept : Option Error) (answer : Took HttpTask)
     → ReadsTask side side' answer
     → HasCause side.told side'.told kept (step_of_up_read answer)
@@ -108,6 +113,7 @@ up_read side side' kept took.End reads = tt
 up_read side side' kept (took.Failed (fail.Error error)) reads = tt
 up_read side side' kept (took.Failed fail.OutOfMemory) reads = tt
 
+-- a read of the client
 down_read : (side side' : DownState) (kept : Option Error) (answer : Took Piece)
     → ReadsPiece side side' answer
     → HasCause side.told side'.told kept (step_of_down_read answer)
@@ -119,11 +125,13 @@ down_read side side' kept took.End reads = tt
 down_read side side' kept (took.Failed why) reads =
     failing why side.told side'.told kept (ap (λ (s : DownState). s.told) reads)
 
+-- a half that finishes neither waits nor fails
 half : (before after : Told) (kept : Option Error) (other : Bool)
     → HasCause before after kept (step_of_half other)
 half before after kept true = tt
 half before after kept false = tt
 
+-- the end of the upstream half: it fails with the send error alone
 up_finish : (before after : Told) (d : Duplex) (why : UpKind) (kept : Option Error)
     → HasCause before after kept (step_of_up_finish d (custom_error why kept))
 up_finish before after d kind.H1 kept = half before after kept d.client_finished
@@ -131,6 +139,7 @@ up_finish before after d kind.H2 kept = half before after kept d.client_finished
 up_finish before after d kind.Custom None = half before after None d.client_finished
 up_finish before after d kind.Custom (Some error) = inr refl
 
+-- the end of the response's body
 down_finish : (side side' : DownState) (kept : Option Error) (d : Duplex) (pending : Bool)
     (answer : Result Unit Fail) → Finishes side side' answer
     → HasCause side.told side'.told kept (step_of_down_finish d pending answer)
@@ -205,6 +214,7 @@ keeps_write side side' d (put.Failed fault) writes =
     )
 keeps_write side side' d put.OutOfMemory writes = inl refl
 
+-- the upstream told the error that is kept of a piece
 keeps_piece : (side side' : UpState) (d : Duplex) (answer : Result Unit Fail)
     → TakesPiece side side' answer
     → KeepsSendError side.told side'.told d.send_error (after_piece d answer).send_error
@@ -213,6 +223,7 @@ keeps_piece side side' d (Err (fail.Error error)) takes =
     inr (error, refl, rose error side.told side'.told (ap (λ (s : UpState). s.told) takes))
 keeps_piece side side' d (Err fail.OutOfMemory) takes = inl refl
 
+-- a batch leaves the send error
 pub kept_batch : (d : Duplex) (side side' : DownState) (tasks : List HttpTask)
     (answer : Result Bool Fail)
     → (after_batch d side tasks side' answer).send_error ≡ d.send_error
@@ -224,6 +235,7 @@ kept_batch d side side' tasks (Ok done) = kept_upgrade d (down.accepts side side
     kept_upgrade d false = refl
 kept_batch d side side' tasks (Err why) = refl
 
+-- so does a read of the upstream
 pub kept_up_read : (d : Duplex) (tunnel : Bool) (answer : Took HttpTask)
     → (after_up_read d tunnel answer).send_error ≡ d.send_error
 kept_up_read d tunnel (took.Item task) = refl
@@ -233,6 +245,7 @@ kept_up_read d tunnel took.End = refl
 kept_up_read d tunnel (took.Failed (fail.Error error)) = refl
 kept_up_read d tunnel (took.Failed fail.OutOfMemory) = refl
 
+-- and a read of the client
 pub kept_down_read : (d : Duplex) (upgraded : Bool) (answer : Took Piece)
     → (after_down_read d upgraded answer).send_error ≡ d.send_error
 kept_down_read d upgraded (took.Item piece) = refl
@@ -241,6 +254,7 @@ kept_down_read d upgraded (took.Waited why) = refl
 kept_down_read d upgraded took.End = refl
 kept_down_read d upgraded (took.Failed why) = refl
 
+-- and a write to the client
 pub kept_down_write : (d : Duplex) (answer : Put)
     → (after_down_write d answer).send_error ≡ d.send_error
 kept_down_write d (put.Took n) = refl
@@ -249,11 +263,13 @@ kept_down_write d put.Silent = refl
 kept_down_write d (put.Failed fault) = refl
 kept_down_write d put.OutOfMemory = refl
 
+-- and the end of the upstream half
 pub kept_up_finish : (d : Duplex) (why : Option Error)
     → (after_up_finish d why).send_error ≡ d.send_error
 kept_up_finish d None = refl
 kept_up_finish d (Some error) = refl
 
+-- and the end of the response's body
 pub kept_down_finish : (d : Duplex) (pending : Bool) (answer : Result Unit Fail)
     → (after_down_finish d pending answer).send_error ≡ d.send_error
 kept_down_finish d true (Ok done) = refl

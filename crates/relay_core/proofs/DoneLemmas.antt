@@ -27,13 +27,14 @@ use Rattle.relay_core.specs.State.{is_reading, finished, reset_to_reading, is_re
 use Rattle.relay_core.specs.Steps.{StepsTo, with_requests, with_responses}
 use Rattle.relay_core.specs.Table.{State, enabled, down_runs, after_up_write, after_down_write, after_piece, with_piece_sent, ends_request, ends_tunnel, with_upgrade, after_batch, after_up_read, told_error, after_down_read, custom_error, after_up_finish, after_down_finish}
 use Rattle.relay_core.proofs.BoolLemmas.{clash, and_left, and_right, or_cases, or_inl, or_inr}
-use Rattle.relay_core.proofs.SoundLemmas.{ends-append}
+use Rattle.relay_core.proofs.RunsLemmas.{ends-append}
 
 -- what a duplex says of the client's request and of the upstream's response
 pub record SameEnds (d d' : Duplex) : Type 0 where
   pub request : d'.client_request ≡ d.client_request
   pub response : d'.upstream_response_done ≡ d.upstream_response_done
 
+-- a write to the upstream leaves what is done
 same_up_write : (d : Duplex) (answer : Put) → SameEnds d (after_up_write d answer)
 same_up_write d (put.Took n) = record { request = refl; response = refl }
 same_up_write d put.NotReady = record { request = refl; response = refl }
@@ -41,6 +42,7 @@ same_up_write d put.Silent = record { request = refl; response = refl }
 same_up_write d (put.Failed fault) = record { request = refl; response = refl }
 same_up_write d put.OutOfMemory = record { request = refl; response = refl }
 
+-- so does a write to the client
 same_down_write : (d : Duplex) (answer : Put) → SameEnds d (after_down_write d answer)
 same_down_write d (put.Took n) = record { request = refl; response = refl }
 same_down_write d put.NotReady = record { request = refl; response = refl }
@@ -48,15 +50,18 @@ same_down_write d put.Silent = record { request = refl; response = refl }
 same_down_write d (put.Failed fault) = record { request = refl; response = refl }
 same_down_write d put.OutOfMemory = record { request = refl; response = refl }
 
+-- and the answer on a piece
 same_piece : (d : Duplex) (answer : Result Unit Fail) → SameEnds d (after_piece d answer)
 same_piece d (Ok done) = record { request = refl; response = refl }
 same_piece d (Err (fail.Error error)) = record { request = refl; response = refl }
 same_piece d (Err fail.OutOfMemory) = record { request = refl; response = refl }
 
+-- and the end of the upstream half
 same_up_finish : (d : Duplex) (why : Option Error) → SameEnds d (after_up_finish d why)
 same_up_finish d None = record { request = refl; response = refl }
 same_up_finish d (Some error) = record { request = refl; response = refl }
 
+-- and the end of the response's body
 same_down_finish : (d : Duplex) (pending : Bool) (answer : Result Unit Fail)
     → SameEnds d (after_down_finish d pending answer)
 same_down_finish d true (Ok done) = record { request = refl; response = refl }
@@ -89,6 +94,7 @@ response_upgrade : (d : Duplex) (accepted : Bool)
 response_upgrade d true = refl
 response_upgrade d false = refl
 
+-- a batch leaves the upstream's response
 response_batch : (d : Duplex) (side side' : DownState) (tasks : List HttpTask)
     (answer : Result Bool Fail)
     → (after_batch d side tasks side' answer).upstream_response_done ≡ d.upstream_response_done
@@ -116,6 +122,7 @@ reset_reads Reading reading = refl
 reset_reads ReadingFinished reading = refl
 reset_reads Errored reading = reading
 
+-- a request that is read is read after a 101 too
 upgrade_reads : (d : Duplex) (accepted : Bool) → is_reading d.client_request ≡ true
     → is_reading (with_upgrade d accepted).client_request ≡ true
 upgrade_reads d true reading = reset_reads d.client_request reading
@@ -134,7 +141,8 @@ batch_ends d side side' tasks (Ok done) reading over =
     (upgrade_reads d (accepts side side') reading) over in (
       and_right (list_any is_end tasks) side'.upgraded both,
       or_inr d'.client_response.upstream_done (list_any is_end tasks || done)
-          (or_inl (list_any is_end tasks) done (and_left (list_any is_end tasks) side'.upgraded both)),
+          (or_inl (list_any is_end tasks) done
+          (and_left (list_any is_end tasks) side'.upgraded both)),
     )
 batch_ends d side side' tasks (Err why) reading over = clash _ reading over
 
@@ -267,7 +275,8 @@ piece_ends : (old new : State) (rest : List HttpTask) (piece : HttpTask)
 piece_ends old new rest piece answer is open_yet over =
     let d : Duplex = with_piece_sent (with_requests old.duplex rest) old.down.upgraded piece in
     let told : (old.duplex.upstream_response_done || ends_tunnel old.down.upgraded piece) ≡ true =
-    sym (ap (λ (x : Duplex). x.upstream_response_done) is ∙ (same_piece d answer).response) ∙ over in
+    sym (ap (λ (x : Duplex). x.upstream_response_done) is ∙ (same_piece d answer).response)
+    ∙ over in
     elim (or_cases old.duplex.upstream_response_done (ends_tunnel old.down.upgraded piece) told) [
       | inl before ↦ clash old.duplex.upstream_response_done before open_yet
       | inr here ↦ (let both = tunnel_piece old.down.upgraded piece here in record {

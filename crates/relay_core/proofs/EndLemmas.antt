@@ -26,6 +26,7 @@ pub record Alive (d : Duplex) : Type 0 where
   pub sound : is_failed d.word ≡ false
   pub open_yet : is_finished d ≡ false
 
+-- an upstream half that goes on is alive
 alive_up : (d : Duplex) → up_runs d ≡ true → Alive d
 alive_up d runs = record {
   sound = not_true (is_failed d.word) (and_right (not d.upstream_finished) _ runs);
@@ -33,6 +34,7 @@ alive_up d runs = record {
       (not_true d.upstream_finished (and_left (not d.upstream_finished) _ runs));
 }
 
+-- so is a client's half that goes on
 alive_down : (d : Duplex) → down_runs d ≡ true → Alive d
 alive_down d runs = record {
   sound = not_true (is_failed d.word) (and_right (not d.client_finished) _ runs);
@@ -50,6 +52,7 @@ goes_on result d p q alive =
 gives_up : (d : Duplex) (why : Fail) → Alive d → Tells (step.Failed why) (failed d)
 gives_up d why alive = record { failed = refl; finished = sym alive.open_yet }
 
+-- a write to the upstream says what it left
 tells_up_write : (d : Duplex) (answer : Put) → Alive d
     → Tells (step_of_up_write answer) (after_up_write d answer)
 tells_up_write d (put.Took n) alive = goes_on _ d refl refl alive
@@ -59,6 +62,7 @@ tells_up_write d (put.Failed fault) alive =
     record { failed = sym alive.sound; finished = sym alive.open_yet }
 tells_up_write d put.OutOfMemory alive = gives_up d fail.OutOfMemory alive
 
+-- so does a write to the client
 tells_down_write : (d : Duplex) (answer : Put) → Alive d
     → Tells (step_of_down_write answer) (after_down_write d answer)
 tells_down_write d (put.Took n) alive = goes_on _ d refl refl alive
@@ -67,6 +71,7 @@ tells_down_write d put.Silent alive = goes_on _ d refl refl alive
 tells_down_write d (put.Failed fault) alive = gives_up d _ alive
 tells_down_write d put.OutOfMemory alive = gives_up d fail.OutOfMemory alive
 
+-- and the answer on a piece
 tells_piece : (d : Duplex) (answer : Result Unit Fail) → Alive d
     → Tells (step_of_up_take answer) (after_piece d answer)
 tells_piece d (Ok done) alive = goes_on step.Moved d refl refl alive
@@ -74,10 +79,12 @@ tells_piece d (Err (fail.Error error)) alive =
     record { failed = sym alive.sound; finished = sym alive.open_yet }
 tells_piece d (Err fail.OutOfMemory) alive = gives_up d fail.OutOfMemory alive
 
+-- an accepted 101 leaves the duplex alive
 tells_upgrade : (d : Duplex) (accepted : Bool) → Alive d → Alive (with_upgrade d accepted)
 tells_upgrade d true alive = record { sound = alive.sound; open_yet = alive.open_yet }
 tells_upgrade d false alive = alive
 
+-- a batch says what it left
 tells_batch : (d : Duplex) (side side' : DownState) (tasks : List HttpTask)
     (answer : Result Bool Fail) → Alive d
     → Tells (step_of_batch answer) (after_batch d side tasks side' answer)
@@ -86,6 +93,7 @@ tells_batch d side side' tasks (Ok done) alive =
     record { failed = sym after.sound; finished = sym after.open_yet }
 tells_batch d side side' tasks (Err why) alive = gives_up d why alive
 
+-- so does a read of the upstream
 tells_up_read : (d : Duplex) (tunnel : Bool) (answer : Took HttpTask) → Alive d
     → Tells (step_of_up_read answer) (after_up_read d tunnel answer)
 tells_up_read d tunnel (took.Item task) alive =
@@ -97,6 +105,7 @@ tells_up_read d tunnel (took.Failed (fail.Error error)) alive =
     record { failed = sym alive.sound; finished = sym alive.open_yet }
 tells_up_read d tunnel (took.Failed fail.OutOfMemory) alive = gives_up d fail.OutOfMemory alive
 
+-- and a read of the client
 tells_down_read : (d : Duplex) (upgraded : Bool) (answer : Took Piece) → Alive d
     → Tells (step_of_down_read answer) (after_down_read d upgraded answer)
 tells_down_read d upgraded (took.Item piece) alive =
@@ -106,14 +115,17 @@ tells_down_read d upgraded (took.Waited why) alive = goes_on (step.Waited why) d
 tells_down_read d upgraded took.End alive = goes_on step.Moved d refl refl alive
 tells_down_read d upgraded (took.Failed why) alive = gives_up d why alive
 
+-- a half that finishes is no failure
 half_failed : (other : Bool) → says_failed (step_of_half other) ≡ false
 half_failed true = refl
 half_failed false = refl
 
+-- it says that both have finished where the other has
 half_finished : (other : Bool) → says_finished (step_of_half other) ≡ other
 half_finished true = refl
 half_finished false = refl
 
+-- the end of the upstream half says what it left
 tells_up_finish : (d : Duplex) (why : Option Error) → Alive d
     → Tells (step_of_up_finish d why) (after_up_finish d why)
 tells_up_finish d None alive = record {
@@ -122,6 +134,7 @@ tells_up_finish d None alive = record {
 }
 tells_up_finish d (Some error) alive = gives_up d (fail.Error error) alive
 
+-- so does the end of the response's body
 tells_down_finish : (d : Duplex) (pending : Bool) (answer : Result Unit Fail) → Alive d
     → Tells (step_of_down_finish d pending answer) (after_down_finish d pending answer)
 tells_down_finish d true (Ok done) alive = goes_on step.Moved d refl refl alive

@@ -1,5 +1,5 @@
--- What went through the response pipe: what the upstream gave is what the client was given, what was
--- dropped and what is held.
+-- What went through the response pipe: what the upstream gave is what the client was given, what
+-- was dropped and what is held.
 use Rattle.std.proofs.Common.{◌≡◌, Bool, true, false, List, [], ◌∷◌, ◌++◌, Option, Some, None, refl, sym, ap, ◌∙◌, append-nil, append_assoc}
 use Rattle.std.specs.List.{list_any}
 use Rattle.relay_tasks.specs.declared.error.Error.{Error}
@@ -20,6 +20,7 @@ pub record Plain (read batched held : List HttpTask) (over ended : Bool) : Type 
   pub none_dropped : over ≡ false → dropped ≡ []
   pub none_failed : ended ≡ false → failure ≡ None
 
+-- where no half failed, no failure was refused
 pub plainly : (read batched held : List HttpTask) (over ended : Bool)
     → ResponseHeld read batched held false over ended → Plain read batched held over ended
 plainly read batched held over ended r =

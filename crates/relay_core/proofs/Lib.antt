@@ -13,3 +13,11 @@ pub mod DoneLemmas
 pub mod KeepLemmas
 pub mod StillLemmas
 pub mod MarkLemmas
+pub mod UpGoes
+pub mod DownGoes
+pub mod BatchGoes
+pub mod OrdinaryUp
+pub mod OrdinaryDown
+pub mod SteadyLemmas
+pub mod RunsLemmas
+pub mod FitsLemmas

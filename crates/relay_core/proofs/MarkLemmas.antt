@@ -35,6 +35,7 @@ pub keep_at : (old wanted new : Duplex) → new ≡ wanted → KeepsMarks old wa
 keep_at old wanted new is keeps =
     let P : Duplex → Type 0 = λ d. KeepsMarks old d in subst P (sym is) keeps
 
+-- a write to the client leaves the marks
 pub keep_down_write : (d : Duplex) (answer : Put) → KeepsMarks d (after_down_write d answer)
 keep_down_write d (put.Took n) = record { kind = refl; sends = refl }
 keep_down_write d put.NotReady = record { kind = refl; sends = refl }
@@ -47,6 +48,7 @@ keep_upgrade : (d : Duplex) (accepted : Bool) → KeepsMarks d (with_upgrade d a
 keep_upgrade d true = record { kind = refl; sends = refl }
 keep_upgrade d false = record { kind = refl; sends = refl }
 
+-- so does a batch
 pub keep_batch : (d : Duplex) (side side' : DownState) (tasks : List HttpTask)
     (answer : Result Bool Fail) → KeepsMarks d (after_batch d side tasks side' answer)
 keep_batch d side side' tasks (Ok done) =
@@ -54,6 +56,7 @@ keep_batch d side side' tasks (Ok done) =
     record { kind = keeps.kind; sends = keeps.sends }
 keep_batch d side side' tasks (Err why) = record { kind = refl; sends = refl }
 
+-- and a read of the client
 pub keep_down_read : (d : Duplex) (upgraded : Bool) (answer : Took Piece)
     → KeepsMarks d (after_down_read d upgraded answer)
 keep_down_read d upgraded (took.Item piece) = record { kind = refl; sends = refl }
@@ -62,10 +65,12 @@ keep_down_read d upgraded (took.Waited why) = record { kind = refl; sends = refl
 keep_down_read d upgraded took.End = record { kind = refl; sends = refl }
 keep_down_read d upgraded (took.Failed why) = record { kind = refl; sends = refl }
 
+-- and the end of the upstream half
 pub keep_up_finish : (d : Duplex) (why : Option Error) → KeepsMarks d (after_up_finish d why)
 keep_up_finish d None = record { kind = refl; sends = refl }
 keep_up_finish d (Some error) = record { kind = refl; sends = refl }
 
+-- and the end of the response's body
 pub keep_down_finish : (d : Duplex) (pending : Bool) (answer : Result Unit Fail)
     → KeepsMarks d (after_down_finish d pending answer)
 keep_down_finish d true (Ok done) = record { kind = refl; sends = refl }
@@ -123,6 +128,7 @@ marks_agree old new wanted q q' is agree ended is_read m = record {
   reads = calm_on old new q q' agree.reads ended is_read m;
 }
 
+-- after a write the duplex agrees with the upstream's side
 agree_write : (d : Duplex) (old new : UpState) (answer : Put) → up.Writes old new answer
     → d.kind ≡ old.kind → d.send_error ≡ old.send_failed
     → Agree (after_up_write d answer) old new
@@ -161,6 +167,7 @@ marks_write old new answer q q' is writes ended is_read m =
     marks_agree old new _ q q' is
     (agree_write old.duplex old.up new.up answer writes m.kind m.sends) ended is_read m
 
+-- so it does after the answer on a piece
 agree_piece : (d : Duplex) (old new : UpState) (answer : Result Unit Fail)
     → TakesPiece old new answer → d.kind ≡ old.kind → d.send_error ≡ old.send_failed
     → Agree (after_piece d answer) old new
@@ -197,6 +204,7 @@ record KeepsSide (old new : UpState) : Type 0 where
   kind : new.kind ≡ old.kind
   sends : new.send_failed ≡ old.send_failed
 
+-- a read of the upstream leaves the kind of its side and its send error
 keep_side : (old new : UpState) (answer : Took HttpTask) → ReadsTask old new answer
     → KeepsSide old new
 keep_side old new (took.Item task) reads = record {

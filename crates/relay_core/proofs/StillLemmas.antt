@@ -1,5 +1,6 @@
 -- A step that waits leaves all but what a side tells, so the same branches can be taken.
-use Rattle.std.proofs.Common.{◌≡◌, Bool, true, false, Some, None, Result, Ok, Err, refl, sym, ap, ◌∙◌, subst, inl, inr}
+use Rattle.std.proofs.Common.{◌≡◌, Bool, true, false, Option, Some, None, Result, Ok, Err, refl, sym, ap, ◌∙◌, subst, inl, inr}
+use Rattle.relay_tasks.specs.declared.error.Error.{Error}
 use Rattle.relay_tasks.specs.declared.error.Fail.{Fail}
 use Rattle.relay_tasks.specs.declared.error.Fail.TheVariants as fail
 use Rattle.relay_tasks.specs.declared.task.HttpTask.{HttpTask}
@@ -94,6 +95,7 @@ down_still old new told same down up = record {
   up = up;
 }
 
+-- a write to the upstream that waits
 up_write_still : (old new : State) (result : Step) (pause : Pause) (answer : Put)
     → up.Writes old.up new.up answer → new.duplex ≡ after_up_write old.duplex answer
     → result ≡ step_of_up_write answer → new.down ≡ old.down → result ≡ step.Waited pause
@@ -109,6 +111,7 @@ up_write_still old new result pause (put.Failed fault) writes is came same h =
 up_write_still old new result pause put.OutOfMemory writes is came same h =
     no_wait result (step.Failed fail.OutOfMemory) pause came refl h
 
+-- a write to the client that waits
 down_write_still : (old new : State) (result : Step) (pause : Pause) (answer : Put)
     → down.Writes old.down new.down answer → new.duplex ≡ after_down_write old.duplex answer
     → result ≡ step_of_down_write answer → new.up ≡ old.up → result ≡ step.Waited pause
@@ -124,6 +127,7 @@ down_write_still old new result pause (put.Failed fault) writes is came same h =
 down_write_still old new result pause put.OutOfMemory writes is came same h =
     no_wait result (step.Failed fail.OutOfMemory) pause came refl h
 
+-- a read of the upstream that waits
 up_read_still : (old new : State) (result : Step) (pause : Pause) (answer : Took HttpTask)
     → ReadsTask old.up new.up answer
     → new.duplex ≡ after_up_read old.duplex old.down.upgraded answer
@@ -141,6 +145,7 @@ up_read_still old new result pause (took.Failed (fail.Error error)) reads is cam
 up_read_still old new result pause (took.Failed fail.OutOfMemory) reads is came same h =
     no_wait result (step.Failed fail.OutOfMemory) pause came refl h
 
+-- a read of the client that waits
 down_read_still : (old new : State) (result : Step) (pause : Pause) (answer : Took Piece)
     → ReadsPiece old.down new.down answer
     → new.duplex ≡ after_down_read old.duplex old.down.upgraded answer
@@ -162,21 +167,26 @@ take_moves (Ok done) = refl
 take_moves (Err (fail.Error error)) = refl
 take_moves (Err fail.OutOfMemory) = refl
 
+-- a batch is no wait
 batch_moves : (answer : Result Bool Fail) → waits (step_of_batch answer) ≡ false
 batch_moves (Ok done) = refl
 batch_moves (Err why) = refl
 
+-- nor is a half that finishes
 half_moves : (other : Bool) → waits (step_of_half other) ≡ false
 half_moves true = refl
 half_moves false = refl
 
+-- nor is the end of the upstream half
 up_finish_moves : (d : Duplex) (why : UpKind)
     → waits (step_of_up_finish d (custom_error why d.send_error)) ≡ false
-up_finish_moves d why = elim (custom_error why d.send_error) as (λ kept. waits (step_of_up_finish d kept) ≡ false) [
-  | None ↦ half_moves d.client_finished
-  | Some error ↦ refl
-]
+up_finish_moves d why = by_kept (custom_error why d.send_error)
+  where
+    by_kept : (kept : Option Error) → waits (step_of_up_finish d kept) ≡ false
+    by_kept None = half_moves d.client_finished
+    by_kept (Some error) = refl
 
+-- nor is the end of the response's body
 down_finish_moves : (d : Duplex) (pending : Bool) (answer : Result Unit Fail)
     → waits (step_of_down_finish d pending answer) ≡ false
 down_finish_moves d true (Ok done) = refl

@@ -114,6 +114,7 @@ pub record Waiting (s : State) : Type 0 where
   pub not_done : (is_done s.duplex.client_request && is_response_done s.duplex.client_response)
       ≡ false
 
+-- a stuck client's half that goes on waits
 down_waits : (s : State) → Stuck s → down_runs s.duplex ≡ true → Waiting s
 down_waits s stuck runs =
     let quiet = off (down_runs s.duplex) s.down.pending runs (stuck.none branch.DownWrite) in
@@ -245,7 +246,7 @@ up_goes s stuck up r finished =
     ]
 
 -- a sound state is stuck only where both halves have finished or one failed
-pub no_stuck : (s : State) → IsSound s → Stuck s
+no_stuck : (s : State) → IsSound s → Stuck s
     → (is_finished s.duplex || is_failed s.duplex.word) ≡ true
 no_stuck s sound stuck =
     let d = s.duplex in
@@ -285,7 +286,7 @@ none_found p q (x ∷ xs) h =
     ]
 
 -- no branch of the set is the first only where none is enabled
-pub first_none : (s : State) (set : List Branch) (result : Option Branch)
+first_none : (s : State) (set : List Branch) (result : Option Branch)
     → ((b : Branch) → has set b ≡ enabled s b) → result ≡ find (has set) BRANCHES
     → IsNone result → Stuck s
 first_none s set None same is none = record {
@@ -293,6 +294,13 @@ first_none s set None same is none = record {
       ∙ none_found (has set) (λ x. is_same_branch x b) BRANCHES (sym is);
 }
 first_none s set (Some b) same is none = cc
+
+-- where the first branch of the set is none, both halves have finished or one failed
+pub none_stuck : (s : State) (set : List Branch) (result : Option Branch)
+    → ((b : Branch) → has set b ≡ enabled s b) → result ≡ find (has set) BRANCHES
+    → IsSound s → IsNone result → (is_finished s.duplex || is_failed s.duplex.word) ≡ true
+none_stuck s set result same is sound none =
+    no_stuck s sound (first_none s set result same is none)
 
 -- what is found passes
 found_passes : (p : Branch → Bool) (xs : List Branch) (b : Branch) → find p xs ≡ Some b

@@ -128,6 +128,7 @@ pub record Parted (xs ys zs : List HttpTask) (failure : Option Error) : Type 0 w
   pub front : xs ≡ ys ++ behind
   pub rest : behind ++ failure_task failure ≡ zs
 
+-- tasks without a failure are the front of those that passed
 pub plain_part : (xs ys zs : List HttpTask) (failure : Option Error)
     → xs ++ failure_task failure ≡ ys ++ zs → list_any is_failure ys ≡ false
     → Parted xs ys zs failure

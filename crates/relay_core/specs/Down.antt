@@ -17,8 +17,8 @@ use Rattle.relay_core.specs.Piece.{put_of}
 use Rattle.relay_core.specs.Pipe.{is_failure}
 use Rattle.relay_core.specs.Told.{paused, failed, written}
 
--- the client's side: whether the end of the request was among its pieces (or went with the head) and
--- no 101 was accepted since; whether its body has ended; whether it waits for the answer to an
+-- the client's side: whether the end of the request was among its pieces (or went with the head)
+-- and no 101 was accepted since; whether its body has ended; whether it waits for the answer to an
 -- upgrade, and whether it was upgraded; whether its response is done, and the response's body was
 -- finished; whether output is pending; and what it tells of its answers
 pub record DownState : Type 0 where

@@ -33,10 +33,11 @@ failure_task None = []
 failure_task (Some error) = task.Failed error ∷ []
 
 -- through the response pipe: the client was given the front of what the upstream gave; what is left
--- of it, and the failure of a read, was dropped or is held. The failure is refused by the client, and
--- a half failed by that. Nothing is dropped before the response is done or a half failed, and no
--- failure is put before the upstream's response ends
-pub record ResponseHeld (read batched held : List HttpTask) (failed over ended : Bool) : Type 0 where
+-- of it, and the failure of a read, was dropped or is held. The failure is refused by the client,
+-- and a half failed by that. Nothing is dropped before the response is done or a half failed, and
+-- no failure is put before the upstream's response ends
+pub record ResponseHeld (read batched held : List HttpTask) (failed over ended : Bool)
+    : Type 0 where
   pub given : List HttpTask
   pub refused : Option Error
   pub rest : List HttpTask
@@ -105,8 +106,8 @@ pub record Marks (s : State) (q : UpPast) : Type 0 where
 
 -- the exchange so far, over the pasts of both sides
 pub record SoFar
-    (down_past : DownPast → Type 0) (up_past : UpPast → Type 0) (up_blames : UpPast → Error → Type 0)
-    (s : State) (p : DownPast) (q : UpPast) : Type 0 where
+    (down_past : DownPast → Type 0) (up_past : UpPast → Type 0)
+    (up_blames : UpPast → Error → Type 0) (s : State) (p : DownPast) (q : UpPast) : Type 0 where
   pub down : down_past p
   pub up : up_past q
   pub sound : IsSound s
@@ -178,9 +179,9 @@ pub record Extends (before : DownPast) (up_before : UpPast) (p : DownPast) (q : 
   pub taken : List HttpTask
   pub is_taken : q.taken ≡ up_before.taken ++ taken
 
--- a step went on with the exchange from these pasts, and its error has its reason. Without a tunnel, where it
--- finished both directions were relayed, and where the request pipe is then full and no send error
--- is kept, the upstream half that runs can go on
+-- a step went on with the exchange from these pasts, and its error has its reason. Without a
+-- tunnel, where it finished both directions were relayed, and where the request pipe is then full
+-- and no send error is kept, the upstream half that runs can go on
 pub record Goes
     (down_past : DownPast → Type 0) (down_blames : DownPast → Error → Type 0)
     (down_refuses : DownPast → List HttpTask → Error → Type 0)

@@ -21,9 +21,9 @@ use Rattle.relay_core.specs.Told.{fault_of}
 -- ---- the pasts
 
 -- where an exchange began: with the head of its request; where the client's link stood: the bytes
--- that were read ahead from it, how many bytes it had given and taken, and how many of its calls had
--- failed; whether the upstream's link had been used before; and how many faults the client's link
--- had told of its reads and of its writes
+-- that were read ahead from it, how many bytes it had given and taken, and how many of its calls
+-- had failed; whether the upstream's link had been used before; and how many faults the client's
+-- link had told of its reads and of its writes
 pub record Origin : Type 0 where
   pub head : RequestHead
   pub ahead : List ℕ
@@ -128,8 +128,8 @@ pub record DownGoes
   pub is_closing : past.closing ≡ closing
   pub blamed : (e : Error) → error ≡ Some e → blames past e
 
--- a batch was refused: its front was given, and the side refuses what stands behind it. The error of
--- a failure that is given alone is not the side's own
+-- a batch was refused: its front was given, and the side refuses what stands behind it. The error
+-- of a failure that is given alone is not the side's own
 pub record BatchRefused
     (holds : DownPast → Type 0) (refuses : DownPast → List HttpTask → Error → Type 0)
     (p : DownPast) (tasks : List HttpTask) (why : Fail) : Type 0 where
@@ -144,6 +144,7 @@ pub record BatchRefused
   pub refused : (e : Error) → list_any is_failure tasks ≡ false → why ≡ fail.Error e
       → refuses past left e
 
+-- what passed after a batch, by its answer
 abbrev pub BatchGoes :
     (DownPast → Type 0) → (DownPast → Error → Type 0) → (DownPast → List HttpTask → Error → Type 0)
     → DownPast → List HttpTask → Result Bool Fail → Type 0

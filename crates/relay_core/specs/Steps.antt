@@ -129,7 +129,8 @@ pub record UpWritesOn
   pub writes : up.Writes side side' answer
   pub duplex : after ≡ after_up_write before answer
   pub step : result ≡ step_of_up_write answer
-  pub goes : UpGoes holds blamed_before blames q q.read q.taken q.lost (error_of_put Upstream answer)
+  pub goes :
+      UpGoes holds blamed_before blames q q.read q.taken q.lost (error_of_put Upstream answer)
 
 -- one write to the client
 pub record DownWritesOn
@@ -181,8 +182,8 @@ abbrev pub DownTakesOn :
     (DownPast → Type 0) → (DownPast → Error → Type 0) → (DownPast → List HttpTask → Error → Type 0)
     → DownPast → Duplex → DownState → Duplex → DownState → Step → Type 0
 DownTakesOn holds blames refuses p before side after side' result =
-    GivesBatchOn holds blames refuses p (with_responses before (rest_of before.responses.tasks)) side
-    (batch_of before.responses.tasks) after side' result
+    GivesBatchOn holds blames refuses p (with_responses before (rest_of before.responses.tasks))
+    side (batch_of before.responses.tasks) after side' result
     ⊎ LosesBatchOn holds p before side after side' result
 
 -- one read of the upstream

@@ -68,7 +68,8 @@ enabled s branch.UpWrite = up_runs s.duplex && (s.up.pending && is_none s.duplex
 enabled s branch.DownWrite = down_runs s.duplex && s.down.pending
 enabled s branch.UpTake =
     up_runs s.duplex
-    && (not s.duplex.upstream_request_done && (not s.up.pending && not (is_empty s.duplex.requests)))
+    && (not s.duplex.upstream_request_done
+    && (not s.up.pending && not (is_empty s.duplex.requests)))
 enabled s branch.DownTake =
     down_runs s.duplex
     && (not s.down.pending

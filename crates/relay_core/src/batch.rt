@@ -30,7 +30,8 @@ pub(crate) fn next_batch(alloc: Global, pipe: &mut Pipe) -> Result<TaskList>
 /// Moves the tasks up to the first failure behind the others. Without memory some are lost.
 fn move_plain(pipe: &mut Pipe, tasks: &mut TaskList) -> Result<()>
     ensures tasks { OnOk result (tasks.new ≡ tasks.old ++ plain_front pipe.old.tasks) }
-    ensures rest { OnOk result (pipe.new ≡ record pipe.old { tasks = behind_plain pipe.old.tasks }) }
+    ensures rest { OnOk result
+        (pipe.new ≡ record pipe.old { tasks = behind_plain pipe.old.tasks }) }
     ensures memory { IsOkUnless result Fail.OutOfMemory }
     ensures err { OnErr result (Loses pipe.old pipe.new) }
 {

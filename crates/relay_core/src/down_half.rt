@@ -68,7 +68,8 @@ impl Duplex {
     }
 
     fn give_batch<C, D: Down<C>>(&mut self, down: &mut D, tasks: TaskList) -> Step
-        ensures exact { GivesBatch self.old (D.state down.old) tasks self.new (D.state down.new) result }
+        ensures exact { GivesBatch self.old (D.state down.old) tasks self.new (D.state down.new)
+            result }
         ensures goes { (client : C) (s : Origin) (p : DownPast) → D.past down.old client s p
             → GivesBatchOn (D.past down.new client s) (D.blames down.new client s)
             (D.refuses down.new client s) p self.old (D.state down.old) tasks self.new

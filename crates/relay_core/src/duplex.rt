@@ -98,9 +98,9 @@ impl Duplex {
         self.upstream_finished && self.client_finished
     }
 
-    /// Whether the upstream's link may serve again, as far as the duplex knows: an HTTP/1 link where
-    /// its request and its response have ended, nothing failed to be sent and no half failed, a
-    /// message link always.
+    /// Whether the upstream's link may serve again, as far as the duplex knows: an HTTP/1 link
+    /// where its request and its response have ended, nothing failed to be sent and no half failed,
+    /// a message link always.
     pub fn upstream_may_keep(&self) -> bool
         ensures { result ≡ may_keep self.now.kind self.now }
     {
@@ -216,7 +216,8 @@ impl Duplex {
 
     /// The branches that can be taken now.
     fn enabled_set<C, D: Down<C>, U: Up>(&self, down: &D, up: &U) -> BranchSet
-        ensures { (branch : Branch) → has result branch ≡ enabled (core self.now (D.state down.now) (U.state up.now)) branch }
+        ensures { (branch : Branch) → has result branch
+            ≡ enabled (core self.now (D.state down.now) (U.state up.now)) branch }
     {
         let mut set = BranchSet::new();
         for branch in BRANCHES {
@@ -306,8 +307,8 @@ impl Duplex {
         }
     }
 
-    /// Takes one step by the branch, which is enabled. `Waited` changes nothing but the count of the
-    /// side that had to wait; `Failed` marks both pipes, and no branch is enabled from then on.
+    /// Takes one step by the branch, which is enabled. `Waited` changes nothing but the count of
+    /// the side that had to wait; `Failed` marks both pipes, and no branch is enabled from then on.
     ///
     /// `Failed` with an error is one for which a side answers, the last that it told or the send
     /// error that was kept, one that tasks of the response are refused with, or that of a response
@@ -327,7 +328,8 @@ impl Duplex {
 
         // The side of the branch told why it had to wait or failed; a send error is kept only from
         // such an answer.
-        ensures cause { HasCause (told_of branch (core self.old (D.state down.old) (U.state up.old)))
+        ensures cause { HasCause
+            (told_of branch (core self.old (D.state down.old) (U.state up.old)))
             (told_of branch (core self.new (D.state down.new) (U.state up.new)))
             self.old.send_error result }
         ensures kept { KeepsSendError (U.state up.old).told (U.state up.new).told
@@ -337,9 +339,9 @@ impl Duplex {
         ensures tells { Tells result self.new }
 
         // The exchange so far goes on: what was put into a pipe is what was taken out and what is
-        // held, and each list goes on from what it was; behind the end of the request nothing is put, where the step finished both
-        // directions were relayed, and where the request pipe is then full without a send error,
-        // the upstream half can write, take or finish.
+        // held, and each list goes on from what it was; behind the end of the request nothing is
+        // put, where the step finished both directions were relayed, and where the request pipe is
+        // then full without a send error, the upstream half can write, take or finish.
         ensures goes { (s : Origin) (p : DownPast) (q : UpPast)
             → SoFar (D.past down.old client.old s) (U.past up.old s) (U.blames up.old s)
             (core self.old (D.state down.old) (U.state up.old)) p q

@@ -17,7 +17,7 @@ has_room fields name =
     is_some (index_of fields name)
     || (nat_lt (length fields) 24576 && nat_lt (value_count fields + 1) (2 ^ 64))
 
--- a status that only informs
+-- the status of an informational head
 abbrev pub informs : ℕ → Bool
 informs status = nat_le 100 status && nat_lt status 200 && not (status == 101)
 
@@ -35,7 +35,7 @@ on_request (action.Remove name) head = goes_on (record head { fields = remove he
 on_request (action.Error etype) head = stops head (new_error etype Unset)
 on_request _ head = goes_on head
 
--- a response's head: the same, and `status` sets the status of a head that does not only inform
+-- a response's head: the same, and `status` sets the status of one that is not informational
 abbrev pub on_response : Action → ResponseHead → Outcome ResponseHead
 on_response (action.Set name value) head =
     if has_room head.fields name

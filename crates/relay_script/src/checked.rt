@@ -58,7 +58,7 @@ impl CheckedRules {
 }
 
 /// Runs the rules of the hook on a response's head, up to the first that fails. Whatever it
-/// answers, a informational head stays one, and a final head stays one (RFC 9110, section 15.2).
+/// answers, an informational head stays one, and a final head stays one (RFC 9110, section 15.2).
 pub fn filter_response(
     rules: &CheckedRules,
     hook: Hook,

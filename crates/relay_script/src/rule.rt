@@ -18,7 +18,7 @@ pub enum Action {
     Remove {
         name: HeaderName,
     },
-    /// Sets the status of a head that does not only inform.
+    /// Sets the status of a head that is not informational.
     Status(u16),
     /// Takes the piece away.
     Drop,

@@ -97,6 +97,7 @@ told_free rules on by_default did free making (inr same) =
 
 -- ---- each hook
 
+-- where no rule stands for a hook, a call did and wrote what it does by default
 did_default : (rules : List Rule) (peer : Peer) (st : Standing) (on : Hook) (input : Item)
     (did : Outcome Item) (wrote : List HttpTask) → is_free on rules ≡ true
     → is_free hook.InitDownstreamModules rules ≡ true → Does rules peer st on input did wrote

@@ -222,6 +222,7 @@ puts_nothing old_done new_done answer none is_open = record {
   body = sym none;
 }
 
+-- what a read of the session puts, and what passed with it
 puts : (before after : LinkState) (ahead left : List ℕ) (old new : HttpSession)
     (answer : Took (List ℕ)) → Left before after ahead left old new answer
     → Puts (is_body_done old.reading) (is_body_done new.reading) answer
@@ -254,6 +255,7 @@ either_end : (a b : Bool) → a || b ≡ true → (a ≡ true) ⊎ (b ≡ true)
 either_end true b is = inl refl
 either_end false b is = inr is
 
+-- one of two holds where the second does
 end_behind : (a : Bool) → a || true ≡ true
 end_behind true = refl
 end_behind false = refl

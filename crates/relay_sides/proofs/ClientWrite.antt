@@ -61,9 +61,11 @@ not_fallen before after fits rose =
       | inr last ↦ omega (arith, fits, last)
     ]
 
+-- a write answers one fault
 same_fault : (a b : Fault) → put.Failed a ≡ put.Failed b → a ≡ b
 same_fault a b is = cc
 
+-- what the client took of the queue
 wrote : (before after : LinkState) (queue : List ℕ) (answer : Put)
     → link.Writes before queue after answer → Wrote before after queue answer
 wrote before after queue (put.Took n) w = record {

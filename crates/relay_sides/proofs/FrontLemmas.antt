@@ -116,11 +116,13 @@ stands_head (writing.Sent.begun head pieces) (request.Sending sending) stands = 
 stands_head (writing.Sent.whole head pieces) request.NoHead stands = absurd stands
 stands_head (writing.Sent.whole head pieces) (request.Sending sending) stands = ap Some stands.0
 
+-- a piece leaves the head of what was sent
 pub piece_head : (sent : Sent) (piece : List ℕ) → head_of (with_piece sent piece) ≡ head_of sent
 piece_head writing.Sent.nothing piece = refl
 piece_head (writing.Sent.begun head pieces) piece = refl
 piece_head (writing.Sent.whole head pieces) piece = refl
 
+-- so does the end
 end_head : (sent : Sent) → head_of (with_end sent) ≡ head_of sent
 end_head writing.Sent.nothing = refl
 end_head (writing.Sent.begun head pieces) = refl
@@ -148,6 +150,7 @@ whole_with head pieces task = on (is_end task)
     on true = refl
     on false = refl
 
+-- a request that was sent whole is none that goes on
 whole_behind : (head first : RequestHead) (pieces more : List (List ℕ)) (tasks : List HttpTask)
     → sent_behind (writing.Sent.whole first pieces) tasks ≡ writing.Sent.begun head more → ⊥
 whole_behind head first pieces more [] same = cc
@@ -155,6 +158,7 @@ whole_behind head first pieces more (task ∷ tasks) same =
     whole_behind head first pieces more tasks
     (ap (λ (s : Sent). sent_behind s tasks) (sym (whole_with first pieces task)) ∙ same)
 
+-- a request that goes on has one list of pieces
 begun_pieces : (head first : RequestHead) (pieces more : List (List ℕ))
     → writing.Sent.begun first pieces ≡ writing.Sent.begun head more → pieces ≡ more
 begun_pieces head first pieces more same = cc

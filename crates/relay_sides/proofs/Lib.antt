@@ -10,3 +10,8 @@ pub mod PeerLemmas
 pub mod SendLemmas
 pub mod SaidLemmas
 pub mod MarkLemmas
+pub mod PeerTasks
+pub mod SideLemmas
+pub mod CutLemmas
+pub mod ClientBatch
+pub mod ClientEnds

@@ -1,5 +1,5 @@
 -- What the marks of the peer's side tell of its link goes on with each of its calls.
-use Rattle.std.proofs.Common.{◌≡◌, ℕ, ◌≤◌, Bool, true, false, ◌||◌, List, [], ◌∷◌, ◌++◌, Option, Some, None, refl, sym, ap, subst, ◌∙◌, arith, inl, inr}
+use Rattle.std.proofs.Common.{◌≡◌, ℕ, ◌≤◌, Bool, true, false, ◌||◌, List, [], ◌∷◌, ◌++◌, Option, Some, None, refl, sym, ap, subst, ◌∙◌, inl, inr}
 use Rattle.relay_tasks.specs.declared.error.Error.{Error}
 use Rattle.relay_tasks.specs.declared.error.Fail.{Fail}
 use Rattle.relay_tasks.specs.declared.error.Fail.TheVariants as fail
@@ -26,6 +26,7 @@ use Rattle.relay_sides.specs.Faults.{TellsFaults}
 use Rattle.relay_sides.specs.Peer.{AreMarked, CannotSend, Loses, put_error}
 use Rattle.relay_sides.specs.Peer as peer
 use Rattle.relay_sides.proofs.FaultLemmas.{more_none, among_on}
+use Rattle.relay_sides.proofs.MoveLemmas.{rose_from, some_error}
 
 -- ---- a call that meets no fault
 
@@ -56,8 +57,8 @@ cannot_on start before after e new rises grown (inl w) =
       rose = rises w.rose;
       before = w.before;
       behind = w.behind ++ new;
-      told = among_on start.write_faults before.write_faults after.write_faults w.before w.behind new
-          w.fault grown w.told;
+      told = among_on start.write_faults before.write_faults after.write_faults w.before w.behind
+          new w.fault grown w.told;
     })
 cannot_on start before after e new rises grown (inr is) = inr is
 
@@ -102,14 +103,20 @@ marked_more start link failed fails was also is sends lost same still m = record
 
 -- ---- a read
 
--- a count that rose from a count that was no lower
-rose_from : (first before after : ℕ) → first ≤ before → Rose before after → Rose first after
-rose_from first before after least rose = λ below. omega (arith, least, rose below)
-
 -- no call failed where none had, and this one answers no error
 calm_by : (failed fails also : Bool) → fails ≡ failed || also → failed ≡ false → also ≡ false
     → fails ≡ false
 calm_by failed fails also same calm none = same ∙ or_false failed also calm none
+
+-- a read that left what the link tells of its faults
+marked_left : (start : LinkStart) (before after : LinkState) (answer : Took HttpTask)
+    (failed fails was is : Bool) (sends : Option Error) (lost : Option Fail)
+    → LeavesFaults before after → fails ≡ failed || is_error answer → is ≡ was || is_error answer
+    → AreMarked start before failed was sends lost → AreMarked start after fails is sends lost
+marked_left start before after answer failed fails was is sends lost leaves stays same m =
+    marked_more start after failed fails was (is_error answer) is sends lost same
+    (calm_by failed fails (is_error answer) stays)
+    (marked_leaves start before after failed was sends lost leaves m)
 
 -- a read of the link: a fault of it was answered
 pub marked_read : (start : LinkStart) (before after : LinkState) (came : List ℕ)
@@ -122,44 +129,36 @@ pub marked_read : (start : LinkStart) (before after : LinkState) (came : List �
     → AreMarked start after fails is sends lost
 marked_read start before after came None answer failed fails was is sends lost asks
     tells stays same least m =
-    marked_more start after failed fails was (is_error answer) is sends lost same
-    (calm_by failed fails (is_error answer) stays)
-    (marked_same start before after failed failed was sends lost asks.0 refl m)
+    marked_left start before after answer failed fails was is sends lost
+    (leaves_same before after asks.0) stays same m
 marked_read start before after came (Some (got.Bytes n)) answer failed fails was is sends lost asks
     tells stays same least m =
-    marked_more start after failed fails was (is_error answer) is sends lost same
-    (calm_by failed fails (is_error answer) stays)
-    (marked_leaves start before after failed was sends lost
+    marked_left start before after answer failed fails was is sends lost
     (record {
       reads = asks.gives.read_faults;
       writes = asks.gives.write_faults;
       faults = asks.gives.faults;
-    }) m)
+    }) stays same m
 marked_read start before after came (Some got.NotReady) answer failed fails was is sends lost asks
     tells stays same least m =
-    marked_more start after failed fails was (is_error answer) is sends lost same
-    (calm_by failed fails (is_error answer) stays)
-    (marked_leaves start before after failed was sends lost
+    marked_left start before after answer failed fails was is sends lost
     (record {
       reads = asks.0.read_faults;
       writes = asks.0.write_faults;
       faults = asks.0.faults;
-    }) m)
+    }) stays same m
 marked_read start before after came (Some got.Silent) answer failed fails was is sends lost asks
     tells stays same least m =
-    marked_more start after failed fails was (is_error answer) is sends lost same
-    (calm_by failed fails (is_error answer) stays)
-    (marked_same start before after failed failed was sends lost asks.0.same refl m)
+    marked_left start before after answer failed fails was is sends lost
+    (leaves_same before after asks.0.same) stays same m
 marked_read start before after came (Some got.End) answer failed fails was is sends lost asks
     tells stays same least m =
-    marked_more start after failed fails was (is_error answer) is sends lost same
-    (calm_by failed fails (is_error answer) stays)
-    (marked_leaves start before after failed was sends lost
+    marked_left start before after answer failed fails was is sends lost
     (record {
       reads = asks.0.read_faults;
       writes = asks.0.write_faults;
       faults = asks.0.faults;
-    }) m)
+    }) stays same m
 marked_read start before after came (Some (got.Failed fault)) answer failed fails was is sends lost
     asks tells stays same least m =
     let f = asks.0 in
@@ -195,9 +194,6 @@ same_error fail.OutOfMemory = refl
 same_error (fail.Error e) = refl
 
 -- ---- a write
-
-some_error : (a b : Error) → Some a ≡ Some b → a ≡ b
-some_error a b same = cc
 
 -- a write that answered no fault
 no_fault : (start : LinkStart) (link : LinkState) (failed fails reads : Bool)
@@ -292,7 +288,8 @@ pub marked_still : (start : LinkStart) (link : LinkState) (failed reads : Bool)
     → AreMarked start link failed reads sends lost
     → AreMarked start link failed reads (up.error_or why sends) lost
 marked_still start link failed reads sends lost why is m =
-    subst (λ (l : Option Fail). AreMarked start link failed reads (up.error_or why sends) l) (sym is)
+    subst (λ (l : Option Fail). AreMarked start link failed reads (up.error_or why sends) l)
+    (sym is)
     (marked_loses start link failed reads sends lost why (λ e so. m.short e (is ∙ ap Some so)) m)
 
 -- a piece is lost with no other error than that of a short request

@@ -88,6 +88,7 @@ pub record ReadMoves (start : LinkStart) (before after : LinkState) (had came : 
       → after.faults ≡ before.faults
   pub over : asked ≡ Some got.End → after.ended ≡ true
 
+-- a test does not both hold and fail
 clash : {A : Type 0} (b : Bool) → b ≡ true → b ≡ false → A
 clash b passes fails = cc
 
@@ -103,12 +104,15 @@ rose_le : (first before after : ℕ) → first ≤ before → before ≤ last_co
     → first ≤ after
 rose_le first before after least fits rose = grind arith
 
-rose_from : (first before after : ℕ) → first ≤ before → Rose before after → Rose first after
+-- a count that rose from one that was no lower
+pub rose_from : (first before after : ℕ) → first ≤ before → Rose before after → Rose first after
 rose_from first before after least rose = λ below. omega (arith, least, rose below)
 
+-- a read answers one fault
 same_fault : (a b : Fault) → Some (got.Failed a) ≡ Some (got.Failed b) → a ≡ b
 same_fault a b same = cc
 
+-- what a read of the peer's link moves
 pub read_moves : (start : LinkStart) (before after : LinkState) (had came : List ℕ)
     (asked : Option Got) → Asks before after came asked
     → Since [] start.given before.given had → start.faults ≤ before.faults
@@ -127,20 +131,22 @@ read_moves start before after had came None (same, none) since faults tells soun
   over = λ is. absurd (cc);
   calm = λ none. ap (λ (l : LinkState). l.faults) same;
 }
-read_moves start before after had came (Some (got.Bytes n)) grows since faults tells sound = record {
-  given = subst (λ (xs : List ℕ). Since [] start.given after.given (had ++ xs)) (sym grows.grown)
-      (Since-grows [] start.given before.given after.given had (take n grows.room)
-      grows.gives.given since);
-  taken = grows.gives.taken;
-  faults = subst (λ (n : ℕ). start.faults ≤ n) (sym grows.gives.faults) faults;
-  sound = grows.gives.sound;
-  still = λ over. clash before.ended over grows.gives.was_open;
-  rises = λ rose. subst (λ (n : ℕ). Rose start.faults n) (sym grows.gives.faults) rose;
-  grew = grew_none before after grows.gives.read_faults grows.gives.write_faults;
-  failed = λ fault is. absurd (cc);
-  over = λ is. absurd (cc);
-  calm = λ none. grows.gives.faults;
-}
+read_moves start before after had came (Some (got.Bytes n)) grows since faults tells sound =
+    record {
+      given = subst (λ (xs : List ℕ). Since [] start.given after.given (had ++ xs))
+          (sym grows.grown)
+          (Since-grows [] start.given before.given after.given had (take n grows.room)
+          grows.gives.given since);
+      taken = grows.gives.taken;
+      faults = subst (λ (n : ℕ). start.faults ≤ n) (sym grows.gives.faults) faults;
+      sound = grows.gives.sound;
+      still = λ over. clash before.ended over grows.gives.was_open;
+      rises = λ rose. subst (λ (n : ℕ). Rose start.faults n) (sym grows.gives.faults) rose;
+      grew = grew_none before after grows.gives.read_faults grows.gives.write_faults;
+      failed = λ fault is. absurd (cc);
+      over = λ is. absurd (cc);
+      calm = λ none. grows.gives.faults;
+    }
 read_moves start before after had came (Some got.NotReady) (waits, none) since faults tells sound =
     record {
       given = since_none start after had came none
@@ -171,21 +177,23 @@ read_moves start before after had came (Some got.Silent) (silent, none) since fa
       over = λ is. absurd (cc);
       calm = λ none. ap (λ (l : LinkState). l.faults) silent.same;
     }
-read_moves start before after had came (Some got.End) (ends, none) since faults tells sound = record {
-  given = since_none start after had came none
-      (Since-kept [] start.given before.given after.given had ends.given since);
-  taken = ends.taken;
-  faults = subst (λ (n : ℕ). start.faults ≤ n) (sym ends.faults) faults;
-  sound = ends.sound;
-  still = λ over. (ends.ended, none);
-  rises = λ rose. subst (λ (n : ℕ). Rose start.faults n) (sym ends.faults) rose;
-  grew = grew_none before after ends.read_faults ends.write_faults;
-  failed = λ fault is. absurd (cc);
-  over = λ is. ends.ended;
-  calm = λ none. ends.faults;
-}
+read_moves start before after had came (Some got.End) (ends, none) since faults tells sound =
+    record {
+      given = since_none start after had came none
+          (Since-kept [] start.given before.given after.given had ends.given since);
+      taken = ends.taken;
+      faults = subst (λ (n : ℕ). start.faults ≤ n) (sym ends.faults) faults;
+      sound = ends.sound;
+      still = λ over. (ends.ended, none);
+      rises = λ rose. subst (λ (n : ℕ). Rose start.faults n) (sym ends.faults) rose;
+      grew = grew_none before after ends.read_faults ends.write_faults;
+      failed = λ fault is. absurd (cc);
+      over = λ is. ends.ended;
+      calm = λ none. ends.faults;
+    }
 read_moves start before after had came (Some (got.Failed fault)) (fails, none) since faults tells
-    sound = record {
+    sound =
+    record {
       given = since_none start after had came none
           (Since-kept [] start.given before.given after.given had fails.given since);
       taken = fails.taken;
@@ -233,9 +241,11 @@ taken_none start before after had same since =
     subst (λ (xs : List ℕ). Since [] start.taken after.taken xs) (sym (append-nil had))
     (Since-kept [] start.taken before.taken after.taken had same since)
 
-some_error : (a b : Error) → Some a ≡ Some b → a ≡ b
+-- one error is answered
+pub some_error : (a b : Error) → Some a ≡ Some b → a ≡ b
 some_error a b same = cc
 
+-- what a write to the peer's link moves
 pub write_moves : (start : LinkStart) (before after : LinkState) (had part : List ℕ)
     (answer : Put) → Writes before part after answer
     → Since [] start.taken before.taken had → start.faults ≤ before.faults

@@ -35,6 +35,7 @@ no_body : (told all : List ℕ) → told ≡ [] → IsFrontOf told all
 no_body told all none =
     subst (λ (xs : List ℕ). IsFrontOf xs all) (sym none) (record { rest = all; joined = refl })
 
+-- what was told of the body is the front of what the bytes say of it
 body_at : (method : List ℕ) (closed : Bool) (got : List ℕ) (told : ToldResponse)
     (at : ResponsePlace)
     (ahead : List ℕ) (text : ResponseText) → ReadAt method closed got told at ahead

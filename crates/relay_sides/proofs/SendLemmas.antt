@@ -37,7 +37,7 @@ use Rattle.relay_sides.proofs.FrontLemmas.{own_front, same_front, front_more, fr
 use Rattle.relay_sides.proofs.MarkLemmas.{marked_same, marked_new}
 use Rattle.relay_sides.proofs.TaskLemmas.{no_tasks}
 use Rattle.relay_sides.proofs.MoveLemmas.{GoesOn, blames_keep, write_moves}
-use Rattle.relay_sides.proofs.PeerLemmas.{Blamed, goes, neither_failed}
+use Rattle.relay_sides.proofs.PeerLemmas.{Blamed, goes, fail_is, some_fail, neither_failed}
 
 -- ---- pieces
 
@@ -45,6 +45,7 @@ use Rattle.relay_sides.proofs.PeerLemmas.{Blamed, goes, neither_failed}
 abbrev pub after_take : UpPast → HttpTask → Bool → UpPast
 after_take q piece gone = record q { taken = q.taken ++ piece ∷ []; lost = gone }
 
+-- a piece goes on from what passed before
 take_on : (start : LinkStart) (link : LinkState) (q : UpPast) (piece : HttpTask) (gone : Bool)
     → GoesOn start link link q (after_take q piece gone)
 take_on start link q piece gone = record {
@@ -91,8 +92,8 @@ peer_take {L} o start link old new stopped lost_before lost q piece gone sending
       given = stands.given;
       withheld = stands.withheld;
       tasks = subst (λ (r : ResponseReading).
-          AreTasks stands.head.method link.ended q.got (stands.given ++ stands.withheld) r) (sym same)
-          stands.tasks;
+          AreTasks stands.head.method link.ended q.got (stands.given ++ stands.withheld) r)
+          (sym same) stands.tasks;
       is_read = stands.is_read;
       none_switches = stands.none_switches;
       have_room = stands.have_room;
@@ -112,16 +113,6 @@ sending_head : {L : Type 0} (o : Origin) (start : LinkStart) (link : LinkState) 
 sending_head {L} o start link old stopped lost q stands =
     sym (stands_head stands.sending old.request.request stands.so_far.stands) ∙ stands.is_head
 
-fail_is : (why : Fail) (e : Error) → error_of_fail why ≡ Some e → why ≡ fail.Error e
-fail_is fail.OutOfMemory e told = cc
-fail_is (fail.Error error) e told = ap fail.Error (some_error error e told)
-  where
-    some_error : (a b : Error) → Some a ≡ Some b → a ≡ b
-    some_error a b same = cc
-
-some_fail : (a b : Fail) → Some a ≡ Some b → a ≡ b
-some_fail a b same = cc
-
 -- a side at a link that did not change
 still_there : {L : Type 0} (o : Origin) (start started : LinkStart) (before after : LinkState)
     (old new : H1Client L) (stopped lost : Option Fail) (q : UpPast) (read taken : List HttpTask)
@@ -130,7 +121,8 @@ still_there : {L : Type 0} (o : Origin) (start started : LinkStart) (before afte
     (λ r e. Blamed started before new r e) q read taken gone error
     → UpGoes (λ r. IsPeer o started after new stopped lost r) (λ r e. Blamed start before old r e)
     (λ r e. Blamed started after new r e) q read taken gone error
-still_there {L} o start started before after old new stopped lost q read taken gone error same goes_on =
+still_there {L} o start started before after old new stopped lost q read taken gone error same
+    goes_on =
     subst (λ (l : LinkState). UpGoes (λ r. IsPeer o started l new stopped lost r)
     (λ r e. Blamed start before old r e) (λ r e. Blamed started l new r e) q read taken gone error)
     (sym same) goes_on
@@ -150,11 +142,12 @@ take_queues {L} o start started before after old new stopped lost q piece open_y
     let so_far = queues stands.sending q.sent stands.so_far in
     let headed = task_head stands.sending piece
     ∙ sending_head o start before old stopped lost q stands in
-    let is_sent = ap (λ (s : Sent). sent_with s piece) (stands.queued.unlost (stands.takes open_yet))
+    let is_sent = ap (λ (s : Sent). sent_with s piece)
+    (stands.queued.unlost (stands.takes open_yet))
     ∙ sym (sent_behind-push (writing.Sent.begun stands.head []) q.taken piece) in
     let gone = q.lost || false in
-    still_there o start started before after old new stopped lost q q.read (q.taken ++ piece ∷ []) gone
-    None unmoved
+    still_there o start started before after old new stopped lost q q.read (q.taken ++ piece ∷ [])
+    gone None unmoved
     (goes o start started before before old new stopped lost q (after_take q piece gone) stands.head
     q.read (q.taken ++ piece ∷ []) gone None same stands.is_head
     (stands_head (sent_with stands.sending piece) new.request.request so_far.stands ∙ headed)
@@ -192,6 +185,7 @@ record ShortHere (head : RequestHead) (tasks : List HttpTask) (piece : HttpTask)
   pub joined : concat pieces ≡ body_of (tasks ++ piece ∷ [])
   pub short : is_short (after_pieces (body_framing head) pieces) ≡ true
 
+-- a request that ends short does so by its head and its pieces
 short_here : (head : RequestHead) (tasks : List HttpTask) (piece : HttpTask) (sent : Sent)
     (had : List ℕ) (at : RequestWriting) → sent ≡ sent_as head tasks → head_of sent ≡ Some head
     → SentSoFar (with_piece sent (bytes_of piece)) had at → is_short (rest_of at.request) ≡ true
@@ -229,6 +223,7 @@ short_here head tasks piece (writing.Sent.whole first pieces) had at is headed s
         full : (f : Framing) → f ≡ framing.Empty → is_short f ≡ true → ⊥
         full f same some = cc
 
+-- what a piece that was lost leaves
 left_of : {L : Type 0} (o : Origin) (start : LinkStart) (link : LinkState) (old new : H1Client L)
     (stopped lost : Option Fail) (q : UpPast) (piece : HttpTask) (why : Fail)
     (stands : IsPeer o start link old stopped lost q) → lost ≡ None
@@ -290,6 +285,7 @@ left_of {L} o start link old new stopped lost q piece why stands open_yet loses 
         same_error : (e : Error) → fail.Error short_request ≡ fail.Error e → e ≡ short_request
         same_error e same = cc
 
+-- a test or one that holds, holds
 or_gone : (b : Bool) → (b || true) ≡ true
 or_gone true = refl
 or_gone false = refl
@@ -305,8 +301,8 @@ pub take_loses : {L : Type 0} (o : Origin) (start started : LinkStart) (before a
     → UpGoes (λ r. IsPeer o started after new stopped (Some why) r)
     (λ r e. Blamed start before old r e) (λ r e. Blamed started after new r e) q q.read
     (q.taken ++ piece ∷ []) (q.lost || true) (error_of_fail why)
-take_loses {L} o start started before after old new stopped lost q piece why open_yet same unmoved kept
-    calm queues stands =
+take_loses {L} o start started before after old new stopped lost q piece why open_yet same unmoved
+    kept calm queues stands =
     let left = left_of o start before old new stopped lost q piece why stands open_yet
     (queues stands.sending q.sent stands.so_far) in
     still_there o start started before after old new stopped (Some why) q q.read
@@ -322,8 +318,9 @@ take_loses {L} o start started before after old new stopped lost q piece why ope
     refl refl (sym (or_gone q.lost)) (λ e told. left.blamed e (fail_is why e told)))
 
 -- a piece behind one that was lost
-pub take_still : {L : Type 0} (o : Origin) (start : LinkStart) (link : LinkState) (client : H1Client L)
-    (stopped lost : Option Fail) (why : Fail) (q : UpPast) (piece : HttpTask) → lost ≡ Some why
+pub take_still : {L : Type 0} (o : Origin) (start : LinkStart) (link : LinkState)
+    (client : H1Client L) (stopped lost : Option Fail) (why : Fail) (q : UpPast)
+    (piece : HttpTask) → lost ≡ Some why
     → IsPeer o start link client stopped lost q
     → UpGoes (λ r. IsPeer o start link client stopped lost r) (λ r e. Blamed start link client r e)
     (λ r e. Blamed start link client r e) q q.read (q.taken ++ piece ∷ []) (q.lost || true)
@@ -335,8 +332,8 @@ take_still {L} o start link client stopped lost why q piece is stands =
     goes o start start link link client client stopped lost q (after_take q piece true) stands.head
     q.read (q.taken ++ piece ∷ []) (q.lost || true) (error_of_fail why) refl stands.is_head
     stands.is_head (take_on start link q piece true)
-    (peer_take o start link client client stopped lost lost q piece true stands.sending stands refl refl
-    (sending_head o start link client stopped lost q stands) stands.so_far
+    (peer_take o start link client client stopped lost lost q piece true stands.sending stands refl
+    refl (sending_head o start link client stopped lost q stands) stands.so_far
     (record {
       unlost = λ none. absurd (cc);
       front = front_then (sent_wire stands.sending) (sent_wire (sent_as stands.head q.taken))
@@ -362,8 +359,8 @@ pub write_goes : {L : Type 0} (o : Origin) (start started : LinkStart) (before a
     → IsPeer o start before old stopped lost q
     → UpGoes (λ r. IsPeer o started after new stopped lost r) (λ r e. Blamed start before old r e)
     (λ r e. Blamed started after new r e) q q.read q.taken q.lost (error_of_put Upstream answer)
-write_goes {L} o start started before after old new stopped lost q answer same kept failed writes keeps
-    stands =
+write_goes {L} o start started before after old new stopped lost q answer same kept failed writes
+    keeps stands =
     let moves = write_moves start before after q.sent old.request.unsent answer writes.writes
     stands.sent stands.faults stands.tells stands.sound in
     let out = take (taken answer) old.request.unsent in

@@ -23,7 +23,7 @@ use Rattle.relay_h1.specs.BodyReader.{TakesPiece, IsWholeRun, is_of, is_done, is
 use Rattle.relay_h1.proofs.TasksLemmas.{HasFinal-append, HasFinal-unique}
 use Rattle.relay_h1.specs.ClientHead.{is_informational, lacks_framing}
 use Rattle.relay_h1.specs.Framing.{has_no_body, is_bodiless}
-use Rattle.relay_h1.specs.Tasks.{HasFinal, Tasks, ended}
+use Rattle.relay_h1.specs.Tasks.{HasFinal, Informs, Tasks, ended}
 use Rattle.relay_h1.specs.Verdict.{HasResponse}
 use Rattle.relay_peer.specs.declared.response_reading.ResponsePlace.{ResponsePlace}
 use Rattle.relay_peer.specs.declared.response_reading.ResponsePlace.TheVariants as place
@@ -41,6 +41,7 @@ told_push : (told : ToldResponse) (tasks : List HttpTask) (last : HttpTask)
 told_push told [] last = refl
 told_push told (first ∷ tasks) last = told_push (with_task told first) tasks last
 
+-- one more task follows those before it
 follow_push : (told : ToldResponse) (tasks : List HttpTask) (last : HttpTask) → Follow told tasks
     → IsResponseTask (told_behind told tasks) last → StandsBehind (told_behind told tasks) last
     → Follow told (tasks ++ last ∷ [])
@@ -83,24 +84,30 @@ stands_behind method closed got told (task.Trailer fields) new is read = tt
 stands_behind method closed got told task.Done new is read = tt
 stands_behind method closed got told (task.Failed error) new is read = tt
 
+-- nothing stands behind the front of nothing
 none_behind : (front behind : List HttpTask) → [] ≡ front ++ behind → behind ≡ []
 none_behind [] behind same = sym same
 none_behind (first ∷ front) behind same = cc
 
+-- equal lists have equal rests
 tails : (a b : HttpTask) (xs ys : List HttpTask) → a ∷ xs ≡ b ∷ ys → xs ≡ ys
 tails a b xs ys same = cc
 
+-- equal lists have equal first tasks
 heads : (a b : HttpTask) (xs ys : List HttpTask) → a ∷ xs ≡ b ∷ ys → a ≡ b
 heads a b xs ys same = cc
 
+-- where neither holds, the first does not
 or_left : (a b : Bool) → (a || b) ≡ false → a ≡ false
 or_left true b none = cc
 or_left false b none = refl
 
+-- where neither holds, the second does not
 or_right : (a b : Bool) → (a || b) ≡ false → b ≡ false
 or_right true b none = cc
 or_right false b none = none
 
+-- where one of two holds and not the first, the second does
 or_second : (a b : Bool) → a ≡ false → (a || b) ≡ true → b ≡ true
 or_second true b none some = cc
 or_second false b none some = some
@@ -121,30 +128,37 @@ last_ends_at (task ∷ tasks) last (first ∷ front) behind none same found =
     ∙ or_left (is_end task) (list_any is_end tasks) none)
     found)
 
+-- behind tasks of which none is an end, one more may be the end
 last_ends : (tasks : List HttpTask) (last : HttpTask) → list_any is_end tasks ≡ false
     → EndsLast (tasks ++ last ∷ [])
 last_ends tasks last none = λ front behind same found.
     last_ends_at tasks last front behind none same found
 
+-- a test or one that fails is that test
 or_nil : (b : Bool) → (b || false) ≡ b
 or_nil true = refl
 or_nil false = refl
 
+-- what does not hold fails
 not_over : (over : Bool) → (over ≡ true → ⊥) → over ≡ false
 not_over true never = absurd (never refl)
 not_over false never = refl
 
 -- ---- how the tasks end a body
 
+-- no head is not one
 never_some : (head : ResponseHead) → None ≡ Some head → ⊥
 never_some head same = cc
 
+-- one head is kept
 some_head : (a b : ResponseHead) → Some a ≡ Some b → a ≡ b
 some_head a b same = cc
 
+-- a head is not none
 never_final : (a : ResponseHead) → Some a ≡ None → ⊥
 never_final a same = cc
 
+-- a final head was not told and told
 never_both : (final : Option ResponseHead) (head : ResponseHead) → final ≡ None
     → final ≡ Some head → ⊥
 never_both final head none some = never_some head (sym none ∙ some)
@@ -156,41 +170,41 @@ record FinalTold (method got : List ℕ) (informed : List ResponseHead) (final :
   len : ℕ
   has : HasFinal method false got informed final framing len
 
+-- so does one that was told as that of the reading
+told_by : (method got : List ℕ) (informed : List ResponseHead) (final head : ResponseHead)
+    (framing : Framing) (n len : ℕ) → is_informational final.status ≡ false
+    → Informs method false got informed n → HasResponse method false (drop n got) head framing len
+    → Some final ≡ Some head → FinalTold method got informed final
+told_by method got informed final head framing n len last informs has same = record {
+  framing = framing;
+  len = n + len;
+  has = record {
+    place = n;
+    own = len;
+    informs = informs;
+    has = subst (λ (h : ResponseHead). HasResponse method false (drop n got) h framing len)
+        (sym (some_head final head same)) has;
+    final = last;
+    ends = refl;
+  };
+}
+
+-- a head told as final is that of the reading
 final_told : (method : List ℕ) (closed : Bool) (got : List ℕ) (told : ToldResponse)
-    (final : ResponseHead)
-    (at : ResponsePlace) (ahead : List ℕ) → is_informational final.status ≡ false
+    (final : ResponseHead) (at : ResponsePlace) (ahead : List ℕ)
+    → is_informational final.status ≡ false
     → ReadAt method closed got (record told { final = Some final }) at ahead
     → FinalTold method got told.informed final
 final_told method closed got told final place.NoHead ahead last read =
     absurd (never_final final read.0.no_final)
 final_told method closed got told final place.Informed ahead last read =
     absurd (never_final final read.0.no_final)
-final_told method closed got told final (place.InBody body) ahead last read = record {
-  framing = read.framing;
-  len = read.n + read.len;
-  has = record {
-    place = read.n;
-    own = read.len;
-    informs = read.informs;
-    has = subst (λ (h : ResponseHead). HasResponse method false (drop read.n got) h read.framing
-        read.len) (sym (some_head final read.head read.final)) read.has;
-    final = last;
-    ends = refl;
-  };
-}
-final_told method closed got told final (place.Ended keeps) ahead last read = record {
-  framing = read.framing;
-  len = read.n + read.len;
-  has = record {
-    place = read.n;
-    own = read.len;
-    informs = read.informs;
-    has = subst (λ (h : ResponseHead). HasResponse method false (drop read.n got) h read.framing
-        read.len) (sym (some_head final read.head read.final)) read.has;
-    final = last;
-    ends = refl;
-  };
-}
+final_told method closed got told final (place.InBody body) ahead last read =
+    told_by method got told.informed final read.head read.framing read.n read.len last read.informs
+    read.has read.final
+final_told method closed got told final (place.Ended keeps) ahead last read =
+    told_by method got told.informed final read.head read.framing read.n read.len last read.informs
+    read.has read.final
 
 -- a piece ends a body only where that has a length
 piece_ends : (framing : Framing) (old new : State) (bytes piece rest : List ℕ) (end : Bool)
@@ -230,6 +244,7 @@ chunks_unlong framing.Chunked is = refl
 chunks_unlong framing.UntilClose is = cc
 chunks_unlong framing.Tunnel is = cc
 
+-- nor has one that lasts until the link ends
 lasting_unlong : (framing : Framing) → is_until_close framing ≡ true
     → has_length framing ≡ false
 lasting_unlong framing.Empty is = cc
@@ -238,6 +253,7 @@ lasting_unlong framing.Chunked is = cc
 lasting_unlong framing.UntilClose is = refl
 lasting_unlong framing.Tunnel is = cc
 
+-- nor has a tunnel
 tunnel_unlong : (framing : Framing) → is_tunnel framing ≡ true → has_length framing ≡ false
 tunnel_unlong framing.Empty is = cc
 tunnel_unlong (framing.Length n) is = cc
@@ -245,6 +261,7 @@ tunnel_unlong framing.Chunked is = cc
 tunnel_unlong framing.UntilClose is = cc
 tunnel_unlong framing.Tunnel is = refl
 
+-- a test does not fail together with its opposite
 not_both : (b : Bool) → b ≡ false → not b ≡ false → ⊥
 not_both true is out = cc
 not_both false is out = cc
@@ -316,6 +333,7 @@ final_stays told (task.Trailer fields ∷ tasks) follow none = absurd follow.0
 final_stays told (task.Done ∷ tasks) follow none = final_stays told tasks follow.2 none
 final_stays told (task.Failed error ∷ tasks) follow none = absurd follow.0
 
+-- where no final head was told, there is none
 never_there : (final : Option ResponseHead) → final ≡ None → is_some final ≡ true → ⊥
 never_there None none some = cc
 never_there (Some head) none some = cc
@@ -578,6 +596,7 @@ pub record SaysWhole (method got : List ℕ) (closed : Bool) (told : ToldRespons
   pub whole : Tasks method false got closed (says told (ended place))
   pub final : told.final ≡ Some head
 
+-- a response that has ended is whole
 whole_at : (method got : List ℕ) (closed : Bool) (told : ToldResponse) (at : ResponsePlace)
     (ahead : List ℕ)
     → is_over at ≡ true → ReadAt method closed got told at ahead
@@ -588,6 +607,7 @@ whole_at method got closed told (place.InBody body) ahead over read = absurd (cc
 whole_at method got closed told (place.Ended keeps) ahead over read =
     record { place = read.place; head = read.head; whole = read.whole; final = read.final }
 
+-- so it is where its tasks have an end
 pub ended_whole : (method got : List ℕ) (closed : Bool) (tasks : List HttpTask)
     (client : ResponseReading) → AreTasks method closed got tasks client
     → list_any is_end tasks ≡ true → SaysWhole method got closed (told_of tasks)

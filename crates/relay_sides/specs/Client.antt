@@ -196,8 +196,8 @@ pub record CannotEnd (s : Origin) (p : DownPast) (e : Error) : Type 0 where
       task.Done ≡ Some e
 
 -- why the side refuses a batch of which these tasks are left: a task is refused behind those before
--- it, the last that was given or one that is left; a write failed before; or the end of the response
--- was asked for before
+-- it, the last that was given or one that is left; a write failed before; or the end of the
+-- response was asked for before
 pub data ClientRefuses (s : Origin) (p : DownPast) (link : LinkState) (left : List HttpTask)
     (e : Error) : Type 0 where
   link_failed : (fault : Fault) → e ≡ link_fault fault → FailsWrite s link fault

@@ -128,8 +128,8 @@ fn writes_a_request_in_chunks(rt: HostRuntime) -> Checked {
     )?;
     post_pieces(rt.alloc(), &mut side, head)?;
     let text =
-        b"POST / HTTP/1.1\r\ntransfer-encoding: chunked\r\n\r\n2\r\nab\r\n1\r\nc\r\n0\r\n\r\n".as_slice();
-    assert!(rt; side.into_link().taken() == text);
+        b"POST / HTTP/1.1\r\ntransfer-encoding: chunked\r\n\r\n2\r\nab\r\n1\r\nc\r\n0\r\n\r\n";
+    assert!(rt; side.into_link().taken() == text.as_slice());
     Ok(())
 }
 

@@ -5,11 +5,13 @@ use Rattle.relay_core.proofs.BatchLemmas.{any_found, any_passed, none_within}
 use Rattle.relay_core.proofs.batch.has_end.Goals as goal
 use Rattle.relay_core.proofs.batch.has_end.Goals.{in-Some+else-is_end, in_default}
 
+-- the task at the place is an end
 pub returns-then-is_end : goal.returns-then-is_end
 returns-then-is_end c =
     sym (any_found is_end c.args.tasks.now c.loop-at.at c.in-Some.task.now c.in-Some.ensures
     (sym c.is_end.ensures ∙ c.if-is_end.true)) ∙ c.loop-at.invariant
 
+-- it is none, or no task is left
 pub loop-at-preserved : goal.loop-at-preserved
 loop-at-preserved c =
     elim c.match-get.branch [

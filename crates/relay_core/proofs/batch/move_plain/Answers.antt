@@ -4,6 +4,7 @@ use Rattle.relay_tasks.specs.declared.task.HttpTask.{HttpTask}
 use Rattle.relay_core.proofs.BatchLemmas.{Moving, moving_on, on_err, loses_after}
 use Rattle.relay_core.proofs.batch.move_plain.Goals as goal
 
+-- one more plain task moved
 pub loop-pipe-preserved : goal.loop-pipe-preserved
 loop-pipe-preserved c =
     let start = c.args.pipe.now in
@@ -14,6 +15,7 @@ loop-pipe-preserved c =
     c.take_held-task.result c.take_held-task.ensures
     (sym c.begins_plain.ensures ∙ c.loop-pipe-test.true) c.loop-pipe.invariant)
 
+-- there is no memory for it
 pub returns-in_err-push-clause-err : goal.returns-in_err-push-clause-err
 returns-in_err-push-clause-err c =
     on_err c.from_residual.result _

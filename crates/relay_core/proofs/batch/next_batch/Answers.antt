@@ -3,6 +3,7 @@ use Rattle.std.proofs.Common.{[], ◌∷◌}
 use Rattle.relay_core.proofs.BatchLemmas.{loses_more, on_err}
 use Rattle.relay_core.proofs.batch.next_batch.Goals as goal
 
+-- there is no memory for the first task
 pub returns-in_err-push-clause-err : goal.returns-in_err-push-clause-err
 returns-in_err-push-clause-err c =
     on_err c.from_residual.result _ (record {
@@ -10,6 +11,7 @@ returns-in_err-push-clause-err c =
       parts = c.take_held.ensures;
     })
 
+-- there is none for those behind it
 pub returns-in_err-move_plain-clause-err : goal.returns-in_err-move_plain-clause-err
 returns-in_err-move_plain-clause-err c =
     on_err c.from_residual-in_err-move_plain.result _

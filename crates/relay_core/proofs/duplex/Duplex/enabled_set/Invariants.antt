@@ -4,16 +4,14 @@ use Rattle.std.specs.List.{list_any}
 use Rattle.relay_links.specs.Branch.{has, is_same_branch}
 use Rattle.relay_links.specs.declared.branch.Branch.{Branch}
 use Rattle.relay_links.specs.declared.branch.TheConstants.{BRANCHES}
-use Rattle.relay_core.specs.Table.{State, enabled}
+use Rattle.relay_core.specs.Table.{core, enabled}
 use Rattle.relay_core.proofs.duplex.Duplex.enabled_set.Given as goal
 
+-- the order is walked, and the set is right so far
 abbrev pub invariant-loop-branch : goal.invariant-loop-branch
 invariant-loop-branch g l =
-    let s : State = record {
-      duplex = l.self;
-      down = g.D.Down.state l.down;
-      up = g.U.Up.state l.up;
-    } in
     (l.branch-items ≡ BRANCHES)
     × ((b : Branch) → has l.set b
-    ≡ list_any (λ x. is_same_branch x b && enabled s x) (take l.branch-index BRANCHES))
+    ≡ list_any (λ x. is_same_branch x b
+    && enabled (core l.self (g.D.Down.state l.down) (g.U.Up.state l.up)) x)
+    (take l.branch-index BRANCHES))

@@ -1,5 +1,5 @@
 -- What follows from what a step does.
-use Rattle.relay_core.specs.Table.{State}
+use Rattle.relay_core.specs.Table.{core}
 use Rattle.relay_core.proofs.CauseLemmas.{step_cause, step_keeps}
 use Rattle.relay_core.proofs.DoneLemmas.{step_ends_request, step_ends_response, response_full}
 use Rattle.relay_core.proofs.EndLemmas.{step_tells}
@@ -7,109 +7,64 @@ use Rattle.relay_core.proofs.SoundLemmas.{step_sound}
 use Rattle.relay_core.proofs.StillLemmas.{wait_enabled}
 use Rattle.relay_core.proofs.duplex.Duplex.step.Goals as goal
 
+-- the side of the branch told why it waits or failed
 pub returns-clause-cause : goal.returns-clause-cause
 returns-clause-cause g c =
-    let old : State = record {
-      duplex = c.args.self.now;
-      down = g.D.Down.state c.args.down.now;
-      up = g.U.Up.state c.args.up.now;
-    } in
-    let new : State = record {
-      duplex = c.step_by.new.self;
-      down = g.D.Down.state c.step_by.new.down;
-      up = g.U.Up.state c.step_by.new.up;
-    } in
-    step_cause c.args.branch old new c.step_by.result c.step_by.ensures.exact
+    step_cause c.args.branch
+    (core c.args.self.now (g.D.Down.state c.args.down.now) (g.U.Up.state c.args.up.now))
+    (core c.step_by.new.self (g.D.Down.state c.step_by.new.down) (g.U.Up.state c.step_by.new.up))
+    c.step_by.result c.step_by.ensures.exact
 
+-- a send error is kept only from such an answer
 pub returns-clause-kept : goal.returns-clause-kept
 returns-clause-kept g c =
-    let old : State = record {
-      duplex = c.args.self.now;
-      down = g.D.Down.state c.args.down.now;
-      up = g.U.Up.state c.args.up.now;
-    } in
-    let new : State = record {
-      duplex = c.step_by.new.self;
-      down = g.D.Down.state c.step_by.new.down;
-      up = g.U.Up.state c.step_by.new.up;
-    } in
-    step_keeps c.args.branch old new c.step_by.result c.step_by.ensures.exact
+    step_keeps c.args.branch
+    (core c.args.self.now (g.D.Down.state c.args.down.now) (g.U.Up.state c.args.up.now))
+    (core c.step_by.new.self (g.D.Down.state c.step_by.new.down) (g.U.Up.state c.step_by.new.up))
+    c.step_by.result c.step_by.ensures.exact
 
+-- the answer says whether a half failed, and whether both have finished
 pub returns-clause-tells : goal.returns-clause-tells
 returns-clause-tells g c =
-    let old : State = record {
-      duplex = c.args.self.now;
-      down = g.D.Down.state c.args.down.now;
-      up = g.U.Up.state c.args.up.now;
-    } in
-    let new : State = record {
-      duplex = c.step_by.new.self;
-      down = g.D.Down.state c.step_by.new.down;
-      up = g.U.Up.state c.step_by.new.up;
-    } in
-    step_tells c.args.branch old new c.step_by.result c.requires c.step_by.ensures.exact
+    step_tells c.args.branch
+    (core c.args.self.now (g.D.Down.state c.args.down.now) (g.U.Up.state c.args.up.now))
+    (core c.step_by.new.self (g.D.Down.state c.step_by.new.down) (g.U.Up.state c.step_by.new.up))
+    c.step_by.result c.requires c.step_by.ensures.exact
 
+-- the client's request becomes done for its causes alone
 pub returns-clause-request_done : goal.returns-clause-request_done
 returns-clause-request_done g c =
-    let old : State = record {
-      duplex = c.args.self.now;
-      down = g.D.Down.state c.args.down.now;
-      up = g.U.Up.state c.args.up.now;
-    } in
-    let new : State = record {
-      duplex = c.step_by.new.self;
-      down = g.D.Down.state c.step_by.new.down;
-      up = g.U.Up.state c.step_by.new.up;
-    } in
-    step_ends_request c.args.branch old new c.step_by.result c.requires c.step_by.ensures.exact
+    step_ends_request c.args.branch
+    (core c.args.self.now (g.D.Down.state c.args.down.now) (g.U.Up.state c.args.up.now))
+    (core c.step_by.new.self (g.D.Down.state c.step_by.new.down) (g.U.Up.state c.step_by.new.up))
+    c.step_by.result c.requires c.step_by.ensures.exact
 
+-- the upstream's response becomes done for its causes alone
 pub returns-clause-response_done : goal.returns-clause-response_done
 returns-clause-response_done g c =
-    let old : State = record {
-      duplex = c.args.self.now;
-      down = g.D.Down.state c.args.down.now;
-      up = g.U.Up.state c.args.up.now;
-    } in
-    let new : State = record {
-      duplex = c.step_by.new.self;
-      down = g.D.Down.state c.step_by.new.down;
-      up = g.U.Up.state c.step_by.new.up;
-    } in
-    step_ends_response c.args.branch old new c.step_by.result c.step_by.ensures.exact
+    step_ends_response c.args.branch
+    (core c.args.self.now (g.D.Down.state c.args.down.now) (g.U.Up.state c.args.up.now))
+    (core c.step_by.new.self (g.D.Down.state c.step_by.new.down) (g.U.Up.state c.step_by.new.up))
+    c.step_by.result c.step_by.ensures.exact
 
+-- where the response pipe is full, the client's half can go on
 pub returns-clause-full : goal.returns-clause-full
 returns-clause-full g c =
-    let new : State = record {
-      duplex = c.step_by.new.self;
-      down = g.D.Down.state c.step_by.new.down;
-      up = g.U.Up.state c.step_by.new.up;
-    } in
-    response_full new
+    response_full
+    (core c.step_by.new.self (g.D.Down.state c.step_by.new.down) (g.U.Up.state c.step_by.new.up))
 
+-- a sound state stays sound
 pub returns-clause-sound : goal.returns-clause-sound
 returns-clause-sound g c =
-    let old : State = record {
-      duplex = c.args.self.now;
-      down = g.D.Down.state c.args.down.now;
-      up = g.U.Up.state c.args.up.now;
-    } in
-    let new : State = record {
-      duplex = c.step_by.new.self;
-      down = g.D.Down.state c.step_by.new.down;
-      up = g.U.Up.state c.step_by.new.up;
-    } in
-    step_sound c.args.branch old new c.step_by.result c.requires c.step_by.ensures.exact
+    step_sound c.args.branch
+    (core c.args.self.now (g.D.Down.state c.args.down.now) (g.U.Up.state c.args.up.now))
+    (core c.step_by.new.self (g.D.Down.state c.step_by.new.down) (g.U.Up.state c.step_by.new.up))
+    c.step_by.result c.requires c.step_by.ensures.exact
 
+-- a step that waits leaves what can be taken
 pub returns-clause-rests : goal.returns-clause-rests
 returns-clause-rests g c =
-    let old : State = record {
-      duplex = c.args.self.now;
-      down = g.D.Down.state c.args.down.now;
-      up = g.U.Up.state c.args.up.now;
-    } in
-    let new : State = record {
-      duplex = c.step_by.new.self;
-      down = g.D.Down.state c.step_by.new.down;
-      up = g.U.Up.state c.step_by.new.up;
-    } in
-    wait_enabled c.args.branch old new c.step_by.result c.step_by.ensures.exact
+    wait_enabled c.args.branch
+    (core c.args.self.now (g.D.Down.state c.args.down.now) (g.U.Up.state c.args.up.now))
+    (core c.step_by.new.self (g.D.Down.state c.step_by.new.down) (g.U.Up.state c.step_by.new.up))
+    c.step_by.result c.step_by.ensures.exact

@@ -2,5 +2,6 @@
 use Rattle.relay_sides.proofs.ClientPast.{begins}
 use Rattle.relay_sides.proofs.client_side.ClientSide.new.Goals as goal
 
+-- nothing has passed the side
 pub returns-clause-begins : goal.returns-clause-begins
 returns-clause-begins c = λ s came link ahead b. begins s came link ahead c.args.session b

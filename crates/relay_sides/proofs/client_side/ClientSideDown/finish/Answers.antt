@@ -1,20 +1,23 @@
 -- The end was asked for before, it was queued, or it was refused.
 use Rattle.std.proofs.Common.{ap}
 use Rattle.relay_session.specs.declared.session.HttpSession.{HttpSession}
-use Rattle.relay_sides.proofs.ClientTasks.{ends_again, ends_on, ends_refused}
+use Rattle.relay_sides.proofs.ClientEnds.{ends_again, ends_on, ends_refused}
 use Rattle.relay_sides.proofs.client_side.ClientSideDown.finish.Goals as goal
 
+-- the end was asked for before
 pub returns-then-self-clause-goes : goal.returns-then-self-clause-goes
 returns-then-self-clause-goes g c = λ client s p h.
     ends_again s p _ _ c.args.self.now.session c.args.self.now.done c.args.self.now.finished
     c.args.self.now.broken c.if-self.true h
 
+-- the end was queued
 pub returns-in-Ok-clause-goes : goal.returns-in-Ok-clause-goes
 returns-in-Ok-clause-goes g c = λ client s p h.
     ends_on s p _ _ c.args.self.now.session c.finish_body.new.self c.args.self.now.done
     c.args.self.now.finished c.args.self.now.broken c.if-self.false h
     (ap (λ (x : HttpSession). x.reading) c.finish_body.ensures.reading) c.in-Ok.ensures.ok
 
+-- the end was refused
 pub returns-in-Err-clause-goes : goal.returns-in-Err-clause-goes
 returns-in-Err-clause-goes g c = λ client s p h.
     ends_refused s p _ _ c.args.self.now.session c.finish_body.new.self c.args.self.now.done

@@ -25,6 +25,7 @@ left g c = record {
   response = ap (λ (x : HttpSession). x.writing) c.read_body_or_idle-took.ensures.response;
 }
 
+-- the state by the answer of the session
 pub returns-clause-reads : goal.returns-clause-reads
 returns-clause-reads g c =
     rw (c.told_read-self.ensures, c.piece_answer-piece.ensures, c.is_body_done.ensures.value)
@@ -32,6 +33,7 @@ returns-clause-reads g c =
     c.args.self.now.told c.args.self.now.done c.args.self.now.finished c.args.self.now.broken
     c.read_body_or_idle-took.result (left g c))
 
+-- what passed goes on with the piece
 pub returns-clause-goes : goal.returns-clause-goes
 returns-clause-goes g c =
     rw (c.piece_answer-piece.ensures, c.is_body_done.ensures.value)
@@ -40,6 +42,7 @@ returns-clause-goes g c =
     c.args.self.now.done c.args.self.now.finished c.args.self.now.broken
     c.read_body_or_idle-took.result c.requires h (left g c))
 
+-- where there is more to read the link gave bytes
 pub returns-clause-gives : goal.returns-clause-gives
 returns-clause-gives g c =
     rw c.piece_answer-piece.ensures
@@ -47,6 +50,7 @@ returns-clause-gives g c =
     reads_more s p _ _ _ _ c.args.self.now.session c.read_body_or_idle-took.new.self
     c.read_body_or_idle-took.result c.is_body_done.result h.client (left g c) is)
 
+-- a client that is silent was asked
 pub returns-clause-silent : goal.returns-clause-silent
 returns-clause-silent g c =
     rw c.piece_answer-piece.ensures
@@ -54,6 +58,7 @@ returns-clause-silent g c =
     reads_silent _ _ c.read_body_or_idle-took.result c.is_body_done.result
     c.read_body_or_idle-took.ensures.link is)
 
+-- one that was not ready waited once more
 pub returns-clause-waits : goal.returns-clause-waits
 returns-clause-waits g c =
     rw c.piece_answer-piece.ensures
@@ -61,11 +66,13 @@ returns-clause-waits g c =
     reads_waits _ _ c.read_body_or_idle-took.result c.is_body_done.result
     c.read_body_or_idle-took.ensures.link is)
 
+-- there is a head, so this does not come
 pub returns-then-not-has_head-clause-gives : goal.returns-then-not-has_head-clause-gives
 returns-then-not-has_head-clause-gives g c = λ s p h is.
     absurd (no_head s p _ _ c.args.self.now.session _ _ _ c.has_head.result c.if-not-has_head.true
     c.has_head.ensures.1 h)
 
+-- nor does this
 pub returns-then-not-has_head-clause-goes : goal.returns-then-not-has_head-clause-goes
 returns-then-not-has_head-clause-goes g c = λ s p h.
     absurd (no_head s p _ _ c.args.self.now.session _ _ _ c.has_head.result c.if-not-has_head.true

@@ -1,8 +1,9 @@
 -- All tasks were queued, or those in front of a refused one.
 use Rattle.std.proofs.Common.{ap}
-use Rattle.relay_sides.proofs.ClientTasks.{queues_state, refuses_state, queues_on, refuses_on}
+use Rattle.relay_sides.proofs.ClientBatch.{queues_state, refuses_state, queues_on, refuses_on}
 use Rattle.relay_sides.proofs.client_side.ClientSideDown.take_batch.Goals as goal
 
+-- the batch was queued
 pub returns-in-Ok-clause-takes : goal.returns-in-Ok-clause-takes
 returns-in-Ok-clause-takes g c =
     rw (
@@ -16,6 +17,7 @@ returns-in-Ok-clause-takes g c =
     c.args.self.now.told c.args.self.now.done c.args.self.now.finished c.args.self.now.broken
     c.in-Ok.over c.in-Ok.ensures.queues)
 
+-- what passed goes on with it
 pub returns-in-Ok-clause-goes : goal.returns-in-Ok-clause-goes
 returns-in-Ok-clause-goes g c =
     rw (
@@ -29,6 +31,7 @@ returns-in-Ok-clause-goes g c =
     c.args.self.now.done c.args.self.now.finished c.args.self.now.broken c.in-Ok.over h
     c.in-Ok.ensures.queues)
 
+-- the batch was refused
 pub returns-in-Err-clause-takes : goal.returns-in-Err-clause-takes
 returns-in-Err-clause-takes g c =
     rw (
@@ -44,6 +47,7 @@ returns-in-Err-clause-takes g c =
     c.args.self.now.told c.args.self.now.done c.args.self.now.finished _ c.args.self.now.broken
     c.in-Err.why c.in-Err.ensures.queues)
 
+-- what passed goes on up to the task that was refused
 pub returns-in-Err-clause-goes : goal.returns-in-Err-clause-goes
 returns-in-Err-clause-goes g c =
     rw (

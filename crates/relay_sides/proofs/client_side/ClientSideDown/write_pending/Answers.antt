@@ -5,16 +5,19 @@ use Rattle.relay_sides.specs.Client as client
 use Rattle.relay_sides.proofs.ClientWrite.{may_write, waits_open, fails_again, writes_on, writes_state, writes_silent, writes_waits, writes_some}
 use Rattle.relay_sides.proofs.client_side.ClientSideDown.write_pending.Goals as goal
 
+-- no write failed before, so the session may write
 pub write_pending-put-requires : goal.write_pending-put-requires
 write_pending-put-requires g c =
     may_write c.args.self.now.session.writing.output
     (waits_open _ c.args.self.now.broken c.in-None.is c.requires)
 
+-- a write failed before, and its fault is answered again
 pub returns-in-Some-clause-goes : goal.returns-in-Some-clause-goes
 returns-in-Some-clause-goes g c = λ s p h.
     fails_again s p _ _ c.args.self.now.session c.args.self.now.done c.args.self.now.finished
     c.args.self.now.broken c.in-Some.fault c.in-Some.is h
 
+-- the state by the answer of the session
 pub returns-in-None-clause-writes : goal.returns-in-None-clause-writes
 returns-in-None-clause-writes g c =
     rw (c.written-self-in-None.ensures, c.fault_in-self.ensures, c.in-None.is)
@@ -25,6 +28,7 @@ returns-in-None-clause-writes g c =
     c.write_pending-put.ensures.answer
     (ap (λ (x : HttpSession). x.reading) c.write_pending-put.ensures.reading))
 
+-- what passed goes on with what the client took
 pub returns-in-None-clause-goes : goal.returns-in-None-clause-goes
 returns-in-None-clause-goes g c =
     rw c.fault_in-self.ensures
@@ -38,6 +42,7 @@ returns-in-None-clause-goes g c =
     c.write_pending-put.ensures.ahead c.write_pending-put.ensures.rest
     (ap (λ (x : HttpSession). x.reading) c.write_pending-put.ensures.reading))
 
+-- a client that is silent was asked
 pub returns-in-None-clause-silent : goal.returns-in-None-clause-silent
 returns-in-None-clause-silent g c =
     writes_silent _ _ c.args.self.now.session.writing.output
@@ -45,6 +50,7 @@ returns-in-None-clause-silent g c =
     (waits_open _ c.args.self.now.broken c.in-None.is c.requires)
     c.write_pending-put.ensures.answer
 
+-- one that was not ready waited once more
 pub returns-in-None-clause-waits : goal.returns-in-None-clause-waits
 returns-in-None-clause-waits g c =
     writes_waits _ _ c.args.self.now.session.writing.output
@@ -52,6 +58,7 @@ returns-in-None-clause-waits g c =
     (waits_open _ c.args.self.now.broken c.in-None.is c.requires)
     c.write_pending-put.ensures.answer
 
+-- a write that moved moved some bytes
 pub returns-in-None-clause-some : goal.returns-in-None-clause-some
 returns-in-None-clause-some g c =
     λ n is.

@@ -5,12 +5,14 @@ use Rattle.relay_peer.specs.RequestWriting.{method_of}
 use Rattle.relay_sides.proofs.TaskLemmas.{switch_withholds, full_withholds}
 use Rattle.relay_sides.proofs.peer_side.PeerSide.hand_head_on.Goals as goal
 
+-- the head switches protocols
 pub returns-then-status-eq101 : goal.returns-then-status-eq101
 returns-then-status-eq101 g c =
     switch_withholds (method_of c.args.self.now.client.request.request) c.args.head c.args.end
     c.status.result c.explain-error.result c.into_up.result c.status.ensures.value
     (omega (arith, c.if-status-eq101.true)) c.explain-error.ensures c.into_up.ensures
 
+-- the head has no room for its framing
 pub returns-in-Err : goal.returns-in-Err
 returns-in-Err g c =
     full_withholds (method_of c.args.self.now.client.request.request) c.args.head c.args.end

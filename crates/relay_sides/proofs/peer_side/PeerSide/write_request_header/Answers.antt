@@ -4,6 +4,7 @@ use Rattle.relay_peer.specs.declared.h1_client.H1Client.{H1Client}
 use Rattle.relay_sides.proofs.SendLemmas.{begins_side, begins_head, on_ok}
 use Rattle.relay_sides.proofs.peer_side.PeerSide.write_request_header.Goals as goal
 
+-- nothing has passed the side
 pub returns-clause-begins : goal.returns-clause-begins
 returns-clause-begins g c =
     on_ok _ _ c.write_request_header.result c.write_request_header.ensures.keeps
@@ -18,6 +19,7 @@ returns-clause-begins g c =
     (ap (λ (k : H1Client _). k.response) c.write_request_header.ensures.same) keeps
     (ap (λ (k : H1Client _). k.failed) c.write_request_header.ensures.same) fresh out)
 
+-- the head is the one that was queued
 pub returns-clause-head : goal.returns-clause-head
 returns-clause-head g c =
     on_ok _ _ c.write_request_header.result c.write_request_header.ensures.keeps

@@ -2,10 +2,14 @@
 use Rattle.std.proofs.Common.{Bool, ◌||◌, [], None, refl, sym, ap, ◌∙◌, append-nil}
 use Rattle.relay_peer.specs.declared.h1_client.H1Client.{H1Client}
 use Rattle.relay_tasks.specs.declared.took.Took.TheVariants as took
-use Rattle.relay_sides.proofs.PeerLemmas.{more_gave, end_read, stopped_still, read_none, read_hands, read_stops, side_stays, side_hands, calm_same, calm_failed, calm_withheld, calm_paused, cuts_handed, cuts_none, or_none}
+use Rattle.relay_sides.proofs.CutLemmas.{cuts_handed, cuts_none}
+use Rattle.relay_sides.proofs.PeerLemmas.{more_gave, end_read, stopped_still}
+use Rattle.relay_sides.proofs.PeerTasks.{read_hands, read_stops}
+use Rattle.relay_sides.proofs.SideLemmas.{side_reads, side_stays, side_hands, calm_same, calm_failed, calm_withheld, calm_paused, or_none}
 use Rattle.relay_sides.proofs.MarkLemmas.{marked_more, marked_task, same_error}
 use Rattle.relay_sides.proofs.peer_side.PeerSideUp.read_task.Goals as goal
 
+-- the side had stopped, and answers why
 pub returns-in-Some-clause-goes : goal.returns-in-Some-clause-goes
 returns-in-Some-clause-goes g c = λ s q stands.
     side_stays s _ _ _ _ c.args.self.now _ q _ _ _ _ refl refl (append-nil q.read)
@@ -20,6 +24,7 @@ returns-in-Some-clause-goes g c = λ s q stands.
     (g.L.ByteLink.state c.args.self.now.client.link) c.args.self.now.client
     c.args.self.now.stopped c.args.self.now.lost c.in-Some.why q c.in-Some.is stands.peer)
 
+-- a task is handed on
 pub returns-in-Ok-clause-goes : goal.returns-in-Ok-clause-goes
 returns-in-Ok-clause-goes g c = λ s q stands.
     side_hands s _ _ _ _ c.args.self.now _ q c.in-Ok.task _ _ _ c.read_response_task.ensures.start
@@ -30,10 +35,10 @@ returns-in-Ok-clause-goes g c = λ s q stands.
     (marked_task _ (g.L.ByteLink.start c.args.self.now.client.link)
     (g.L.ByteLink.state c.args.self.now.client.link)
     (g.L.ByteLink.state c.read_response_task.new.self.link)
-    c.args.self.now.client.response c.read_response_task.new.self.response (took.Item c.in-Item.task)
-    c.args.self.now.client.failed c.read_response_task.new.self.failed
-    c.args.self.now.read_failed c.args.self.now.read_failed c.args.self.now.send_failed c.args.self.now.lost
-    c.in-Item.ensures.reads c.in-Item.ensures.failed
+    c.args.self.now.client.response c.read_response_task.new.self.response
+    (took.Item c.in-Item.task) c.args.self.now.client.failed c.read_response_task.new.self.failed
+    c.args.self.now.read_failed c.args.self.now.read_failed c.args.self.now.send_failed
+    c.args.self.now.lost c.in-Item.ensures.reads c.in-Item.ensures.failed
     (sym (or_none c.args.self.now.read_failed)) stands.peer.faults stands.marked)
     stands
     (read_hands s (g.L.ByteLink.start c.args.self.now.client.link)
@@ -43,9 +48,10 @@ returns-in-Ok-clause-goes g c = λ s q stands.
     c.read_response_task.new.self c.args.self.now.stopped c.args.self.now.lost q c.in-Item.task
     c.in-Ok.task c.in-None.is c.read_response_task.ensures.start
     (ap (λ (k : H1Client _). k.request) c.read_response_task.ensures.same)
-    c.in-Item.ensures.reads c.in-Ok.ensures.0 c.in-Ok.ensures.2 c.in-Ok.ensures.3 c.in-Item.ensures.failed
-    stands.peer)
+    c.in-Item.ensures.reads c.in-Ok.ensures.0 c.in-Ok.ensures.2 c.in-Ok.ensures.3
+    c.in-Item.ensures.failed stands.peer)
 
+-- a task is not handed on, and the side stops
 pub returns-in-Err-clause-goes : goal.returns-in-Err-clause-goes
 returns-in-Err-clause-goes g c = λ s q stands.
     side_stays s _ _ _ _ c.args.self.now _ q _ _ _ _ c.read_response_task.ensures.start refl
@@ -61,10 +67,10 @@ returns-in-Err-clause-goes g c = λ s q stands.
     (marked_task _ (g.L.ByteLink.start c.args.self.now.client.link)
     (g.L.ByteLink.state c.args.self.now.client.link)
     (g.L.ByteLink.state c.read_response_task.new.self.link)
-    c.args.self.now.client.response c.read_response_task.new.self.response (took.Item c.in-Item.task)
-    c.args.self.now.client.failed c.read_response_task.new.self.failed
-    c.args.self.now.read_failed c.args.self.now.read_failed c.args.self.now.send_failed c.args.self.now.lost
-    c.in-Item.ensures.reads c.in-Item.ensures.failed
+    c.args.self.now.client.response c.read_response_task.new.self.response
+    (took.Item c.in-Item.task) c.args.self.now.client.failed c.read_response_task.new.self.failed
+    c.args.self.now.read_failed c.args.self.now.read_failed c.args.self.now.send_failed
+    c.args.self.now.lost c.in-Item.ensures.reads c.in-Item.ensures.failed
     (sym (or_none c.args.self.now.read_failed)) stands.peer.faults stands.marked))
     stands
     (read_stops s (g.L.ByteLink.start c.args.self.now.client.link)
@@ -76,31 +82,19 @@ returns-in-Err-clause-goes g c = λ s q stands.
     (ap (λ (k : H1Client _). k.request) c.read_response_task.ensures.same)
     c.in-Item.ensures.reads c.in-Err.ensures c.in-Item.ensures.failed stands.peer)
 
+-- the link gave bytes
 pub returns-in-More-clause-goes : goal.returns-in-More-clause-goes
 returns-in-More-clause-goes g c = λ s q stands.
-    side_stays s _ _ _ _ c.args.self.now _ q _ _ _ _ c.read_response_task.ensures.start refl
-    (append-nil q.read)
-    (λ calm still. calm_same c.args.self.now.told _ _ _ took.More
-    c.in-More.ensures.failed refl refl calm still)
-    (marked_task _ (g.L.ByteLink.start c.args.self.now.client.link)
-    (g.L.ByteLink.state c.args.self.now.client.link)
-    (g.L.ByteLink.state c.read_response_task.new.self.link)
-    c.args.self.now.client.response c.read_response_task.new.self.response took.More
-    c.args.self.now.client.failed c.read_response_task.new.self.failed
-    c.args.self.now.read_failed c.args.self.now.read_failed c.args.self.now.send_failed c.args.self.now.lost
-    c.in-More.ensures.reads c.in-More.ensures.failed
-    (sym (or_none c.args.self.now.read_failed)) stands.peer.faults stands.marked)
-    stands
-    (read_none s (g.L.ByteLink.start c.args.self.now.client.link)
-    (g.L.ByteLink.start c.read_response_task.new.self.link)
-    (g.L.ByteLink.state c.args.self.now.client.link)
-    (g.L.ByteLink.state c.read_response_task.new.self.link) c.args.self.now.client
-    c.read_response_task.new.self c.args.self.now.stopped c.args.self.now.lost q
-    took.More c.read_response_task.ensures.start
+    side_reads s _ _ _ _ c.args.self.now c.read_response_task.new.self _ _ q took.More
+    c.read_response_task.ensures.start
     (ap (λ (k : H1Client _). k.request) c.read_response_task.ensures.same)
-    c.in-More.ensures.reads refl (c.in-More.ensures.ends refl)
-    c.in-More.ensures.failed stands.peer)
+    c.in-More.ensures.reads refl (c.in-More.ensures.ends refl) c.in-More.ensures.failed
+    (sym (or_none c.args.self.now.read_failed))
+    (λ calm still. calm_same c.args.self.now.told _ _ _ took.More c.in-More.ensures.failed refl refl
+    calm still)
+    stands
 
+-- the link gave bytes
 pub returns-in-More-clause-gives : goal.returns-in-More-clause-gives
 returns-in-More-clause-gives g c = λ s q stands unended is.
     more_gave s (g.L.ByteLink.start c.args.self.now.client.link)
@@ -109,6 +103,7 @@ returns-in-More-clause-gives g c = λ s q stands unended is.
     c.read_response_task.new.self c.args.self.now.stopped c.args.self.now.lost q
     c.in-More.ensures.reads stands.peer
 
+-- before the end was handed on the response has not ended
 pub returns-in-End-clause-gives : goal.returns-in-End-clause-gives
 returns-in-End-clause-gives g c = λ s q stands unended is.
     let ends = end_read s (g.L.ByteLink.start c.args.self.now.client.link)
@@ -119,112 +114,80 @@ returns-in-End-clause-gives g c = λ s q stands unended is.
     let wrong = sym unended ∙ ends in
     absurd (cc)
 
+-- the response had ended
 pub returns-in-End-clause-goes : goal.returns-in-End-clause-goes
 returns-in-End-clause-goes g c = λ s q stands.
-    side_stays s _ _ _ _ c.args.self.now _ q _ _ _ _ c.read_response_task.ensures.start refl
-    (append-nil q.read)
-    (λ calm still. calm_same c.args.self.now.told _ _ _ took.End
-    c.in-End.ensures.failed refl refl calm still)
-    (marked_task _ (g.L.ByteLink.start c.args.self.now.client.link)
-    (g.L.ByteLink.state c.args.self.now.client.link)
-    (g.L.ByteLink.state c.read_response_task.new.self.link)
-    c.args.self.now.client.response c.read_response_task.new.self.response took.End
-    c.args.self.now.client.failed c.read_response_task.new.self.failed
-    c.args.self.now.read_failed c.args.self.now.read_failed c.args.self.now.send_failed c.args.self.now.lost
-    c.in-End.ensures.reads c.in-End.ensures.failed
-    (sym (or_none c.args.self.now.read_failed)) stands.peer.faults stands.marked)
-    stands
-    (read_none s (g.L.ByteLink.start c.args.self.now.client.link)
-    (g.L.ByteLink.start c.read_response_task.new.self.link)
-    (g.L.ByteLink.state c.args.self.now.client.link)
-    (g.L.ByteLink.state c.read_response_task.new.self.link) c.args.self.now.client
-    c.read_response_task.new.self c.args.self.now.stopped c.args.self.now.lost q
-    took.End c.read_response_task.ensures.start
+    side_reads s _ _ _ _ c.args.self.now c.read_response_task.new.self _ _ q took.End
+    c.read_response_task.ensures.start
     (ap (λ (k : H1Client _). k.request) c.read_response_task.ensures.same)
-    c.in-End.ensures.reads refl (c.in-End.ensures.ends refl)
-    c.in-End.ensures.failed stands.peer)
+    c.in-End.ensures.reads refl (c.in-End.ensures.ends refl) c.in-End.ensures.failed
+    (sym (or_none c.args.self.now.read_failed))
+    (λ calm still. calm_same c.args.self.now.told _ _ _ took.End c.in-End.ensures.failed refl refl
+    calm still)
+    stands
 
+-- the link had nothing
 pub returns-in-Waited-clause-goes : goal.returns-in-Waited-clause-goes
 returns-in-Waited-clause-goes g c = λ s q stands.
-    side_stays s _ _ _ _ c.args.self.now _ q _ _ _ _ c.read_response_task.ensures.start refl
-    (append-nil q.read)
-    (λ calm still. calm_paused c.args.self.now.told _ _ c.in-Waited.pause c.in-Waited.ensures.failed calm
-    (sym (ap (λ t. t.errors) c.paused-self.ensures) ∙ still))
-    (marked_task _ (g.L.ByteLink.start c.args.self.now.client.link)
-    (g.L.ByteLink.state c.args.self.now.client.link)
-    (g.L.ByteLink.state c.read_response_task.new.self.link)
-    c.args.self.now.client.response c.read_response_task.new.self.response (took.Waited c.in-Waited.pause)
-    c.args.self.now.client.failed c.read_response_task.new.self.failed
-    c.args.self.now.read_failed c.args.self.now.read_failed c.args.self.now.send_failed c.args.self.now.lost
-    c.in-Waited.ensures.reads c.in-Waited.ensures.failed
-    (sym (or_none c.args.self.now.read_failed)) stands.peer.faults stands.marked)
-    stands
-    (read_none s (g.L.ByteLink.start c.args.self.now.client.link)
-    (g.L.ByteLink.start c.read_response_task.new.self.link)
-    (g.L.ByteLink.state c.args.self.now.client.link)
-    (g.L.ByteLink.state c.read_response_task.new.self.link) c.args.self.now.client
-    c.read_response_task.new.self c.args.self.now.stopped c.args.self.now.lost q
+    side_reads s _ _ _ _ c.args.self.now c.read_response_task.new.self _ _ q
     (took.Waited c.in-Waited.pause) c.read_response_task.ensures.start
     (ap (λ (k : H1Client _). k.request) c.read_response_task.ensures.same)
-    c.in-Waited.ensures.reads refl (c.in-Waited.ensures.ends refl)
-    c.in-Waited.ensures.failed stands.peer)
+    c.in-Waited.ensures.reads refl (c.in-Waited.ensures.ends refl) c.in-Waited.ensures.failed
+    (sym (or_none c.args.self.now.read_failed))
+    (λ calm still. calm_paused c.args.self.now.told _ _ c.in-Waited.pause
+    c.in-Waited.ensures.failed calm (sym (ap (λ t. t.errors) c.paused-self.ensures) ∙ still))
+    stands
 
+-- the read failed
 pub returns-in-Failed-clause-goes : goal.returns-in-Failed-clause-goes
 returns-in-Failed-clause-goes g c = λ s q stands.
-    side_stays s _ _ _ _ c.args.self.now _ q _ _ _ _ c.read_response_task.ensures.start refl
-    (append-nil q.read)
-    (λ calm still. calm_failed c.args.self.now.told _ _ c.in-Failed.why c.in-Failed.ensures.failed calm
-    (sym (ap (λ t. t.errors) c.failed-self-in-Failed.ensures) ∙ still))
-    (marked_task _ (g.L.ByteLink.start c.args.self.now.client.link)
-    (g.L.ByteLink.state c.args.self.now.client.link)
-    (g.L.ByteLink.state c.read_response_task.new.self.link)
-    c.args.self.now.client.response c.read_response_task.new.self.response (took.Failed c.in-Failed.why)
-    c.args.self.now.client.failed c.read_response_task.new.self.failed
-    c.args.self.now.read_failed c.either-self-in-Failed.result c.args.self.now.send_failed c.args.self.now.lost
-    c.in-Failed.ensures.reads c.in-Failed.ensures.failed
-    (c.either-self-in-Failed.ensures
-    ∙ ap (λ (b : Bool). c.args.self.now.read_failed || b)
-    (c.is_error-in-Failed.ensures ∙ sym (same_error c.in-Failed.why))) stands.peer.faults stands.marked)
-    stands
-    (read_none s (g.L.ByteLink.start c.args.self.now.client.link)
-    (g.L.ByteLink.start c.read_response_task.new.self.link)
-    (g.L.ByteLink.state c.args.self.now.client.link)
-    (g.L.ByteLink.state c.read_response_task.new.self.link) c.args.self.now.client
-    c.read_response_task.new.self c.args.self.now.stopped c.args.self.now.lost q
+    side_reads s _ _ _ _ c.args.self.now c.read_response_task.new.self _ _ q
     (took.Failed c.in-Failed.why) c.read_response_task.ensures.start
     (ap (λ (k : H1Client _). k.request) c.read_response_task.ensures.same)
-    c.in-Failed.ensures.reads refl (c.in-Failed.ensures.ends refl)
-    c.in-Failed.ensures.failed stands.peer)
+    c.in-Failed.ensures.reads refl (c.in-Failed.ensures.ends refl) c.in-Failed.ensures.failed
+    (c.either-self-in-Failed.ensures
+    ∙ ap (λ (b : Bool). c.args.self.now.read_failed || b)
+    (c.is_error-in-Failed.ensures ∙ sym (same_error c.in-Failed.why)))
+    (λ calm still. calm_failed c.args.self.now.told _ _ c.in-Failed.why
+    c.in-Failed.ensures.failed calm (sym (ap (λ t. t.errors) c.failed-self-in-Failed.ensures)
+    ∙ still)) stands
 
+-- a side that had stopped cuts nothing
 pub returns-in-Some-clause-cuts : goal.returns-in-Some-clause-cuts
 returns-in-Some-clause-cuts g c =
     record { came = []; asked = None; asks = (refl, refl); cuts = tt }
 
+-- a task that is handed on is cut as it came
 pub returns-in-Ok-clause-cuts : goal.returns-in-Ok-clause-cuts
 returns-in-Ok-clause-cuts g c =
     cuts_handed _ _ _ _ c.args.self.now.client.response c.read_response_task.new.self.response
     c.in-Item.task c.in-Ok.task c.in-Item.ensures.reads c.in-Ok.ensures.0
 
+-- no task is handed on
 pub returns-in-Err-clause-cuts : goal.returns-in-Err-clause-cuts
 returns-in-Err-clause-cuts g c =
     cuts_none _ _ _ c.args.self.now.client.response c.read_response_task.new.self.response
     (took.Item c.in-Item.task) (took.Failed c.in-Err.why) c.in-Item.ensures.reads refl
 
+-- the link gave bytes, and no task
 pub returns-in-More-clause-cuts : goal.returns-in-More-clause-cuts
 returns-in-More-clause-cuts g c =
     cuts_none _ _ _ c.args.self.now.client.response c.read_response_task.new.self.response
     took.More took.More c.in-More.ensures.reads refl
 
+-- the response had ended
 pub returns-in-End-clause-cuts : goal.returns-in-End-clause-cuts
 returns-in-End-clause-cuts g c =
     cuts_none _ _ _ c.args.self.now.client.response c.read_response_task.new.self.response
     took.End took.More c.in-End.ensures.reads refl
 
+-- the link had nothing
 pub returns-in-Waited-clause-cuts : goal.returns-in-Waited-clause-cuts
 returns-in-Waited-clause-cuts g c =
     cuts_none _ _ _ c.args.self.now.client.response c.read_response_task.new.self.response
     (took.Waited c.in-Waited.pause) (took.Waited c.in-Waited.pause) c.in-Waited.ensures.reads refl
 
+-- the read failed
 pub returns-in-Failed-clause-cuts : goal.returns-in-Failed-clause-cuts
 returns-in-Failed-clause-cuts g c =
     cuts_none _ _ _ c.args.self.now.client.response c.read_response_task.new.self.response

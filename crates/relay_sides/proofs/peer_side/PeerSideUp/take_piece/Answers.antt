@@ -4,10 +4,11 @@ use Rattle.relay_tasks.specs.declared.error.Error.{Error}
 use Rattle.relay_peer.specs.declared.h1_client.H1Client.{H1Client}
 use Rattle.relay_sides.specs.Peer.{AreMarked}
 use Rattle.relay_sides.proofs.MarkLemmas.{marked_same, marked_still, marked_loses, loses_short}
-use Rattle.relay_sides.proofs.PeerLemmas.{side_stays, calm_withheld}
+use Rattle.relay_sides.proofs.SideLemmas.{side_stays, calm_withheld}
 use Rattle.relay_sides.proofs.SendLemmas.{take_queues, take_loses, take_still}
 use Rattle.relay_sides.proofs.peer_side.PeerSideUp.take_piece.Goals as goal
 
+-- a piece was lost before, and this one is refused
 pub returns-in-Some-clause-goes : goal.returns-in-Some-clause-goes
 returns-in-Some-clause-goes g c = λ s q stands.
     side_stays s _ _ _ _ c.args.self.now _ q _ _ _ _ refl refl refl
@@ -18,13 +19,15 @@ returns-in-Some-clause-goes g c = λ s q stands.
     c.args.self.now.read_failed e c.args.self.now.lost) (sym c.error_or-self.ensures)
     (marked_still (g.L.ByteLink.start c.args.self.now.client.link)
     (g.L.ByteLink.state c.args.self.now.client.link) c.args.self.now.client.failed
-    c.args.self.now.read_failed c.args.self.now.send_failed c.args.self.now.lost c.in-Some.why c.in-Some.is stands.marked))
+    c.args.self.now.read_failed c.args.self.now.send_failed c.args.self.now.lost c.in-Some.why
+    c.in-Some.is stands.marked))
     stands
     (take_still s (g.L.ByteLink.start c.args.self.now.client.link)
     (g.L.ByteLink.state c.args.self.now.client.link) c.args.self.now.client
     c.args.self.now.stopped c.args.self.now.lost c.in-Some.why q c.args.task c.in-Some.is
     stands.peer)
 
+-- the piece was queued
 pub returns-in-Ok-clause-goes : goal.returns-in-Ok-clause-goes
 returns-in-Ok-clause-goes g c = λ s q stands.
     side_stays s _ _ _ _ c.args.self.now _ q _ _ _ _
@@ -49,6 +52,7 @@ returns-in-Ok-clause-goes g c = λ s q stands.
     (ap (λ (k : H1Client _). k.failed) c.queue_piece.ensures.same) c.in-Ok.ensures.queues
     stands.peer)
 
+-- the piece was lost
 pub returns-in-Err-clause-goes : goal.returns-in-Err-clause-goes
 returns-in-Err-clause-goes g c = λ s q stands.
     side_stays s _ _ _ _ c.args.self.now _ q _ _ _ _
@@ -62,8 +66,8 @@ returns-in-Err-clause-goes g c = λ s q stands.
     (marked_loses (g.L.ByteLink.start c.args.self.now.client.link)
     (g.L.ByteLink.state c.queue_piece.new.client.link) c.queue_piece.new.client.failed
     c.args.self.now.read_failed c.args.self.now.send_failed c.args.self.now.lost c.in-Err.why
-    (loses_short stands.peer.sending q.sent c.args.task c.queue_piece.new.client.request c.in-Err.why
-    (c.in-Err.ensures.queues stands.peer.sending q.sent stands.peer.so_far))
+    (loses_short stands.peer.sending q.sent c.args.task c.queue_piece.new.client.request
+    c.in-Err.why (c.in-Err.ensures.queues stands.peer.sending q.sent stands.peer.so_far))
     (marked_same (g.L.ByteLink.start c.args.self.now.client.link)
     (g.L.ByteLink.state c.args.self.now.client.link)
     (g.L.ByteLink.state c.queue_piece.new.client.link) c.args.self.now.client.failed

@@ -4,15 +4,17 @@ use Rattle.relay_tasks.specs.declared.error.Error.{Error}
 use Rattle.relay_peer.specs.declared.h1_client.H1Client.{H1Client}
 use Rattle.relay_sides.specs.Peer.{AreMarked}
 use Rattle.relay_sides.proofs.MarkLemmas.{marked_write}
-use Rattle.relay_sides.proofs.PeerLemmas.{side_stays, calm_put}
+use Rattle.relay_sides.proofs.SideLemmas.{side_stays, calm_put}
 use Rattle.relay_sides.proofs.SendLemmas.{write_goes}
 use Rattle.relay_sides.proofs.peer_side.PeerSideUp.write_pending.Goals as goal
 
+-- what passed goes on with what the link took
 pub returns-clause-goes : goal.returns-clause-goes
 returns-clause-goes g c = λ s q stands.
     side_stays s _ _ _ _ c.args.self.now _ q _ _ _ _ c.write_pending-put.ensures.start refl refl
     (λ calm still. calm_put c.args.self.now.told _ _ c.write_pending-put.result
-    c.write_pending-put.ensures.failed calm (sym (ap (λ t. t.errors) c.written-self.ensures) ∙ still))
+    c.write_pending-put.ensures.failed calm
+    (sym (ap (λ t. t.errors) c.written-self.ensures) ∙ still))
     (subst (λ (e : Option Error). AreMarked (g.L.ByteLink.start c.args.self.now.client.link)
     (g.L.ByteLink.state c.write_pending-put.new.self.link) c.write_pending-put.new.self.failed
     c.args.self.now.read_failed e c.args.self.now.lost) (sym c.put_error-self.ensures)

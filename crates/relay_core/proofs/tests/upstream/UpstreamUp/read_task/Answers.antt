@@ -1,7 +1,8 @@
 -- The task that was read stands behind those read before.
 use Rattle.std.proofs.Common.{refl}
-use Rattle.relay_core.proofs.tests.duplex.UpstreamUp.read_task.Goals as goal
+use Rattle.relay_core.proofs.tests.upstream.UpstreamUp.read_task.Goals as goal
 
+-- a piece is given
 pub returns-in-Some-clause-goes : goal.returns-in-Some-clause-goes
 returns-in-Some-clause-goes c = λ s q holds. record {
   past = record { got = q.got; sent = q.sent; read = _; taken = q.taken; lost = q.lost };
@@ -13,6 +14,7 @@ returns-in-Some-clause-goes c = λ s q holds. record {
   blamed = λ e none. cc;
 }
 
+-- the end is given
 pub returns-in-None-clause-goes : goal.returns-in-None-clause-goes
 returns-in-None-clause-goes c = λ s q holds. record {
   past = record { got = q.got; sent = q.sent; read = _; taken = q.taken; lost = q.lost };

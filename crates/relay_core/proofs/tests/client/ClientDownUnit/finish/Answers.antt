@@ -2,8 +2,9 @@
 use Rattle.std.proofs.Common.{List, [], ◌∷◌, ◌++◌, refl, sym, ap, ◌∙◌}
 use Rattle.relay_tasks.specs.declared.task.HttpTask.{HttpTask}
 use Rattle.relay_tasks.specs.declared.task.HttpTask.TheVariants as task
-use Rattle.relay_core.proofs.tests.duplex.ClientDownUnit.finish.Goals as goal
+use Rattle.relay_core.proofs.tests.client.ClientDownUnit.finish.Goals as goal
 
+-- the end is noted
 pub returns-clause-goes : goal.returns-clause-goes
 returns-clause-goes c = λ client s p holds. record {
   past = record {

@@ -1,8 +1,9 @@
 -- The batch is kept behind those before it.
 use Rattle.std.proofs.Common.{List, ◌++◌, refl, sym, ap, ◌∙◌}
 use Rattle.relay_tasks.specs.declared.task.HttpTask.{HttpTask}
-use Rattle.relay_core.proofs.tests.duplex.ClientDownUnit.take_batch.Goals as goal
+use Rattle.relay_core.proofs.tests.client.ClientDownUnit.take_batch.Goals as goal
 
+-- the batch is kept
 pub returns-then-keep-clause-goes : goal.returns-then-keep-clause-goes
 returns-then-keep-clause-goes c = λ client s p holds. record {
   past = record {

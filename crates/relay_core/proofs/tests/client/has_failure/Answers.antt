@@ -2,14 +2,16 @@
 use Rattle.std.proofs.Common.{◌∙◌, sym, arith}
 use Rattle.relay_core.specs.Pipe.{is_failure}
 use Rattle.relay_core.proofs.BatchLemmas.{any_found, any_passed, none_within}
-use Rattle.relay_core.proofs.tests.duplex.has_failure.Goals as goal
-use Rattle.relay_core.proofs.tests.duplex.has_failure.Goals.{in-Some+else-is_failure, in_default}
+use Rattle.relay_core.proofs.tests.client.has_failure.Goals as goal
+use Rattle.relay_core.proofs.tests.client.has_failure.Goals.{in-Some+else-is_failure, in_default}
 
+-- the task at the place is a failure
 pub returns-then-is_failure : goal.returns-then-is_failure
 returns-then-is_failure c =
     sym (any_found is_failure c.args.tasks.now c.loop-at.at c.in-Some.task.now c.in-Some.ensures
     (sym c.is_failure.ensures ∙ c.if-is_failure.true)) ∙ c.loop-at.invariant
 
+-- it is none, or no task is left
 pub loop-at-preserved : goal.loop-at-preserved
 loop-at-preserved c =
     elim c.match-get.branch [

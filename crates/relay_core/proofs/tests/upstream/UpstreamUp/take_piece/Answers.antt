@@ -2,8 +2,9 @@
 use Rattle.std.proofs.Common.{◌||◌, false, true, List, [], ◌∷◌, ◌++◌, refl, sym, ap, ◌∙◌}
 use Rattle.relay_tasks.specs.declared.task.HttpTask.{HttpTask}
 use Rattle.relay_core.proofs.BoolLemmas.{clash, or_left, or-true}
-use Rattle.relay_core.proofs.tests.duplex.UpstreamUp.take_piece.Goals as goal
+use Rattle.relay_core.proofs.tests.upstream.UpstreamUp.take_piece.Goals as goal
 
+-- the piece is refused
 pub returns-in-Some-clause-goes : goal.returns-in-Some-clause-goes
 returns-in-Some-clause-goes c = λ s q holds. record {
   past = record { got = q.got; sent = q.sent; read = q.read; taken = _; lost = _ };
@@ -15,6 +16,7 @@ returns-in-Some-clause-goes c = λ s q holds. record {
   blamed = λ e is. c.in-Some.is ∙ is;
 }
 
+-- the piece is kept
 pub returns-then-push-clause-goes : goal.returns-then-push-clause-goes
 returns-then-push-clause-goes c = λ s q holds. record {
   past = record { got = q.got; sent = q.sent; read = q.read; taken = _; lost = _ };
@@ -28,6 +30,7 @@ returns-then-push-clause-goes c = λ s q holds. record {
   blamed = λ e none. cc;
 }
 
+-- there is no memory for it
 pub returns-clause-goes : goal.returns-clause-goes
 returns-clause-goes c = λ s q holds. record {
   past = record { got = q.got; sent = q.sent; read = q.read; taken = _; lost = _ };

@@ -3,8 +3,9 @@ use Rattle.std.proofs.Common.{false, List, ◌++◌, refl, sym, ap, ◌∙◌}
 use Rattle.relay_tasks.specs.declared.task.HttpTask.{HttpTask}
 use Rattle.relay_core.specs.declared.piece.Piece.{Piece}
 use Rattle.relay_core.specs.Piece.{put_of}
-use Rattle.relay_core.proofs.tests.duplex.ClientDownUnit.read_piece.Goals as goal
+use Rattle.relay_core.proofs.tests.client.ClientDownUnit.read_piece.Goals as goal
 
+-- the piece is noted
 pub returns-in-Ok-clause-goes : goal.returns-in-Ok-clause-goes
 returns-in-Ok-clause-goes c = λ s p holds. record {
   past = record {
