@@ -67,8 +67,8 @@ impl BodyWriter {
         Ok(count)
     }
 
-    /// The text of a piece, where that is the piece itself, cut where the body ends. The writer goes
-    /// on as by `write`, and no byte is copied.
+    /// The text of a piece, where that is the piece itself, cut where the body ends. The writer
+    /// goes on as by `write`, and no byte is copied.
     pub(crate) fn pass(&mut self, mut piece: Bytes) -> Bytes
         requires { is_raw self.old ≡ true }
         ensures text { result ≡ piece_text self.old piece }
