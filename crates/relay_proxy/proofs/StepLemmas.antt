@@ -12,7 +12,7 @@ use Rattle.relay_attempt.specs.Head.{link_of}
 use Rattle.relay_proxy.specs.Passed.{World, Start, origin_of, IsUnsent}
 use Rattle.relay_proxy.specs.Endings.{EndsLinked, EndsUnlinked, AttemptsUnlinked, EndsReturned, EndsWith}
 use Rattle.relay_proxy.specs.Phases.{IsLeased, IsGoing, IsRelaying, RunSoFar}
-use Rattle.relay_proxy.specs.Refusals.{faults_for, faults_before, faults_of_turn, AnswersFaults}
+use Rattle.relay_proxy.specs.Refusals.{faults_for, faults_before, faults_of_turn}
 use Rattle.relay_proxy.specs.Request.{StepsOn}
 use Rattle.relay_proxy.specs.Turn.{Advances, HasCause, IsStalled, is_over, is_end}
 use Rattle.relay_proxy.specs.Closing.{Hands, HandsBack, Settles, GivesUp, Finishes, IsQuietExchange, IsQuiet, Rests, TurnOf, Ends}
@@ -232,47 +232,47 @@ module _ {L C : Type 0} (state : L → LinkState) (start_at : L → LinkStart) w
       → Gains told_before (faults_of_turn phase next) told_after
       → RunSoFar state start_at s p w own phase
       → StepsOn state start_at s p x own before after told_before told_after phase settled
-  step_on s p [] w x ReadHead next settled did before mid after t u turn rests kept
-      does told run =
+  step_on s p [] w x ReadHead next settled did before mid after t u
+      turn rests kept does told run =
       live_on s p x ReadHead next settled before mid after t u refl (turn run)
       kept does told
-  step_on s p [] w x (Refuse answer e) next settled did before mid after t u turn rests kept
-      does told run =
+  step_on s p [] w x (Refuse answer e) next settled did before mid after t u
+      turn rests kept does told run =
       live_on s p x (Refuse answer e) next settled before mid after t u refl (turn run)
       kept does told
-  step_on s p [] w x (Connect context session) next settled did before mid after t u turn rests kept
-      does told run =
+  step_on s p [] w x (Connect context session) next settled did before mid after t u
+      turn rests kept does told run =
       live_on s p x (Connect context session) next settled before mid after t u refl (turn run)
       kept does told
-  step_on s p [] w x (Relay a) next settled did before mid after t u turn rests kept
-      does told run =
+  step_on s p [] w x (Relay a) next settled did before mid after t u
+      turn rests kept does told run =
       live_on s p x (Relay a) next settled before mid after t u refl (turn run)
       kept does told
-  step_on s p [] w x (Close link lease keep outcome) next settled did before mid after t u turn rests kept
-      does told run =
+  step_on s p [] w x (Close link lease keep outcome) next settled did before mid after t u
+      turn rests kept does told run =
       closed_on s p w x link lease keep outcome next settled did before mid after t u rests kept
       does told run
-  step_on s p [] w x (Ended outcome attempts) next settled did before mid after t u turn rests kept
-      does told run =
+  step_on s p [] w x (Ended outcome attempts) next settled did before mid after t u
+      turn rests kept does told run =
       ended_on s p [] w x outcome attempts next settled did before mid after t u rests kept does
       told run
-  step_on s p (r ∷ own) w x ReadHead next settled did before mid after t u turn rests kept
-      does told run =
+  step_on s p (r ∷ own) w x ReadHead next settled did before mid after t u
+      turn rests kept does told run =
       absurd run.holds
-  step_on s p (r ∷ own) w x (Refuse answer e) next settled did before mid after t u turn rests kept
-      does told run =
+  step_on s p (r ∷ own) w x (Refuse answer e) next settled did before mid after t u
+      turn rests kept does told run =
       absurd run.holds
-  step_on s p (r ∷ own) w x (Connect context session) next settled did before mid after t u turn rests kept
-      does told run =
+  step_on s p (r ∷ own) w x (Connect context session) next settled did before mid after t u
+      turn rests kept does told run =
       absurd run.holds
-  step_on s p (r ∷ own) w x (Relay a) next settled did before mid after t u turn rests kept
-      does told run =
+  step_on s p (r ∷ own) w x (Relay a) next settled did before mid after t u
+      turn rests kept does told run =
       absurd run.holds
-  step_on s p (r ∷ own) w x (Close link lease keep outcome) next settled did before mid after t u turn rests kept
-      does told run =
+  step_on s p (r ∷ own) w x (Close link lease keep outcome) next settled did before mid after t u
+      turn rests kept does told run =
       absurd run.holds
-  step_on s p (r ∷ own) w x (Ended outcome attempts) next settled did before mid after t u turn rests kept
-      does told run =
+  step_on s p (r ∷ own) w x (Ended outcome attempts) next settled did before mid after t u
+      turn rests kept does told run =
       ended_on s p (r ∷ own) w x outcome attempts next settled did before mid after t u rests kept
       does told run
 

@@ -10,7 +10,7 @@ use Rattle.relay_tasks.specs.declared.took.Pause.TheVariants.{NotReady, Silent}
 use Rattle.relay_attempt.specs.Passed.{Passed}
 use Rattle.relay_proxy.specs.Passed.{World, Start, start_of, nothing}
 use Rattle.relay_proxy.specs.Phases.{RunSoFar}
-use Rattle.relay_proxy.specs.Refusals.{faults_for, faults_before}
+use Rattle.relay_proxy.specs.Refusals.{faults_before}
 use Rattle.relay_proxy.specs.Request.{is_stop, Counts, StepsOn, ComesToEnd, Processes}
 use Rattle.relay_proxy.specs.Turn.{IsStalled, HasCause, is_over, is_end}
 use Rattle.relay_proxy.specs.declared.machine.Machine.{Machine}

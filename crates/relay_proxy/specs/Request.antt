@@ -80,7 +80,8 @@ module _ {L C : Type 0} (state : L → LinkState) (start_at : L → LinkStart) w
 -- cause
 pub record Processes {L : Type 0} (state : L → LinkState) (start_at : L → LinkStart)
     (s : Start) (w : World) (before after : Option (List (Returned L)))
-    (told_before told_after : Option (List Fault)) (turns : ℕ) (processed : Processed) : Type 0 where
+    (told_before told_after : Option (List Fault)) (turns : ℕ) (processed : Processed)
+    : Type 0 where
   pub passed : Passed
   pub own : List (Returned L)
   pub gained : after ≡ more before own

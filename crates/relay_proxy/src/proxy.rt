@@ -136,8 +136,8 @@ impl<SV: ProxyHttp, K: Connector, P: Purger> HttpProxy<SV, K, P> {
     ) -> RunStep
         requires { links_held K.Byte.state K.Byte.start machine.old.machine.phase
             ≤ K.out self.old.connector }
-        // The run so far goes on, these links were handed back, and the connector answered no fault but
-        // the one of which the error of a request tells that ends so.
+        // The run so far goes on, these links were handed back, and the connector answered no fault
+        // but the one of which the error of a request tells that ends so.
         ensures steps { (s : Start) (p : Passed) (own : List _)
             → RunSoFar K.Byte.state K.Byte.start s p
             (world_of D.state client.old (K.fault_count self.old.connector)) own
