@@ -144,28 +144,35 @@ module _ {L C D U : Type 0}
     put_last f visit rest (under_way.0, under_way.1.1),
   )
 
+  -- a turn of the first request: none is counted, and what passed goes on
+  pub record TakesTurn (old now : Books L) (visit next : Visit D U L C) (t u : Option (List Fault))
+      : Type 0 where
+    pub counted : now.requests_ended ≡ old.requests_ended
+    pub faults : old.faults ≤ now.faults
+    pub steps : (s : Start) (p : Passed) (own : List (Returned L))
+        → RunSoFar state start_at s p (world_of client_state visit.client old.faults) own
+        visit.phase
+        → StepsOn state start_at s p (world_of client_state next.client now.faults) own
+        old.returned now.returned t u visit.phase next.phase
+
   -- a turn behind which the request goes on
   pub goes_on : (before old now : Books L) (visit next : Visit D U L C)
       (rest : List (Visit D U L C)) (t u : Option (List Fault))
       → Serves state start_at client_state before old (visit ∷ rest)
-      → now.requests_ended ≡ old.requests_ended → old.faults ≤ now.faults
-      → ((s : Start) (p : Passed) (own : List (Returned L))
-      → RunSoFar state start_at s p (world_of client_state visit.client old.faults) own visit.phase
-      → StepsOn state start_at s p (world_of client_state next.client now.faults) own
-      old.returned now.returned t u visit.phase next.phase)
+      → TakesTurn old now visit next t u
       → is_over next.phase ≡ false
       → Serves state start_at client_state before now (next ∷ rest)
-  goes_on before old now visit next rest t u serves same later steps going =
+  goes_on before old now visit next rest t u serves turn going =
       let under = serves.under_way.0 in
-      let taken = steps under.start under.passed [] under.run in
+      let taken = turn.steps under.start under.passed [] under.run in
       let w = world_of client_state next.client now.faults in
       let kept : taken.handed ≡ [] = none_handed state start_at under.start taken.passed w
       taken.handed next.phase going taken.run.holds in
       let returned : now.returned ≡ old.returned = taken.gained
       ∙ ap (λ (own : List (Returned L)). more old.returned own) kept ∙ more-nil old.returned in
       record {
-        ended = subst (λ (n : ℕ). HaveEnded state start_at before n now.returned) (sym same)
-            (subst (λ (r : Option (List (Returned L))).
+        ended = subst (λ (n : ℕ). HaveEnded state start_at before n now.returned)
+            (sym turn.counted) (subst (λ (r : Option (List (Returned L))).
             HaveEnded state start_at before old.requests_ended r) (sym returned) serves.ended);
         under_way = (
           record {
@@ -175,7 +182,7 @@ module _ {L C D U : Type 0}
                 RunSoFar state start_at under.start taken.passed w own next.phase) kept taken.run;
             going = going;
           },
-          all_later old.faults now.faults later rest serves.under_way.1,
+          all_later old.faults now.faults turn.faults rest serves.under_way.1,
         );
       }
 
@@ -183,27 +190,23 @@ module _ {L C D U : Type 0}
   pub ends_now : (before old now : Books L) (visit next : Visit D U L C)
       (rest : List (Visit D U L C)) (t u : Option (List Fault))
       → Serves state start_at client_state before old (visit ∷ rest)
-      → now.requests_ended ≡ old.requests_ended → old.faults ≤ now.faults
-      → ((s : Start) (p : Passed) (own : List (Returned L))
-      → RunSoFar state start_at s p (world_of client_state visit.client old.faults) own visit.phase
-      → StepsOn state start_at s p (world_of client_state next.client now.faults) own
-      old.returned now.returned t u visit.phase next.phase)
+      → TakesTurn old now visit next t u
       → is_over next.phase ≡ true
       → EndsOne state start_at client_state before now next rest
-  ends_now before old now visit next rest t u serves same later steps over =
+  ends_now before old now visit next rest t u serves turn over =
       let under = serves.under_way.0 in
-      let taken = steps under.start under.passed [] under.run in
+      let taken = turn.steps under.start under.passed [] under.run in
       record {
         returned = old.returned;
-        ended = subst (λ (n : ℕ). HaveEnded state start_at before n old.returned) (sym same)
-            serves.ended;
+        ended = subst (λ (n : ℕ). HaveEnded state start_at before n old.returned)
+            (sym turn.counted) serves.ended;
         start = under.start;
         passed = taken.passed;
         own = taken.handed;
         gained = taken.gained;
         run = taken.run;
         over = over;
-        under_way = all_later old.faults now.faults later rest serves.under_way.1;
+        under_way = all_later old.faults now.faults turn.faults rest serves.under_way.1;
       }
 
   -- one more request came to its end

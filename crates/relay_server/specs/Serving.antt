@@ -44,13 +44,13 @@ pub record Visit (D U L C : Type 0) : Type 0 where
   pub client : Connection D U
   pub phase : Phase L C
 
--- the client's connection goes back for another request
-abbrev pub goes_back : Outcome → Bool
-goes_back NoRequest = false
-goes_back (Refused error) = false
-goes_back (Served error reuse) = reuse
-goes_back TurnLimit = false
-goes_back OutOfMemory = false
+-- the client's connection is kept for another request
+abbrev pub is_reused : Outcome → Bool
+is_reused NoRequest = false
+is_reused (Refused error) = false
+is_reused (Served error reuse) = reuse
+is_reused TurnLimit = false
+is_reused OutOfMemory = false
 
 module _ {L : Type 0} (state : L → LinkState) (start_at : L → LinkStart) where
   -- a request that came to its end: what passed is told by the links, in order, and the outcome has

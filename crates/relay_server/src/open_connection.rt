@@ -1,7 +1,7 @@
 //! A client's connection that is open, with the request under way on it (RFC 9112, section 9.3).
 ghost use Rattle.std.specs.Prelude.{◌≡◌, ◌≤◌, ◌+◌, List, [], ◌∷◌, true, false};
 ghost use Rattle.relay_proxy.specs.Turn.{links_held, is_over, is_end};
-ghost use Rattle.relay_server.specs.Serving.{Books, Visit, books, CountRises, all_held, Serves, EndsOne, with_next, goes_back};
+ghost use Rattle.relay_server.specs.Serving.{Books, Visit, books, CountRises, all_held, Serves, EndsOne, with_next, is_reused};
 
 use crate::stillness::Stillness;
 use relay_h1::Connection;
@@ -94,7 +94,7 @@ impl<SV: ProxyHttp, K: Connector, D: ByteLink> OpenConnection<SV, K, D> {
         is_end(step)
     }
 
-    /// Ends the request, and begins the next one where the connection goes back.
+    /// Ends the request, and begins the next one where the connection is reused.
     pub(crate) fn end<P: Purger>(
         self,
         proxy: &mut HttpProxy<SV, K, P>,
@@ -123,7 +123,7 @@ impl<SV: ProxyHttp, K: Connector, D: ByteLink> OpenConnection<SV, K, D> {
             stillness: _,
         } = self;
         let (processed, kept) = proxy.end(machine, &mut client);
-        if !goes_back(processed.outcome) {
+        if !is_reused(processed.outcome) {
             return AfterRequest::Ends(client.into_link());
         }
         let machine = proxy.begin(&mut client, kept);
@@ -182,9 +182,9 @@ fn is_end(step: RunStep) -> bool
     }
 }
 
-/// Whether the client's connection goes back for another request.
-fn goes_back(outcome: Outcome) -> bool
-    ensures { result ≡ goes_back outcome }
+/// Whether the client's connection is kept for another request.
+fn is_reused(outcome: Outcome) -> bool
+    ensures { result ≡ is_reused outcome }
 {
     match outcome {
         Outcome::Served { error: _, reuse } => reuse,

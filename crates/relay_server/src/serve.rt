@@ -35,7 +35,7 @@ pub struct ServeEnd {
 ///
 /// At most 64 connections are open; a further client is accepted once one of them ends. Each open
 /// connection that may move gets one turn in its turn, and where all wait for the outside the
-/// poller sleeps for 100 milliseconds at most. A connection that goes back begins its next request.
+/// poller sleeps for 100 milliseconds at most. A connection that is reused begins its next request.
 ///
 /// Once so many requests have ended, the requests under way are given up and all connections
 /// closed. A connection for which there is no memory is closed at once.

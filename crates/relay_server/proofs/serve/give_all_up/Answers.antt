@@ -4,6 +4,7 @@ use Rattle.relay_server.specs.Serving.{Visit, books, Serves}
 use Rattle.relay_server.proofs.ServingLemmas.{on_given_up, on_then}
 use Rattle.relay_server.proofs.serve.give_all_up.Goals as goal
 
+-- the first connection is given up
 pub loop-connection-preserved : goal.loop-connection-preserved
 loop-connection-preserved g c =
     let goes = c.loop-connection.invariant.0 in

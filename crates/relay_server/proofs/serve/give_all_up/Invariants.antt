@@ -3,6 +3,7 @@ use Rattle.std.proofs.Common.{◌≡◌, ◌≤◌, length}
 use Rattle.relay_server.specs.Serving.{Books, books, Serves, ServesOn}
 use Rattle.relay_server.proofs.serve.give_all_up.Given as goal
 
+-- those that are left are served, and no request was counted
 abbrev pub invariant-loop-connection : goal.invariant-loop-connection
 invariant-loop-connection g l =
     ServesOn g.K.Byte.ByteLink.state g.K.Byte.ByteLink.start g.O.Stream.ByteLink.state
@@ -15,5 +16,6 @@ invariant-loop-connection g l =
     × (g.O.Poller.fault_count l.fn.poller ≤ g.O.Poller.fault_count l.poller)
     × (g.O.Poller.ports l.poller ≡ g.O.Poller.ports l.fn.poller)
 
+-- one connection fewer is left
 abbrev pub decreases-loop-connection : goal.decreases-loop-connection
 decreases-loop-connection g l = length l.floor

@@ -4,6 +4,7 @@ use Rattle.relay_links.specs.Count.{last_count}
 use Rattle.relay_server.specs.Serving.{ServesOn}
 use Rattle.relay_server.proofs.serve.go_round.Given as goal
 
+-- the floor serves so far
 abbrev pub invariant-loop-turn : goal.invariant-loop-turn
 invariant-loop-turn g l =
     ServesOn g.K.Byte.ByteLink.state g.K.Byte.ByteLink.start g.O.Stream.ByteLink.state

@@ -2,12 +2,14 @@
 use Rattle.relay_server.proofs.ServingLemmas.{on_put_last, on_given_up}
 use Rattle.relay_server.proofs.serve.keep.Goals as goal
 
+-- the connection is kept
 pub returns-in-Ok-clause-goes : goal.returns-in-Ok-clause-goes
 returns-in-Ok-clause-goes g c = rw (c.put_last.ensures, c.in-Ok.ensures.ok)
     (on_put_last g.K.Byte.ByteLink.state g.K.Byte.ByteLink.start g.O.Stream.ByteLink.state
     g.K.Connector.returned g.K.Connector.out g.K.Connector.fault_count
     c.args.proxy.now c.args.connection c.args.floor.now)
 
+-- there is no memory for it
 pub returns-in-Err-clause-goes : goal.returns-in-Err-clause-goes
 returns-in-Err-clause-goes g c = rw c.in-Err.ensures.value_returned at
     (on_given_up g.K.Byte.ByteLink.state g.K.Byte.ByteLink.start g.O.Stream.ByteLink.state

@@ -5,6 +5,7 @@ use Rattle.relay_links.specs.Told.{more}
 use Rattle.relay_server.specs.Serving.{ServesOn}
 use Rattle.relay_server.proofs.serve.serve_floor.Given as goal
 
+-- the floor serves so far, and its port is open
 abbrev pub invariant-loop : goal.invariant-loop
 invariant-loop g l =
     ServesOn g.K.Byte.ByteLink.state g.K.Byte.ByteLink.start g.O.Stream.ByteLink.state

@@ -5,9 +5,11 @@ use Rattle.relay_server.specs.Serving.HaveEnded.{none}
 use Rattle.relay_server.proofs.ServingLemmas.{first_serves}
 use Rattle.relay_server.proofs.serve.serve_with.Goals as goal
 
+-- no memory for the floor: no request has ended
 pub returns-in_default-clause-requests : goal.returns-in_default-clause-requests
 returns-in_default-clause-requests g c = none
 
+-- where as many requests ended as were asked for, giving up counts no more
 pub end_of-requires-2 : goal.end_of-requires-2
 end_of-requires-2 g c = λ done.
     let before = books g.K.Connector.returned g.K.Connector.fault_count c.args.proxy.now in
@@ -18,6 +20,7 @@ end_of-requires-2 g c = λ done.
     let all = c.serve_floor-stop.ensures.done done in
     omega (arith, stays, all, c.requests_ended.ensures, c.requests_ended-before.ensures)
 
+-- the requests that ended are those of the floor
 pub returns-clause-requests : goal.returns-clause-requests
 returns-clause-requests g c =
     let before = books g.K.Connector.returned g.K.Connector.fault_count c.args.proxy.now in

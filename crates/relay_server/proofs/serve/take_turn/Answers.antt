@@ -2,6 +2,7 @@
 use Rattle.relay_server.proofs.ServingLemmas.{on_put_last, on_turned, on_ended, on_then}
 use Rattle.relay_server.proofs.serve.take_turn.Goals as goal
 
+-- a connection that is still is put last
 pub returns-then-is_still-clause-goes : goal.returns-then-is_still-clause-goes
 returns-then-is_still-clause-goes g c =
     rw (c.put_last.ensures, c.wake.ensures, c.deref_mut.ensures.value, c.in-Some.ensures)
@@ -9,6 +10,7 @@ returns-then-is_still-clause-goes g c =
     g.K.Connector.returned g.K.Connector.out g.K.Connector.fault_count
     c.args.proxy.now c.in-Some.connection.value c.take_first.new.self)
 
+-- its request has ended
 pub returns-then-step-clause-goes : goal.returns-then-step-clause-goes
 returns-then-step-clause-goes g c =
     let rest = c.take_first.new.self in
@@ -26,6 +28,7 @@ returns-then-step-clause-goes g c =
     (rw c.into_inner.ensures at c.end_first.ensures.held) c.end_first.ensures.counted
     c.end_first.ensures.same)
 
+-- its request goes on, and it is put last
 pub returns-clause-goes : goal.returns-clause-goes
 returns-clause-goes g c =
     let rest = c.take_first.new.self in

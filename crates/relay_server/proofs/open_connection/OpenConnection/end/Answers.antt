@@ -1,12 +1,13 @@
--- The request is ended, and the next one begins where the connection goes back.
+-- The request is ended, and the next one begins where the connection is reused.
 use Rattle.std.proofs.Common.{ap}
 use Rattle.relay_proxy.specs.declared.proxy.HttpProxy.{HttpProxy}
 use Rattle.relay_server.specs.Serving.{books}
 use Rattle.relay_server.proofs.ServingLemmas.{ends_one, begins}
 use Rattle.relay_server.proofs.open_connection.OpenConnection.end.Goals as goal
 
-pub returns-then-not-goes_back-clause-serves : goal.returns-then-not-goes_back-clause-serves
-returns-then-not-goes_back-clause-serves g c = λ before rest ends.
+-- no request follows
+pub returns-then-not-is_reused-clause-serves : goal.returns-then-not-is_reused-clause-serves
+returns-then-not-is_reused-clause-serves g c = λ before rest ends.
     let returned = g.K.Connector.returned in
     let faults = g.K.Connector.fault_count in
     ends_one g.K.Byte.ByteLink.state g.K.Byte.ByteLink.start g.D.ByteLink.state before
@@ -17,6 +18,7 @@ returns-then-not-goes_back-clause-serves g c = λ before rest ends.
     c.end-processed.ensures.same)
     c.end-processed.ensures.faults
 
+-- the next request begins
 pub returns-clause-serves : goal.returns-clause-serves
 returns-clause-serves g c = λ before rest ends.
     let returned = g.K.Connector.returned in

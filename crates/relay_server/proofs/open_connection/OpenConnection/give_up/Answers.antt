@@ -5,6 +5,7 @@ use Rattle.relay_server.specs.Serving.{books}
 use Rattle.relay_server.proofs.ServingLemmas.{gives_up}
 use Rattle.relay_server.proofs.open_connection.OpenConnection.give_up.Goals as goal
 
+-- the request is ended under way
 pub returns-clause-serves : goal.returns-clause-serves
 returns-clause-serves g c = λ before rest goes.
     let returned = g.K.Connector.returned in
