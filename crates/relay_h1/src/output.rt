@@ -29,13 +29,14 @@ pub struct Output {
 }
 
 impl Model for Output {
-    ghost use Rattle.std.specs.Prelude.{List, ℕ, ◌≤◌, ◌++◌, length, drop};
+    ghost use Rattle.std.specs.Prelude.{List, ℕ, ◌≡◌, ◌≤◌, ◌<◌, ◌++◌, length, drop};
 
     ghost Value = { List ℕ };
 
     ghost view = { λ o. o.piece ++ drop o.start o.bytes.items };
 
-    ghost invariant = { λ o. o.start ≤ length o.bytes.items };
+    ghost invariant = { λ o. (o.start ≤ length o.bytes.items)
+        × (0 < length o.piece → o.start ≡ length o.bytes.items) };
 }
 
 impl Output {
@@ -69,10 +70,9 @@ impl Output {
         self.piece.is_empty() && self.start == self.bytes.len()
     }
 
-    /// The bytes that the next write is offered.
-    pub(crate) fn front_bytes(&self) -> &[u8]
-        ensures front { result.now ≡ take (length result.now) self.now }
-        ensures some { 0 < length self.now → 0 < length result.now }
+    /// The bytes that wait, which the next write is offered.
+    pub fn front_bytes(&self) -> &[u8]
+        ensures { result.now ≡ self.now }
     {
         if self.piece.is_empty() {
             &self.bytes.as_slice()[self.start..]
@@ -118,7 +118,7 @@ impl Output {
         ensures err { OnErr result (self.new ≡ self.old) }
         ensures memory { IsOkUnless result Fail.OutOfMemory }
     {
-        self.gather()?;
+        gather(&mut self.piece, &mut self.bytes, &mut self.start)?;
         write_request_head(&mut self.bytes, head)
     }
 
@@ -128,7 +128,7 @@ impl Output {
         ensures err { OnErr result (self.new ≡ self.old) }
         ensures memory { IsOkUnless result Fail.OutOfMemory }
     {
-        self.gather()?;
+        gather(&mut self.piece, &mut self.bytes, &mut self.start)?;
         write_response_head(&mut self.bytes, head)
     }
 
@@ -145,12 +145,12 @@ impl Output {
         ensures err { OnErr result ((self.new ≡ self.old) × (body.new ≡ body.old)) }
         ensures memory { IsOkUnless result Fail.OutOfMemory }
     {
-        if self.is_empty() && body.is_raw() {
+        if self.piece.is_empty() && self.start == self.bytes.len() && body.is_raw() {
             let count = body.count_of(&piece);
             self.piece = body.pass(piece);
             return Ok(count);
         }
-        self.gather()?;
+        gather(&mut self.piece, &mut self.bytes, &mut self.start)?;
         body.write(&mut self.bytes, piece.as_slice())
     }
 
@@ -171,7 +171,7 @@ impl Output {
     {
         // A raw body ends with no text, so a piece that waits alone stays so.
         if !body.is_raw() {
-            self.gather()?;
+            gather(&mut self.piece, &mut self.bytes, &mut self.start)?;
         }
         body.finish(&mut self.bytes)
     }
@@ -196,37 +196,46 @@ impl Output {
             self.start = 0;
         }
     }
+}
 
-    /// Puts a piece that waits alone to the text, so that what comes is gathered behind it.
-    fn gather(&mut self) -> std::result::Result<(), AllocError>
-        ensures { self.new ≡ self.old }
-    {
-        if self.piece.is_empty() {
-            self.make_room();
-            return Ok(());
-        }
-        if self.start != self.bytes.len() {
-            return Ok(());
-        }
-        self.bytes.clear();
-        self.start = 0;
-        self.bytes.extend_from_slice(self.piece.as_slice())?;
-        self.piece = Bytes::new();
-        Ok(())
+/// Puts a piece that waits alone to the text, so that what comes is gathered behind it.
+fn gather(
+    piece: &mut Bytes,
+    bytes: &mut Vec<u8>,
+    start: &mut usize,
+) -> std::result::Result<(), AllocError>
+    requires within { start.old ≤ length bytes.old.items }
+    requires alone { 0 < length piece.old → start.old ≡ length bytes.old.items }
+    ensures gathered { OnOk result (piece.new ≡ []) }
+    ensures same { piece.new ++ drop start.new bytes.new.items
+        ≡ piece.old ++ drop start.old bytes.old.items }
+    ensures within { start.new ≤ length bytes.new.items }
+    ensures alone { 0 < length piece.new → start.new ≡ length bytes.new.items }
+{
+    if piece.is_empty() {
+        make_room(bytes, start);
+        return Ok(());
     }
+    bytes.clear();
+    *start = 0;
+    bytes.extend_from_slice(piece.as_slice())?;
+    *piece = Bytes::new();
+    Ok(())
+}
 
-    /// Forgets the bytes that were taken, where they are more than those that wait.
-    fn make_room(&mut self)
-        ensures { self.new ≡ self.old }
-    {
-        let waiting = self.bytes.len() - self.start;
-        if self.start <= waiting {
-            return;
-        }
-        self.bytes.as_mut_slice().copy_within(self.start.., 0);
-        self.bytes.truncate(waiting);
-        self.start = 0;
+/// Forgets the bytes that were taken, where they are more than those that wait.
+fn make_room(bytes: &mut Vec<u8>, start: &mut usize)
+    requires { start.old ≤ length bytes.old.items }
+    ensures same { drop start.new bytes.new.items ≡ drop start.old bytes.old.items }
+    ensures within { start.new ≤ length bytes.new.items }
+{
+    let waiting = bytes.len() - *start;
+    if *start <= waiting {
+        return;
     }
+    bytes.as_mut_slice().copy_within(*start.., 0);
+    bytes.truncate(waiting);
+    *start = 0;
 }
 
 /// How many bytes a write took.

@@ -28,8 +28,13 @@ use Rattle.relay_session.specs.Front as front
 -- what a link gave behind the bytes ahead came in this call
 pub gave_more : (before after : LinkState) (old new : List ℕ) (n : ℕ)
     → (grows : GrowsBy before after old new n) → Gave before after (take n grows.room)
-gave_more before after old new n grows =
-    record { room = grows.room; n = n; gives = grows.gives; are = refl }
+gave_more before after old new n grows = record {
+  room = grows.room;
+  sized = grows.sized;
+  n = n;
+  gives = grows.gives;
+  are = refl;
+}
 
 -- the error of a fault, on the client's side
 pub sided : (fault : Fault) (plain error : Error) → plain ≡ error_of_fault fault

@@ -19,6 +19,7 @@ use Rattle.relay_h1.specs.declared.framing.Framing.TheVariants as framing
 use Rattle.relay_h1.specs.declared.body_reader.State.{State}
 use Rattle.relay_h1.specs.declared.body_reader.State.TheVariants as state
 use Rattle.relay_h1.specs.Body.{open_text, ended_text, broken_text}
+use Rattle.relay_h1.specs.Move.{read_size}
 use Rattle.relay_h1.specs.BodyReader.{Reads, Takes, TakesPiece, is_of, is_done, may_end}
 use Rattle.relay_h1.specs.Verdict.{IsOpen, HasRequest, IsRefusedRequest, refused_from}
 
@@ -46,9 +47,10 @@ body_broken = refused_from Downstream BadFraming
 
 -- ---- what came
 
--- one read of the link gave these bytes
+-- one read of the link, into a room of that size, gave these bytes
 pub record Gave (before after : LinkState) (came : List ℕ) : Type 0 where
   pub room : List ℕ
+  pub sized : length room ≡ read_size
   pub n : ℕ
   pub gives : GivesBytes before room n after
   pub are : came ≡ take n room

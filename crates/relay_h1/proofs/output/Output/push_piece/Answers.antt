@@ -4,12 +4,13 @@ use Rattle.relay_h1.specs.BodyWire.{piece_text}
 use Rattle.relay_h1.proofs.OutputLemmas.{waits_behind}
 use Rattle.relay_h1.proofs.output.Output.push_piece.Goals as goal
 
+-- what was gathered is what waited, and the text stands behind it
 pub returns-clause-text : goal.returns-clause-text
 returns-clause-text c =
-    let o = c.self-2.inside in
-    waits_behind c.write.result o.piece o.bytes.items c.write.new.out.items
-    (piece_text c.args.body.now c.args.piece) c.args.self.now o.start c.self-2.invariant
-    (c.self-2.view_is ∙ c.gather.ensures) (rw c.as_slice.ensures at c.write.ensures.text)
+    waits_behind c.write.result c.gather.new.piece c.gather.new.bytes.items c.write.new.out.items
+    (piece_text c.args.body.now c.args.piece) c.args.self.now c.gather.new.start
+    c.gather.ensures.within (c.gather.ensures.same ∙ c.self.view_is)
+    (rw c.as_slice.ensures at c.write.ensures.text)
 
 pub returns-clause-so_far : goal.returns-clause-so_far
 returns-clause-so_far c = rw c.as_slice.ensures at c.write.ensures.so_far
