@@ -594,8 +594,8 @@ module _
         (end_fits told one rest left given f g is over.comes last))) in
         record {
           passes = goes.passes;
-          stands = stands_behind (with_task told one) (head_sent (request_of head) out ends).place ends
-              (after_piece (framing_for old g) []) given f g tells is over.comes
+          stands = stands_behind (with_task told one) (head_sent (request_of head) out ends).place
+              ends (after_piece (framing_for old g) []) given f g tells is over.comes
               (λ last. (ends_all told one rest left last).among)
               (ap (λ (l : List ℕ). after_piece (framing_for old g) l) (sym bare)) goes.leads;
         }

@@ -55,10 +55,10 @@ returns-in-Ok-clause-begins g c =
       none_lost = refl;
       body_done = done;
       request_ended = done;
-      unread = ap (λ (k : PeerSide g.row.L.Denot). k.read_failed) c.write_request_header.ensures.same
-          ∙ c.new-peer.ensures.fresh.unread;
-      unsent = ap (λ (k : PeerSide g.row.L.Denot). k.send_failed) c.write_request_header.ensures.same
-          ∙ c.new-peer.ensures.fresh.unsent;
+      unread = ap (λ (k : PeerSide g.row.L.Denot). k.read_failed)
+          c.write_request_header.ensures.same ∙ c.new-peer.ensures.fresh.unread;
+      unsent = ap (λ (k : PeerSide g.row.L.Denot). k.send_failed)
+          c.write_request_header.ensures.same ∙ c.new-peer.ensures.fresh.unsent;
     })
     c.begin-exchange.result.duplex c.begin-exchange.ensures.fresh
     (c.begin-exchange.ensures.sound
