@@ -18,7 +18,8 @@ invariant-loop-turn g l =
     l.machine.machine l._turn
     × (g.D.ByteLink.start l.client.link ≡ g.D.ByteLink.start l.fn.client.link)
     × (all_items g.K.Byte.ByteLink.start (g.K.Connector.returned l.self.connector)
-    (items_held g.K.Byte.ByteLink.start l.machine.machine.phase) (g.K.Connector.stock l.self.connector)
+    (items_held g.K.Byte.ByteLink.start l.machine.machine.phase)
+    (g.K.Connector.stock l.self.connector)
     ≡ all_items g.K.Byte.ByteLink.start (g.K.Connector.returned l.fn.self.connector) []
     (g.K.Connector.stock l.fn.self.connector))
     × (g.K.Connector.out l.self.connector
