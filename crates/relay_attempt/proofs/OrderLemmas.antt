@@ -404,6 +404,7 @@ module _
       | inr (inr done) ↦ inr (inr (a.is_down.over done))
     ]
 
+    -- so what passed is in order
     abbrev pub order_of : IsInOrder s (passed_by a.p a.q) link.ended
     order_of = record {
       asks = record {

@@ -7,6 +7,7 @@ use Rattle.relay_proxy.specs.Work.{total_work}
 use Rattle.relay_proxy.proofs.UnderWay.{IsUnderWay}
 use Rattle.relay_proxy.proofs.proxy.HttpProxy.process_new_http.Given as goal
 
+-- the request is under way, and its links are those of the connector
 abbrev pub invariant-loop-turn : goal.invariant-loop-turn
 invariant-loop-turn g l =
     IsUnderWay g.K.Byte.ByteLink.state g.K.Byte.ByteLink.start
