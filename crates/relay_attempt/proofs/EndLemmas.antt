@@ -345,8 +345,10 @@ module _ {L : Type 0} (state : L → LinkState) (start_at : L → LinkStart)
         ]
 
     -- what the client's side leaves of its request, and the peer's side of its response
-    pub leaves_of : (keeps : Bool) (n : ℕ) → Tasks s.head.method false q.got (state up.client.link).ended
-        (says (told_of in_order.are_of.given) (ended n)) → (keeps ≡ true → may_keep_client up.client ≡ true)
+    pub leaves_of : (keeps : Bool) (n : ℕ)
+        → Tasks s.head.method false q.got (state up.client.link).ended
+        (says (told_of in_order.are_of.given) (ended n))
+        → (keeps ≡ true → may_keep_client up.client ≡ true)
         → Leaves s (passed_by p q) (state up.client.link).ended in_order ahead
         (is_body_done down.session.reading) up.closes keeps
     leaves_of keeps n whole serves =

@@ -594,8 +594,8 @@ module _
         (end_fits told one rest left given f g is over.comes last))) in
         record {
           passes = goes.passes;
-          stands = stands_behind (with_task told one) (head_sent (request_of head) out ends).place ends
-              (after_piece (framing_for old g) []) given f g tells is over.comes
+          stands = stands_behind (with_task told one) (head_sent (request_of head) out ends).place
+              ends (after_piece (framing_for old g) []) given f g tells is over.comes
               (λ last. (ends_all told one rest left last).among)
               (ap (λ (l : List ℕ). after_piece (framing_for old g) l) (sym bare)) goes.leads;
         }
@@ -772,6 +772,7 @@ module _
         → first_refusal (request_of head) place.NoHead front ≡ None
     front_passes front rest same = (sends_front front rest same).passes
 
+    -- nor is the next one behind a front of them
     pub never_refused : (front behind : List HttpTask) (at : HttpTask)
         → tasks ≡ front ++ at ∷ behind → (e : Error)
         → refusal (request_of head) (wire (request_of head) place.NoHead front).place at ≡ Some e
@@ -888,6 +889,7 @@ module _
     full_all told rest framing.UntilClose left full = absurd (cc)
     full_all told rest framing.Tunnel left full = absurd (cc)
 
+    -- a response that is over as it stands had its end, or its whole body
     over_by : (told : ToldResponse) (rest : List HttpTask) (at : Place) → Left told rest
         → Stands told at → is_over at ≡ true → (list_any is_end are.given ≡ true) ⊎ HasFull
     over_by told rest at left (none_yet none bare there) over =

@@ -118,6 +118,7 @@ sent_at (writing.Sent.whole first pieces) (request.Sending sending) taken head i
           ∙ not_true (closes sending.head.fields) lets;
     })
 
+-- a writing that may keep its link has sent its head and its body whole
 pub sent_whole : (sent : Sent) (taken : List ℕ) (now : RequestWriting) (head : RequestHead)
     → head_in now.request ≡ Some head → SentSoFar sent taken now → may_keep_writing now ≡ true
     → IsSent head taken
@@ -143,6 +144,7 @@ keeps_end true true stays is = refl
 keeps_end true false stays is = absurd (cc)
 keeps_end false end stays is = absurd (cc)
 
+-- a place that lets the link be kept, with nothing ahead, has read the response whole
 read_at : (method : List ℕ) (closed : Bool) (given : List ℕ) (told : ToldResponse)
     (now : ResponsePlace)
     (ahead : List ℕ) → ReadAt method closed given told now ahead → keeps_at now ≡ true
@@ -187,8 +189,8 @@ none_left_of left none =
     rw zero refl
 
 -- a response that is over is not refused its end
-pub over_ends : (to : answered.Request) (stands : response.Place) (e : Error) → is_over stands ≡ true
-    → refusal to stands task.Done ≡ Some e → ⊥
+pub over_ends : (to : answered.Request) (stands : response.Place) (e : Error)
+    → is_over stands ≡ true → refusal to stands task.Done ≡ Some e → ⊥
 over_ends to at.NoHead e over fails = cc
 over_ends to (at.Body framing.Empty) e over fails = cc
 over_ends to (at.Body (framing.Length left)) e over fails =

@@ -2,8 +2,8 @@
 --
 --   down_half        from HasPassed: the client's half
 --   up_half          from IsPeer: the upstream's half
---   order_of         from an attempt between both halves: IsInOrder, whose pieces, taken, read, batched
---                    and closing are those of the pasts, by computing
+--   order_of         from an attempt between both halves: IsInOrder, whose pieces, taken, read,
+--                    batched and closing are those of the pasts, by computing
 --   told_of_attempt  the same for AreTold
 --   attempt_so_far   from SoFar: that attempt
 --   order_so_far     so its order
@@ -224,7 +224,8 @@ module _
     headed ends =
         let method = s.head.method in
         let said = ended_whole method q.got link.ended u.given client.response
-        (given_all method link.ended q.got u.given u.withheld client.response tasks_own ends) ends in
+        (given_all method link.ended q.got u.given u.withheld client.response
+        tasks_own ends) ends in
         (said.head, said.final)
 
 -- ---- the order
@@ -275,6 +276,7 @@ pub record IsEndGiven (method : List ℕ) (given batched : List HttpTask) : Type
   pub found : list_any is_end given ≡ true
   pub all : batched ≡ map (handed method) given
 
+-- where an end was batched, all that was given was handed on
 pub end_given : (method : List ℕ) (given batched rest : List HttpTask)
     → batched ++ rest ≡ map (handed method) given → EndsLast given
     → list_any is_end batched ≡ true → IsEndGiven method given batched
@@ -312,8 +314,8 @@ module _
         subst
         (λ (l : List HttpTask). is_over (wire (request_of s.head) place.NoHead l).place ≡ true)
         (sym end.all)
-        (ends_over (request_of s.head) method are_of.given final.0 are_of.ends_last end.found final.1
-        (subst
+        (ends_over (request_of s.head) method are_of.given final.0 are_of.ends_last end.found
+        final.1 (subst
         (λ (l : List HttpTask). first_refusal (request_of s.head) place.NoHead l ≡ None)
         end.all batched_passes))
 
@@ -402,6 +404,7 @@ module _
       | inr (inr done) ↦ inr (inr (a.is_down.over done))
     ]
 
+    -- so what passed is in order
     abbrev pub order_of : IsInOrder s (passed_by a.p a.q) link.ended
     order_of = record {
       asks = record {

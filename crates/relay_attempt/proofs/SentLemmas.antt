@@ -208,12 +208,14 @@ full_passes rest piece false full = refl
 full_passes rest piece true full =
     rw (full_fits (after_piece rest piece) (full_stays rest piece full)) refl
 
+-- no piece is refused behind a response that is over
 piece_passes : (at : Place) (piece : List ℕ) (ends : Bool) → is_over at ≡ true
     → piece_refusal_at at piece ends ≡ None
 piece_passes place.NoHead piece ends over = refl
 piece_passes (place.Body rest) piece ends over = full_passes rest piece ends over
 piece_passes place.Done piece ends over = refl
 
+-- nor is a head
 head_passes : (request : Request) (at : Place) (head : ResponseHead) (ends : Bool)
     → is_over at ≡ true → head_refusal_at request at head ends ≡ None
 head_passes request place.NoHead head ends over = absurd (cc)

@@ -65,18 +65,19 @@ never_short s p closed link start order lost e
 
 -- ---- the request
 
--- something was queued, and it is whole
+-- something was queued
 abbrev has_begun : Sent → Bool
 has_begun writing.Sent.nothing = false
 has_begun (writing.Sent.begun head pieces) = true
 has_begun (writing.Sent.whole head pieces) = true
 
+-- it is whole
 abbrev is_sent_whole : Sent → Bool
 is_sent_whole writing.Sent.nothing = false
 is_sent_whole (writing.Sent.begun head pieces) = false
 is_sent_whole (writing.Sent.whole head pieces) = true
 
--- a task more leaves it begun, and whole
+-- a task more leaves it begun
 more_begun : (sent : Sent) (piece : List ℕ) (ends : Bool) → has_begun sent ≡ true
     → has_begun (if ends then with_end (with_piece sent piece) else with_piece sent piece) ≡ true
 more_begun writing.Sent.nothing piece ends begun = absurd (cc)
@@ -85,6 +86,7 @@ more_begun (writing.Sent.begun head pieces) piece false begun = refl
 more_begun (writing.Sent.whole head pieces) piece true begun = refl
 more_begun (writing.Sent.whole head pieces) piece false begun = refl
 
+-- a task more leaves it whole
 more_whole : (sent : Sent) (piece : List ℕ) (ends : Bool) → is_sent_whole sent ≡ true
     → is_sent_whole (if ends then with_end (with_piece sent piece) else with_piece sent piece)
     ≡ true
@@ -157,6 +159,7 @@ ended_stands head items now f is stands (inr none) =
     headed_stands head now f is none.1
     (subst (λ (xs : List HttpTask). Stands (sent_as head xs) now) none.0 stands)
 
+-- an option holds no more than one head
 some_head : (a b : RequestHead) → Some a ≡ Some b → a ≡ b
 some_head a b same = cc
 
@@ -177,6 +180,7 @@ kept_writing head now is asks whole none =
 
 -- ---- the response
 
+-- marks of an end that are the same carry the same number
 same_mark : (a b : ℕ) → ended a ≡ ended b → a ≡ b
 same_mark a b same = cc
 

@@ -47,8 +47,8 @@ module _ {L : Type 0} (state : L → LinkState) (start_at : L → LinkStart) whe
   -- an exchange that is under way between both sides is, over all that passed
   pub under_way : (s : Origin) (p : DownPast) (q : UpPast) (link : LinkState) (ahead : List ℕ)
       (x : H1Exchange L)
-      → over.IsUnderWay (DownHolds link ahead x.exchange.down s) (UpHolds state start_at x.exchange.up s)
-      (Blames state start_at x.exchange.up s)
+      → over.IsUnderWay (DownHolds link ahead x.exchange.down s)
+      (UpHolds state start_at x.exchange.up s) (Blames state start_at x.exchange.up s)
       (core_of state start_at x.exchange.duplex x.exchange.down x.exchange.up) p q
       → IsUnderWay state start_at s (passed_by p q) link ahead x
   under_way s p q link ahead x under = record {
@@ -99,7 +99,8 @@ module _ {L : Type 0} (state : L → LinkState) (start_at : L → LinkStart) whe
           x.exchange.duplex went.so_far e why)
 
       comes : (result : Step) → (result ≡ step.Finished → x.exchange.stage ≡ stage.Bodies)
-          → over.ComesTo (λ p e. ClientBlames s p link e) (λ p left e. ClientRefuses s p link left e)
+          → over.ComesTo (λ p e. ClientBlames s p link e)
+          (λ p left e. ClientRefuses s p link left e)
           (λ p e. ClientBlames s p link e ⊎ CannotEnd s p e) (Blames state start_at x.exchange.up s)
           (core_of state start_at x.exchange.duplex x.exchange.down x.exchange.up) went.p went.q
           result

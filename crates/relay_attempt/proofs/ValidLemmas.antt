@@ -135,7 +135,8 @@ client_blameless s p client link start valid past came e
 client_blameless s p client link start valid past came e
     (client_side.ClientBlames.ends_inside bytes said gone is) = never_both gone valid.asks.stays
 client_blameless s p client link start valid past came e
-    (client_side.ClientBlames.ends_behind bytes whole gone unanswered is) = never_both gone valid.asks.stays
+    (client_side.ClientBlames.ends_behind bytes whole gone unanswered is) =
+    never_both gone valid.asks.stays
 client_blameless s p client link start valid past came e
     (client_side.ClientBlames.sent_more bytes behind whole some unanswered is) =
     nothing_more s.head (given_to s past) valid.asks.gives.rest bytes behind

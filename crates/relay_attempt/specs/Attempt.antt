@@ -47,8 +47,8 @@ pub record IsAttempt
       ⊎ ((list_any is_end p.batched ≡ true) ⊎ (side.response_done ≡ true))
 
 -- the client's half, over a link with sessions of HTTP/1: its bytes begin with the head of the
--- request, and the pieces that were put are the front of the body behind it. What was written is the
--- front of the text of what was queued, no failure among it; a response that is done is over
+-- request, and the pieces that were put are the front of the body behind it. What was written is
+-- the front of the text of what was queued, no failure among it; a response that is done is over
 pub record DownHalf (o : Origin) (client : LinkState) (done : Bool) (p : DownPast) : Type 0 where
   pub came : Since [] o.given client.given p.came
   pub written : Since [] o.taken client.taken p.written

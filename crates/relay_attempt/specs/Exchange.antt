@@ -54,8 +54,8 @@ module _ {L : Type 0} (state : L → LinkState) (start_at : L → LinkStart) whe
   abbrev pub core_of : Duplex → ClientSide → PeerSide L → State
   core_of duplex down up = core duplex (down_state down) (peer.state_of up)
 
-  -- the exchange so far, over all that passed: what was sent and written is in order, and it is under
-  -- way between both sides
+  -- the exchange so far, over all that passed: what was sent and written is in order, and it is
+  -- under way between both sides
   pub record IsUnderWay (s : Origin) (p : Passed) (link : LinkState) (ahead : List ℕ)
       (x : H1Exchange L) : Type 0 where
     pub order : IsInOrder s p (state (link_of x)).ended
@@ -111,8 +111,8 @@ module _ {L : Type 0} (state : L → LinkState) (start_at : L → LinkStart) whe
       IsInOrder s p (state (link_of x)).ended
 
   -- a turn went on to this
-  pub record Turns (s : Origin) (link : LinkState) (ahead : List ℕ) (x : H1Exchange L) (result : Step)
-      : Type 0 where
+  pub record Turns (s : Origin) (link : LinkState) (ahead : List ℕ) (x : H1Exchange L)
+      (result : Step) : Type 0 where
     pub passed : Passed
     pub told : AreTold s passed link (state (link_of x)) (start_at (link_of x))
     pub comes_to : ComesTo s passed link ahead x result

@@ -78,8 +78,8 @@ pub record AreOf (method : List ℕ) (closed : Bool) (got : List ℕ) (tasks : L
 
 -- what was sent is the front of the text of the client's head and of pieces of its body, from the
 -- first on, with the end only where the body has ended. What was written is the front of the text
--- of the first of the tasks that the peer's bytes are, none of which is refused; an end is asked for
--- behind them only where one is among them, or where the response is over behind them
+-- of the first of the tasks that the peer's bytes are, none of which is refused; an end is asked
+-- for behind them only where one is among them, or where the response is over behind them
 pub record IsInOrder (s : Origin) (p : Passed) (closed : Bool) : Type 0 where
   pub asks : Asks s p
   pub pieces : List HttpTask
@@ -107,7 +107,7 @@ text_of {s = s} order =
 
 -- ---- ends
 
--- the pasts of both sides
+-- the past of the client's side
 abbrev pub down_past : {s : Origin} {p : Passed} {closed : Bool} → IsInOrder s p closed → DownPast
 down_past {p = p} order = record {
   came = p.came;
@@ -117,6 +117,7 @@ down_past {p = p} order = record {
   closing = order.closing;
 }
 
+-- the past of the peer's side
 abbrev pub up_past : {s : Origin} {p : Passed} {closed : Bool} → IsInOrder s p closed → Bool
     → UpPast
 up_past {p = p} order lost = record {
@@ -128,8 +129,8 @@ up_past {p = p} order lost = record {
 }
 
 -- why an exchange failed with that error: the client's side answers for it, or the peer's side
--- does. Tasks that the peer's side gave can always be sent to the client, and the response can always
--- end where its end is asked for
+-- does. Tasks that the peer's side gave can always be sent to the client, and the response can
+-- always end where its end is asked for
 pub data FailsFor
     (s : Origin) (p : Passed) (client link : LinkState) (start : LinkStart) (e : Error)
     : Type 0 where

@@ -81,8 +81,8 @@ impl<L: ByteLink> H1Exchange<L> {
     /// duplex.
     ///
     /// `Finished`: the response was written whole, and the request was sent whole, or the peer took
-    /// no more of it. `Failed` with an error says why one of both failed: nothing more is written or
-    /// sent from then on. After `Finished` and `Failed` no turn is to follow.
+    /// no more of it. `Failed` with an error says why one of both failed: nothing more is written
+    /// or sent from then on. After `Finished` and `Failed` no turn is to follow.
     pub fn turn<F: Front, H: Schedule>(&mut self, client: &mut F, schedule: &mut H) -> Turn
         ensures goes { (s : Origin) (p : Passed)
             → IsUnderWay L.state L.start s p (F.state client.old) (F.ahead client.old) self.old
@@ -100,7 +100,8 @@ impl<L: ByteLink> H1Exchange<L> {
             (L.state (link_of self.old)) (L.state (link_of self.new)) }
         ensures silent { result.step ≡ Step.Waited Pause.Silent
             → IsSilent L.state L.start (F.state client.new) self.new }
-        // In silence all that can be done asks a link that is silent on it, and neither link changed.
+        // In silence all that can be done asks a link that is silent on it, and neither link
+        // changed.
         ensures quiet { result.step ≡ Step.Waited Pause.Silent
             → MeetsSilence L.state L.start (F.state client.old) (F.state client.new) self.old
             self.new }

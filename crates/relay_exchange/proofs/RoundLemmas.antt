@@ -49,7 +49,8 @@ place_below branch.MessageDown = omega arith
 around : (f b : ℕ) → f < 13 → b < 13 → (n : ℕ) × (n < 13) × ((f + n) % 13 ≡ b)
 around f b in_f in_b =
     elim (cases_lt b f) [
-      | inl below ↦ ((b + 13) - f, omega (arith, below, in_f, in_b), omega (arith, below, in_f, in_b))
+      | inl below ↦
+          ((b + 13) - f, omega (arith, below, in_f, in_b), omega (arith, below, in_f, in_b))
       | inr last ↦ (b - f, omega (arith, last, in_f, in_b), omega (arith, last, in_f, in_b))
     ]
 

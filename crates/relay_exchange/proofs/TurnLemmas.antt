@@ -61,8 +61,8 @@ module _
     pub turns_on : (result : Step)
         → Goes down_past down_blames down_refuses down_cannot_end up_past up_blames before up_before
         s result → Tells result s.duplex
-        → Turns down_past down_blames down_refuses down_cannot_end up_past up_blames before up_before
-        s result
+        → Turns down_past down_blames down_refuses down_cannot_end up_past up_blames before
+        up_before s result
     turns_on result went tells = record {
       p = went.p;
       q = went.q;
@@ -72,8 +72,8 @@ module _
     }
       where
         comes : (result : Step)
-            → (went : Goes down_past down_blames down_refuses down_cannot_end up_past up_blames before
-            up_before s result)
+            → (went : Goes down_past down_blames down_refuses down_cannot_end up_past up_blames
+            before up_before s result)
             → Tells result s.duplex
             → ComesTo down_blames down_refuses down_cannot_end up_blames s went.p went.q result
         comes step.Moved went tells =
@@ -88,8 +88,8 @@ module _
     pub turns_failed : (result : Step) (e : Error)
         → Goes down_past down_blames down_refuses down_cannot_end up_past up_blames before up_before
         s result → s.duplex.send_error ≡ Some e
-        → Turns down_past down_blames down_refuses down_cannot_end up_past up_blames before up_before
-        s (step.Failed (fail.Error e))
+        → Turns down_past down_blames down_refuses down_cannot_end up_past up_blames before
+        up_before s (step.Failed (fail.Error e))
     turns_failed result e went kept = record {
       p = went.p;
       q = went.q;
@@ -100,8 +100,8 @@ module _
 
     -- nothing was done
     pub turns_still : IsUnderWay down_past up_past up_blames s before up_before
-        → Turns down_past down_blames down_refuses down_cannot_end up_past up_blames before up_before
-        s step.Moved
+        → Turns down_past down_blames down_refuses down_cannot_end up_past up_blames before
+        up_before s step.Moved
     turns_still under = record {
       p = before;
       q = up_before;
@@ -128,9 +128,9 @@ begun_done true is = refl
 begun_done false is = absurd (cc)
 
 module _
-    (down_past : DownPast → Type 0) (up_past : UpPast → Type 0) (up_blames : UpPast → Error → Type 0)
-    (done : Bool) (down : DownState) (up : UpState) (p : DownPast) (q : UpPast)
-    (b : Begins down_past up_past done down up p q)
+    (down_past : DownPast → Type 0) (up_past : UpPast → Type 0)
+    (up_blames : UpPast → Error → Type 0) (done : Bool) (down : DownState) (up : UpState)
+    (p : DownPast) (q : UpPast) (b : Begins down_past up_past done down up p q)
   where
     -- nothing was put, so nothing stands behind an end
     ends_last : EndsLast p.put
@@ -140,6 +140,7 @@ module _
     unended : list_any is_end p.put ≡ false
     unended = ap (list_any is_end) b.none_put
 
+    -- a test that passes does not fail
     none_wrong : {A : Type 0} → true ≡ false → A
     none_wrong wrong = absurd (cc)
 
@@ -160,6 +161,7 @@ module _
       closed = inl b.none_closing;
     }
 
+    -- the exchange so far is that of both sides as they begin
     so_far : (d : Duplex) → IsSound (core (begins up.kind done d) down up)
         → SoFar down_past up_past up_blames (core (begins up.kind done d) down up) p q
     so_far d sound = record {

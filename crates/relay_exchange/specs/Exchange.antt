@@ -26,7 +26,8 @@ abbrev pub stage_of : Bool → Stage
 stage_of true = stage.Head
 stage_of false = stage.Bodies
 
--- the link of the upstream may be kept, as far as the duplex knows: not while the head is being sent
+-- the link of the upstream may be kept, as far as the duplex knows: not while the head is being
+-- sent
 abbrev pub may_keep_at : Stage → Duplex → Bool
 may_keep_at stage.Head d = false
 may_keep_at stage.Bodies d = core.may_keep d.kind d
@@ -55,8 +56,8 @@ pub record Begins
 
 -- an exchange under way: all that passed between both sides so far, and it goes on
 pub record IsUnderWay
-    (down_past : DownPast → Type 0) (up_past : UpPast → Type 0) (up_blames : UpPast → Error → Type 0)
-    (s : State) (p : DownPast) (q : UpPast) : Type 0 where
+    (down_past : DownPast → Type 0) (up_past : UpPast → Type 0)
+    (up_blames : UpPast → Error → Type 0) (s : State) (p : DownPast) (q : UpPast) : Type 0 where
   pub so_far : SoFar down_past up_past up_blames s p q
   pub goes_on : GoesOn s.duplex
 

@@ -41,8 +41,8 @@ pub struct Turn {
 }
 
 impl<D, U: Up> Exchange<D, U> {
-    /// An exchange between these sides. The upstream's side holds the head that is sent; `body_done`
-    /// says that the client's body has ended. It takes no memory.
+    /// An exchange between these sides. The upstream's side holds the head that is sent;
+    /// `body_done` says that the client's body has ended. It takes no memory.
     pub fn begin(alloc: Global, down: D, body_done: bool, up: U) -> Exchange<D, U>
         ensures fresh { result.duplex ≡ begins (U.state up).kind body_done result.duplex }
         ensures sound { (down : DownState) → down.body_done ≡ body_done
@@ -90,7 +90,8 @@ impl<D, U: Up> Exchange<D, U> {
             (U.link self.new.up) }
         ensures silent { result.step ≡ Step.Waited Pause.Silent
             → IsSilentLink (D.link client.new) ⊎ IsSilentLink (U.link self.new.up) }
-        // In silence all that can be done asks a link that is silent on it, and neither link changed.
+        // In silence all that can be done asks a link that is silent on it, and neither link
+        // changed.
         ensures quiet { result.step ≡ Step.Waited Pause.Silent
             → MeetsSilence self.new.stage
             (core self.new.duplex (D.state self.new.down) (U.state self.new.up))

@@ -1,5 +1,5 @@
-//! One exchange over any two sides: a request whose head was read, and its response. Both bodies flow
-//! at once, under any schedule.
+//! One exchange over any two sides: a request whose head was read, and its response. Both bodies
+//! flow at once, under any schedule.
 #![tactic(auto)]
 
 mod exchange;

@@ -55,7 +55,8 @@ pub(crate) fn go_round<C, D: Down<C>, U: Up, H: Schedule>(
     // changed.
     ensures quiet { result.0 ≡ Step.Waited Pause.Silent
         → IsQuiet (core duplex.new (D.state down.new) (U.state up.new)) (D.link client.new)
-        (U.link up.new) × (D.link client.new ≡ D.link client.old) × (U.link up.new ≡ U.link up.old) }
+        (U.link up.new) × (D.link client.new ≡ D.link client.old)
+        × (U.link up.new ≡ U.link up.old) }
 
     // A turn that does not fail leaves the count of the client's faults.
     ensures calm { says_failed result.0 ≡ false

@@ -21,9 +21,7 @@ use Rattle.relay_h1.specs.declared.framing.Framing.{Framing}
 use Rattle.relay_session.specs.Reading.{head_of}
 use Rattle.relay_session.specs.declared.session.HttpSession.{HttpSession}
 use Rattle.relay_sides.specs.Client.{BeginsBehind}
-use Rattle.relay_sides.specs.declared.client_side.ClientSide.{ClientSide}
-use Rattle.relay_sides.specs.declared.peer_side.PeerSide.{PeerSide}
-use Rattle.relay_core.specs.Past.{Origin, DownPast, UpPast}
+use Rattle.relay_core.specs.Past.{Origin}
 use Rattle.relay_attempt.specs.Exchange.{IsUnderWay, UpHolds}
 use Rattle.relay_attempt.specs.Passed.{Passed}
 use Rattle.relay_attempt.specs.declared.h1_exchange.H1Exchange.{H1Exchange}

@@ -42,23 +42,30 @@ open_nothing = record { no_end = refl; may_end = lit< tt }
 has_nothing : {bytes : List ℕ} {head : RequestHead} {framing : Framing} {len : ℕ}
     → HasRequest bytes head framing len → bytes ≡ [] → ⊥
 has_nothing {bytes} {head} {framing} {len} has none =
-    HasRequest-IsOpen [] head framing len (subst (λ (xs : List ℕ). HasRequest xs head framing len) none has) open_nothing
+    HasRequest-IsOpen [] head framing len
+    (subst (λ (xs : List ℕ). HasRequest xs head framing len) none has) open_nothing
 
 -- a generated answer to no bytes
 turns_down_nothing : {bytes answer : List ℕ} {error : Option Error}
     → IsTurnedDown bytes answer error → bytes ≡ [] → ⊥
 turns_down_nothing (endings.IsTurnedDown.has_bad_head why refused is told) none =
-    IsRefusedRequest-IsOpen [] why (subst (λ (xs : List ℕ). IsRefusedRequest xs why) none refused) open_nothing
-turns_down_nothing (endings.IsTurnedDown.asks_to_connect head framing len has connect is told) none =
+    IsRefusedRequest-IsOpen [] why
+    (subst (λ (xs : List ℕ). IsRefusedRequest xs why) none refused) open_nothing
+turns_down_nothing
+    (endings.IsTurnedDown.asks_to_connect head framing len has connect is told) none =
     has_nothing has none
 
 -- a generated answer to a head that is valid and asks for no tunnel
-turns_down_other : {bytes answer : List ℕ} {error : Option Error} (head : RequestHead) (framing : Framing) (len : ℕ)
-    → IsTurnedDown bytes answer error → HasRequest bytes head framing len → ¬ (IsConnect head) → ⊥
-turns_down_other {bytes} head framing len (endings.IsTurnedDown.has_bad_head why refused is told) has no_connect =
+turns_down_other : {bytes answer : List ℕ} {error : Option Error} (head : RequestHead)
+    (framing : Framing) (len : ℕ) → IsTurnedDown bytes answer error
+    → HasRequest bytes head framing len → ¬ (IsConnect head) → ⊥
+turns_down_other {bytes} head framing len
+    (endings.IsTurnedDown.has_bad_head why refused is told) has no_connect =
     HasRequest-IsRefusedRequest bytes head framing len why has refused
-turns_down_other {bytes} head framing len (endings.IsTurnedDown.asks_to_connect a f n x connect is told) has no_connect =
-    no_connect (subst (λ (h : RequestHead). IsConnect h) (HasRequest-unique bytes a head f framing n len x has).0 connect)
+turns_down_other {bytes} head framing len
+    (endings.IsTurnedDown.asks_to_connect a f n x connect is told) has no_connect =
+    no_connect (subst (λ (h : RequestHead). IsConnect h)
+    (HasRequest-unique bytes a head f framing n len x has).0 connect)
 
 -- a head that is relayed and one that is not
 relayable_or_not : {bytes : List ℕ} {a b : RequestHead} {f g : Framing} {n m : ℕ}
@@ -75,8 +82,9 @@ not_both on off = absurd (true_false (sym on ∙ off))
     true_false h = cc
 
 -- the other way round, of a request that had no link
-exact_no_request : (s : Start) (p : Passed) (w : World) (outcome : Outcome) → EndsUnlinked s p w outcome
-    → asked s p ≡ [] → w.client.ended ≡ true → IsUnfinished outcome ⊎ (outcome ≡ NoRequest)
+exact_no_request : (s : Start) (p : Passed) (w : World) (outcome : Outcome)
+    → EndsUnlinked s p w outcome → asked s p ≡ [] → w.client.ended ≡ true
+    → IsUnfinished outcome ⊎ (outcome ≡ NoRequest)
 exact_no_request s p w NoRequest ends none ended = inr refl
 exact_no_request s p w (Refused error) ends none ended =
     absurd (elim ends as (λ _. ⊥) [
@@ -92,23 +100,29 @@ exact_no_request s p w (Refused error) ends none ended =
   where
     left_nothing : {e : Error} → IsLeftAlone s p w e → ⊥
     left_nothing (endings.IsLeftAlone.ends_in_head inside is) = inside.begun none
-    left_nothing (endings.IsLeftAlone.is_unrelayable unrelayable is) = has_nothing unrelayable.has none
+    left_nothing (endings.IsLeftAlone.is_unrelayable unrelayable is) =
+        has_nothing unrelayable.has none
 exact_no_request s p w (Served None reuse) ends none ended = absurd ends
-exact_no_request s p w (Served (Some e) reuse) ends none ended = absurd (has_nothing ends.0.accepted.has none)
+exact_no_request s p w (Served (Some e) reuse) ends none ended =
+    absurd (has_nothing ends.0.accepted.has none)
 exact_no_request s p w TurnLimit ends none ended = inl (inl refl)
 exact_no_request s p w OutOfMemory ends none ended = inl (inr refl)
 
 -- a head that is turned down is not left alone
-turned_down_or_left : {s : Start} {p : Passed} {w : World} {answer : List ℕ} {error : Option Error} {e : Error}
-    → IsTurnedDown (asked s p) answer error → IsLeftAlone s p w e → ⊥
-turned_down_or_left down (endings.IsLeftAlone.ends_in_head inside is) = turns_down_open down inside.open_head
+turned_down_or_left : {s : Start} {p : Passed} {w : World} {answer : List ℕ}
+    {error : Option Error} {e : Error} → IsTurnedDown (asked s p) answer error
+    → IsLeftAlone s p w e → ⊥
+turned_down_or_left down (endings.IsLeftAlone.ends_in_head inside is) =
+    turns_down_open down inside.open_head
 turned_down_or_left down (endings.IsLeftAlone.is_unrelayable unrelayable is) =
-    turns_down_other unrelayable.head unrelayable.framing unrelayable.len down unrelayable.has unrelayable.no_connect
+    turns_down_other unrelayable.head unrelayable.framing unrelayable.len down
+    unrelayable.has unrelayable.no_connect
 
 -- the generated answer is one
-one_answer : {bytes a b : List ℕ} {d e : Option Error} → IsTurnedDown bytes a d → IsTurnedDown bytes b e → a ≡ b
-one_answer (endings.IsTurnedDown.has_bad_head why refused is told) (endings.IsTurnedDown.has_bad_head why2 refused2 is2 told2) =
-    is ∙ sym is2
+one_answer : {bytes a b : List ℕ} {d e : Option Error}
+    → IsTurnedDown bytes a d → IsTurnedDown bytes b e → a ≡ b
+one_answer (endings.IsTurnedDown.has_bad_head why refused is told)
+    (endings.IsTurnedDown.has_bad_head why2 refused2 is2 told2) = is ∙ sym is2
 one_answer {bytes} (endings.IsTurnedDown.has_bad_head why refused is told)
     (endings.IsTurnedDown.asks_to_connect head framing len has connect is2 told2) =
     absurd (HasRequest-IsRefusedRequest bytes head framing len why has refused)
@@ -116,12 +130,16 @@ one_answer {bytes} (endings.IsTurnedDown.asks_to_connect head framing len has co
     (endings.IsTurnedDown.has_bad_head why refused is2 told2) =
     absurd (HasRequest-IsRefusedRequest bytes head framing len why has refused)
 one_answer (endings.IsTurnedDown.asks_to_connect head framing len has connect is told)
-    (endings.IsTurnedDown.asks_to_connect head2 framing2 len2 has2 connect2 is2 told2) = is ∙ sym is2
+    (endings.IsTurnedDown.asks_to_connect head2 framing2 len2 has2 connect2 is2 told2) =
+    is ∙ sym is2
 
-exact_refused : (s : Start) (p : Passed) (w : World) (outcome : Outcome) → EndsUnlinked s p w outcome
-    → (answer : List ℕ) (error : Option Error) → IsTurnedDown (asked s p) answer error → p.written ≡ answer
+-- a head that is turned down and answered whole is a refusal, where the request is finished
+exact_refused : (s : Start) (p : Passed) (w : World) (outcome : Outcome)
+    → EndsUnlinked s p w outcome → (answer : List ℕ) (error : Option Error)
+    → IsTurnedDown (asked s p) answer error → p.written ≡ answer
     → IsUnfinished outcome ⊎ IsRefusal s p outcome
-exact_refused s p w NoRequest ends answer error down whole = absurd (turns_down_nothing down ends.no_byte)
+exact_refused s p w NoRequest ends answer error down whole =
+    absurd (turns_down_nothing down ends.no_byte)
 exact_refused s p w (Refused told) ends answer error down whole =
     elim ends as (λ _. IsUnfinished (Refused told) ⊎ IsRefusal s p (Refused told)) [
       | inl answered ↦ inr (record {
@@ -134,7 +152,8 @@ exact_refused s p w (Refused told) ends answer error down whole =
         | inl alone ↦ turned_down_or_left down alone.why
         | inr fault ↦ elim fault.place as (λ _. ⊥) [
           | inl inside ↦ turns_down_open down inside.open_head
-          | inr refusing ↦ refusing.unfinished.left (whole ∙ one_answer down refusing.unfinished.turned_down)
+          | inr refusing ↦
+              refusing.unfinished.left (whole ∙ one_answer down refusing.unfinished.turned_down)
         ]
       ])
     ]
@@ -153,16 +172,23 @@ relayed_or_not {s} {p} head accepted (endings.IsLeftAlone.ends_in_head inside is
 relayed_or_not head accepted (endings.IsLeftAlone.is_unrelayable unrelayable is) =
     relayable_or_not accepted.has accepted.relayable unrelayable.has unrelayable.unrelayable
 
-exact_unrelayed : (s : Start) (p : Passed) (w : World) (outcome : Outcome) → EndsUnlinked s p w outcome
-    → (e : Error) → IsLeftAlone s p w e → IsUnfinished outcome ⊎ IsLeft s p w outcome
-exact_unrelayed s p w NoRequest ends e (endings.IsLeftAlone.ends_in_head inside is) = absurd (inside.begun ends.no_byte)
+-- a head that is left alone is left so, where the request is finished
+exact_unrelayed : (s : Start) (p : Passed) (w : World) (outcome : Outcome)
+    → EndsUnlinked s p w outcome → (e : Error) → IsLeftAlone s p w e
+    → IsUnfinished outcome ⊎ IsLeft s p w outcome
+exact_unrelayed s p w NoRequest ends e (endings.IsLeftAlone.ends_in_head inside is) =
+    absurd (inside.begun ends.no_byte)
 exact_unrelayed s p w NoRequest ends e (endings.IsLeftAlone.is_unrelayable unrelayable is) =
     absurd (has_nothing unrelayable.has ends.no_byte)
 exact_unrelayed s p w (Refused told) ends e cause =
     elim ends as (λ _. IsUnfinished (Refused told) ⊎ IsLeft s p w (Refused told)) [
       | inl answered ↦ absurd (turned_down_or_left answered.turned_down cause)
       | inr other ↦ elim other as (λ _. IsUnfinished (Refused told) ⊎ IsLeft s p w (Refused told)) [
-        | inl alone ↦ inr (record { e = alone.e; why = alone.why; is = ap (λ (x : Option Error). Refused x) alone.is })
+        | inl alone ↦ inr (record {
+          e = alone.e;
+          why = alone.why;
+          is = ap (λ (x : Option Error). Refused x) alone.is;
+        })
         | inr fault ↦ absurd (elim fault.place as (λ _. ⊥) [
           | inl inside ↦ fails_or_left inside.ended inside.open_head cause
           | inr refusing ↦ turned_down_or_left refusing.unfinished.turned_down cause
@@ -170,10 +196,13 @@ exact_unrelayed s p w (Refused told) ends e cause =
       ]
     ]
   where
-    fails_or_left : {e : Error} → w.client.ended ≡ false → IsOpen (asked s p) → IsLeftAlone s p w e → ⊥
-    fails_or_left live open_head (endings.IsLeftAlone.ends_in_head inside is) = not_both inside.ended live
+    fails_or_left : {e : Error} → w.client.ended ≡ false
+        → IsOpen (asked s p) → IsLeftAlone s p w e → ⊥
+    fails_or_left live open_head (endings.IsLeftAlone.ends_in_head inside is) =
+        not_both inside.ended live
     fails_or_left live open_head (endings.IsLeftAlone.is_unrelayable unrelayable is) =
-        HasRequest-IsOpen (asked s p) unrelayable.head unrelayable.framing unrelayable.len unrelayable.has open_head
+        HasRequest-IsOpen (asked s p) unrelayable.head unrelayable.framing unrelayable.len
+        unrelayable.has open_head
 exact_unrelayed s p w (Served None reuse) ends e cause = absurd ends
 exact_unrelayed s p w (Served (Some told) reuse) ends e cause =
     absurd (relayed_or_not ends.0.head ends.0.accepted cause)
@@ -183,8 +212,8 @@ exact_unrelayed s p w OutOfMemory ends e cause = inl (inr refl)
 -- ---- a request that had a link
 
 -- no head that switches protocols is told of, where none was before and none comes
-final_stays : (told : reading.ToldResponse) (tasks : List HttpTask) → list_any is_switch tasks ≡ false
-    → ((h : ResponseHead) → told.final ≡ Some h → h.status ≢ 101)
+final_stays : (told : reading.ToldResponse) (tasks : List HttpTask)
+    → list_any is_switch tasks ≡ false → ((h : ResponseHead) → told.final ≡ Some h → h.status ≢ 101)
     → (h : ResponseHead) → (told_behind told tasks).final ≡ Some h → h.status ≢ 101
 final_stays told [] none before h is = before h is
 final_stays told (one ∷ tasks) none before h is =
@@ -224,40 +253,49 @@ final_stays told (one ∷ tasks) none before h is =
 ended_or_broken : (n : ℕ) → said.ResponseMark.ended n ≡ said.ResponseMark.broken → ⊥
 ended_or_broken n same = cc
 
+-- nor is it cut off
 ended_or_cut : (n : ℕ) → said.ResponseMark.ended n ≡ said.ResponseMark.cut_off → ⊥
 ended_or_cut n same = cc
 
--- the head of an attempt that failed is that of the client's bytes
+-- a head of the client's bytes
 record IsHeadOf (s : Start) (p : Passed) (head : RequestHead) : Type 0 where
   framing : Framing
   len : ℕ
   has : HasRequest (asked s p) head framing len
 
-failed_head : (s : Start) (p : Passed) (head : RequestHead) (reused : Bool) {client link : LinkState}
-    {start : LinkStart} {e : Error} → FailsFor (origin_of s head reused) p client link start e
-    → IsHeadOf s p head
+-- the head of an attempt that failed is that of the client's bytes
+failed_head : (s : Start) (p : Passed) (head : RequestHead) (reused : Bool)
+    {client link : LinkState} {start : LinkStart} {e : Error}
+    → FailsFor (origin_of s head reused) p client link start e → IsHeadOf s p head
 failed_head s p head reused (order.FailsFor.by_client o blames) =
     record { framing = o.asks.framing; len = o.asks.len; has = o.asks.has }
 failed_head s p head reused (order.FailsFor.by_peer o lost blames) =
     record { framing = o.asks.framing; len = o.asks.len; has = o.asks.has }
 
 -- the head of a request that had a link, and was not left unfinished
-linked_head : (s : Start) (p : Passed) (w : World) (link : LinkState) (start : LinkStart) (keep : Bool)
-    (outcome : Outcome) → EndsLinked s p w link start keep outcome
+linked_head : (s : Start) (p : Passed) (w : World) (link : LinkState) (start : LinkStart)
+    (keep : Bool) (outcome : Outcome) → EndsLinked s p w link start keep outcome
     → IsUnfinished outcome ⊎ ((head : RequestHead) × IsAccepted s p head)
 linked_head s p w link start keep NoRequest ends = absurd ends
 linked_head s p w link start keep (Refused error) ends = absurd ends
 linked_head s p w link start keep (Served None reuse) ends =
     let asks = ends.relayed.order.asks in
-    inr (ends.head, record { framing = asks.framing; len = asks.len; has = asks.has; relayable = ends.relayable })
+    inr (
+      ends.head,
+      record { framing = asks.framing; len = asks.len; has = asks.has; relayable = ends.relayable },
+    )
 linked_head s p w link start keep (Served (Some e) reuse) ends =
     let own = failed_head s p ends.head start.reused ends.why in
-    inr (ends.head, record { framing = own.framing; len = own.len; has = own.has; relayable = ends.relayable })
+    inr (
+      ends.head,
+      record { framing = own.framing; len = own.len; has = own.has; relayable = ends.relayable },
+    )
 linked_head s p w link start keep TurnLimit ends = inl (inl refl)
 linked_head s p w link start keep OutOfMemory ends = inl (inr refl)
 
 -- two heads of the client's bytes are one
-one_head : {s : Start} {p : Passed} {a b : RequestHead} → IsAccepted s p a → IsAccepted s p b → a ≡ b
+one_head : {s : Start} {p : Passed} {a b : RequestHead}
+    → IsAccepted s p a → IsAccepted s p b → a ≡ b
 one_head {s} {p} {a} {b} x y =
     (HasRequest-unique (asked s p) a b x.framing y.framing x.len y.len x.has y.has).0
 
@@ -279,6 +317,7 @@ relayed_fit s p head reused link relayed (exact.IsUnfit.switches said final task
     (ap (λ (t : ResponseText). t.final)
     (Tasks-unique head.method false p.got link.ended _ said relayed.whole tasks) ∙ is) switch
 
+-- an unfit response is missed, where the request is finished
 exact_unfit : (s : Start) (p : Passed) (w : World) (link : LinkState) (start : LinkStart)
     (keep : Bool) (outcome : Outcome) → EndsLinked s p w link start keep outcome
     → (head : RequestHead) → IsAccepted s p head → IsUnfit head.method p.got link.ended
@@ -325,6 +364,7 @@ asks_that s p w head other asks own =
     (subst (λ (xs : List ℕ). HasRequest xs other own.framing own.len) asks.gives.joined
     (HasRequest-append (asked s p) asks.gives.rest other own.framing own.len own.has)) whole.has).0
 
+-- a request that is relayed is not left alone
 asks_not_left : (s : Start) (p : Passed) (w : World) {e : Error} (head : RequestHead)
     → IsRelayable head → AsksFor (origin_of s head false) p w.client → IsLeftAlone s p w e → ⊥
 asks_not_left s p w head relayable asks (endings.IsLeftAlone.ends_in_head inside is) =
@@ -332,10 +372,13 @@ asks_not_left s p w head relayable asks (endings.IsLeftAlone.ends_in_head inside
 asks_not_left s p w head relayable asks (endings.IsLeftAlone.is_unrelayable unrelayable is) =
     unrelayable.unrelayable (subst (λ (h : RequestHead). IsRelayable h)
     (sym (asks_that s p w head unrelayable.head asks
-    (record { framing = unrelayable.framing; len = unrelayable.len; has = unrelayable.has }))) relayable)
+    (record { framing = unrelayable.framing; len = unrelayable.len; has = unrelayable.has })))
+    relayable)
 
-whole_unlinked : (s : Start) (p : Passed) (w : World) (outcome : Outcome) → EndsUnlinked s p w outcome
-    → (head : RequestHead) → IsRelayable head → AsksFor (origin_of s head false) p w.client
+-- a valid request that had no link is served, where it is finished and no fault was met
+whole_unlinked : (s : Start) (p : Passed) (w : World) (outcome : Outcome)
+    → EndsUnlinked s p w outcome → (head : RequestHead) → IsRelayable head
+    → AsksFor (origin_of s head false) p w.client
     → ¬ (Rose s.faults w.client.faults) → ¬ (Rose s.connect_faults w.connect_faults)
     → IsUnfinished outcome ⊎ ((reuse : Bool) × (outcome ≡ Served None reuse))
 whole_unlinked s p w NoRequest ends head relayable asks client connector =
@@ -371,6 +414,7 @@ valid_over s p client link start head reused asks answers calm still = record {
   link_faultless = still;
 }
 
+-- a valid request that had a link is served, where it is finished and no fault was met
 whole_linked : (s : Start) (p : Passed) (w : World) (link : LinkState) (start : LinkStart)
     (keep : Bool) (outcome : Outcome) → EndsLinked s p w link start keep outcome
     → (head : RequestHead) → AsksFor (origin_of s head false) p w.client
@@ -378,7 +422,8 @@ whole_linked : (s : Start) (p : Passed) (w : World) (link : LinkState) (start : 
     → ¬ (Rose start.faults link.faults)
     → IsUnfinished outcome ⊎ ((reuse : Bool) × (outcome ≡ Served None reuse))
 whole_linked s p w link start keep NoRequest ends head asks answers client faults = absurd ends
-whole_linked s p w link start keep (Refused error) ends head asks answers client faults = absurd ends
+whole_linked s p w link start keep (Refused error) ends head asks answers client faults =
+    absurd ends
 whole_linked s p w link start keep (Served None reuse) ends head asks answers client faults =
     inr (reuse, refl)
 whole_linked s p w link start keep (Served (Some e) reuse) ends head asks answers client faults =
@@ -393,13 +438,14 @@ whole_linked s p w link start keep OutOfMemory ends head asks answers client fau
 one_not_none : {R : Type 0} {r : R} → [] ≡ r ∷ [] → ⊥
 one_not_none {R} {r} same = cc
 
+-- lists of one that are the same hold the same
 same_one : {R : Type 0} {r q : R} → r ∷ [] ≡ q ∷ [] → r ≡ q
 same_one {R} {r} {q} same = cc
 
 module _ {L : Type 0} (state : L → LinkState) (start_at : L → LinkStart) where
   -- a request that had no link
-  exact_unlinked : (s : Start) (p : Passed) (w : World) (outcome : Outcome) → EndsUnlinked s p w outcome
-      → IsExact state start_at s p w [] outcome
+  exact_unlinked : (s : Start) (p : Passed) (w : World) (outcome : Outcome)
+      → EndsUnlinked s p w outcome → IsExact state start_at s p w [] outcome
   exact_unlinked s p w outcome ends = record {
     no_request = λ none ended. exact_no_request s p w outcome ends none ended;
     refused = λ answer error down whole. exact_refused s p w outcome ends answer error down whole;

@@ -119,12 +119,13 @@ ended_unlinked s p x (b ∷ bytes) is open_head ended written unsent =
     apart : b ∷ bytes ≡ [] → ⊥
     apart same = cc
 
--- no attempt was made then, and it is no end by its turns
+-- no attempt was made then
 ended_attempts : (bytes : List ℕ) (attempts : List AttemptRecord) → attempts ≡ []
     → AttemptsUnlinked attempts (ended_outcome bytes)
 ended_attempts [] attempts none = none
 ended_attempts (b ∷ bytes) attempts none = none
 
+-- and it is no end by its turns
 ended_going : (bytes : List ℕ) → ended_outcome bytes ≢ outcome.TurnLimit
 ended_going [] limit = cc
 ended_going (b ∷ bytes) limit = cc
@@ -280,7 +281,8 @@ module _ {L C : Type 0} (state : L → LinkState) (start_at : L → LinkStart) w
       → StandsBehind head framing session.value
       → RunSoFar {C = C} state start_at s p w [] ReadHead
       → Advances {C = C} state start_at s x (Connect context session)
-  head_accepted s p w x head framing len context session client ahead same has relayable stands run =
+  head_accepted s p w x head framing len context session client ahead same has relayable stands
+      run =
       record {
         passed = p;
         run = record {

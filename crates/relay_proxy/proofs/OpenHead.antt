@@ -15,7 +15,8 @@ pub turns_down_open : {bytes answer : List ℕ} {error : Option Error}
     → IsTurnedDown bytes answer error → IsOpen bytes → ⊥
 turns_down_open {bytes} (endings.IsTurnedDown.has_bad_head why refused is told) open_head =
     IsRefusedRequest-IsOpen bytes why refused open_head
-turns_down_open {bytes} (endings.IsTurnedDown.asks_to_connect head framing len has connect is told) open_head =
+turns_down_open {bytes}
+    (endings.IsTurnedDown.asks_to_connect head framing len has connect is told) open_head =
     HasRequest-IsOpen bytes head framing len has open_head
 
 -- the head of an exchange is open no more

@@ -92,7 +92,8 @@ all_pass a b c d e five =
 reusable : {L : Type 0} (x : H1Exchange L) (o : Origin) (p : Passed) (closed : Bool)
     (order : exchange.IsInOrder o p closed) (ahead : List ℕ) (keeps : Bool)
     → head_of x.exchange.down.session.reading ≡ Some o.head
-    → Leaves o p closed order ahead (is_body_done x.exchange.down.session.reading) x.exchange.up.closes keeps
+    → Leaves o p closed order ahead (is_body_done x.exchange.down.session.reading)
+    x.exchange.up.closes keeps
     → IsTrue (client_reusable x ahead) ↔ IsClientReusable o p closed order ahead
 reusable x o p closed order ahead keeps is_head leaves = (
   λ passes. by_tests (five_pass closing none done is_11 asks (sym tests ∙ passes)),
@@ -210,12 +211,14 @@ module _ {L C : Type 0} (state : L → LinkState) (start_at : L → LinkStart) w
       → AreTold state start_at (origin_of s run.holds.head a.value.lease.reused) q client
       (state (link_of x)) (start_at (link_of x))
       → IsUnderWay state start_at (origin_of s run.holds.head a.value.lease.reused) q client ahead x
-      → client.faults ≡ s.faults → RunSoFar {C = C} state start_at s q (world_with client ahead v.connect_faults) []
+      → client.faults ≡ s.faults
+      → RunSoFar {C = C} state start_at s q (world_with client ahead v.connect_faults) []
       (Relay (turned a x))
   going_on s p q v client ahead a x run told under calm = record {
     tells = tells_client state start_at s run.holds.head a.value.lease.reused p q v client _ _ ahead
         run.tells told;
-    order = IsInOrder.is_exchange run.holds.head a.value.lease.reused _ run.holds.relayable under.order;
+    order = IsInOrder.is_exchange run.holds.head a.value.lease.reused _ run.holds.relayable
+        under.order;
     untouched = λ open_head.
         absurd (exchange_open s q run.holds.head a.value.lease.reused _ under.order open_head);
     going = tt;
@@ -234,7 +237,8 @@ module _ {L C : Type 0} (state : L → LinkState) (start_at : L → LinkStart) w
       (a : Box (Attempt L C)) (x : H1Exchange L) (run : RunSoFar state start_at s p v [] (Relay a))
       → Turns state start_at (origin_of s run.holds.head a.value.lease.reused) client ahead x
       step.Moved
-      → client.faults ≡ v.client.faults → Advances {C = C} state start_at s (world_with client ahead v.connect_faults)
+      → client.faults ≡ v.client.faults
+      → Advances {C = C} state start_at s (world_with client ahead v.connect_faults)
       (Relay (turned a x))
   moves s p v client ahead a x run turns calm = record {
     passed = turns.passed;
@@ -307,7 +311,8 @@ module _ {L C : Type 0} (state : L → LinkState) (start_at : L → LinkStart) w
       (a : Box (Attempt L C)) (x : H1Exchange L) (run : RunSoFar state start_at s p v [] (Relay a))
       → Turns state start_at (origin_of s run.holds.head a.value.lease.reused) client ahead x
       step.Finished
-      → client.faults ≡ v.client.faults → Advances {C = C} state start_at s (world_with client ahead v.connect_faults)
+      → client.faults ≡ v.client.faults
+      → Advances {C = C} state start_at s (world_with client ahead v.connect_faults)
       (Close (link_of x) a.value.lease (may_keep x) (Served None (client_reusable x ahead)))
   finishes s p v client ahead a x run turns calm =
       let head = run.holds.head in
@@ -324,7 +329,8 @@ module _ {L C : Type 0} (state : L → LinkState) (start_at : L → LinkStart) w
             (IsInOrder.is_exchange head _ _ relayable finished.relayed.order)
             (λ open_head.
             exchange_open s turns.passed head _ _ finished.relayed.order open_head) (λ same. cc)
-            (relayed_whole state start_at s turns.passed w head x relayable (calm ∙ run.calm) finished);
+            (relayed_whole state start_at s turns.passed w head x relayable (calm ∙ run.calm)
+            finished);
       }
 
   -- a turn that failed
@@ -341,8 +347,8 @@ module _ {L C : Type 0} (state : L → LinkState) (start_at : L → LinkStart) w
         (IsInOrder.is_exchange run.holds.head _ _ run.holds.relayable turns.comes_to)
         (λ open_head. exchange_open s turns.passed run.holds.head _ _ turns.comes_to open_head)
         (λ same. cc) (
-          inl (part_relayed s turns.passed run.holds.head a.value.lease.reused _ _ run.holds.relayable
-              turns.told.reused turns.comes_to),
+          inl (part_relayed s turns.passed run.holds.head a.value.lease.reused _ _
+              run.holds.relayable turns.told.reused turns.comes_to),
           refl,
         );
   }
@@ -354,7 +360,8 @@ module _ {L C : Type 0} (state : L → LinkState) (start_at : L → LinkStart) w
       (λ (reused : Bool). IsFailed state start_at (origin_of s head reused) turns.passed client
       x e)
       (sym told.reused) turns.comes_to in
-      let order = order_of (origin_of s head start.reused) turns.passed client _ start e failed.why in
+      let order =
+      order_of (origin_of s head start.reused) turns.passed client _ start e failed.why in
       record {
         passed = turns.passed;
         run = closing s p turns.passed v client ahead a x _ _ run told

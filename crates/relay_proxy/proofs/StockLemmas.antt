@@ -1,5 +1,5 @@
 -- The links of a connector, as one is handed out.
-use Rattle.std.proofs.Common.{◌≡◌, List, [], ◌∷◌, ◌++◌, Option, Some, None, option_map, refl}
+use Rattle.std.proofs.Common.{◌≡◌, List, [], ◌++◌, Option, Some, None, option_map, refl}
 use Rattle.relay_links.specs.Link.{LinkStart, LinkItems}
 use Rattle.relay_links.specs.declared.Returned.{Returned}
 use Rattle.relay_proxy.specs.Stock.{all_items}
@@ -9,9 +9,11 @@ pub none_out : (left : Option (List (Option LinkItems))) → left ≡ option_map
 none_out None = refl
 none_out (Some rest) = refl
 
+-- what is held stands before those that are left
 same_all : {L : Type 0} (start : L → LinkStart) (back : Option (List (Returned L)))
     (held : List (Option LinkItems)) (left : Option (List (Option LinkItems)))
-    → all_items start back held left ≡ all_items start back [] (option_map (λ rest. held ++ rest) left)
+    → all_items start back held left
+    ≡ all_items start back [] (option_map (λ rest. held ++ rest) left)
 same_all start None held left = refl
 same_all start (Some back) held None = refl
 same_all start (Some back) held (Some left) = refl

@@ -301,7 +301,8 @@ module _ {L : Type 0} (state : L → LinkState) (start_at : L → LinkStart) whe
   -- how a request ends, by the links that it handed back: none or one
   abbrev pub EndsWith :
       Start → Passed → World → List (Returned L) → List AttemptRecord → Outcome → Type 0
-  EndsWith s p w [] attempts outcome = EndsUnlinked s p w outcome × AttemptsUnlinked attempts outcome
+  EndsWith s p w [] attempts outcome =
+      EndsUnlinked s p w outcome × AttemptsUnlinked attempts outcome
   EndsWith s p w (r ∷ []) attempts outcome = EndsReturned s p w r attempts outcome
   EndsWith s p w (r ∷ q ∷ rest) attempts outcome = ⊥
 

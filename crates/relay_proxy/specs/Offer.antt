@@ -20,7 +20,9 @@ pub record TakesFront (before after : LinkState) (bytes rest : List ℕ) : Type 
 abbrev pub Offers : LinkState → LinkState → Pending → Offered → Type 0
 Offers before after pending Whole = TakesFront before after pending.output []
 Offers before after pending (Left left) = TakesFront before after pending.output left.output
-Offers before after pending (NotReady left) = WaitsOnWrite before after × (left.output ≡ pending.output)
-Offers before after pending (Silent left) = IsSilentOnWrite before after × (left.output ≡ pending.output)
+Offers before after pending (NotReady left) =
+    WaitsOnWrite before after × (left.output ≡ pending.output)
+Offers before after pending (Silent left) =
+    IsSilentOnWrite before after × (left.output ≡ pending.output)
 Offers before after pending (Failed fault) = FailsWrite before fault after
 Offers before after pending OutOfMemory = WantsMemory before after

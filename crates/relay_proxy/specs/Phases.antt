@@ -69,7 +69,8 @@ module _ {L C : Type 0} (state : L → LinkState) (start_at : L → LinkStart) w
   IsAt s p w (Close link lease keep outcome) =
       IsLeased p (state link) (start_at link) lease
       × EndsLinked s p w (state link) (start_at link) keep outcome
-  IsAt s p w (Ended outcome attempts) = EndsUnlinked s p w outcome × AttemptsUnlinked attempts outcome
+  IsAt s p w (Ended outcome attempts) =
+      EndsUnlinked s p w outcome × AttemptsUnlinked attempts outcome
 
   -- what has passed in each phase, by the links that the request handed back: a request that has
   -- handed one back has ended

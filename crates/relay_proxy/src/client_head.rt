@@ -32,7 +32,8 @@ pub(crate) fn read_head<SV: ProxyHttp, D: ByteLink, U, L: ByteLink>(
     client: &mut Connection<D, U>,
 ) -> Next<L, SV::CTX>
     ensures run { (s : Start) (p : Passed) (faults : ℕ)
-        → RunSoFar {C = SV.CTX} L.state L.start s p (world_of D.state client.old faults) [] (Phase.ReadHead)
+        → RunSoFar {C = SV.CTX} L.state L.start s p (world_of D.state client.old faults) []
+        (Phase.ReadHead)
         → Advances L.state L.start s (world_of D.state client.new faults)
         result.phase }
     ensures cause { (faults : ℕ) → HasCause {C = SV.CTX} L.state L.start
@@ -64,7 +65,8 @@ fn await_head<D: ByteLink, U, L: ByteLink, C>(
     client: &mut Connection<D, U>,
 ) -> Next<L, C>
     ensures run { (s : Start) (p : Passed) (faults : ℕ)
-        → RunSoFar {C = C} L.state L.start s p (world_of D.state client.old faults) [] (Phase.ReadHead)
+        → RunSoFar {C = C} L.state L.start s p (world_of D.state client.old faults) []
+        (Phase.ReadHead)
         → IsOpen client.old.ahead
         → Advances L.state L.start s (world_of D.state client.new faults)
         result.phase }
@@ -142,7 +144,8 @@ fn take_head<SV: ProxyHttp, D: ByteLink, U, L: ByteLink>(
 ) -> Next<L, SV::CTX>
     requires { read.len ≤ length client.old.ahead }
     ensures run { (s : Start) (p : Passed) (faults : ℕ)
-        → RunSoFar {C = SV.CTX} L.state L.start s p (world_of D.state client.old faults) [] (Phase.ReadHead)
+        → RunSoFar {C = SV.CTX} L.state L.start s p (world_of D.state client.old faults) []
+        (Phase.ReadHead)
         → HasRequest client.old.ahead read.head read.framing read.len
         → Advances L.state L.start s (world_of D.state client.new faults)
         result.phase }
@@ -173,7 +176,8 @@ fn accept_head<SV: ProxyHttp, D: ByteLink, U, L: ByteLink>(
 ) -> Next<L, SV::CTX>
     requires { read.len ≤ length client.old.ahead }
     ensures run { (s : Start) (p : Passed) (faults : ℕ)
-        → RunSoFar {C = SV.CTX} L.state L.start s p (world_of D.state client.old faults) [] (Phase.ReadHead)
+        → RunSoFar {C = SV.CTX} L.state L.start s p (world_of D.state client.old faults) []
+        (Phase.ReadHead)
         → HasRequest client.old.ahead read.head read.framing read.len
         → ¬ (IsConnect read.head)
         → Advances L.state L.start s (world_of D.state client.new faults)
@@ -226,8 +230,8 @@ fn give_answer<L: ByteLink, C>(alloc: Global, status: u16, error: Option<Error>)
         → IsTurnedDown w.ahead (generated status) error
         → Advances L.state L.start s w
         result.phase }
-    ensures cause { (w x : World) → HasCause {C = C} L.state L.start w x (Phase.ReadHead) result.phase
-        result.step }
+    ensures cause { (w x : World) → HasCause {C = C} L.state L.start w x
+        (Phase.ReadHead) result.phase result.step }
     ensures work { DoesWork result.step result.work }
     ensures over { is_over result.phase ≡ is_end result.step }
     ensures unlinked { links_held L.state L.start result.phase ≡ 0 }
@@ -260,7 +264,8 @@ pub(crate) fn write_refusal<D: ByteLink, U, L: ByteLink, C>(
     error: Option<Error>,
 ) -> Next<L, C>
     ensures run { (s : Start) (p : Passed) (faults : ℕ)
-        → RunSoFar {C = C} L.state L.start s p (world_of D.state client.old faults) [] (Phase.Refuse answer error)
+        → RunSoFar {C = C} L.state L.start s p (world_of D.state client.old faults) []
+        (Phase.Refuse answer error)
         → Advances L.state L.start s (world_of D.state client.new faults)
         result.phase }
     ensures cause { (faults : ℕ) → HasCause {C = C} L.state L.start

@@ -58,8 +58,9 @@ pub(crate) fn settle<K: Connector, C: Drop>(
         ≡ K.out connector.old + links_held K.Byte.state K.Byte.start result }
     ensures faults { K.fault_count connector.new ≡ K.fault_count connector.old }
     ensures refusals { K.refusals connector.new ≡ K.refusals connector.old }
-    ensures stock { all_items K.Byte.start (K.returned connector.new) (items_held K.Byte.start result)
-        (K.stock connector.new) ≡ all_items K.Byte.start (K.returned connector.old)
+    ensures stock { all_items K.Byte.start (K.returned connector.new)
+        (items_held K.Byte.start result) (K.stock connector.new)
+        ≡ all_items K.Byte.start (K.returned connector.old)
         (items_held K.Byte.start phase) (K.stock connector.old) }
 {
     match phase {

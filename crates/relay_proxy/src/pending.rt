@@ -45,7 +45,8 @@ impl Pending {
 
     /// Offers the bytes to the connection's link, once.
     pub(crate) fn write_to<D: ByteLink, U>(self, connection: &mut Connection<D, U>) -> Offered
-        ensures offers { Offers (D.state connection.old.link) (D.state connection.new.link) self result }
+        ensures offers { Offers (D.state connection.old.link) (D.state connection.new.link)
+            self result }
         ensures start { D.start connection.new.link ≡ D.start connection.old.link }
         ensures ahead { connection.new.ahead ≡ connection.old.ahead }
         ensures kept { connection.new.kept ≡ connection.old.kept }

@@ -122,9 +122,9 @@ impl<SV: ProxyHttp, K: Connector, P: Purger> HttpProxy<SV, K, P> {
 
     /// Takes one turn of a request: one call of the link that it waits for, one verdict on a head,
     /// one call of the connector, or one branch of the duplex. In the duplex the schedule picks the
-    /// branch; where it names none or one that cannot be taken, the first that can is taken. A branch
-    /// whose link is silent passes the turn on to the next, going round; where all are silent the
-    /// answer is `Waited(Silent)`.
+    /// branch; where it names none or one that cannot be taken, the first that can is taken. A
+    /// branch whose link is silent passes the turn on to the next, going round; where all are
+    /// silent the answer is `Waited(Silent)`.
     ///
     /// Where the machine holds a link, the connector's number of links that are out is not 0, and
     /// the client is as the machine's last call left it.
@@ -148,8 +148,8 @@ impl<SV: ProxyHttp, K: Connector, P: Purger> HttpProxy<SV, K, P> {
             (K.refusals self.old.connector) (K.refusals self.new.connector)
             machine.old.machine.phase machine.new.machine.phase }
         // Before there is a link it moved something of the client, or went on to its next phase; it
-        // waits only where a link answered so in this step; and in silence all that can be done asks
-        // a link that is silent on it, and neither link changed.
+        // waits only where a link answered so in this step; and in silence all that can be done
+        // asks a link that is silent on it, and neither link changed.
         ensures cause { HasCause K.Byte.state K.Byte.start
             (world_of D.state client.old (K.fault_count self.old.connector))
             (world_of D.state client.new (K.fault_count self.new.connector))
@@ -206,8 +206,8 @@ impl<SV: ProxyHttp, K: Connector, P: Purger> HttpProxy<SV, K, P> {
     }
 
     /// Ends a request: a link that is still held goes back and is not kept. One that has not ended
-    /// gives `TurnLimit`. The value is what was kept for the next request of the connection; no hook
-    /// keeps one yet.
+    /// gives `TurnLimit`. The value is what was kept for the next request of the connection; no
+    /// hook keeps one yet.
     ///
     /// Where the machine holds a link, the connector's number of links that are out is not 0, and
     /// the client is as the machine's last call left it.
@@ -227,7 +227,8 @@ impl<SV: ProxyHttp, K: Connector, P: Purger> HttpProxy<SV, K, P> {
             (K.returned self.old.connector) (K.returned self.new.connector)
             machine.machine.phase result.0 }
         // It has not ended exactly where it gives `TurnLimit`.
-        ensures limit { is_over machine.machine.phase ≡ false → result.0.outcome ≡ Outcome.TurnLimit }
+        ensures limit { is_over machine.machine.phase ≡ false
+            → result.0.outcome ≡ Outcome.TurnLimit }
         ensures turns { result.0.history.turns_taken ≡ machine.machine.turns }
         ensures moved { result.0.history.tasks_moved ≡ machine.machine.work.moved }
         ensures used { result.0.history.items_used ≡ machine.machine.work.used }
@@ -289,7 +290,8 @@ impl<SV: ProxyHttp, K: Connector, P: Purger> HttpProxy<SV, K, P> {
         ensures worked { result.history.turns_taken ≤ result.history.items_used
             + result.history.tasks_moved + result.history.sides_ended }
         ensures out { K.out self.new.connector ≡ K.out self.old.connector }
-        // The client's link is the one that it was, and the connector's links are those that it had.
+        // The client's link is the one that it was, and the connector's links are those that it
+        // had.
         ensures client_start { D.start client.new.link ≡ D.start client.old.link }
         ensures stock { all_items K.Byte.start (K.returned self.new.connector) []
             (K.stock self.new.connector) ≡ all_items K.Byte.start (K.returned self.old.connector)

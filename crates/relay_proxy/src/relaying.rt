@@ -1,5 +1,5 @@
-//! The attempt: one turn of its exchange, and what becomes of the client and of the link once it has
-//! ended (RFC 9112, section 9.3).
+//! The attempt: one turn of its exchange, and what becomes of the client and of the link once it
+//! has ended (RFC 9112, section 9.3).
 ghost use Rattle.std.specs.Prelude.{◌≡◌, ℕ, [], ◌∷◌, None, false};
 ghost use Rattle.relay_core.specs.Asked.{WaitRose};
 ghost use Rattle.relay_core.specs.Causes.{says_failed};

@@ -1,23 +1,22 @@
 -- Requests under way, and what one turn, one end and one new client make of them.
-use Rattle.std.proofs.Common.{◌≡◌, ◌≢◌, ℕ, ◌+◌, ◌≤◌, ◌<◌, Bool, true, false, true≢false, List, [], ◌∷◌, ◌++◌, Option, Some, None, refl, sym, ap, subst, ◌∙◌, arith}
+use Rattle.std.proofs.Common.{◌≡◌, ℕ, ◌+◌, ◌≤◌, true, false, true≢false, List, [], ◌∷◌, ◌++◌, Option, Some, None, refl, sym, ap, subst, ◌∙◌, arith}
 use Rattle.std.proofs.lemmas.List.{append-nil, append_assoc}
-use Rattle.relay_h1.specs.declared.Connection.{Connection}
 use Rattle.relay_tasks.specs.declared.Fault.{Fault}
 use Rattle.relay_links.specs.Link.{LinkState, LinkStart}
 use Rattle.relay_links.specs.Told.{more}
 use Rattle.relay_links.specs.declared.Returned.{Returned}
 use Rattle.relay_attempt.specs.Passed.{Passed}
-use Rattle.relay_proxy.specs.Passed.{World, Start, TellsClient, start_of, nothing}
-use Rattle.relay_proxy.specs.Phases.{RunSoFar, IsCalm, PhaseHolds, IsAt, IsReadingHead, IsRefusing, IsConnecting, IsRelaying}
+use Rattle.relay_proxy.specs.Passed.{World, Start}
+use Rattle.relay_proxy.specs.Phases.{RunSoFar, IsCalm, PhaseHolds, IsAt}
 use Rattle.relay_proxy.specs.Request.{StepsOn, ComesToEnd, ended_after}
-use Rattle.relay_proxy.specs.Turn.{world_with, world_of, is_over, is_end, links_held}
+use Rattle.relay_proxy.specs.Turn.{world_with, world_of, is_over, links_held}
 use Rattle.relay_proxy.specs.declared.machine.Phase.{Phase}
 use Rattle.relay_proxy.specs.declared.machine.Phase.TheVariants.{ReadHead, Refuse, Connect, Relay, Close, Ended}
 use Rattle.relay_proxy.specs.declared.outcome.Outcome.{Outcome}
 use Rattle.relay_proxy.specs.declared.outcome.Outcome.TheVariants.{NoRequest, Refused, Served, TurnLimit, OutOfMemory}
 use Rattle.relay_proxy.specs.declared.outcome.Processed.{Processed}
 use Rattle.relay_proxy.specs.declared.proxy.HttpProxy.{HttpProxy}
-use Rattle.relay_server.specs.Serving.{Books, books, CountRises, Visit, HaveEnded, EndedRequest, all_held, IsUnderWay, AreUnderWay, Serves, EndsOne, ServesOn}
+use Rattle.relay_server.specs.Serving.{Books, books, CountRises, Visit, HaveEnded, all_held, AreUnderWay, Serves, EndsOne, ServesOn}
 use Rattle.relay_server.specs.Serving.HaveEnded.{none, one_more}
 
 -- one more request that ended lets the count rise

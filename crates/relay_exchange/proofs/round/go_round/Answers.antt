@@ -18,6 +18,7 @@ use Rattle.relay_exchange.specs.Exchange.{IsSilentLink}
 use Rattle.relay_exchange.proofs.RoundLemmas.{all_round, passed_first, passed_more, met, silent_link}
 use Rattle.relay_exchange.proofs.round.go_round.Goals as goal
 
+-- the first branch met silence, and was passed
 pub loop-turn-init : goal.loop-turn-init
 loop-turn-init g c =
     let t = c.step-step in
@@ -46,6 +47,7 @@ loop-turn-init g c =
       t.ensures.peer_start,
     )
 
+-- a branch that cannot be taken is passed
 pub loop-turn-preserved-then-not-enabled : goal.loop-turn-preserved-then-not-enabled
 loop-turn-preserved-then-not-enabled g c =
     let i = c.loop-turn.invariant in
@@ -67,6 +69,7 @@ loop-turn-preserved-then-not-enabled g c =
       i.7,
     )
 
+-- the first branch that met no silence goes on from those before it
 pub returns-then-not-is_silent-2-clause-goes : goal.returns-then-not-is_silent-2-clause-goes
 returns-then-not-is_silent-2-clause-goes g c =
     λ s p q f _ _.
@@ -74,6 +77,7 @@ returns-then-not-is_silent-2-clause-goes g c =
     goes_then _ _ _ _ _ _ p before.p q before.q _ _ before.extends
     (c.step-step-in-loop-turn.ensures.goes s before.p before.q before.so_far)
 
+-- one more branch met silence, and was passed
 pub loop-turn-preserved : goal.loop-turn-preserved
 loop-turn-preserved g c =
     let i = c.loop-turn.invariant in
@@ -110,6 +114,7 @@ loop-turn-preserved g c =
       t.ensures.peer_start ∙ i.7,
     )
 
+-- all branches were passed: each that can be taken asks a silent link
 pub returns-clause-quiet : goal.returns-clause-quiet
 returns-clause-quiet g c = λ _.
     let i = c.loop-turn.invariant in
@@ -129,6 +134,7 @@ returns-clause-quiet g c = λ _.
       i.3,
     )
 
+-- all branches were passed: one of both links is silent
 pub returns-clause-silent : goal.returns-clause-silent
 returns-clause-silent g c = λ _.
     let i = c.loop-turn.invariant in

@@ -12,6 +12,7 @@ use Rattle.relay_core.specs.declared.step.Step.TheVariants as step
 use Rattle.relay_exchange.proofs.RoundLemmas.{behind}
 use Rattle.relay_exchange.proofs.round.go_round.Given as goal
 
+-- the branches so far met silence, and the exchange goes on from the first
 abbrev pub invariant-loop-turn : goal.invariant-loop-turn
 invariant-loop-turn g l =
     let at_first : State =

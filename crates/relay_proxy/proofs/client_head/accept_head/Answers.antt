@@ -5,6 +5,7 @@ use Rattle.relay_proxy.specs.Turn.{world_of}
 use Rattle.relay_proxy.proofs.HeadSteps.{head_accepted}
 use Rattle.relay_proxy.proofs.client_head.accept_head.Goals as goal
 
+-- a head of a form that is relayed is accepted
 pub returns-clause-run : goal.returns-clause-run
 returns-clause-run g c = λ s p faults run has no_connect.
     let world = ap (λ k. world_of g.D.ByteLink.state k faults) c.consume.ensures in

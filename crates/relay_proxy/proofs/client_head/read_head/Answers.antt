@@ -5,11 +5,13 @@ use Rattle.relay_proxy.specs.Endings as endings
 use Rattle.relay_proxy.specs.Turn.{world_of}
 use Rattle.relay_proxy.proofs.client_head.read_head.Goals as goal
 
+-- a head that was found lies within the client's bytes
 pub take_head-requires : goal.take_head-requires
 take_head-requires g c =
     let verdict = rw c.in-Ok-Some.field-0-is at c.in-Ok-Some.ensures.verdict in
     rw c.judge_request.ensures.same (head_end-within _ _ verdict.starts.ends).1
 
+-- a bad head is turned down
 pub returns-in-Err-Error-clause-run : goal.returns-in-Err-Error-clause-run
 returns-in-Err-Error-clause-run g c = λ s p faults run.
     let verdict = rw c.in-Err-Error.field-0-is at c.in-Err-Error.ensures.verdict in
@@ -18,15 +20,18 @@ returns-in-Err-Error-clause-run g c = λ s p faults run.
     (endings.IsTurnedDown.has_bad_head verdict.0 verdict.2 refl
     (rw verdict.1 refl)))
 
+-- an open head has the cause of its read
 pub returns-in-Ok-None-clause-cause : goal.returns-in-Ok-None-clause-cause
 returns-in-Ok-None-clause-cause g c = λ faults.
     (rw c.judge_request.ensures.same at (c.await_head.ensures.cause faults))
     (rw c.in-Ok-None.field-0-is at c.in-Ok-None.ensures.verdict)
 
+-- a head that was found has the cause of its taking
 pub returns-in-Ok-Some-clause-cause : goal.returns-in-Ok-Some-clause-cause
 returns-in-Ok-Some-clause-cause g c = λ faults.
     rw c.judge_request.ensures.same at (c.take_head.ensures.cause faults)
 
+-- a bad head has the cause of its answer
 pub returns-in-Err-Error-clause-cause : goal.returns-in-Err-Error-clause-cause
 returns-in-Err-Error-clause-cause g c = λ faults.
     c.give_answer.ensures.cause (world_of g.D.ByteLink.state c.args.client.now faults)

@@ -4,6 +4,7 @@ use Rattle.std.proofs.Common.{refl}
 use Rattle.relay_proxy.proofs.ConnectSteps.{begun, not_begun}
 use Rattle.relay_proxy.proofs.connecting.begin.Goals as goal
 
+-- the exchange is under way over the link that was handed out
 pub returns-in-Ok-clause-run : goal.returns-in-Ok-clause-run
 returns-in-Ok-clause-run g c = λ s p w run is handed peer.
     c.hold.ensures.run s p w run.tells run.order run.calm
@@ -11,6 +12,7 @@ returns-in-Ok-clause-run g c = λ s p w run is handed peer.
     (record { exchange = c.in-Ok.exchange; lease = c.args.lease; context = c.args.context }) is
     handed peer (rw c.into_inner.ensures at c.in-Ok.ensures.begins) run.holds)
 
+-- an exchange that was not begun gives its link back
 pub returns-in-Err-clause-run : goal.returns-in-Err-clause-run
 returns-in-Err-clause-run g c = λ s p w run is handed peer.
     not_begun g.L.ByteLink.state g.L.ByteLink.start s p w c.args.context c.args.session c.args.head
@@ -18,5 +20,6 @@ returns-in-Err-clause-run g c = λ s p w run is handed peer.
     c.in-Err.ensures.link c.outcome_of.ensures c.in-Err.ensures.causes
     (λ is. c.in-Err.ensures.refused.0 (c.in-Err.field-0, refl, is)) run
 
+-- the cause is that of holding the attempt
 pub returns-in-Ok-clause-cause : goal.returns-in-Ok-clause-cause
 returns-in-Ok-clause-cause g c = λ w x. c.hold.ensures.cause w x c.args.context c.args.session

@@ -5,12 +5,14 @@ use Rattle.relay_proxy.proofs.StockLemmas.{none_out}
 use Rattle.relay_proxy.proofs.RefusalLemmas.{none_added, one_added, none_before_link}
 use Rattle.relay_proxy.proofs.connecting.connect.Goals as goal
 
+-- the run goes on over the link that the connector gave
 pub returns-in-Ok-get-clause-run : goal.returns-in-Ok-get-clause-run
 returns-in-Ok-get-clause-run g c = λ s p client ahead run.
     rw c.in-Ok-get.ensures.no_fault (c.begin.ensures.run s p
     (world_with client ahead (g.K.Connector.fault_count c.args.connector.now)) run
     (rw c.deref.ensures at c.in-Some.ensures) c.in-Ok-get.ensures.handed c.asked_peer-peer.ensures)
 
+-- where it gave none the request ends with its fault
 pub returns-in-Err-clause-run : goal.returns-in-Err-clause-run
 returns-in-Err-clause-run g c = λ s p client ahead run.
     rw c.refused_link.ensures.phase
@@ -20,22 +22,26 @@ returns-in-Err-clause-run g c = λ s p client ahead run.
     c.asked_peer-peer.result c.in-Err.fault c.get.ensures.fits.0 c.in-Err.ensures.rose
     c.in-Err.ensures.fault c.asked_peer-peer.ensures run)
 
+-- a refused link leaves the links as they were
 pub returns-in-Err-clause-stock : goal.returns-in-Err-clause-stock
 returns-in-Err-clause-stock g c =
     rw (c.refused_link.ensures.phase, c.in-Err.ensures.stays)
     (none_out (g.K.Connector.stock c.args.connector.now))
 
+-- over a link the cause is that of the beginning of the exchange
 pub returns-in-Ok-get-clause-cause : goal.returns-in-Ok-get-clause-cause
 returns-in-Ok-get-clause-cause g c = λ client ahead.
     c.begin.ensures.cause
     (world_with client ahead (g.K.Connector.fault_count c.args.connector.now))
     (world_with client ahead (g.K.Connector.fault_count c.get.new.self))
 
+-- a link that was given is no refusal
 pub returns-in-Ok-get-clause-refusals : goal.returns-in-Ok-get-clause-refusals
 returns-in-Ok-get-clause-refusals g c =
     none_added _ _ _ (none_before_link g.K.Byte.ByteLink.state g.K.Byte.ByteLink.start
     c.begin.result.phase c.begin.ensures.linked) c.in-Ok-get.ensures.calm
 
+-- one that was not given is one refusal more
 pub returns-in-Err-clause-refusals : goal.returns-in-Err-clause-refusals
 returns-in-Err-clause-refusals g c =
     rw c.refused_link.ensures.phase (one_added c.in-Err.fault _ _ c.in-Err.ensures.fault

@@ -2,11 +2,13 @@
 use Rattle.relay_proxy.proofs.ConnectSteps.{held, not_held}
 use Rattle.relay_proxy.proofs.connecting.hold.Goals as goal
 
+-- an attempt that is held is relayed
 pub returns-in-Ok-clause-run : goal.returns-in-Ok-clause-run
 returns-in-Ok-clause-run g c = λ s p w tells order calm relaying.
     held g.L.ByteLink.state g.L.ByteLink.start s p w c.args.attempt c.in-Ok.attempt
     c.in-Ok.ensures.ok tells order calm relaying
 
+-- one for which memory was wanted gives its link back
 pub returns-in-Err-clause-run : goal.returns-in-Err-clause-run
 returns-in-Err-clause-run g c = λ s p w tells order calm relaying.
     rw (c.into_link.ensures, c.in-Err.ensures.value_returned)

@@ -9,6 +9,7 @@ use Rattle.relay_proxy.specs.Turn.{world_of}
 use Rattle.relay_proxy.proofs.RelaySteps.{lent, moves, waits, has_waited, has_stalled, finishes, fails}
 use Rattle.relay_proxy.proofs.relaying.relay.Goals as goal
 
+-- the exchange moved
 pub returns-in-Moved-clause-run : goal.returns-in-Moved-clause-run
 returns-in-Moved-clause-run g c = λ s p faults given.
     let a = c.deref_mut.result.now in
@@ -18,6 +19,7 @@ returns-in-Moved-clause-run g c = λ s p faults given.
     (rw c.in-Moved.is at (c.turn_over-step.ensures.goes _ p run.holds.under_way))
     (c.turn_over-step.ensures.calm (ap says_failed c.in-Moved.is))
 
+-- the exchange waits for a link
 pub returns-in-Waited-NotReady-clause-run : goal.returns-in-Waited-NotReady-clause-run
 returns-in-Waited-NotReady-clause-run g c = λ s p faults given.
     let a = c.deref_mut.result.now in
@@ -31,6 +33,7 @@ returns-in-Waited-NotReady-clause-run g c = λ s p faults given.
     (rw is at (c.turn_over-step.ensures.goes _ p run.holds.under_way))
     (c.turn_over-step.ensures.calm (ap says_failed is))
 
+-- the exchange met silence
 pub returns-in-Waited-Silent-clause-run : goal.returns-in-Waited-Silent-clause-run
 returns-in-Waited-Silent-clause-run g c = λ s p faults given.
     let a = c.deref_mut.result.now in
@@ -44,6 +47,7 @@ returns-in-Waited-Silent-clause-run g c = λ s p faults given.
     (rw is at (c.turn_over-step.ensures.goes _ p run.holds.under_way))
     (c.turn_over-step.ensures.calm (ap says_failed is))
 
+-- it waits because a link answered so
 pub returns-in-Waited-NotReady-clause-cause : goal.returns-in-Waited-NotReady-clause-cause
 returns-in-Waited-NotReady-clause-cause g c = λ faults.
     let here = c.in-Waited-NotReady in
@@ -55,6 +59,7 @@ returns-in-Waited-NotReady-clause-cause g c = λ faults.
     c.deref_mut.ensures.value
     (c.turn_over-step.ensures.waits (here.is ∙ ap step.Waited pause))
 
+-- in silence all that can be done asks a silent link
 pub returns-in-Waited-Silent-clause-cause : goal.returns-in-Waited-Silent-clause-cause
 returns-in-Waited-Silent-clause-cause g c = λ faults.
     let here = c.in-Waited-Silent in
@@ -66,6 +71,7 @@ returns-in-Waited-Silent-clause-cause g c = λ faults.
     c.deref_mut.ensures.value
     (c.turn_over-step.ensures.quiet (here.is ∙ ap step.Waited pause))
 
+-- the exchange finished
 pub returns-in-Finished-clause-run : goal.returns-in-Finished-clause-run
 returns-in-Finished-clause-run g c = λ s p faults given.
     let a = c.deref_mut.result.now in
@@ -76,6 +82,7 @@ returns-in-Finished-clause-run g c = λ s p faults given.
     (rw c.in-Finished.is at (c.turn_over-step.ensures.goes _ p run.holds.under_way))
     (c.turn_over-step.ensures.calm (ap says_failed c.in-Finished.is)))
 
+-- the exchange failed
 pub returns-in-Failed-clause-run : goal.returns-in-Failed-clause-run
 returns-in-Failed-clause-run g c = λ s p faults given.
     let a = c.deref_mut.result.now in

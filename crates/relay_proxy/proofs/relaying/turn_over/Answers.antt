@@ -1,11 +1,13 @@
 -- The turn is the exchange's: taking the kept value out and putting it back change nothing else.
 use Rattle.relay_proxy.proofs.relaying.turn_over.Goals as goal
 
+-- a turn over a value that was kept
 pub returns-in-Some-clause-goes : goal.returns-in-Some-clause-goes
 returns-in-Some-clause-goes g c = λ s p under.
     rw (c.set_kept.ensures, c.take_kept.ensures.after)
     (c.turn-turn.ensures.goes s p (rw c.take_kept-kept.ensures.after under))
 
+-- a turn where none was kept
 pub returns-in_default-clause-goes : goal.returns-in_default-clause-goes
 returns-in_default-clause-goes g c = λ s p under.
     rw c.take_kept.ensures.after

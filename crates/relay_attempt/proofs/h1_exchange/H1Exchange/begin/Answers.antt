@@ -16,6 +16,7 @@ use Rattle.relay_attempt.specs.Exchange.{Blames, DownHolds, IsUnderWay, UpHolds}
 use Rattle.relay_attempt.proofs.TurnLemmas.{under_way, refused_as}
 use Rattle.relay_attempt.proofs.h1_exchange.H1Exchange.begin.Goals as goal
 
+-- an exchange whose head was queued has begun
 pub returns-in-Ok-clause-begins : goal.returns-in-Ok-clause-begins
 returns-in-Ok-clause-begins g c =
     let state = g.L.ByteLink.state in
@@ -55,15 +56,16 @@ returns-in-Ok-clause-begins g c =
       none_lost = refl;
       body_done = done;
       request_ended = done;
-      unread = ap (λ (k : PeerSide g.row.L.Denot). k.read_failed) c.write_request_header.ensures.same
-          ∙ c.new-peer.ensures.fresh.unread;
-      unsent = ap (λ (k : PeerSide g.row.L.Denot). k.send_failed) c.write_request_header.ensures.same
-          ∙ c.new-peer.ensures.fresh.unsent;
+      unread = ap (λ (k : PeerSide g.row.L.Denot). k.read_failed)
+          c.write_request_header.ensures.same ∙ c.new-peer.ensures.fresh.unread;
+      unsent = ap (λ (k : PeerSide g.row.L.Denot). k.send_failed)
+          c.write_request_header.ensures.same ∙ c.new-peer.ensures.fresh.unsent;
     })
     c.begin-exchange.result.duplex c.begin-exchange.ensures.fresh
     (c.begin-exchange.ensures.sound
     (client.state_of down.session down.told down.done down.finished down.broken) done)))
 
+-- one whose head was refused has not
 pub returns-in-Err-clause-refused : goal.returns-in-Err-clause-refused
 returns-in-Err-clause-refused g c =
     refused_as c.into_link.result c.in-Err.why _ c.in-Err.ensures.refused

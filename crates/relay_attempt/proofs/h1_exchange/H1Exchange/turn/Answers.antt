@@ -3,6 +3,7 @@ use Rattle.relay_attempt.proofs.OrderLemmas.{attempt_so_far}
 use Rattle.relay_attempt.proofs.TurnLemmas.{turned}
 use Rattle.relay_attempt.proofs.h1_exchange.H1Exchange.turn.Goals as goal
 
+-- a turn between both sides is one over all that passed
 pub returns-clause-goes : goal.returns-clause-goes
 returns-clause-goes g c =
     λ s p under.
@@ -11,6 +12,7 @@ returns-clause-goes g c =
     (record { exchange = c.turn.new.self }) c.turn.result.step c.turn.ensures.bodies
     (c.turn.ensures.goes s under.down under.up under.holds)
 
+-- and what passed is an attempt
 pub returns-clause-attempt : goal.returns-clause-attempt
 returns-clause-attempt g c =
     λ s p under.

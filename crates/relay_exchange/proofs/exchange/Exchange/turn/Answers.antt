@@ -2,6 +2,7 @@
 use Rattle.relay_exchange.proofs.TurnLemmas.{turns_on}
 use Rattle.relay_exchange.proofs.exchange.Exchange.turn.Goals as goal
 
+-- a branch of the duplex, once the head was sent, is a turn
 pub returns-in-Bodies-clause-goes : goal.returns-in-Bodies-clause-goes
 returns-in-Bodies-clause-goes g c = λ s p q under.
     let ensured = c.go_round-step.ensures in

@@ -3,6 +3,7 @@ use Rattle.relay_proxy.specs.Turn.{world_of}
 use Rattle.relay_proxy.proofs.HeadSteps.{begins_reading}
 use Rattle.relay_proxy.proofs.proxy.HttpProxy.begin.Goals as goal
 
+-- a request that begins reads its head, and nothing has passed
 pub returns-clause-run : goal.returns-clause-run
 returns-clause-run g c =
     rw c.new.ensures (begins_reading g.K.Byte.ByteLink.state g.K.Byte.ByteLink.start

@@ -3,6 +3,7 @@ use Rattle.relay_proxy.specs.Turn.{world_of}
 use Rattle.relay_proxy.proofs.StepLemmas.{end_of, over_end}
 use Rattle.relay_proxy.proofs.proxy.HttpProxy.end.Goals as goal
 
+-- a run comes to its end as its phase is brought there
 pub returns-clause-ends : goal.returns-clause-ends
 returns-clause-ends g c = λ s p own run.
     let e = end_of g.K.Byte.ByteLink.state g.K.Byte.ByteLink.start s p own

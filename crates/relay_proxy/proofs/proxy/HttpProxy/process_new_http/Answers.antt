@@ -8,6 +8,7 @@ use Rattle.relay_proxy.specs.declared.proxy.Outside.{Outside}
 use Rattle.relay_proxy.proofs.UnderWay.{begun, goes_on, all_taken, stopped, one_more, no_end, stops_at}
 use Rattle.relay_proxy.proofs.proxy.HttpProxy.process_new_http.Goals as goal
 
+-- before the first step the request has begun
 pub loop-turn-init : goal.loop-turn-init
 loop-turn-init g c =
     let faults = g.K.Connector.fault_count c.args.self.now.connector in (
@@ -27,6 +28,7 @@ loop-turn-init g c =
       refl,
     )
 
+-- a step that stops ends the request
 pub returns-then-is_stop-clause-processes : goal.returns-then-is_stop-clause-processes
 returns-then-is_stop-clause-processes g c =
     let state = g.K.Byte.ByteLink.state in
@@ -49,6 +51,7 @@ returns-then-is_stop-clause-processes g c =
     {a = world_of g.D.ByteLink.state c.step-step.new.client
     (g.K.Connector.fault_count c.step-step.new.self.connector)})) ends.over)
 
+-- one more step leaves the request under way
 pub loop-turn-preserved : goal.loop-turn-preserved
 loop-turn-preserved g c =
     let state = g.K.Byte.ByteLink.state in
@@ -79,6 +82,7 @@ loop-turn-preserved g c =
           c.loop-turn.invariant.8,
     )
 
+-- where all turns were taken the request ends by its limit
 pub returns-clause-processes : goal.returns-clause-processes
 returns-clause-processes g c =
     let state = g.K.Byte.ByteLink.state in

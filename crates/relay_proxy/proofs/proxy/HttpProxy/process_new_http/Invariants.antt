@@ -7,6 +7,7 @@ use Rattle.relay_proxy.specs.Work.{total_work}
 use Rattle.relay_proxy.proofs.UnderWay.{IsUnderWay}
 use Rattle.relay_proxy.proofs.proxy.HttpProxy.process_new_http.Given as goal
 
+-- the request is under way, and its links are those of the connector
 abbrev pub invariant-loop-turn : goal.invariant-loop-turn
 invariant-loop-turn g l =
     IsUnderWay g.K.Byte.ByteLink.state g.K.Byte.ByteLink.start
@@ -18,7 +19,8 @@ invariant-loop-turn g l =
     l.machine.machine l._turn
     × (g.D.ByteLink.start l.client.link ≡ g.D.ByteLink.start l.fn.client.link)
     × (all_items g.K.Byte.ByteLink.start (g.K.Connector.returned l.self.connector)
-    (items_held g.K.Byte.ByteLink.start l.machine.machine.phase) (g.K.Connector.stock l.self.connector)
+    (items_held g.K.Byte.ByteLink.start l.machine.machine.phase)
+    (g.K.Connector.stock l.self.connector)
     ≡ all_items g.K.Byte.ByteLink.start (g.K.Connector.returned l.fn.self.connector) []
     (g.K.Connector.stock l.fn.self.connector))
     × (g.K.Connector.out l.self.connector

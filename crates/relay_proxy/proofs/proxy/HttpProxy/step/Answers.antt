@@ -2,6 +2,7 @@
 use Rattle.relay_proxy.proofs.StepLemmas.{step_on, settled_cause}
 use Rattle.relay_proxy.proofs.proxy.HttpProxy.step.Goals as goal
 
+-- a turn that was settled is a step
 pub returns-clause-steps : goal.returns-clause-steps
 returns-clause-steps g c = λ s p own run.
     rw (c.settle-settled.ensures.faults, c.settle-settled.ensures.refusals, c.put.ensures)
@@ -13,6 +14,7 @@ returns-clause-steps g c = λ s p own run.
     c.take_turn-phase.ensures.returned c.settle-settled.ensures.settles
     (rw c.replace-phase.ensures.value at c.take_turn-phase.ensures.refusals) run)
 
+-- its cause is that of the turn
 pub returns-clause-cause : goal.returns-clause-cause
 returns-clause-cause g c =
     rw (c.settle-settled.ensures.faults, c.put.ensures)

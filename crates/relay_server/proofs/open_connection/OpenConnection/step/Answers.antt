@@ -27,13 +27,15 @@ pub returns-clause-goes : goal.returns-clause-goes
 returns-clause-goes g c = λ before rest goes serves.
     goes_on g.K.Byte.ByteLink.state g.K.Byte.ByteLink.start g.D.ByteLink.state before
     (books g.K.Connector.returned g.K.Connector.fault_count c.args.proxy.now) _
-    (record { client = c.self.inside.client; phase = c.self.inside.machine.machine.phase }) _ rest _ _
-    (rw c.self.view_is serves) (turn g c) (c.step-step.ensures.ended ∙ sym c.is_end.ensures ∙ goes)
+    (record { client = c.self.inside.client; phase = c.self.inside.machine.machine.phase })
+    _ rest _ _ (rw c.self.view_is serves) (turn g c)
+    (c.step-step.ensures.ended ∙ sym c.is_end.ensures ∙ goes)
 
 -- one that ends it leaves it at its end
 pub returns-clause-ends : goal.returns-clause-ends
 returns-clause-ends g c = λ before rest ends serves.
     ends_now g.K.Byte.ByteLink.state g.K.Byte.ByteLink.start g.D.ByteLink.state before
     (books g.K.Connector.returned g.K.Connector.fault_count c.args.proxy.now) _
-    (record { client = c.self.inside.client; phase = c.self.inside.machine.machine.phase }) _ rest _ _
-    (rw c.self.view_is serves) (turn g c) (c.step-step.ensures.ended ∙ sym c.is_end.ensures ∙ ends)
+    (record { client = c.self.inside.client; phase = c.self.inside.machine.machine.phase })
+    _ rest _ _ (rw c.self.view_is serves) (turn g c)
+    (c.step-step.ensures.ended ∙ sym c.is_end.ensures ∙ ends)
