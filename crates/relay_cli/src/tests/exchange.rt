@@ -1,10 +1,9 @@
 //! One GET over links that give and take it in any pieces, and that fail at any call.
-use super::support::{Failing, Ran, cut_in_two, push_bytes, run, slow_link};
+use super::support::{Failing, cut_in_two, push_bytes, run, run_items, slow_link};
 use bytes::Bytes;
 use relay_links::{ListSchedule, ReadItem, ScriptLink};
 use relay_tasks::{ErrorSource, ErrorType};
 use std::alloc::Global;
-use std::process::Abort;
 use std::test::Fail;
 
 const REQUEST: &[u8] = b"GET /a HTTP/1.1\r\nHost: h.example\r\n\r\n";
@@ -14,11 +13,6 @@ const RESPONSE: &[u8] = b"HTTP/1.1 200 OK\r\nContent-Length: 2\r\n\r\nhi";
 const SENT: &[u8] = b"GET /a HTTP/1.1\r\nhost: h.example\r\n\r\n";
 
 const WRITTEN: &[u8] = b"HTTP/1.1 200 OK\r\ncontent-length: 2\r\n\r\nhi";
-
-/// Runs one request between these links. The schedule names no branch.
-fn exchange(alloc: Global, client: ScriptLink, peer: ScriptLink) -> Result<Ran, Fail> {
-    run(alloc, client, peer, ListSchedule::new(Vec::new(alloc)))
-}
 
 /// Three items that give these bytes, cut at these places.
 fn cut_in_three(
@@ -44,20 +38,20 @@ fn cut_in_three(
     Ok(items)
 }
 
+/// Whether one GET is relayed where both its texts are cut at that place.
+fn relays_cut(alloc: Global, cut: usize) -> Result<bool, Fail> {
+    let ran = run_items(
+        alloc,
+        cut_in_two(alloc, REQUEST, cut)?,
+        cut_in_two(alloc, RESPONSE, cut)?,
+    )?;
+    Ok(ran.is_relayed(WRITTEN, SENT))
+}
+
 #[test]
 fn relays_the_same_whatever_the_cuts(rt: HostRuntime) -> Result<(), Fail> {
-    let alloc = rt.alloc();
     for cut in 1..REQUEST.len() + RESPONSE.len() {
-        let client = cut_in_two(alloc, REQUEST, cut)?;
-        let peer = cut_in_two(alloc, RESPONSE, cut)?;
-        let ran = exchange(
-            alloc,
-            ScriptLink::new(alloc, client, Vec::new(alloc)),
-            ScriptLink::new(alloc, peer, Vec::new(alloc)),
-        )?;
-        assert!(rt; ran.is_whole(), "cut at {cut}");
-        assert!(rt; ran.written.as_slice() == WRITTEN, "cut at {cut}");
-        assert!(rt; ran.sent.as_slice() == SENT, "cut at {cut}");
+        assert!(rt; relays_cut(rt.alloc(), cut)?, "cut at {cut}");
     }
     Ok(())
 }
@@ -90,31 +84,31 @@ fn pieces_before(place: usize, cut: usize) -> usize {
     (cut - place).min(5)
 }
 
+const CHUNKED: &[u8] =
+    b"HTTP/1.1 200 OK\r\nTransfer-Encoding: chunked\r\n\r\n5;x=1\r\nhello\r\n0\r\ny: 2\r\n\r\n";
+
+/// Where the body stands in it.
+const BODY: usize = 54;
+
+/// Whether a response in chunks that is cut at these places is relayed.
+fn relays_chunks_cut(alloc: Global, first: usize, second: usize) -> Result<bool, Fail> {
+    let ran = run_items(
+        alloc,
+        cut_in_two(alloc, REQUEST, REQUEST.len())?,
+        cut_in_three(alloc, CHUNKED, first, second)?,
+    )?;
+    let front = pieces_before(BODY, first);
+    let both = pieces_before(BODY, second);
+    let text = written_in_chunks(alloc, [front, both.saturating_sub(front), 5])?;
+    Ok(ran.is_relayed(&text, SENT))
+}
+
 #[test]
 fn relays_chunks_whatever_the_cuts(rt: HostRuntime) -> Result<(), Fail> {
-    let alloc = rt.alloc();
-    let response =
-        b"HTTP/1.1 200 OK\r\nTransfer-Encoding: chunked\r\n\r\n5;x=1\r\nhello\r\n0\r\ny: 2\r\n\r\n";
-    // where the body stands in the response
-    let place = 54;
-    for first in 1..response.len() {
-        for second in first..response.len() {
-            let peer = cut_in_three(alloc, response, first, second)?;
-            let ran = exchange(
-                alloc,
-                ScriptLink::new(
-                    alloc,
-                    cut_in_two(alloc, REQUEST, REQUEST.len())?,
-                    Vec::new(alloc),
-                ),
-                ScriptLink::new(alloc, peer, Vec::new(alloc)),
-            )?;
-            let front = pieces_before(place, first);
-            let both = pieces_before(place, second);
-            let text = written_in_chunks(alloc, [front, both.saturating_sub(front), 5])?;
-            assert!(rt; ran.is_whole(), "cut at {first} and {second}");
+    for first in 1..CHUNKED.len() {
+        for second in first..CHUNKED.len() {
             assert!(rt;
-                ran.written.as_slice() == text.as_slice(),
+                relays_chunks_cut(rt.alloc(), first, second)?,
                 "cut at {first} and {second}"
             );
         }
@@ -122,25 +116,30 @@ fn relays_chunks_whatever_the_cuts(rt: HostRuntime) -> Result<(), Fail> {
     Ok(())
 }
 
+const INFORMED: &[u8] = b"HTTP/1.1 100 Continue\r\n\r\nHTTP/1.1 103 Early Hints\r\na: b\r\n\r\n\
+    HTTP/1.1 200 OK\r\nContent-Length: 2\r\n\r\nhi";
+
+const INFORMED_WRITTEN: &[u8] =
+    b"HTTP/1.1 100 Continue\r\n\r\nHTTP/1.1 103 Early Hints\r\na: b\r\n\r\n\
+    HTTP/1.1 200 OK\r\ncontent-length: 2\r\n\r\nhi";
+
+/// Whether heads that only inform are handed on where the response is cut at that place, to a
+/// client that takes it five bytes at a time.
+fn hands_on_cut(alloc: Global, cut: usize) -> Result<bool, Fail> {
+    let peer = cut_in_two(alloc, INFORMED, cut)?;
+    let ran = run(
+        alloc,
+        byte_link(alloc, REQUEST, Failing::No)?,
+        ScriptLink::new(alloc, peer, Vec::new(alloc)),
+        ListSchedule::new(Vec::new(alloc)),
+    )?;
+    Ok(ran.is_relayed(INFORMED_WRITTEN, SENT))
+}
+
 #[test]
 fn hands_heads_on_whatever_the_cuts(rt: HostRuntime) -> Result<(), Fail> {
-    let alloc = rt.alloc();
-    let response = b"HTTP/1.1 100 Continue\r\n\r\nHTTP/1.1 103 Early Hints\r\na: b\r\n\r\n\
-        HTTP/1.1 200 OK\r\nContent-Length: 2\r\n\r\nhi";
-    let written = b"HTTP/1.1 100 Continue\r\n\r\nHTTP/1.1 103 Early Hints\r\na: b\r\n\r\n\
-        HTTP/1.1 200 OK\r\ncontent-length: 2\r\n\r\nhi";
-    for cut in 1..response.len() {
-        let peer = cut_in_two(alloc, response, cut)?;
-        let ran = exchange(
-            alloc,
-            byte_link(alloc, REQUEST, Failing::No)?,
-            ScriptLink::new(alloc, peer, Vec::new(alloc)),
-        )?;
-        assert!(rt; ran.is_whole(), "cut at {cut}");
-        assert!(rt;
-            ran.written.as_slice() == written.as_slice(),
-            "cut at {cut}"
-        );
+    for cut in 1..INFORMED.len() {
+        assert!(rt; hands_on_cut(rt.alloc(), cut)?, "cut at {cut}");
     }
     Ok(())
 }
@@ -152,42 +151,60 @@ fn byte_link(alloc: Global, bytes: &[u8], failing: Failing) -> Result<ScriptLink
     Ok(slow_link(alloc, items, failing)?)
 }
 
-/// Checks that an exchange failed by this type on this side, and passed no wrong byte.
-fn assert_failed(
-    rt: &impl Abort,
-    ran: &Ran,
-    kind: ErrorType,
-    side: ErrorSource,
-) -> Result<(), Fail> {
-    let error = ran.outcome.error().ok_or("no error")?;
-    assert!(rt; error.etype == kind);
-    assert!(rt; error.esource == side);
-    assert!(rt; WRITTEN.starts_with(&ran.written));
-    assert!(rt; SENT.starts_with(&ran.sent));
-    assert!(rt; ran.written.len() < WRITTEN.len());
+/// Whether one GET over links that fail as they are told ends by that error, and no wrong byte
+/// passed.
+fn fails_by(
+    alloc: Global,
+    client: Failing,
+    peer: Failing,
+    error: (ErrorType, ErrorSource),
+) -> Result<bool, Fail> {
+    let ran = run(
+        alloc,
+        byte_link(alloc, REQUEST, client)?,
+        byte_link(alloc, RESPONSE, peer)?,
+        ListSchedule::new(Vec::new(alloc)),
+    )?;
+    Ok(
+        ran.failure() == Some(error)
+            && WRITTEN.starts_with(&ran.written)
+            && SENT.starts_with(&ran.sent)
+            && ran.written.len() < WRITTEN.len(),
+    )
+}
+
+/// Whether a call of the client's link that fails is told as its fault.
+fn tells_client(alloc: Global, call: Failing, kind: ErrorType) -> Result<bool, Fail> {
+    fails_by(alloc, call, Failing::No, (kind, ErrorSource::Downstream))
+}
+
+/// Whether a call of the peer's link that fails is told as its fault.
+fn tells_peer(alloc: Global, call: Failing, kind: ErrorType) -> Result<bool, Fail> {
+    fails_by(alloc, Failing::No, call, (kind, ErrorSource::Upstream))
+}
+
+#[test]
+fn fails_at_every_read(rt: HostRuntime) -> Result<(), Fail> {
+    let alloc = rt.alloc();
+    for call in 0..REQUEST.len() {
+        let told = tells_client(alloc, Failing::Read(call), ErrorType::ReadError)?;
+        assert!(rt; told, "at read {call} of the client");
+    }
+    for call in 0..RESPONSE.len() {
+        let told = tells_peer(alloc, Failing::Read(call), ErrorType::ReadError)?;
+        assert!(rt; told, "at read {call} of the peer");
+    }
     Ok(())
 }
 
 #[test]
-fn fails_at_every_read_and_write(rt: HostRuntime) -> Result<(), Fail> {
+fn fails_at_every_write(rt: HostRuntime) -> Result<(), Fail> {
     let alloc = rt.alloc();
-    for call in 0..REQUEST.len() {
-        let client = byte_link(alloc, REQUEST, Failing::Read(call))?;
-        let ran = exchange(alloc, client, byte_link(alloc, RESPONSE, Failing::No)?)?;
-        assert_failed(&rt, &ran, ErrorType::ReadError, ErrorSource::Downstream)?;
-    }
-    for call in 0..RESPONSE.len() {
-        let peer = byte_link(alloc, RESPONSE, Failing::Read(call))?;
-        let ran = exchange(alloc, byte_link(alloc, REQUEST, Failing::No)?, peer)?;
-        assert_failed(&rt, &ran, ErrorType::ReadError, ErrorSource::Upstream)?;
-    }
     for call in 0..8usize {
-        let client = byte_link(alloc, REQUEST, Failing::Write(call))?;
-        let ran = exchange(alloc, client, byte_link(alloc, RESPONSE, Failing::No)?)?;
-        assert_failed(&rt, &ran, ErrorType::WriteError, ErrorSource::Downstream)?;
-        let peer = byte_link(alloc, RESPONSE, Failing::Write(call))?;
-        let ran = exchange(alloc, byte_link(alloc, REQUEST, Failing::No)?, peer)?;
-        assert_failed(&rt, &ran, ErrorType::WriteError, ErrorSource::Upstream)?;
+        let told = tells_client(alloc, Failing::Write(call), ErrorType::WriteError)?;
+        assert!(rt; told, "at write {call} to the client");
+        let told = tells_peer(alloc, Failing::Write(call), ErrorType::WriteError)?;
+        assert!(rt; told, "at write {call} to the peer");
     }
     Ok(())
 }

@@ -8,8 +8,6 @@ use relay_links::{
 use relay_proxy::{HttpProxy, NoHooks, Outcome, Outside, ServerConf};
 use relay_tasks::{ErrorSource, ErrorType, Fault, FaultKind, Purged, RetryType};
 use std::alloc::{AllocError, Global};
-use std::process::Abort;
-use std::str;
 use std::test::Fail;
 
 /// What a request came to: its outcome, what the client and the peer took, whether the peer's link
@@ -25,29 +23,23 @@ pub(super) struct Ran {
 }
 
 impl Ran {
-    /// What the client took, as a text.
-    pub(super) fn written(&self) -> &str {
-        str::from_utf8(&self.written).unwrap_or("no text")
-    }
-
-    /// What the peer took, as a text.
-    pub(super) fn sent(&self) -> &str {
-        str::from_utf8(&self.sent).unwrap_or("no text")
-    }
-
     /// The type and the side of the error that the outcome gives.
     pub(super) fn failure(&self) -> Option<(ErrorType, ErrorSource)> {
         let error = self.outcome.error()?;
         Some((error.etype, error.esource))
     }
 
-    /// Whether it was served without an error, the client goes back, and the link was kept.
-    pub(super) fn is_whole(&self) -> bool {
+    /// Whether it was relayed with these bytes and without an error, the client goes back, and the
+    /// link was kept.
+    pub(super) fn is_relayed(&self, written: &[u8], sent: &[u8]) -> bool {
         let whole = Outcome::Served {
             error: None,
             reuse: true,
         };
-        self.outcome == whole && self.kept
+        self.outcome == whole
+            && self.kept
+            && self.written.as_slice() == written
+            && self.sent.as_slice() == sent
     }
 }
 
@@ -114,9 +106,9 @@ pub(super) fn run_items(
     )
 }
 
-/// One item with that text.
-pub(super) fn text(bytes: &'static str) -> ReadItem {
-    ReadItem::Bytes(Bytes::from_static(bytes.as_bytes()))
+/// One item with these bytes.
+pub(super) fn bytes_item(bytes: &'static [u8]) -> ReadItem {
+    ReadItem::Bytes(Bytes::from_static(bytes))
 }
 
 /// Adds one item for each byte.
@@ -198,43 +190,4 @@ pub(super) fn only(
         branches.push(branch)?;
     }
     Ok(ListSchedule::new(branches))
-}
-
-/// Checks that a request was relayed whole, with these texts.
-pub(super) fn assert_relayed(
-    rt: &impl Abort,
-    ran: &Ran,
-    written: &str,
-    sent: &str,
-) -> Result<(), Fail> {
-    assert_eq!(rt; ran.written(), written);
-    assert_eq!(rt; ran.sent(), sent);
-    assert_eq!(rt; ran.failure(), None);
-    assert!(rt; ran.is_whole());
-    Ok(())
-}
-
-/// Checks that a request was served with such an error and these texts: its client does not go
-/// back, and the link was not kept.
-pub(super) fn assert_broken_off(
-    rt: &impl Abort,
-    ran: &Ran,
-    side: ErrorSource,
-    written: &str,
-    sent: &str,
-) -> Result<(), Fail> {
-    assert_eq!(rt; ran.written(), written);
-    assert_eq!(rt; ran.sent(), sent);
-    assert_eq!(rt; ran.failure(), Some((ErrorType::ConnectionClosed, side)));
-    assert!(rt;
-        matches!(
-            ran.outcome,
-            Outcome::Served {
-                error: Some(_),
-                reuse: false
-            }
-        )
-    );
-    assert!(rt; !ran.kept);
-    Ok(())
 }
