@@ -1,7 +1,10 @@
-//! Each hook once for each application, and the answers to errors of every kind and source.
+//! Each hook once for each application, the answers to errors of every kind and source, each call
+//! of a session with modules, and the order of calls at logs that are written by hand.
 
 mod app;
 mod calls;
 mod default_app;
 mod errors;
+mod modules;
+mod orders;
 mod scripted;

@@ -9,8 +9,6 @@ mod failing;
 mod filters;
 mod hooks;
 mod purge;
-#[cfg(test)]
-mod tests;
 
 pub use app::{App, Counted};
 pub use default_app::Defaults;

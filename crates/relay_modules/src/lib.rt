@@ -6,8 +6,6 @@ mod filtering;
 mod module;
 mod seen;
 mod session;
-#[cfg(test)]
-mod tests;
 
 pub use filtering::{filter_task, filter_tasks};
 pub use module::{HttpModule, NoModules};

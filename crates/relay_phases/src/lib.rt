@@ -10,8 +10,6 @@ mod message;
 mod modules;
 mod purge;
 mod settled;
-#[cfg(test)]
-mod tests;
 
 pub use attempt::{
     call_connected_to_upstream, call_custom_forwarding, call_error_while_proxy,

@@ -4,7 +4,7 @@ use crate::tests::calls;
 use bytes::Bytes;
 use http::Method;
 use relay_hooks::Defaults;
-use relay_hooks::defaults::is_idempotent;
+use relay_hooks::defaults::{answer_code, is_idempotent};
 use relay_tasks::{Error, ErrorSource, ErrorType, Peer, Result, RetryType};
 use std::alloc::Global;
 
@@ -75,6 +75,17 @@ fn answers_each_kind_by_its_side(rt: HostRuntime) {
                 Ok((want, queued)),
                 "{etype:?} {side:?}"
             );
+        }
+    }
+}
+
+#[test]
+fn tells_the_status_of_each_kind_by_its_side(rt: HostRuntime) {
+    for (etype, up, down, own) in ANSWERS {
+        let wants = [up, down, own, own];
+        for (side, want) in SIDES.into_iter().zip(wants) {
+            let code = answer_code(&error_of(etype, side));
+            assert_eq!(rt; code, want, "{etype:?} {side:?}");
         }
     }
 }

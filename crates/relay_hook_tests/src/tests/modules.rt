@@ -1,13 +1,13 @@
-//! Each public call once with ample memory, over a module that rewrites what passes.
+//! Each public call of a session with modules once with ample memory, over a module that rewrites
+//! what passes.
 ghost use Rattle.std.specs.Prelude.{◌≡◌};
 
-use crate::module::HttpModule;
-use crate::session::Session;
 use bytes::Bytes;
 use http::Method;
 use http_header::{CONTENT_LENGTH, HeaderMap, HeaderValue, TRANSFER_ENCODING, VIA};
 use relay_h1::{Connection, Framing};
 use relay_links::{Put, ScriptLink, WriteItem};
+use relay_modules::{HttpModule, Session};
 use relay_session::HttpSession;
 use relay_tasks::{
     Context, Error, ErrorType, Fail, HttpTask, RequestHeader, ResponseHeader, Result, TaskList,
