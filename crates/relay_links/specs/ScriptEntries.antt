@@ -1,11 +1,10 @@
 -- What a connector that hands out listed links has left.
-use Rattle.std.specs.Prelude.{◌≡◌, ℕ, ◌-◌, false, cond, nat_le, List, [], ◌∷◌, ◌++◌, replicate, vec_len, Option, Some, None}
+use Rattle.std.specs.Prelude.{◌≡◌, ℕ, ◌-◌, false, cond, nat_le, List, [], ◌∷◌, ◌++◌, map, replicate, vec_len, Option, Some, None, Ok, Err}
 use Rattle.relay_tasks.specs.declared.error.RetryType.{RetryType}
 use Rattle.relay_tasks.specs.declared.error.RetryType.TheVariants.{Decided}
 use Rattle.relay_tasks.specs.declared.fault.Fault.{Fault}
-use Rattle.relay_links.specs.Connector.{connect_fault}
+use Rattle.relay_links.specs.Connector.{Offer, connect_fault}
 use Rattle.relay_links.specs.Count.{last_count}
-use Rattle.relay_links.specs.Link.{LinkItems}
 use Rattle.relay_links.specs.ScriptLink.{script_start}
 use Rattle.relay_links.specs.declared.script_link.ScriptLink.{ScriptLink}
 use Rattle.relay_links.specs.declared.connector.Returned.{Returned}
@@ -20,19 +19,18 @@ next_entries connector = connector.entries.items
 abbrev pub links_returned : ScriptConnector → List (Returned ScriptLink)
 links_returned connector = connector.returned.items
 
--- the items of the links that these entries hand out, in order; an entry with a mark hands out none
-abbrev pub items_offered : Option RetryType → ScriptLink → List (Option LinkItems)
-    → List (Option LinkItems)
-items_offered None link behind = (script_start link).items ∷ behind
-items_offered (Some retry) link behind = behind
+-- a mark's fault, or else the link
+abbrev pub entry_offer : Option RetryType → ScriptLink → Offer
+entry_offer None link = Ok (script_start link).items
+entry_offer (Some retry) link = Err (connect_fault retry)
 
-abbrev pub entry_items : List PeerScript → List (Option LinkItems)
-entry_items [] = []
-entry_items (entry ∷ entries) = items_offered entry.connect entry.link (entry_items entries)
+-- what an entry is for: a fault where it has a mark for one, and else its link
+abbrev pub offer_of : PeerScript → Offer
+offer_of entry = entry_offer entry.connect entry.link
 
--- the items of the links that the connector will hand out
-abbrev pub items_left : ScriptConnector → List (Option LinkItems)
-items_left connector = entry_items (next_entries connector)
+-- what the connector has for the calls to come
+abbrev pub offers_left : ScriptConnector → List Offer
+offers_left connector = map offer_of (next_entries connector)
 
 -- how many links are out
 abbrev pub links_out : ScriptConnector → ℕ

@@ -1,7 +1,7 @@
 //! A connector in memory that hands out listed links, and keeps each link that comes back.
-ghost use Rattle.std.specs.Prelude.{◌≡◌, ◌+◌, ◌≤◌, ◌<◌, [], ◌∷◌, drop, Some, IfOk, IfErr, OnOk, IsOkUnless, is_ok, if◌then◌else◌, vec_len, vec_capacity};
+ghost use Rattle.std.specs.Prelude.{◌≡◌, ◌+◌, ◌≤◌, ◌<◌, [], ◌∷◌, drop, Some, Ok, IfOk, IfErr, OnOk, IsOkUnless, is_ok, if◌then◌else◌, vec_len, vec_capacity};
 ghost use Rattle.std.specs.VecDeque.{deque_len};
-ghost use Rattle.relay_links.specs.Connector.{IsConnectFault};
+ghost use Rattle.relay_links.specs.Connector.{Refuses, IsConnectFault};
 ghost use Rattle.relay_links.specs.Count.{last_count, Rose};
 ghost use Rattle.relay_links.specs.Told.{more, Gains};
 ghost use Rattle.relay_links.specs.Link.{IsHandedOut};
@@ -79,11 +79,11 @@ impl ScriptConnector {
 impl Connector for ScriptConnector {
     type Byte = ScriptLink;
 
-    ghost use Rattle.relay_links.specs.ScriptEntries.{next_entries, links_returned, items_left, faults_answered, links_out, gets_failed};
+    ghost use Rattle.relay_links.specs.ScriptEntries.{next_entries, links_returned, offers_left, faults_answered, links_out, gets_failed};
 
     ghost returned = { λ connector. Some (links_returned connector) };
 
-    ghost stock = { λ connector. Some (items_left connector) };
+    ghost stock = { λ connector. Some (offers_left connector) };
 
     ghost refusals = { faults_answered };
 
@@ -97,9 +97,10 @@ impl Connector for ScriptConnector {
         ensures out { links_out self.new
             ≡ (if is_ok result then links_out self.old + 1 else links_out self.old) }
         ensures returned { links_returned self.new ≡ links_returned self.old }
-        ensures first { IfOk result (λ got. items_left self.old
-            ≡ (script_start got.0).items ∷ items_left self.new) }
-        ensures stays { IfErr result (λ _. items_left self.new ≡ items_left self.old) }
+        ensures first { IfOk result (λ got. offers_left self.old
+            ≡ Ok (script_start got.0).items ∷ offers_left self.new) }
+        ensures foretold { IfErr result (λ fault.
+            Refuses (Some (offers_left self.old)) fault (Some (offers_left self.new))) }
         ensures calm { OnOk result (faults_answered self.new ≡ faults_answered self.old) }
         ensures refused { IfErr result (λ fault.
             Gains (faults_answered self.old) (fault ∷ []) (faults_answered self.new)) }
