@@ -1,15 +1,13 @@
 -- What is taken of the offers of a connector adds up.
-use Rattle.std.proofs.Common.{◌≡◌, List, [], ◌∷◌, ◌++◌, map, Option, Some, None, Ok, Err, option_map, refl, sym, ap, subst, ◌∙◌, append-nil}
+use Rattle.std.proofs.Common.{◌≡◌, List, [], ◌∷◌, ◌++◌, map, Option, Some, None, Ok, Err, option_map, refl, sym, ap, subst, ◌∙◌}
 use Rattle.relay_tasks.specs.declared.Fault.{Fault}
 use Rattle.relay_links.specs.Connector.{Offer, links_of, Refuses}
-use Rattle.relay_links.specs.Link.{LinkState, LinkStart, LinkItems}
+use Rattle.relay_links.specs.Link.{LinkStart, LinkItems}
 use Rattle.relay_links.specs.declared.Returned.{Returned}
-use Rattle.relay_proxy.specs.Taken.{AreNext, Takes, offers_for, offers_before, offers_of_turn}
+use Rattle.relay_proxy.specs.Taken.{AreNext, Takes, offers_before}
 use Rattle.relay_proxy.specs.Refusals.{faults_before}
 use Rattle.relay_proxy.specs.Stock.{items_held, items_back, all_items}
-use Rattle.relay_proxy.specs.Turn.{links_held, is_over}
 use Rattle.relay_proxy.specs.declared.machine.Phase.{Phase}
-use Rattle.relay_proxy.specs.declared.machine.Phase.TheVariants.{ReadHead, Refuse, Connect, Relay, Close, Ended}
 
 -- where the connector was not asked nothing is taken
 pub takes_none : (before after : Option (List Offer)) → after ≡ before → Takes before [] after

@@ -10,7 +10,7 @@ use Rattle.relay_tasks.specs.declared.Fault.{Fault}
 use Rattle.relay_tasks.specs.declared.took.Pause.TheVariants.{NotReady, Silent}
 use Rattle.relay_attempt.specs.Passed.{Passed}
 use Rattle.relay_proxy.specs.Passed.{World, Start, start_of, nothing}
-use Rattle.relay_proxy.specs.Taken.{Takes, offers_for, offers_before}
+use Rattle.relay_proxy.specs.Taken.{Takes, offers_before}
 use Rattle.relay_proxy.specs.Phases.{RunSoFar}
 use Rattle.relay_proxy.specs.Refusals.{faults_before}
 use Rattle.relay_proxy.specs.Request.{is_stop, Counts, StepsOn, ComesToEnd, Processes}
@@ -84,16 +84,16 @@ module _ {L C : Type 0} (state : L → LinkState) (start_at : L → LinkStart) w
       → IsUnderWay (start_of w) x before now told_before told_now had has m 0
   begun w x before now told_before told_now had has m same told kept run going unlinked none =
       record {
-    passed = nothing;
-    own = [];
-    gained = same ∙ more-nil before;
-    run = run;
-    refused = subst (λ (fs : List Fault). Gains told_before fs told_now)
-        (sym (none_before m.phase going)) (Gains-nothing told_before told_now told);
-    offered = takes_nothing (offers_before start_at [] m.phase) had has
-        (none_taken m.phase going unlinked) kept;
-    counted = none;
-  }
+        passed = nothing;
+        own = [];
+        gained = same ∙ more-nil before;
+        run = run;
+        refused = subst (λ (fs : List Fault). Gains told_before fs told_now)
+            (sym (none_before m.phase going)) (Gains-nothing told_before told_now told);
+        offered = takes_nothing (offers_before start_at [] m.phase) had has
+            (none_taken m.phase going unlinked) kept;
+        counted = none;
+      }
 
   -- one more step that is counted
   pub goes_on : (s : Start) (w x : World) (before now after : Option (List (Returned L)))
@@ -128,22 +128,22 @@ module _ {L C : Type 0} (state : L → LinkState) (start_at : L → LinkStart) w
       → Processes state start_at s x before after t v h l most processed
   all_taken s w x before now after t u v h k l m turns most processed under all ends told kept
       taken = record {
-    passed = under.passed;
-    own = under.own ++ ends.handed;
-    gained = ends.gained
-        ∙ ap (λ (t : Option (List (Returned L))). more t ends.handed) under.gained
-        ∙ more-more before under.own ends.handed;
-    ended = ends.ended;
-    refused = subst (λ (fs : List Fault). Gains t fs v) (sym ends.refused)
-        (subst (λ (o : Option (List Fault)). Gains t (faults_before under.own m.phase) o) (sym told)
-        under.refused);
-    offered = subst (λ (os : List Offer). Takes h os l) (sym ends.offered)
-        (subst (λ (o : Option (List Offer)). Takes h (offers_before start_at under.own m.phase) o)
-        (sym kept) under.offered);
-    exact = exact_of state start_at s under.passed x (under.own ++ ends.handed)
-        processed.history.attempts processed.outcome ends.ended;
-    limit = λ is. inl (taken ∙ under.counted ∙ sym all);
-  }
+        passed = under.passed;
+        own = under.own ++ ends.handed;
+        gained = ends.gained
+            ∙ ap (λ (t : Option (List (Returned L))). more t ends.handed) under.gained
+            ∙ more-more before under.own ends.handed;
+        ended = ends.ended;
+        refused = subst (λ (fs : List Fault). Gains t fs v) (sym ends.refused)
+            (subst (λ (o : Option (List Fault)). Gains t (faults_before under.own m.phase) o) (sym told)
+            under.refused);
+        offered = subst (λ (os : List Offer). Takes h os l) (sym ends.offered)
+            (subst (λ (o : Option (List Offer)). Takes h (offers_before start_at under.own m.phase) o)
+            (sym kept) under.offered);
+        exact = exact_of state start_at s under.passed x (under.own ++ ends.handed)
+            processed.history.attempts processed.outcome ends.ended;
+        limit = λ is. inl (taken ∙ under.counted ∙ sym all);
+      }
 
   -- the end of a request after a step that ended it, or that met silence
   pub stopped : (s : Start) (w x y : World) (before now mid after : Option (List (Returned L)))

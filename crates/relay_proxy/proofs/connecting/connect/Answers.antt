@@ -1,11 +1,11 @@
 -- Over a link that the connector gave the exchange begins; where it gave none, its count rose.
-use Rattle.std.proofs.Common.{◌∷◌, [], List, Err, refl, sym, subst}
+use Rattle.std.proofs.Common.{◌∷◌, [], List, Err, sym, subst}
 use Rattle.relay_tasks.specs.declared.Fault.{Fault}
 use Rattle.relay_links.specs.Connector.{Offer}
 use Rattle.relay_proxy.specs.Taken.{Takes}
 use Rattle.relay_proxy.specs.Turn.{world_with}
 use Rattle.relay_proxy.proofs.ConnectSteps.{not_connected}
-use Rattle.relay_proxy.proofs.TakenLemmas.{takes_none, takes_link, takes_fault, held_offers}
+use Rattle.relay_proxy.proofs.TakenLemmas.{takes_link, takes_fault, held_offers}
 use Rattle.relay_proxy.proofs.RefusalLemmas.{none_added, one_added, none_before_link, is_its_fault}
 use Rattle.relay_proxy.proofs.connecting.connect.Goals as goal
 

@@ -1,5 +1,5 @@
 -- A turn that does not ask the connector leaves its count of faults as it was.
-use Rattle.std.proofs.Common.{refl}
+use Rattle.std.proofs.Common.{refl, sym}
 use Rattle.relay_proxy.proofs.RefusalLemmas.{none_added, none_before_link}
 use Rattle.relay_proxy.proofs.TakenLemmas.{takes_none, takes_nothing, one_out, held_offers, no_offers}
 use Rattle.relay_proxy.proofs.turn.take_turn.Goals as goal

@@ -5,8 +5,12 @@ use Rattle.relay_proxy.proofs.proxy.HttpProxy.step.Goals as goal
 -- a turn that was settled is a step
 pub returns-clause-steps : goal.returns-clause-steps
 returns-clause-steps g c = λ s p own run.
-    rw (c.settle-settled.ensures.faults, c.settle-settled.ensures.refusals,
-    c.settle-settled.ensures.offers, c.put.ensures)
+    rw (
+      c.settle-settled.ensures.faults,
+      c.settle-settled.ensures.refusals,
+      c.settle-settled.ensures.offers,
+      c.put.ensures,
+    )
     (step_on g.K.Byte.ByteLink.state g.K.Byte.ByteLink.start s p own _ _
     c.args.machine.now.machine.phase c.take_turn-phase.result.phase c.settle-settled.result
     c.take_turn-phase.result.step _ _ _ _ _ _ _
