@@ -11,3 +11,4 @@ pub mod Refusals
 pub mod Request
 pub mod Reuse
 pub mod Stock
+pub mod Taken
