@@ -159,6 +159,13 @@ impl<L> H1Client<L> {
 }
 
 impl<L> H1Client<L> {
+    /// The link.
+    pub fn link(&self) -> &L
+        ensures { result.now ≡ self.now.link }
+    {
+        &self.link
+    }
+
     /// The link alone. What is queued and what was read ahead is dropped.
     pub fn into_link(self) -> L
         ensures { result ≡ self.link }

@@ -33,6 +33,8 @@ Speaks answer = (why : Pause) → answer ≡ took.Waited why → ⊥
 link_stays : (before after : LinkState) (answer : Took (List ℕ)) → Speaks answer → after ≡ before
     → ReadsLink before after answer
 link_stays before after answer speaks same = rw same (record {
+  asks = inr refl;
+  used = λ is. absurd (speaks NotReady is);
   taken = refl;
   faults = le_refl before.faults;
   calm = λ none. refl;
@@ -47,6 +49,8 @@ link_stays before after answer speaks same = rw same (record {
 link_gave : (before after : LinkState) (came : List ℕ) (answer : Took (List ℕ)) → Speaks answer
     → Gave before after came → ReadsLink before after answer
 link_gave before after came answer speaks gave = record {
+  asks = inl gave.gives.used;
+  used = λ is. absurd (speaks NotReady is);
   taken = gave.gives.taken;
   faults = rw gave.gives.faults (le_refl before.faults);
   calm = λ none. gave.gives.faults;
@@ -70,6 +74,8 @@ link_comes still_open before after came answer speaks (front.Comes.one_read _ wa
 link_waits : (before after : LinkState) → WaitsOnRead before after
     → ReadsLink before after (took.Waited NotReady)
 link_waits before after waits = record {
+  asks = inl waits.used;
+  used = λ is. waits.used;
   taken = waits.taken;
   faults = rw waits.faults (le_refl before.faults);
   calm = λ none. waits.faults;
@@ -84,6 +90,8 @@ link_waits before after waits = record {
 link_silent : (before after : LinkState) → IsSilentOnRead before after
     → ReadsLink before after (took.Waited Silent)
 link_silent before after silent = rw silent.same (record {
+  asks = inr refl;
+  used = λ is. cc;
   taken = refl;
   faults = le_refl before.faults;
   calm = λ none. refl;
@@ -98,6 +106,8 @@ link_silent before after silent = rw silent.same (record {
 link_ends : (before after : LinkState) (answer : Took (List ℕ)) → Speaks answer
     → EndsRead before after → ReadsLink before after answer
 link_ends before after answer speaks ends = record {
+  asks = inl ends.used;
+  used = λ is. absurd (speaks NotReady is);
   taken = ends.taken;
   faults = rw ends.faults (le_refl before.faults);
   calm = λ none. ends.faults;
@@ -125,6 +135,8 @@ link_fails : (before after : LinkState) (fault : Fault) (error : Error)
     → FailsRead before fault after → error ≡ link_fault fault
     → ReadsLink before after (took.Failed (fail.Error error))
 link_fails before after fault error fails is = record {
+  asks = inl fails.used;
+  used = λ waits. absurd (fails_speaking error NotReady waits);
   taken = fails.taken;
   faults = not_fallen before.faults after.faults fails.sound_before.faults_fit fails.faults;
   calm = λ none. absurd (none error refl);

@@ -243,10 +243,13 @@ pub data AddsFault (before after : LinkState) (answer : Took (List ℕ)) : Type 
   one_came : (fault : Fault) → after.read_faults ≡ more before.read_faults (fault ∷ [])
       → answer ≡ took.Failed (fail.Error (link_fault fault)) → AddsFault before after answer
 
--- of the link: no byte was taken, its count of faults does not fall, and a sound link stays sound;
--- where the answer is NotReady, it was counted; where it is Silent, the link is silent on a read and
--- stays as it was. Of the faults that it tells the one that is answered alone is new
+-- of the link: it was asked once at most, which its count of uses tells; no byte was taken, its
+-- count of faults does not fall, and a sound link stays sound; where the answer is NotReady, it was
+-- asked, and that was counted; where it is Silent, the link is silent on a read and stays as it was.
+-- Of the faults that it tells the one that is answered alone is new
 pub record ReadsLink (before after : LinkState) (answer : Took (List ℕ)) : Type 0 where
+  pub asks : (after.used ≡ up before.used) ⊎ (after ≡ before)
+  pub used : answer ≡ took.Waited NotReady → after.used ≡ up before.used
   pub taken : after.taken ≡ before.taken
   pub faults : before.faults ≤ after.faults
   pub calm : ((e : Error) → answer ≡ took.Failed (fail.Error e) → ⊥)
