@@ -227,6 +227,8 @@ impl<L: ByteLink> H1Client<L> {
         ensures start { L.start self.new.link ≡ L.start self.old.link }
         ensures waits { result ≡ Took.Waited Pause.NotReady
             → (L.state self.new.link).waits ≡ up (L.state self.old.link).waits }
+        ensures used { result ≡ Took.Waited Pause.NotReady
+            → (L.state self.new.link).used ≡ up (L.state self.old.link).used }
         ensures silent { result ≡ Took.Waited Pause.Silent
             → (L.state self.new.link ≡ L.state self.old.link)
             × ((L.state self.new.link).silent_on_read ≡ true) }
@@ -255,6 +257,8 @@ impl<L: ByteLink> H1Client<L> {
         ensures start { L.start self.new.link ≡ L.start self.old.link }
         ensures waits { result ≡ Took.Waited Pause.NotReady
             → (L.state self.new.link).waits ≡ up (L.state self.old.link).waits }
+        ensures used { result ≡ Took.Waited Pause.NotReady
+            → (L.state self.new.link).used ≡ up (L.state self.old.link).used }
         ensures silent { result ≡ Took.Waited Pause.Silent
             → (L.state self.new.link ≡ L.state self.old.link)
             × ((L.state self.new.link).silent_on_read ≡ true) }
