@@ -99,7 +99,7 @@ module _ (before after : LinkState) where
 
 -- a list with some bytes is not empty
 some_bytes : (bytes : List ℕ) → 0 < length bytes → (length bytes == 0) ≡ false
-some_bytes [] some = omega (arith, some)
+some_bytes [] some = absurd (omega (arith, some))
 some_bytes (x ∷ bytes) some = grind (arith, length-append (x ∷ []) bytes)
 
 -- a piece of some bytes puts a task
