@@ -1,16 +1,18 @@
 -- An exchange so far over HTTP/1 links, and what a turn makes of it.
-use Rattle.std.specs.Prelude.{◌≡◌, ℕ, true, ◌⊎◌, ◌≤◌, List, [], Some}
+use Rattle.std.specs.Prelude.{◌≡◌, ℕ, true, ◌⊎◌, ◌≤◌, List, [], Option, Some}
 use Rattle.relay_tasks.specs.declared.error.Error.{Error}
 use Rattle.relay_tasks.specs.declared.error.Fail.TheVariants as fail
 use Rattle.relay_tasks.specs.Head.{RequestHead}
 use Rattle.relay_links.specs.Count.{Rose}
 use Rattle.relay_links.specs.Link.{LinkState, LinkStart}
 use Rattle.relay_links.specs.Told.{Since}
+use Rattle.relay_links.specs.declared.branch.Branch.{Branch}
 use Rattle.relay_peer.specs.RequestWriting.{head_in}
 use Rattle.relay_session.specs.Reading.{head_of, is_body_done}
 use Rattle.relay_core.specs.Down.{DownState}
 use Rattle.relay_core.specs.Past.{Origin, DownPast, UpPast}
 use Rattle.relay_core.specs.Table.{State, core}
+use Rattle.relay_core.specs.Uses as uses
 use Rattle.relay_core.specs.declared.duplex.Duplex.{Duplex}
 use Rattle.relay_core.specs.declared.step.Step.{Step}
 use Rattle.relay_core.specs.declared.step.Step.TheVariants as step
@@ -133,3 +135,18 @@ module _ {L : Type 0} (state : L → LinkState) (start_at : L → LinkStart) whe
     pub silent : SilentIn after new
     pub client_same : after ≡ before
     pub peer_same : state (link_of new) ≡ state (link_of old)
+
+  -- how a turn asked both links, by its answer: one of them once, or none
+  abbrev pub Asks : Step → LinkState → LinkState → H1Exchange L → H1Exchange L → Type 0
+  Asks result before after old new =
+      uses.Asks result before after (state (link_of old)) (state (link_of new))
+
+  -- what a turn moved, by its branch: a link was asked once, or none was and it moved a task or
+  -- brought an end
+  abbrev pub HasMoved : Option Branch → LinkState → LinkState → H1Exchange L → H1Exchange L
+      → Type 0
+  HasMoved branch before after old new =
+      over.HasMoved branch
+      (core_of old.exchange.duplex old.exchange.down old.exchange.up)
+      (core_of new.exchange.duplex new.exchange.down new.exchange.up)
+      before after (state (link_of old)) (state (link_of new))

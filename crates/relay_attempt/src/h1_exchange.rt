@@ -12,7 +12,7 @@ ghost use Rattle.relay_sides.specs.Client.{BeginsBehind};
 ghost use Rattle.relay_attempt.specs.Passed.{Passed};
 ghost use Rattle.relay_attempt.specs.Head.{IsRefusedFor, link_of, may_keep};
 ghost use Rattle.relay_attempt.specs.Attempt.{DownHalf, IsAttempt, UpHalf};
-ghost use Rattle.relay_attempt.specs.Exchange.{IsUnderWay, Turns, MeetsSilence, IsSilent, down_state};
+ghost use Rattle.relay_attempt.specs.Exchange.{IsUnderWay, Turns, MeetsSilence, IsSilent, Asks, HasMoved, down_state};
 
 use relay_core::Step;
 use relay_exchange::{Exchange, Turn};
@@ -105,6 +105,15 @@ impl<L: ByteLink> H1Exchange<L> {
         ensures quiet { result.step ≡ Step.Waited Pause.Silent
             → MeetsSilence L.state L.start (F.state client.old) (F.state client.new) self.old
             self.new }
+        // A turn asks one link once, or none. One that moved asked the link of its branch, or it
+        // put a task into a pipe, took some out of one, or brought an end.
+        ensures asks { Asks L.state L.start result.step (F.state client.old) (F.state client.new)
+            self.old self.new }
+        ensures moves { (s : Origin) (p : Passed)
+            → IsUnderWay L.state L.start s p (F.state client.old) (F.ahead client.old) self.old
+            → result.step ≡ Step.Moved
+            → HasMoved L.state L.start result.branch (F.state client.old) (F.state client.new)
+            self.old self.new }
         // A turn that does not fail leaves the count of the client's faults.
         ensures calm { says_failed result.step ≡ false
             → (F.state client.new).faults ≡ (F.state client.old).faults }
@@ -139,6 +148,13 @@ impl<L: ByteLink> H1Exchange<L> {
 }
 
 impl<L> H1Exchange<L> {
+    /// The link.
+    pub fn link(&self) -> &L
+        ensures { result.now ≡ link_of self.now }
+    {
+        self.exchange.up().link()
+    }
+
     /// The link alone.
     pub fn into_link(self) -> L
         ensures { result ≡ link_of self }

@@ -21,3 +21,4 @@ pub mod OrdinaryDown
 pub mod SteadyLemmas
 pub mod RunsLemmas
 pub mod FitsLemmas
+pub mod UseLemmas

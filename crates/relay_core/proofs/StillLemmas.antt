@@ -21,6 +21,7 @@ use Rattle.relay_core.specs.Down.{DownState, ReadsPiece}
 use Rattle.relay_core.specs.Down as down
 use Rattle.relay_core.specs.Steps.{StepsTo}
 use Rattle.relay_core.specs.Table.{State, core, enabled, after_up_write, after_down_write, after_up_read, after_down_read, step_of_up_write, step_of_down_write, step_of_up_take, step_of_batch, step_of_up_read, step_of_down_read, custom_error, step_of_half, step_of_up_finish, step_of_down_finish}
+use Rattle.relay_core.specs.Uses.{Stands}
 use Rattle.relay_core.specs.Up.{UpState, ReadsTask}
 use Rattle.relay_core.specs.Up as up
 
@@ -236,3 +237,10 @@ pub wait_enabled : (b : Branch) (old new : State) (result : Step) → StepsTo b 
     → enabled new x ≡ enabled old x
 wait_enabled b old new result by pause h x =
     still_enabled old new (wait_still b old new result pause by h) x
+
+-- and the duplex is as it was
+pub wait_stands : (b : Branch) (old new : State) (result : Step) → StepsTo b old new result
+    → (pause : Pause) → result ≡ step.Waited pause → Stands old new
+wait_stands b old new result by pause h =
+    let s = wait_still b old new result pause by h in
+    record { duplex = s.duplex; pending = ap (λ (side : DownState). side.pending) s.down }

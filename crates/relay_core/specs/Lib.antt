@@ -13,3 +13,4 @@ pub mod Sound
 pub mod Moves
 pub mod Ends
 pub mod Asked
+pub mod Uses

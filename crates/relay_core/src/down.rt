@@ -1,11 +1,12 @@
 //! The client's side of a duplex: what it means, and what each of its answers does.
-ghost use Rattle.std.specs.Prelude.{◌≡◌, ◌++◌, ◌∷◌, ◌<◌, [], List, ℕ, None, IsTrue, true};
+ghost use Rattle.std.specs.Prelude.{◌≡◌, ◌⊎◌, ◌++◌, ◌∷◌, ◌<◌, [], List, ℕ, None, IsTrue, true};
 ghost use Rattle.relay_tasks.specs.declared.error.Error.{Error};
 ghost use Rattle.relay_tasks.specs.declared.error.ErrorSource.TheVariants.{Downstream};
 ghost use Rattle.relay_tasks.specs.declared.task.HttpTask.{HttpTask};
 ghost use Rattle.relay_links.specs.Count.{up};
 ghost use Rattle.relay_links.specs.Link.{LinkState, LinkStart};
 ghost use Rattle.relay_core.specs.Down.{DownState, may_read, ReadsPiece, TakesBatch, Writes, Finishes};
+ghost use Rattle.relay_core.specs.Uses.{IsUsed, PutsTask, ReadUses, WriteUses};
 ghost use Rattle.relay_core.specs.Past.{Origin, DownPast, GaveBytes, DownGoes, BatchGoes, put_in, closing_in, error_of_took, error_of_put, error_of_result};
 
 use crate::piece::Piece;
@@ -52,8 +53,9 @@ pub trait Down<C> {
         ensures { result ≡ (state self.now).upgraded };
 
     /// Reads a piece of the request and filters it. `idle` says that the request has ended: the
-    /// client is then only watched. The end comes with a piece, and `End` is never answered. `More`
-    /// says that the link gave bytes in this call.
+    /// client is then only watched. The end comes with a piece, and `End` is never answered. The
+    /// link is asked once at most: `More` says that it gave bytes in this call, and a piece that it
+    /// was not asked for puts a task.
     fn read_piece(&mut self, client: &mut C, idle: bool) -> Took<Piece>
         requires { IsTrue (may_read (state self.old)) }
         ensures reads { ReadsPiece (state self.old) (state self.new) result }
@@ -68,6 +70,11 @@ pub trait Down<C> {
             → (link client.new).waits ≡ up (link client.old).waits }
         ensures silent { result ≡ Took.Waited Pause.Silent
             → (link client.new ≡ link client.old) × ((link client.new).silent_on_read ≡ true) }
+        ensures asks { ReadUses (link client.old) (link client.new) result }
+        ensures puts { (s : Origin) (p : DownPast) → past self.old client.old s p
+            → (piece : Piece) → result ≡ Took.Item piece
+            → IsUsed (link client.old) (link client.new)
+            ⊎ PutsTask (state self.old).upgraded piece }
         ensures calm { error_of_took result ≡ None
             → (link client.new).faults ≡ (link client.old).faults };
 
@@ -98,6 +105,7 @@ pub trait Down<C> {
             → (link client.new).waits ≡ up (link client.old).waits }
         ensures silent { result ≡ Put.Silent
             → (link client.new ≡ link client.old) × ((link client.new).silent_on_write ≡ true) }
+        ensures asks { WriteUses (link client.old) (link client.new) result }
         ensures calm { error_of_put Downstream result ≡ None
             → (link client.new).faults ≡ (link client.old).faults };
 

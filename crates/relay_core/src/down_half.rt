@@ -1,11 +1,12 @@
 //! The client's half of a duplex: one function for each of its branches.
-ghost use Rattle.std.specs.Prelude.{◌≡◌, ◌<◌, length, IsTrue, true, false};
+ghost use Rattle.std.specs.Prelude.{◌≡◌, ◌<◌, ◌⊎◌, length, IsTrue, true, false};
 ghost use Rattle.relay_links.specs.Count.{up};
 ghost use Rattle.relay_core.specs.Causes.{says_failed};
 ghost use Rattle.relay_core.specs.Down.{may_read};
 ghost use Rattle.relay_core.specs.Pipe.{has_room};
 ghost use Rattle.relay_core.specs.Past.{Origin, DownPast};
 ghost use Rattle.relay_core.specs.Steps.{DownWrites, DownWritesOn, DownTakes, DownTakesOn, GivesBatch, GivesBatchOn, DownDrops, DownReads, DownReadsOn, DownEnds, DownEndsOn, Becomes};
+ghost use Rattle.relay_core.specs.Uses.{GainsTask, IsUsed, StepUses};
 ghost use Rattle.relay_core.specs.Table.{after_down_write, step_of_down_write, with_upgrade, with_response_done, with_request_done, with_piece_read, with_client_finished};
 
 use crate::batch::{has_end, next_batch};
@@ -32,6 +33,8 @@ impl Duplex {
         ensures silent { result ≡ Step.Waited Pause.Silent
             → (D.link client.new ≡ D.link client.old)
             × ((D.link client.new).silent_on_write ≡ true) }
+        ensures asks { StepUses (D.link client.old) (D.link client.new) result }
+        ensures gains { result ≡ Step.Moved → IsUsed (D.link client.old) (D.link client.new) }
         ensures calm { says_failed result ≡ false
             → (D.link client.new).faults ≡ (D.link client.old).faults }
     {
@@ -139,6 +142,10 @@ impl Duplex {
         ensures silent { result ≡ Step.Waited Pause.Silent
             → (D.link client.new ≡ D.link client.old)
             × ((D.link client.new).silent_on_read ≡ true) }
+        ensures asks { StepUses (D.link client.old) (D.link client.new) result }
+        ensures gains { (s : Origin) (p : DownPast) → D.past down.old client.old s p
+            → result ≡ Step.Moved → IsUsed (D.link client.old) (D.link client.new)
+            ⊎ GainsTask self.old.requests.tasks self.new.requests.tasks }
         ensures calm { says_failed result ≡ false
             → (D.link client.new).faults ≡ (D.link client.old).faults }
     {

@@ -18,6 +18,7 @@ ghost use Rattle.relay_core.specs.Sound.{IsSound};
 ghost use Rattle.relay_core.specs.Ends.{EndsRequest, EndsResponse, can_pass_on};
 ghost use Rattle.relay_core.specs.Pipe.{places};
 ghost use Rattle.relay_core.specs.Steps.{StepsTo};
+ghost use Rattle.relay_core.specs.Uses.{Asks, BranchGains, BranchUses, HasMoved, Stands};
 ghost use Rattle.relay_core.specs.Table.{core, begins, with_replay, enabled, chosen, is_finished, may_keep, is_failed, down_runs, up_runs, up_is_through};
 
 use crate::down::Down;
@@ -284,6 +285,16 @@ impl Duplex {
             → branch ≡ Branch.UpRead → result ≡ Step.Moved
             → Brings self.old self.new (U.link up.old) (U.link up.new) }
 
+        // The branch asks its link, and what it moved is that link's or a task.
+        ensures links { BranchUses branch result (D.link client.old) (D.link client.new)
+            (U.link up.old) (U.link up.new) }
+        ensures gains { (s : Origin) (p : DownPast) (q : UpPast)
+            → SoFar (D.past down.old client.old s) (U.past up.old s) (U.blames up.old s)
+            (core self.old (D.state down.old) (U.state up.old)) p q
+            → result ≡ Step.Moved
+            → BranchGains branch self.old self.new (D.link client.old) (D.link client.new)
+            (U.link up.old) (U.link up.new) }
+
         // A step that does not fail leaves the count of the client's faults.
         ensures calm { says_failed result ≡ false
             → (D.link client.new).faults ≡ (D.link client.old).faults }
@@ -360,6 +371,22 @@ impl Duplex {
         ensures silent { result ≡ Step.Waited Pause.Silent
             → MeetsSilence branch (D.link client.old) (D.link client.new) (U.link up.old)
             (U.link up.new) }
+
+        // A step asks one link once, or none. One that moved asked the link of its branch, or it
+        // put a task into a pipe, took some out of one, or brought an end; and one that waits leaves
+        // the duplex as it was.
+        ensures asks { Asks result (D.link client.old) (D.link client.new) (U.link up.old)
+            (U.link up.new) }
+        ensures moves { (s : Origin) (p : DownPast) (q : UpPast)
+            → SoFar (D.past down.old client.old s) (U.past up.old s) (U.blames up.old s)
+            (core self.old (D.state down.old) (U.state up.old)) p q
+            → result ≡ Step.Moved
+            → HasMoved branch (core self.old (D.state down.old) (U.state up.old))
+            (core self.new (D.state down.new) (U.state up.new)) (D.link client.old)
+            (D.link client.new) (U.link up.old) (U.link up.new) }
+        ensures stands { (pause : Pause) → result ≡ Step.Waited pause
+            → Stands (core self.old (D.state down.old) (U.state up.old))
+            (core self.new (D.state down.new) (U.state up.new)) }
 
         // A read of the upstream that moved brought a task, or the link gave bytes.
         ensures brings { (s : Origin) (p : DownPast) (q : UpPast)

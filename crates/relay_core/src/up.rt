@@ -3,6 +3,7 @@ ghost use Rattle.std.specs.Prelude.{◌≡◌, ◌++◌, ◌∷◌, ◌||◌, �
 ghost use Rattle.std.specs.List.{list_any};
 ghost use Rattle.relay_tasks.specs.declared.error.Error.{Error};
 ghost use Rattle.relay_tasks.specs.declared.error.ErrorSource.TheVariants.{Upstream};
+ghost use Rattle.relay_tasks.specs.declared.fault.Fault.{Fault};
 ghost use Rattle.relay_tasks.specs.declared.task.HttpTask.{HttpTask};
 ghost use Rattle.relay_tasks.specs.declared.took.Took.{Took};
 ghost use Rattle.relay_tasks.specs.Task.{is_end};
@@ -10,6 +11,7 @@ ghost use Rattle.relay_links.specs.Count.{up};
 ghost use Rattle.relay_links.specs.Link.{LinkState, LinkStart};
 ghost use Rattle.relay_core.specs.Past.{Origin, UpPast, GaveBytes, UpGoes, task_in, loses, error_of_took, error_of_put, error_of_result};
 ghost use Rattle.relay_core.specs.Up.{UpState, ReadsTask, TakesPiece, Writes};
+ghost use Rattle.relay_core.specs.Uses.{IsUsed, ReadUses, WriteUses};
 
 use crate::step::UpKind;
 use crate::told::Told;
@@ -45,8 +47,9 @@ pub trait Up {
     fn upgraded(&self) -> bool
         ensures { result ≡ (state self.now).upgraded };
 
-    /// Reads a task of the response. Its end comes with a task, and `End` is never answered; no
-    /// item is `Failed`. Before the end, `More` says that the link gave bytes in this call.
+    /// Reads a task of the response, asking the link once at most. Its end comes with a task, and
+    /// `End` is never answered; no item is `Failed`. Before the end, `More` says that the link gave
+    /// bytes in this call.
     fn read_task(&mut self) -> Took<HttpTask>
         ensures reads { ReadsTask (state self.old) (state self.new) result }
         ensures start { start self.new ≡ start self.old }
@@ -60,6 +63,7 @@ pub trait Up {
             → (link self.new).waits ≡ up (link self.old).waits }
         ensures silent { result ≡ Took.Waited Pause.Silent
             → (link self.new ≡ link self.old) × ((link self.new).silent_on_read ≡ true) }
+        ensures asks { ReadUses (link self.old) (link self.new) result }
         ensures cuts { cuts self.old self.new result };
 
     /// Takes a piece of the request, and queues its bytes for the upstream. An error says that the
@@ -77,7 +81,7 @@ pub trait Up {
     fn has_pending(&self) -> bool
         ensures { result ≡ (state self.now).pending };
 
-    /// Writes pending output once.
+    /// Writes pending output once. Each answer but silence is one of the link in this call.
     fn write_pending(&mut self) -> Put
         requires { IsTrue (state self.old).pending }
         ensures writes { Writes (state self.old) (state self.new) result }
@@ -88,7 +92,10 @@ pub trait Up {
         ensures some { (n : ℕ) → result ≡ Put.Took n → 0 < n }
         ensures waits { result ≡ Put.NotReady → (link self.new).waits ≡ up (link self.old).waits }
         ensures silent { result ≡ Put.Silent
-            → (link self.new ≡ link self.old) × ((link self.new).silent_on_write ≡ true) };
+            → (link self.new ≡ link self.old) × ((link self.new).silent_on_write ≡ true) }
+        ensures asks { WriteUses (link self.old) (link self.new) result }
+        ensures fails { (fault : Fault) → result ≡ Put.Failed fault
+            → IsUsed (link self.old) (link self.new) };
 
     /// What the side tells of its answers.
     fn told(&self) -> Told

@@ -7,6 +7,7 @@ ghost use Rattle.relay_core.specs.Asked.{Brings};
 ghost use Rattle.relay_core.specs.Pipe.{has_room};
 ghost use Rattle.relay_core.specs.Past.{Origin, UpPast};
 ghost use Rattle.relay_core.specs.Steps.{UpWrites, UpWritesOn, UpTakes, UpTakesOn, UpReads, UpReadsOn, UpEnds};
+ghost use Rattle.relay_core.specs.Uses.{IsUsed, StepUses};
 ghost use Rattle.relay_core.specs.Table.{failed, with_send_error, after_up_write, step_of_up_write, after_piece, step_of_up_take, ends_request, ends_tunnel, with_task_read, custom_error, step_of_half};
 
 use crate::duplex::Duplex;
@@ -29,6 +30,8 @@ impl Duplex {
             → (U.link up.new).waits ≡ count.up (U.link up.old).waits }
         ensures silent { result ≡ Step.Waited Pause.Silent
             → (U.link up.new ≡ U.link up.old) × ((U.link up.new).silent_on_write ≡ true) }
+        ensures asks { StepUses (U.link up.old) (U.link up.new) result }
+        ensures gains { result ≡ Step.Moved → IsUsed (U.link up.old) (U.link up.new) }
     {
         let answer = up.write_pending();
         self.after_up_write(answer)
@@ -74,6 +77,7 @@ impl Duplex {
     pub(crate) fn up_take<U: Up>(&mut self, up: &mut U, tunnel: bool) -> Step
         requires { 0 < length self.old.requests.tasks }
         ensures start { U.start up.new ≡ U.start up.old }
+        ensures unasked { U.link up.new ≡ U.link up.old }
         ensures exact { UpTakes tunnel self.old (U.state up.old) self.new (U.state up.new) result }
         ensures goes { (s : Origin) (q : UpPast) → U.past up.old s q
             → UpTakesOn (U.past up.new s) (U.blames up.old s) (U.blames up.new s) q tunnel
@@ -115,6 +119,7 @@ impl Duplex {
             → (U.link up.new).waits ≡ count.up (U.link up.old).waits }
         ensures silent { result ≡ Step.Waited Pause.Silent
             → (U.link up.new ≡ U.link up.old) × ((U.link up.new).silent_on_read ≡ true) }
+        ensures asks { StepUses (U.link up.old) (U.link up.new) result }
         ensures brings { (s : Origin) (q : UpPast) → U.past up.old s q
             → list_any is_end q.read ≡ false → result ≡ Step.Moved
             → Brings self.old self.new (U.link up.old) (U.link up.new) }

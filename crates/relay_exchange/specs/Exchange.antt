@@ -1,9 +1,10 @@
 -- An exchange so far over any two sides, and what a turn makes of it.
-use Rattle.std.specs.Prelude.{◌≡◌, Bool, true, false, ◌⊎◌, List, [], None}
+use Rattle.std.specs.Prelude.{◌≡◌, Bool, true, false, ◌⊎◌, List, [], Option, Some, None}
 use Rattle.relay_tasks.specs.declared.error.Error.{Error}
 use Rattle.relay_tasks.specs.declared.error.Fail.TheVariants as fail
 use Rattle.relay_tasks.specs.declared.task.HttpTask.{HttpTask}
 use Rattle.relay_links.specs.Link.{LinkState}
+use Rattle.relay_links.specs.declared.branch.Branch.{Branch}
 use Rattle.relay_core.specs.Asked.{IsQuiet}
 use Rattle.relay_core.specs.Down.{DownState}
 use Rattle.relay_core.specs.Moves.{SoFar, Extends, Finishes, HasReason}
@@ -11,6 +12,8 @@ use Rattle.relay_core.specs.Past.{DownPast, UpPast}
 use Rattle.relay_core.specs.Table.{State, is_failed, is_finished}
 use Rattle.relay_core.specs.Table as core
 use Rattle.relay_core.specs.Up.{UpState}
+use Rattle.relay_core.specs.Uses.{AsksOne}
+use Rattle.relay_core.specs.Uses as uses
 use Rattle.relay_core.specs.declared.duplex.Duplex.{Duplex}
 use Rattle.relay_core.specs.declared.step.Step.{Step}
 use Rattle.relay_core.specs.declared.step.Step.TheVariants as step
@@ -99,3 +102,12 @@ pub record MeetsSilence (at : Stage) (s : State) (client client' upstream upstre
   pub silent : SilentIn at s client' upstream'
   pub client_same : client' ≡ client
   pub upstream_same : upstream' ≡ upstream
+
+-- what a turn moved, by its branch: while the head is being sent, which is none, the upstream's link
+-- was asked once for it
+abbrev pub HasMoved : Option Branch → State → State → LinkState → LinkState → LinkState → LinkState
+    → Type 0
+HasMoved None old new client client' upstream upstream' =
+    AsksOne upstream upstream' client client'
+HasMoved (Some b) old new client client' upstream upstream' =
+    uses.HasMoved b old new client client' upstream upstream'

@@ -1,14 +1,15 @@
 //! One exchange over any two sides: the head of the request is sent, and then both bodies flow
 //! (RFC 9112, sections 6, 7 and 9.3).
-ghost use Rattle.std.specs.Prelude.{◌≡◌, ◌⊎◌, true, false, None, Some};
+ghost use Rattle.std.specs.Prelude.{◌≡◌, ◌⊎◌, true, false, None, Some, IsTrue};
 ghost use Rattle.relay_tasks.specs.declared.error.Error.{Error};
 ghost use Rattle.relay_core.specs.Asked.{WaitRose};
 ghost use Rattle.relay_core.specs.Causes.{says_failed, says_finished};
 ghost use Rattle.relay_core.specs.Down.{DownState};
 ghost use Rattle.relay_core.specs.Past.{Origin, DownPast, UpPast};
 ghost use Rattle.relay_core.specs.Sound.{IsSound};
-ghost use Rattle.relay_core.specs.Table.{begins, core};
-ghost use Rattle.relay_exchange.specs.Exchange.{IsSilentLink, IsUnderWay, MeetsSilence, Turns, may_keep_at, stage_of};
+ghost use Rattle.relay_core.specs.Table.{begins, core, enabled};
+ghost use Rattle.relay_core.specs.Uses.{Asks, AsksOne};
+ghost use Rattle.relay_exchange.specs.Exchange.{HasMoved, IsSilentLink, IsUnderWay, MeetsSilence, Turns, may_keep_at, stage_of};
 
 use crate::round::go_round;
 use relay_core::{Down, Duplex, Step, Up};
@@ -96,33 +97,56 @@ impl<D, U: Up> Exchange<D, U> {
             → MeetsSilence self.new.stage
             (core self.new.duplex (D.state self.new.down) (U.state self.new.up))
             (D.link client.old) (D.link client.new) (U.link self.old.up) (U.link self.new.up) }
+        // A turn asks one link once, or none. One that moved asked the link of its branch, or it
+        // put a task into a pipe, took some out of one, or brought an end.
+        ensures asks { Asks result.step (D.link client.old) (D.link client.new)
+            (U.link self.old.up) (U.link self.new.up) }
+        ensures moves { (s : Origin) (p : DownPast) (q : UpPast)
+            → IsUnderWay (D.past self.old.down client.old s) (U.past self.old.up s)
+            (U.blames self.old.up s)
+            (core self.old.duplex (D.state self.old.down) (U.state self.old.up)) p q
+            → result.step ≡ Step.Moved
+            → HasMoved result.branch
+            (core self.old.duplex (D.state self.old.down) (U.state self.old.up))
+            (core self.new.duplex (D.state self.new.down) (U.state self.new.up))
+            (D.link client.old) (D.link client.new) (U.link self.old.up) (U.link self.new.up) }
         // A turn that does not fail leaves the count of the client's faults.
         ensures calm { says_failed result.step ≡ false
             → (D.link client.new).faults ≡ (D.link client.old).faults }
         ensures client_start { D.start client.new ≡ D.start client.old }
         ensures peer_start { U.start self.new.up ≡ U.start self.old.up }
     {
+        if self.sends_head::<C>() {
+            let step = send_head(
+                client,
+                &mut self.down,
+                &mut self.up,
+                &mut self.duplex,
+                &mut self.stage,
+            );
+            return Turn { step, branch: None };
+        }
+        self.stage = Stage::Bodies;
+        let (step, branch) = go_round(
+            &mut self.duplex,
+            client,
+            &mut self.down,
+            &mut self.up,
+            schedule,
+        );
+        Turn { step, branch }
+    }
+
+    /// Whether the head is being sent, and the upstream can be written.
+    fn sends_head<C>(&self) -> bool
+    where
+        D: Down<C>,
+        ensures { IsTrue result → IsTrue (enabled
+            (core self.now.duplex (D.state self.now.down) (U.state self.now.up)) Branch.UpWrite) }
+    {
         match self.stage {
-            Stage::Head => Turn {
-                step: send_head(
-                    client,
-                    &mut self.down,
-                    &mut self.up,
-                    &mut self.duplex,
-                    &mut self.stage,
-                ),
-                branch: None,
-            },
-            Stage::Bodies => {
-                let (step, branch) = go_round(
-                    &mut self.duplex,
-                    client,
-                    &mut self.down,
-                    &mut self.up,
-                    schedule,
-                );
-                Turn { step, branch }
-            }
+            Stage::Head => self.duplex.enabled(&self.down, &self.up, Branch::UpWrite),
+            Stage::Bodies => false,
         }
     }
 }
@@ -177,6 +201,8 @@ fn send_head<C, D: Down<C>, U: Up>(
     duplex: &mut Duplex,
     stage: &mut Stage,
 ) -> Step
+    requires { IsTrue (enabled (core duplex.old (D.state down.old) (U.state up.old))
+        Branch.UpWrite) }
     ensures goes { (s : Origin) (p : DownPast) (q : UpPast)
         → IsUnderWay (D.past down.old client.old s) (U.past up.old s) (U.blames up.old s)
         (core duplex.old (D.state down.old) (U.state up.old)) p q
@@ -191,6 +217,13 @@ fn send_head<C, D: Down<C>, U: Up>(
         → MeetsSilence stage.new (core duplex.new (D.state down.new) (U.state up.new))
         (D.link client.old) (D.link client.new) (U.link up.old) (U.link up.new) }
     ensures silent { result ≡ Step.Waited Pause.Silent → IsSilentLink (U.link up.new) }
+    ensures asks { Asks result (D.link client.old) (D.link client.new) (U.link up.old)
+        (U.link up.new) }
+    ensures moves { (s : Origin) (p : DownPast) (q : UpPast)
+        → IsUnderWay (D.past down.old client.old s) (U.past up.old s) (U.blames up.old s)
+        (core duplex.old (D.state down.old) (U.state up.old)) p q
+        → result ≡ Step.Moved
+        → AsksOne (U.link up.old) (U.link up.new) (D.link client.old) (D.link client.new) }
     ensures calm { says_failed result ≡ false
         → (D.link client.new).faults ≡ (D.link client.old).faults }
     ensures client_start { D.start client.new ≡ D.start client.old }
@@ -208,6 +241,8 @@ fn write_head<C, D: Down<C>, U: Up>(
     up: &mut U,
     duplex: &mut Duplex,
 ) -> Step
+    requires { IsTrue (enabled (core duplex.old (D.state down.old) (U.state up.old))
+        Branch.UpWrite) }
     ensures goes { (s : Origin) (p : DownPast) (q : UpPast)
         → IsUnderWay (D.past down.old client.old s) (U.past up.old s) (U.blames up.old s)
         (core duplex.old (D.state down.old) (U.state up.old)) p q
@@ -224,14 +259,18 @@ fn write_head<C, D: Down<C>, U: Up>(
     ensures quiet { result ≡ Step.Waited Pause.Silent
         → ((U.state up.new).pending ≡ true) × ((U.link up.new).silent_on_write ≡ true)
         × (D.link client.new ≡ D.link client.old) × (U.link up.new ≡ U.link up.old) }
+    ensures asks { Asks result (D.link client.old) (D.link client.new) (U.link up.old)
+        (U.link up.new) }
+    ensures moves { (s : Origin) (p : DownPast) (q : UpPast)
+        → IsUnderWay (D.past down.old client.old s) (U.past up.old s) (U.blames up.old s)
+        (core duplex.old (D.state down.old) (U.state up.old)) p q
+        → result ≡ Step.Moved
+        → AsksOne (U.link up.old) (U.link up.new) (D.link client.old) (D.link client.new) }
     ensures calm { says_failed result ≡ false
         → (D.link client.new).faults ≡ (D.link client.old).faults }
     ensures client_start { D.start client.new ≡ D.start client.old }
     ensures peer_start { U.start up.new ≡ U.start up.old }
 {
-    if !duplex.enabled(down, up, Branch::UpWrite) {
-        return Step::Moved;
-    }
     let step = duplex.step(client, down, up, Branch::UpWrite);
     match duplex.send_error() {
         Some(error) => Step::Failed(Fail::Error(error)),

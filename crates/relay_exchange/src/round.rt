@@ -7,7 +7,8 @@ ghost use Rattle.relay_core.specs.Moves.{SoFar, Goes};
 ghost use Rattle.relay_core.specs.Past.{Origin, DownPast, UpPast};
 ghost use Rattle.relay_core.specs.Sound.{IsSound};
 ghost use Rattle.relay_core.specs.Table.{core, is_failed, is_finished};
-ghost use Rattle.relay_exchange.specs.Exchange.{IsSilentLink};
+ghost use Rattle.relay_core.specs.Uses.{Asks};
+ghost use Rattle.relay_exchange.specs.Exchange.{HasMoved, IsSilentLink};
 
 use relay_core::{Down, Duplex, Step, Up};
 use relay_links::{BRANCHES, Branch, Schedule};
@@ -57,6 +58,18 @@ pub(crate) fn go_round<C, D: Down<C>, U: Up, H: Schedule>(
         → IsQuiet (core duplex.new (D.state down.new) (U.state up.new)) (D.link client.new)
         (U.link up.new) × (D.link client.new ≡ D.link client.old)
         × (U.link up.new ≡ U.link up.old) }
+
+    // It asks one link once, or none; and one that moved asked the link of its branch, or it moved a
+    // task or brought an end.
+    ensures asks { Asks result.0 (D.link client.old) (D.link client.new) (U.link up.old)
+        (U.link up.new) }
+    ensures moves { (s : Origin) (p : DownPast) (q : UpPast)
+        → SoFar (D.past down.old client.old s) (U.past up.old s) (U.blames up.old s)
+        (core duplex.old (D.state down.old) (U.state up.old)) p q
+        → result.0 ≡ Step.Moved
+        → HasMoved result.1 (core duplex.old (D.state down.old) (U.state up.old))
+        (core duplex.new (D.state down.new) (U.state up.new)) (D.link client.old)
+        (D.link client.new) (U.link up.old) (U.link up.new) }
 
     // A turn that does not fail leaves the count of the client's faults.
     ensures calm { says_failed result.0 ≡ false

@@ -159,6 +159,13 @@ impl<L> H1Client<L> {
 }
 
 impl<L> H1Client<L> {
+    /// The link.
+    pub fn link(&self) -> &L
+        ensures { result.now ≡ self.now.link }
+    {
+        &self.link
+    }
+
     /// The link alone. What is queued and what was read ahead is dropped.
     pub fn into_link(self) -> L
         ensures { result ≡ self.link }
@@ -220,6 +227,8 @@ impl<L: ByteLink> H1Client<L> {
         ensures start { L.start self.new.link ≡ L.start self.old.link }
         ensures waits { result ≡ Took.Waited Pause.NotReady
             → (L.state self.new.link).waits ≡ up (L.state self.old.link).waits }
+        ensures used { result ≡ Took.Waited Pause.NotReady
+            → (L.state self.new.link).used ≡ up (L.state self.old.link).used }
         ensures silent { result ≡ Took.Waited Pause.Silent
             → (L.state self.new.link ≡ L.state self.old.link)
             × ((L.state self.new.link).silent_on_read ≡ true) }
@@ -248,6 +257,8 @@ impl<L: ByteLink> H1Client<L> {
         ensures start { L.start self.new.link ≡ L.start self.old.link }
         ensures waits { result ≡ Took.Waited Pause.NotReady
             → (L.state self.new.link).waits ≡ up (L.state self.old.link).waits }
+        ensures used { result ≡ Took.Waited Pause.NotReady
+            → (L.state self.new.link).used ≡ up (L.state self.old.link).used }
         ensures silent { result ≡ Took.Waited Pause.Silent
             → (L.state self.new.link ≡ L.state self.old.link)
             × ((L.state self.new.link).silent_on_read ≡ true) }

@@ -86,6 +86,8 @@ impl ResponseReading {
         ensures start { L.start link.new ≡ L.start link.old }
         ensures waits { result ≡ Took.Waited Pause.NotReady
             → (L.state link.new).waits ≡ up (L.state link.old).waits }
+        ensures used { result ≡ Took.Waited Pause.NotReady
+            → (L.state link.new).used ≡ up (L.state link.old).used }
         ensures silent { result ≡ Took.Waited Pause.Silent
             → (L.state link.new ≡ L.state link.old)
             × ((L.state link.new).silent_on_read ≡ true) }
@@ -130,6 +132,8 @@ impl ResponseReading {
         ensures start { L.start link.new ≡ L.start link.old }
         ensures waits { result ≡ Took.Waited Pause.NotReady
             → (L.state link.new).waits ≡ up (L.state link.old).waits }
+        ensures used { result ≡ Took.Waited Pause.NotReady
+            → (L.state link.new).used ≡ up (L.state link.old).used }
         ensures silent { result ≡ Took.Waited Pause.Silent
             → (L.state link.new ≡ L.state link.old)
             × ((L.state link.new).silent_on_read ≡ true) }

@@ -4,6 +4,7 @@ pub mod Endings
 pub mod Offer
 pub mod Phases
 pub mod Work
+pub mod Uses
 pub mod Turn
 pub mod Closing
 pub mod Exact

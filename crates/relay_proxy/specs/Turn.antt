@@ -2,6 +2,7 @@
 use Rattle.std.specs.Prelude.{◌≡◌, ◌⊎◌, ℕ, ◌<◌, Bool, true, false, List, [], Option, None, Some}
 use Rattle.relay_links.specs.Count.{up}
 use Rattle.relay_links.specs.Link.{LinkState, LinkStart, GivesBytes, TakesBytes}
+use Rattle.relay_links.specs.declared.branch.Branch.{Branch}
 use Rattle.relay_tasks.specs.declared.took.Pause.TheVariants.{NotReady, Silent}
 use Rattle.relay_h1.specs.Verdict.{IsOpen}
 use Rattle.relay_h1.specs.declared.Connection.{Connection}
@@ -10,6 +11,7 @@ use Rattle.relay_attempt.specs.Passed.{Passed}
 use Rattle.relay_attempt.specs.Head.{link_of}
 use Rattle.relay_proxy.specs.Passed.{World, Start}
 use Rattle.relay_proxy.specs.Phases.{RunSoFar}
+use Rattle.relay_proxy.specs.Uses.{ExchangeMoved}
 use Rattle.relay_proxy.specs.Work.{total_work}
 use Rattle.relay_proxy.specs.declared.machine.Phase.{Phase}
 use Rattle.relay_proxy.specs.declared.machine.Phase.TheVariants.{ReadHead, Refuse, Connect, Relay, Close, Ended}
@@ -93,12 +95,13 @@ module _ {L C : Type 0} (state : L → LinkState) (start_at : L → LinkStart) w
   IsStalled w (Ended outcome attempts) = ⊥
 
   -- what a turn moved: bytes of the client's head came, or it was judged; bytes of a generated
-  -- answer were taken; or a link was given. What a turn of an exchange moved is not said
+  -- answer were taken; a link was given; or a branch of the exchange moved
   abbrev pub HasMoved : World → World → Phase L C → Phase L C → Type 0
   HasMoved w x ReadHead next = HasGiven w.client x.client ⊎ (is_reading_head next ≡ false)
   HasMoved w x (Refuse answer error) next = HasTaken w.client x.client
   HasMoved w x (Connect context session) next = links_held next ≡ 1
-  HasMoved w x (Relay a) next = Unit {0}
+  HasMoved w x (Relay a) next =
+      (branch : Option Branch) × ExchangeMoved state start_at branch w x a.value.exchange next
   HasMoved w x (Close link lease keep outcome) next = ⊥
   HasMoved w x (Ended outcome attempts) next = ⊥
 

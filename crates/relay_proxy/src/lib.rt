@@ -13,6 +13,7 @@ mod record;
 mod relayable;
 mod relaying;
 mod turn;
+mod uses;
 mod work;
 
 pub use hooks::{NoHooks, ProxyHttp};

@@ -1,5 +1,6 @@
 //! How much work a turn was, and a request so far.
-ghost use Rattle.std.specs.Prelude.{◌<◌, ◌≡◌, ◌↔◌, IsTrue};
+ghost use Rattle.std.specs.Prelude.{◌<◌, ◌≡◌, ◌↔◌, if◌then◌else◌, IsTrue};
+ghost use Rattle.relay_proxy.specs.Uses.{one_use, one_task, work_by};
 ghost use Rattle.relay_proxy.specs.Work.{turns_after, total_work};
 
 use relay_links::Branch;
@@ -84,17 +85,40 @@ pub(crate) fn count_turn(turns: u64, work: Work) -> u64
 }
 
 /// The work of a turn of an exchange that moved, by the branch that was taken; none where the
-/// request's head was being sent. A branch that reads or writes counts as one answer of its link.
-pub(crate) fn work_of(branch: Option<Branch>) -> Work
-    ensures { total_work result ≡ 1 }
+/// request's head was being sent. A write is a use of its link; a read is one where the link was
+/// asked, and else the task that it put.
+pub(crate) fn work_of(branch: Option<Branch>, asked: bool) -> Work
+    ensures one { total_work result ≡ 1 }
+    ensures exact { result ≡ work_by branch asked }
 {
     match branch {
         None => Work::USED,
-        Some(Branch::UpWrite | Branch::DownWrite | Branch::UpRead | Branch::DownRead) => Work::USED,
+        Some(Branch::UpWrite | Branch::DownWrite) => Work::USED,
+        Some(Branch::UpRead | Branch::DownRead) => used_or_moved(asked),
         Some(Branch::UpTake | Branch::DownTake | Branch::DownDrop) => Work::MOVED,
         Some(Branch::MessageUp | Branch::MessageDown) => Work::MOVED,
         Some(Branch::DownEnd | Branch::DownClosed | Branch::UpFinish | Branch::DownFinish) => {
             Work::ENDED
         }
+    }
+}
+
+/// A use of a link, where it was asked, and else a task.
+fn used_or_moved(asked: bool) -> Work
+    ensures one { total_work result ≡ 1 }
+    ensures exact { result ≡ (if asked then one_use else one_task) }
+{
+    if asked { Work::USED } else { Work::MOVED }
+}
+
+/// The work of a turn with which an exchange failed: an end, and a use where a link was asked.
+pub(crate) fn work_of_failure(asked: bool) -> Work
+    ensures some { 0 < total_work result }
+    ensures used { result.used ≡ (if asked then 1 else 0) }
+{
+    if asked {
+        Work::USED_AND_ENDED
+    } else {
+        Work::ENDED
     }
 }

@@ -15,3 +15,4 @@ pub mod SideLemmas
 pub mod CutLemmas
 pub mod ClientBatch
 pub mod ClientEnds
+pub mod UseLemmas

@@ -136,6 +136,13 @@ impl<L> PeerSide<L> {
 }
 
 impl<L> PeerSide<L> {
+    /// The link.
+    pub fn link(&self) -> &L
+        ensures { result.now ≡ self.now.client.link }
+    {
+        self.client.link()
+    }
+
     /// The link alone.
     pub fn into_link(self) -> L
         ensures { result ≡ self.client.link }

@@ -1,6 +1,7 @@
 //! A client of these tests.
 ghost use Rattle.std.specs.Prelude.{◌≡◌, ◌++◌, [], false, true, None, Some, OnOk, OnErr, IsTrue};
 ghost use Rattle.std.specs.List.{flat_map, list_any};
+ghost use Rattle.relay_links.specs.Count.{last_count};
 ghost use Rattle.relay_links.specs.MuteLink.{mute_state, mute_start};
 ghost use Rattle.relay_core.specs.Piece.{put_of};
 ghost use Rattle.relay_core.specs.Pipe.{is_failure};
@@ -107,7 +108,12 @@ impl Down<()> for Client {
 
     ghost cannot_end = { λ c client s p e. c.told.last ≡ Some e };
 
-    ghost link = { λ _. record (mute_state (record { ended = false; used = 0; reused = false })) {
+    // Its count of uses stands at its last value.
+    ghost link = { λ _. record (mute_state (record {
+      ended = false;
+      used = last_count;
+      reused = false;
+    })) {
       silent_on_read = true;
       silent_on_write = true;
     } };

@@ -1,5 +1,6 @@
 //! An upstream of these tests.
 ghost use Rattle.std.specs.Prelude.{◌≡◌, false, true, None, Some};
+ghost use Rattle.relay_links.specs.Count.{last_count};
 ghost use Rattle.relay_links.specs.MuteLink.{mute_state, mute_start};
 ghost use Rattle.relay_core.specs.declared.step.UpKind.TheVariants.{H1};
 
@@ -36,7 +37,12 @@ impl Up for Upstream {
 
     ghost blames = { λ u s q e. u.refuses ≡ Some e };
 
-    ghost link = { λ _. record (mute_state (record { ended = false; used = 0; reused = false })) {
+    // Its count of uses stands at its last value.
+    ghost link = { λ _. record (mute_state (record {
+      ended = false;
+      used = last_count;
+      reused = false;
+    })) {
       silent_on_read = true;
       silent_on_write = true;
     } };

@@ -15,6 +15,7 @@ use Rattle.relay_core.specs.declared.step.Step.TheVariants as step
 use Rattle.relay_core.proofs.BoolLemmas.{clash}
 use Rattle.relay_core.proofs.KeepLemmas.{goes_then}
 use Rattle.relay_exchange.specs.Exchange.{IsSilentLink}
+use Rattle.relay_exchange.proofs.PassLemmas.{asks_from, moved_from}
 use Rattle.relay_exchange.proofs.RoundLemmas.{all_round, passed_first, passed_more, met, silent_link}
 use Rattle.relay_exchange.proofs.round.go_round.Goals as goal
 
@@ -45,6 +46,8 @@ loop-turn-init g c =
       passed_first Silent first (λ on. met first client client _ up up _ refl refl m),
       t.ensures.client_start,
       t.ensures.peer_start,
+      (t.ensures.stands pause.Silent silent).duplex,
+      (t.ensures.stands pause.Silent silent).pending,
     )
 
 -- a branch that cannot be taken is passed
@@ -67,6 +70,8 @@ loop-turn-preserved-then-not-enabled g c =
           (λ on. clash _ (i.4 _ ∙ on) (sym c.enabled.ensures ∙ c.if-not-enabled.true)),
       i.6,
       i.7,
+      i.8,
+      i.9,
     )
 
 -- the first branch that met no silence goes on from those before it
@@ -112,6 +117,8 @@ loop-turn-preserved g c =
           (λ on. met _ client _ _ up _ _ i.2 i.3 m),
       t.ensures.client_start ∙ i.6,
       t.ensures.peer_start ∙ i.7,
+      (t.ensures.stands pause.Silent silent).duplex ∙ i.8,
+      (t.ensures.stands pause.Silent silent).pending ∙ i.9,
     )
 
 -- all branches were passed: each that can be taken asks a silent link
@@ -151,3 +158,31 @@ returns-clause-silent g c = λ _.
     (silent_link client up first
     (all_round Silent first c.loop-turn.turn (omega (arith, c.loop-turn-test.false)) i.5 first
     c.in-Some.ensures.can)))
+
+-- behind silent branches one link was asked once, or none
+pub returns-then-not-is_silent-2-clause-asks : goal.returns-then-not-is_silent-2-clause-asks
+returns-then-not-is_silent-2-clause-asks g c =
+    let i = c.loop-turn.invariant in
+    let t = c.step-step-in-loop-turn in
+    asks_from t.result (g.D.Down.link c.args.client.now) (g.D.Down.link c.loop-turn.client)
+    (g.D.Down.link t.new.client) (g.U.Up.link c.args.up.now) (g.U.Up.link c.loop-turn.up)
+    (g.U.Up.link t.new.up) i.2 i.3 t.ensures.asks
+
+-- and what the next one moved, it moved from where they left the duplex, as it was
+pub returns-then-not-is_silent-2-clause-moves : goal.returns-then-not-is_silent-2-clause-moves
+returns-then-not-is_silent-2-clause-moves g c = λ s p q f is.
+    let i = c.loop-turn.invariant in
+    let t = c.step-step-in-loop-turn in
+    let before = i.0 s p q f in
+    moved_from
+    (core c.args.duplex.now (g.D.Down.state c.args.down.now) (g.U.Up.state c.args.up.now))
+    (core c.loop-turn.duplex (g.D.Down.state c.loop-turn.down) (g.U.Up.state c.loop-turn.up))
+    (core t.new.self (g.D.Down.state t.new.down) (g.U.Up.state t.new.up)) i.8 i.9 _
+    (g.D.Down.link c.args.client.now) (g.D.Down.link c.loop-turn.client)
+    (g.D.Down.link t.new.client) (g.U.Up.link c.args.up.now) (g.U.Up.link c.loop-turn.up)
+    (g.U.Up.link t.new.up) i.2 i.3 (t.ensures.moves s before.p before.q before.so_far is)
+
+-- where all branches were passed neither link was asked
+pub returns-clause-asks : goal.returns-clause-asks
+returns-clause-asks g c =
+    record { client_same = c.loop-turn.invariant.2; upstream_same = c.loop-turn.invariant.3 }

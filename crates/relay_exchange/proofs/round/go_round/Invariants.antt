@@ -32,3 +32,5 @@ invariant-loop-turn g l =
     → is_silent_for (g.D.Down.link l.fn.client) (g.U.Up.link l.fn.up) (behind l.first k) ≡ true)
     × (g.D.Down.start l.client ≡ g.D.Down.start l.fn.client)
     × (g.U.Up.start l.up ≡ g.U.Up.start l.fn.up)
+    × (l.duplex ≡ l.fn.duplex)
+    × ((g.D.Down.state l.down).pending ≡ (g.D.Down.state l.fn.down).pending)

@@ -21,3 +21,8 @@ returns-clause-attempt g c =
     attempt_so_far g.L.ByteLink.state g.L.ByteLink.start s went.p went.q
     (g.F.Front.state c.turn.new.client) (g.F.Front.ahead c.turn.new.client) x.down x.up x.duplex
     went.so_far
+
+-- what a turn moved between both sides it moved over their links
+pub returns-clause-moves : goal.returns-clause-moves
+returns-clause-moves g c = λ s p under is.
+    c.turn.ensures.moves s under.down under.up under.holds is

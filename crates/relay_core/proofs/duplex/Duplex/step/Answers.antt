@@ -4,7 +4,8 @@ use Rattle.relay_core.proofs.CauseLemmas.{step_cause, step_keeps}
 use Rattle.relay_core.proofs.DoneLemmas.{step_ends_request, step_ends_response, response_full}
 use Rattle.relay_core.proofs.EndLemmas.{step_tells}
 use Rattle.relay_core.proofs.SoundLemmas.{step_sound}
-use Rattle.relay_core.proofs.StillLemmas.{wait_enabled}
+use Rattle.relay_core.proofs.StillLemmas.{wait_enabled, wait_stands}
+use Rattle.relay_core.proofs.UseLemmas.{step_asks, step_moved}
 use Rattle.relay_core.proofs.duplex.Duplex.step.Goals as goal
 
 -- the side of the branch told why it waits or failed
@@ -68,3 +69,30 @@ returns-clause-rests g c =
     (core c.args.self.now (g.D.Down.state c.args.down.now) (g.U.Up.state c.args.up.now))
     (core c.step_by.new.self (g.D.Down.state c.step_by.new.down) (g.U.Up.state c.step_by.new.up))
     c.step_by.result c.step_by.ensures.exact
+
+-- and the duplex as it was
+pub returns-clause-stands : goal.returns-clause-stands
+returns-clause-stands g c =
+    wait_stands c.args.branch
+    (core c.args.self.now (g.D.Down.state c.args.down.now) (g.U.Up.state c.args.up.now))
+    (core c.step_by.new.self (g.D.Down.state c.step_by.new.down) (g.U.Up.state c.step_by.new.up))
+    c.step_by.result c.step_by.ensures.exact
+
+-- a step asks one link once, or none
+pub returns-clause-asks : goal.returns-clause-asks
+returns-clause-asks g c =
+    step_asks (g.D.Down.link c.args.client.now) (g.D.Down.link c.step_by.new.client)
+    (g.U.Up.link c.args.up.now) (g.U.Up.link c.step_by.new.up) c.args.branch
+    (core c.args.self.now (g.D.Down.state c.args.down.now) (g.U.Up.state c.args.up.now))
+    (core c.step_by.new.self (g.D.Down.state c.step_by.new.down) (g.U.Up.state c.step_by.new.up))
+    c.step_by.result c.step_by.ensures.exact c.step_by.ensures.links
+
+-- one that moved asked its link, or it moved a task or brought an end
+pub returns-clause-moves : goal.returns-clause-moves
+returns-clause-moves g c = λ s p q f is.
+    step_moved (g.D.Down.link c.args.client.now) (g.D.Down.link c.step_by.new.client)
+    (g.U.Up.link c.args.up.now) (g.U.Up.link c.step_by.new.up) c.args.branch
+    (core c.args.self.now (g.D.Down.state c.args.down.now) (g.U.Up.state c.args.up.now))
+    (core c.step_by.new.self (g.D.Down.state c.step_by.new.down) (g.U.Up.state c.step_by.new.up))
+    c.step_by.result c.requires f.sound c.step_by.ensures.exact c.step_by.ensures.links is
+    (c.step_by.ensures.gains s p q f is)

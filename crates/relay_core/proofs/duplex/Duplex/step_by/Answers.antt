@@ -4,6 +4,7 @@ use Rattle.relay_core.specs.Table.{core}
 use Rattle.relay_core.proofs.BatchGoes.{goes_down_take}
 use Rattle.relay_core.proofs.DownGoes.{goes_down_write, goes_down_drop, goes_down_end, goes_down_closed, goes_down_read, goes_down_finish}
 use Rattle.relay_core.proofs.KeepLemmas.{taken, unread}
+use Rattle.relay_core.proofs.UseLemmas.{brings_gains}
 use Rattle.relay_core.proofs.UpGoes.{goes_up_write, goes_up_take, goes_up_read, goes_up_finish}
 use Rattle.relay_core.proofs.duplex.Duplex.step_by.Goals as goal
 
@@ -119,3 +120,12 @@ returns-in-UpRead-clause-brings g c =
     λ s p q f is.
     c.up_read.ensures.brings s q f.up
     (f.unended (unread old (taken old _ _ c.in-UpRead.is c.requires)))
+
+-- so that the link was asked, or the task was put
+pub returns-in-UpRead-clause-gains : goal.returns-in-UpRead-clause-gains
+returns-in-UpRead-clause-gains g c =
+    let old = core c.args.self.now (g.D.Down.state c.args.down.now) (g.U.Up.state c.args.up.now) in
+    rw c.in-UpRead.is (λ s p q f is.
+    brings_gains (g.U.Up.link c.args.up.now) (g.U.Up.link c.up_read.new.up) c.args.self.now
+    c.up_read.new.self (c.up_read.ensures.brings s q f.up
+    (f.unended (unread old (taken old _ _ c.in-UpRead.is c.requires))) is))

@@ -1,10 +1,11 @@
 -- Each answer of the session is a piece, and what passed goes on with it.
-use Rattle.std.proofs.Common.{ap}
+use Rattle.std.proofs.Common.{ap, inr}
 use Rattle.std.specs.Prelude.{◌&&◌}
 use Rattle.relay_session.specs.Reading.{is_body_done}
 use Rattle.relay_session.specs.declared.session.HttpSession.{HttpSession}
 use Rattle.relay_sides.proofs.ClientPast.{no_head}
 use Rattle.relay_sides.proofs.ClientRead.{Left, twice, reads_state, reads_silent, reads_waits, reads_more, reads_on}
+use Rattle.relay_sides.proofs.UseLemmas.{client_reads, client_puts}
 use Rattle.relay_sides.proofs.client_side.ClientSideDown.read_piece.Given.{Over}
 use Rattle.relay_sides.proofs.client_side.ClientSideDown.read_piece.Goals as goal
 
@@ -77,3 +78,22 @@ pub returns-then-not-has_head-clause-goes : goal.returns-then-not-has_head-claus
 returns-then-not-has_head-clause-goes g c = λ s p h.
     absurd (no_head s p _ _ c.args.self.now.session _ _ _ c.has_head.result c.if-not-has_head.true
     c.has_head.ensures.1 h)
+
+-- the client's link was asked once at most
+pub returns-clause-asks : goal.returns-clause-asks
+returns-clause-asks g c =
+    rw c.piece_answer-piece.ensures
+    (client_reads (g.F.Front.state c.args.client.now)
+    (g.F.Front.state c.read_body_or_idle-took.new.client) c.read_body_or_idle-took.result
+    c.is_body_done.result c.read_body_or_idle-took.ensures.link)
+
+-- a piece puts a task
+pub returns-clause-puts : goal.returns-clause-puts
+returns-clause-puts g c =
+    rw c.piece_answer-piece.ensures
+    (λ s p h piece is.
+    inr (client_puts s p (g.F.Front.state c.args.client.now)
+    (g.F.Front.state c.read_body_or_idle-took.new.client) (g.F.Front.ahead c.args.client.now)
+    (g.F.Front.ahead c.read_body_or_idle-took.new.client) c.args.self.now.session
+    c.read_body_or_idle-took.new.self c.read_body_or_idle-took.result c.is_body_done.result
+    piece h.client (left g c) is))

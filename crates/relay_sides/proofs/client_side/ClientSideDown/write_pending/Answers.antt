@@ -3,6 +3,7 @@ use Rattle.std.proofs.Common.{refl, ap}
 use Rattle.relay_session.specs.declared.session.HttpSession.{HttpSession}
 use Rattle.relay_sides.specs.Client as client
 use Rattle.relay_sides.proofs.ClientWrite.{may_write, waits_open, fails_again, writes_on, writes_state, writes_silent, writes_waits, writes_some}
+use Rattle.relay_sides.proofs.UseLemmas.{client_writes}
 use Rattle.relay_sides.proofs.client_side.ClientSideDown.write_pending.Goals as goal
 
 -- no write failed before, so the session may write
@@ -66,3 +67,12 @@ returns-in-None-clause-some g c =
     c.write_pending-put.new.self.writing.output c.write_pending-put.result n
     (waits_open _ c.args.self.now.broken c.in-None.is c.requires)
     c.write_pending-put.ensures.answer is
+
+-- the client's link was asked, unless it is silent
+pub returns-in-None-clause-asks : goal.returns-in-None-clause-asks
+returns-in-None-clause-asks g c =
+    client_writes (g.F.Front.state c.args.client.now)
+    (g.F.Front.state c.write_pending-put.new.client) c.args.self.now.session.writing.output
+    c.write_pending-put.new.self.writing.output c.write_pending-put.result
+    (waits_open _ c.args.self.now.broken c.in-None.is c.requires)
+    c.write_pending-put.ensures.answer

@@ -7,6 +7,7 @@ use Rattle.relay_sides.proofs.PeerLemmas.{more_gave, end_read, stopped_still}
 use Rattle.relay_sides.proofs.PeerTasks.{read_hands, read_stops}
 use Rattle.relay_sides.proofs.SideLemmas.{side_reads, side_stays, side_hands, calm_same, calm_failed, calm_withheld, calm_paused, or_none}
 use Rattle.relay_sides.proofs.MarkLemmas.{marked_more, marked_task, same_error}
+use Rattle.relay_sides.proofs.UseLemmas.{peer_may, peer_waits}
 use Rattle.relay_sides.proofs.peer_side.PeerSideUp.read_task.Goals as goal
 
 -- the side had stopped, and answers why
@@ -192,3 +193,45 @@ pub returns-in-Failed-clause-cuts : goal.returns-in-Failed-clause-cuts
 returns-in-Failed-clause-cuts g c =
     cuts_none _ _ _ c.args.self.now.client.response c.read_response_task.new.self.response
     (took.Failed c.in-Failed.why) (took.Failed c.in-Failed.why) c.in-Failed.ensures.reads refl
+
+-- a task that is handed on asked the link once at most
+pub returns-in-Ok-clause-asks : goal.returns-in-Ok-clause-asks
+returns-in-Ok-clause-asks g c =
+    peer_may (g.L.ByteLink.state c.args.self.now.client.link)
+    (g.L.ByteLink.state c.read_response_task.new.self.link) _ c.args.self.now.client.response
+    c.read_response_task.new.self.response (took.Item c.in-Item.task) c.in-Item.ensures.reads
+
+-- so did one that is not
+pub returns-in-Err-clause-asks : goal.returns-in-Err-clause-asks
+returns-in-Err-clause-asks g c =
+    peer_may (g.L.ByteLink.state c.args.self.now.client.link)
+    (g.L.ByteLink.state c.read_response_task.new.self.link) _ c.args.self.now.client.response
+    c.read_response_task.new.self.response (took.Item c.in-Item.task) c.in-Item.ensures.reads
+
+-- and a read that brought none
+pub returns-in-More-clause-asks : goal.returns-in-More-clause-asks
+returns-in-More-clause-asks g c =
+    peer_may (g.L.ByteLink.state c.args.self.now.client.link)
+    (g.L.ByteLink.state c.read_response_task.new.self.link) _ c.args.self.now.client.response
+    c.read_response_task.new.self.response took.More c.in-More.ensures.reads
+
+-- and one behind the end
+pub returns-in-End-clause-asks : goal.returns-in-End-clause-asks
+returns-in-End-clause-asks g c =
+    peer_may (g.L.ByteLink.state c.args.self.now.client.link)
+    (g.L.ByteLink.state c.read_response_task.new.self.link) _ c.args.self.now.client.response
+    c.read_response_task.new.self.response took.End c.in-End.ensures.reads
+
+-- and one that failed
+pub returns-in-Failed-clause-asks : goal.returns-in-Failed-clause-asks
+returns-in-Failed-clause-asks g c =
+    peer_may (g.L.ByteLink.state c.args.self.now.client.link)
+    (g.L.ByteLink.state c.read_response_task.new.self.link) _ c.args.self.now.client.response
+    c.read_response_task.new.self.response (took.Failed c.in-Failed.why) c.in-Failed.ensures.reads
+
+-- one that waits asked it, or it is silent
+pub returns-in-Waited-clause-asks : goal.returns-in-Waited-clause-asks
+returns-in-Waited-clause-asks g c =
+    peer_waits (g.L.ByteLink.state c.args.self.now.client.link)
+    (g.L.ByteLink.state c.read_response_task.new.self.link) c.in-Waited.pause
+    (took.Waited c.in-Waited.pause) refl c.in-Waited.ensures.used c.in-Waited.ensures.silent

@@ -6,6 +6,7 @@ use Rattle.relay_sides.specs.Peer.{AreMarked}
 use Rattle.relay_sides.proofs.MarkLemmas.{marked_write}
 use Rattle.relay_sides.proofs.SideLemmas.{side_stays, calm_put}
 use Rattle.relay_sides.proofs.SendLemmas.{write_goes}
+use Rattle.relay_sides.proofs.UseLemmas.{put_uses, put_asked}
 use Rattle.relay_sides.proofs.peer_side.PeerSideUp.write_pending.Goals as goal
 
 -- what passed goes on with what the link took
@@ -35,3 +36,17 @@ returns-clause-goes g c = λ s q stands.
     (ap (λ (k : H1Client _). k.response) c.write_pending-put.ensures.same)
     c.write_pending-put.ensures.failed
     c.write_pending-put.ensures.answer c.write_pending-put.ensures.keeps stands.peer)
+
+-- the peer's link was asked, unless it is silent
+pub returns-clause-asks : goal.returns-clause-asks
+returns-clause-asks g c =
+    put_uses (g.L.ByteLink.state c.args.self.now.client.link)
+    (g.L.ByteLink.state c.write_pending-put.new.self.link) c.args.self.now.client.request.unsent
+    c.write_pending-put.result c.write_pending-put.ensures.answer.writes
+
+-- it was, where the write failed
+pub returns-clause-fails : goal.returns-clause-fails
+returns-clause-fails g c =
+    put_asked (g.L.ByteLink.state c.args.self.now.client.link)
+    (g.L.ByteLink.state c.write_pending-put.new.self.link) c.args.self.now.client.request.unsent
+    c.write_pending-put.result c.write_pending-put.ensures.answer.writes

@@ -1,0 +1,105 @@
+-- How a turn uses the links, and what it moved in an exchange, by the branch that it took.
+use Rattle.std.specs.Global.{Box}
+use Rattle.std.specs.Prelude.{◌≡◌, ◌⊎◌, ℕ, ◌+◌, Bool, true, false, min, if◌then◌else◌, List, [], ◌∷◌, Option, None, Some}
+use Rattle.relay_links.specs.Count.{last_count, up}
+use Rattle.relay_links.specs.Link.{LinkState, LinkStart}
+use Rattle.relay_links.specs.Told.{more}
+use Rattle.relay_links.specs.declared.Returned.{Returned}
+use Rattle.relay_links.specs.declared.branch.Branch.{Branch}
+use Rattle.relay_links.specs.declared.branch.Branch.TheVariants as branch
+use Rattle.relay_core.specs.Past.{Origin}
+use Rattle.relay_core.specs.Uses.{AsksEither, AsksNone, IsUsed}
+use Rattle.relay_attempt.specs.Exchange.{IsUnderWay, HasMoved}
+use Rattle.relay_attempt.specs.Passed.{Passed}
+use Rattle.relay_attempt.specs.declared.h1_exchange.H1Exchange.{H1Exchange}
+use Rattle.relay_proxy.specs.Passed.{World}
+use Rattle.relay_proxy.specs.Work.{added_work}
+use Rattle.relay_proxy.specs.declared.machine.Attempt.{Attempt}
+use Rattle.relay_proxy.specs.declared.machine.Phase.{Phase}
+use Rattle.relay_proxy.specs.declared.machine.Phase.TheVariants.{Relay}
+use Rattle.relay_proxy.specs.declared.work.Work.{Work}
+
+-- ---- how often the links were asked
+
+-- the client's link was asked so many times: once, or not at all
+abbrev pub ClientUses : ℕ → LinkState → LinkState → Type 0
+ClientUses n before after =
+    ((n ≡ 1) × IsUsed before after) ⊎ ((n ≡ 0) × (after ≡ before))
+
+-- both links were asked so many times: one of them once, or neither
+abbrev pub BothUse : ℕ → LinkState → LinkState → LinkState → LinkState → Type 0
+BothUse n client client' upstream upstream' =
+    ((n ≡ 1) × AsksEither client client' upstream upstream')
+    ⊎ ((n ≡ 0) × AsksNone client client' upstream upstream')
+
+-- the link that a turn began with, as it stands behind it: it is held still, or it was handed back
+abbrev pub StandsBehind : {L : Type 0} → (L → LinkState) → Option (List (Returned L))
+    → Option (List (Returned L)) → Option LinkState → LinkState → Type 0
+StandsBehind {L} state before after held link =
+    (held ≡ Some link)
+    ⊎ ((r : Returned L) × (after ≡ more before (r ∷ [])) × (state r.link ≡ link))
+
+-- a turn asked the client's link and the one that it began with so many times; the second stands so
+-- behind it
+abbrev pub TurnUses : ℕ → LinkState → LinkState → Option LinkState → (LinkState → Type 0) → Type 0
+TurnUses n client client' None stands = ClientUses n client client'
+TurnUses n client client' (Some link) stands =
+    (link' : LinkState) × stands link' × BothUse n client client' link link'
+
+-- what was counted of uses rose by those of a turn
+abbrev pub CountsUses : ℕ → ℕ → LinkState → LinkState → Option LinkState → (LinkState → Type 0)
+    → Type 0
+CountsUses before after client client' held stands =
+    (n : ℕ) × (after ≡ min (before + n) last_count) × TurnUses n client client' held stands
+
+-- ---- what moved in an exchange
+
+-- a use of a link
+abbrev pub one_use : Work
+one_use = record { used = 1; moved = 0; ended = 0 }
+
+-- a task that moved
+abbrev pub one_task : Work
+one_task = record { used = 0; moved = 1; ended = 0 }
+
+-- an end
+abbrev pub one_end : Work
+one_end = record { used = 0; moved = 0; ended = 1 }
+
+-- the work of a turn of an exchange that moved, by its branch: a use of a link, a task that moved or
+-- an end. A read is a use where it asked its link, and else the task that it put; a turn without a
+-- branch writes the request's head
+abbrev pub work_by : Option Branch → Bool → Work
+work_by None asked = one_use
+work_by (Some branch.UpWrite) asked = one_use
+work_by (Some branch.DownWrite) asked = one_use
+work_by (Some branch.UpTake) asked = one_task
+work_by (Some branch.DownTake) asked = one_task
+work_by (Some branch.DownDrop) asked = one_task
+work_by (Some branch.DownEnd) asked = one_end
+work_by (Some branch.DownClosed) asked = one_end
+work_by (Some branch.UpRead) asked = if asked then one_use else one_task
+work_by (Some branch.DownRead) asked = if asked then one_use else one_task
+work_by (Some branch.UpFinish) asked = one_end
+work_by (Some branch.DownFinish) asked = one_end
+work_by (Some branch.MessageUp) asked = one_task
+work_by (Some branch.MessageDown) asked = one_task
+
+module _ {L C : Type 0} (state : L → LinkState) (start_at : L → LinkStart) where
+  -- an exchange went on by that branch: one that is under way asked a link once, or it moved a task
+  -- or brought an end
+  pub record ExchangeMoved (branch : Option Branch) (w x : World) (a : H1Exchange L)
+      (next : Phase L C) : Type 0 where
+    pub held : Box (Attempt L C)
+    pub goes_on : next ≡ Relay held
+    pub moved : (s : Origin) (p : Passed)
+        → IsUnderWay state start_at s p w.client w.ahead a
+        → HasMoved state start_at branch w.client x.client a held.value.exchange
+
+  -- an exchange went on, and its work is that of the branch which it took
+  pub record CountsMove (w x : World) (before after : Work) (a : H1Exchange L) (next : Phase L C)
+      : Type 0 where
+    pub branch : Option Branch
+    pub moved : ExchangeMoved branch w x a next
+    pub asked : Bool
+    pub counted : after ≡ added_work before (work_by branch asked)
