@@ -84,10 +84,10 @@ same_head a b same = cc
 own_blames : {L : Type 0} (state : L → LinkState) (start_at : L → LinkStart) (s : Origin)
     (q : UpPast) (up : PeerSide L) → UpHolds state start_at up s q → (e : Error)
     → Blames state start_at up s q e
-    → PeerBlames (start_at up.client.link) (state up.client.link) s.head q e
+    → PeerBlames (start_at up.client.link) (state up.client.link) s.head s.asked q e
 own_blames state start_at s q up u e blames =
     subst (λ (h : RequestHead).
-    PeerBlames (start_at up.client.link) (state up.client.link) h q e)
+    PeerBlames (start_at up.client.link) (state up.client.link) h s.asked q e)
     (same_head blames.0 u.peer.head (sym blames.1 ∙ u.peer.is_head) ∙ u.peer.own) blames.2
 
 module _ {L : Type 0} (state : L → LinkState) (start_at : L → LinkStart)
@@ -124,7 +124,7 @@ module _ {L : Type 0} (state : L → LinkState) (start_at : L → LinkStart)
     in_order = order_so_far state start_at s p q link ahead down up duplex so_far
 
     -- the tasks that came
-    abbrev tasks_are : AreTasks s.head.method (state up.client.link).ended q.got
+    abbrev tasks_are : AreTasks s.head.method s.asked (state up.client.link).ended q.got
         (peer_holds.given ++ peer_holds.withheld) up.client.response
     tasks_are = tasks_own s (start_at up.client.link) (state up.client.link) up.client up.stopped
         up.lost q peer_holds
@@ -141,7 +141,7 @@ module _ {L : Type 0} (state : L → LinkState) (start_at : L → LinkStart)
         end_given s.head.method u.given p.batched front.rest
         (front.joined
         ∙ subst (λ (h : RequestHead). q.read ≡ map (handed h.method) u.given) u.own u.is_read)
-        (given_ends_last s.head.method (state up.client.link).ended q.got u.given u.withheld
+        (given_ends_last s.head.method s.asked (state up.client.link).ended q.got u.given u.withheld
         up.client.response tasks_are)
         ends
 
@@ -158,11 +158,12 @@ module _ {L : Type 0} (state : L → LinkState) (start_at : L → LinkStart)
 
     -- the response has come whole, with an end among the tasks or where it is done
     whole_by : (list_any is_end p.batched ≡ true) ⊎ (down.done ≡ true)
-        → (n : ℕ) × Tasks s.head.method false q.got (state up.client.link).ended
+        → (n : ℕ) × Tasks s.head.method s.asked q.got (state up.client.link).ended
         (says (told_of in_order.are_of.given) (ended n))
     whole_by (inl ends) = in_order.are_of.whole (given_ends ends).found
     whole_by (inr done) =
-        over_is_whole s.head (state up.client.link).ended q.got q.read in_order.are_of p.batched
+        over_is_whole s.head s.asked (state up.client.link).ended q.got q.read in_order.are_of
+        p.batched
         front.rest (sym front.joined) (over_behind (inr done))
 
     -- and it is over behind all that was queued
@@ -235,7 +236,7 @@ module _ {L : Type 0} (state : L → LinkState) (start_at : L → LinkStart)
     read_ends (inr done) =
         ap (list_any is_end) in_order.are_of.are
         ∙ handed_any s.head.method in_order.are_of.given
-        ∙ over_has_end s.head (state up.client.link).ended q.got q.read in_order.are_of
+        ∙ over_has_end s.head s.asked (state up.client.link).ended q.got q.read in_order.are_of
         peer_holds.withheld up.client.response tasks_are peer_holds.heads p.batched front.rest
         (sym front.joined) (over_behind (inr done))
 
@@ -265,7 +266,7 @@ module _ {L : Type 0} (state : L → LinkState) (start_at : L → LinkStart)
         (order_so_far state start_at s p q link ahead down up duplex so_far)
         × ((state up.client.link).faults ≡ (start_at up.client.link).faults))
         ⊎ ((e : Error) × (lost : Bool)
-        × PeerBlames (start_at up.client.link) (state up.client.link) s.head
+        × PeerBlames (start_at up.client.link) (state up.client.link) s.head s.asked
         (order.up_past (order_so_far state start_at s p q link ahead down up duplex so_far) lost) e
         × IsWriteError (start_at up.client.link) (state up.client.link) e)
     request_by None none finishes =
@@ -333,7 +334,7 @@ module _ {L : Type 0} (state : L → LinkState) (start_at : L → LinkStart)
         (u.is_head ∙ ap (λ (h : RequestHead). Some h) u.own) serves.asks whole
         (none_waits up.client.request.unsent (finishes.sent none)))
         (and_both (may_keep_reading up.client.response) _
-        (kept_reading s.head.method (state up.client.link).ended q.got
+        (kept_reading s.head.method s.asked (state up.client.link).ended q.got
         (told_of in_order.are_of.given) (told_of (u.given ++ u.withheld)) up.client.response.place
         up.client.response.ahead tasks_are.so_far.at over serves.response)
         (not_false up.client.failed (calm none finishes))))
@@ -346,7 +347,7 @@ module _ {L : Type 0} (state : L → LinkState) (start_at : L → LinkStart)
 
     -- what the client's side leaves of its request, and the peer's side of its response
     pub leaves_of : (keeps : Bool) (n : ℕ)
-        → Tasks s.head.method false q.got (state up.client.link).ended
+        → Tasks s.head.method s.asked q.got (state up.client.link).ended
         (says (told_of in_order.are_of.given) (ended n))
         → (keeps ≡ true → may_keep_client up.client ≡ true)
         → Leaves s (passed_by p q) (state up.client.link).ended in_order ahead
@@ -382,7 +383,7 @@ module _ {L : Type 0} (state : L → LinkState) (start_at : L → LinkStart)
               request = sent.request;
               complete = sent.complete;
               asks = sent.asks;
-              response = read_whole s.head.method (state up.client.link).ended q.got
+              response = read_whole s.head.method s.asked (state up.client.link).ended q.got
                   (told_of u.given) (told_of (u.given ++ u.withheld)) up.client.response n
                   tasks_are.so_far parts.1 whole;
             }
@@ -403,7 +404,8 @@ module _ {L : Type 0} (state : L → LinkState) (start_at : L → LinkStart)
             let c = so_far.down.client in
             let own = (HasRequest-unique (given_to s p) head s.head framing c.framing len c.len has
             (own_request s p link ahead down.session c)).0 in
-            absurd (never_refused s.head (state up.client.link).ended q.got q.read in_order.are_of
+            absurd (never_refused s.head s.asked (state up.client.link).ended q.got q.read
+            in_order.are_of
             first (behind ++ r.rest) at
             (r.came ∙ sym (append_assoc p.batched r.left r.rest)
             ∙ ap (λ (l : List HttpTask). l ++ r.rest) is

@@ -4,7 +4,7 @@
 --   never_refused   no task is refused behind the front of them that was sent
 --   over_is_whole   a front that is sent as a text that is over tells the response whole
 --   over_has_end    and then the end of the response was handed on
-use Rattle.std.proofs.Common.{◌≡◌, ℕ, ◌+◌, ◌-◌, ◌≤◌, nat_le, Bool, true, false, ◌||◌, ◌⊎◌, List, [], ◌∷◌, ◌++◌, length, take, drop, map, codes, refl, sym, ap, subst, ◌∙◌, append-nil, length-append, length-take, arith, inl, inr, Option, Some, None, is_some, option_map, MatchOption, if◌then◌else◌, eqb-true, leb-true, le-leb}
+use Rattle.std.proofs.Common.{◌≡◌, ℕ, ◌+◌, ◌-◌, ◌≤◌, ◌==◌, nat_le, Bool, true, false, ◌||◌, ◌⊎◌, List, [], ◌∷◌, ◌++◌, length, take, drop, map, codes, refl, sym, ap, subst, ◌∙◌, append-nil, length-append, length-take, arith, inl, inr, Option, Some, None, is_some, option_map, MatchOption, if◌then◌else◌, eqb-true, leb-true, le-leb}
 use Rattle.std.specs.List.{list_any}
 use Rattle.std.proofs.lemmas.Bool.{cases_Bool}
 use Rattle.http_header.specs.FieldValue.{FieldValue}
@@ -41,7 +41,7 @@ use Rattle.relay_core.specs.Moves.{EndsLast}
 use Rattle.relay_sides.specs.Body.{IsFrontOf}
 use Rattle.relay_peer.specs.declared.response_reading.ResponseReading.{ResponseReading}
 use Rattle.relay_sides.specs.Peer.{handed, told_behind, told_of}
-use Rattle.relay_sides.specs.Peer.{Follow, AreHeads, AreTasks}
+use Rattle.relay_sides.specs.Peer.{Follow, AreHeads, AreTasks, is_switch}
 use Rattle.relay_attempt.specs.Order.{AreOf}
 use Rattle.relay_attempt.proofs.WholeLemmas.{IsFull, full_has_end}
 
@@ -95,15 +95,24 @@ same_for framing.Chunked = refl
 same_for framing.UntilClose = refl
 same_for framing.Tunnel = refl
 
+-- a head that switches no protocols is framed as one to which no upgrade was asked for
+framed_plain : (method : List ℕ) (upgrade : Bool) (head : ResponseHead) (f : Framing)
+    → (head.status == 101) ≡ false → response_framing method upgrade head ≡ Some f
+    → response_framing method false head ≡ Some f
+unfolding response_framing
+framed_plain method true head f stays is = rw stays at is
+framed_plain method false head f stays is = is
+
 -- a head that came is framed as it is read
-came_framed : (method bytes : List ℕ) (head : ResponseHead) (f : Framing) (len : ℕ)
-    → HasResponse method false bytes head f len → response_framing method false head ≡ Some f
-came_framed method bytes head f len has =
+came_framed : (method : List ℕ) (upgrade : Bool) (bytes : List ℕ) (head : ResponseHead)
+    (f : Framing) (len : ℕ) → HasResponse method upgrade bytes head f len
+    → response_framing method upgrade head ≡ Some f
+came_framed method upgrade bytes head f len has =
     let none : IsUnique {X = FieldValue} [] = λ i j within other same. omega arith in
     let unique = subst (λ (h : ResponseHead). IsUnique h.fields) (sym has.starts.reads.is)
     (appended_unique [] (map kept_field has.starts.reads.form.fields) none) in
-    subst (λ (h : ResponseHead). response_framing method false h ≡ Some f) (sym has.is)
-    (finds_framing method false false has.given f has.framed unique
+    subst (λ (h : ResponseHead). response_framing method upgrade h ≡ Some f) (sym has.is)
+    (finds_framing method upgrade false has.given f has.framed unique
     (settled_unique f has.given unique)
     ∙ ap Some (same_for f))
 
@@ -425,11 +434,16 @@ later_passes : (a b : Bool) → b ≡ true → (a || b) ≡ true
 later_passes true b is = refl
 later_passes false b is = is
 
+-- where one of two tests passes not, neither does
+neither : (a b : Bool) → (a || b) ≡ false → (a ≡ false) × (b ≡ false)
+neither true b none = absurd (cc)
+neither false b none = (refl, none)
+
 -- ---- the response
 
 module _
-    (head : RequestHead) (closed : Bool) (got : List ℕ) (tasks : List HttpTask)
-    (are : AreOf head.method closed got tasks)
+    (head : RequestHead) (upgrade closed : Bool) (got : List ℕ) (tasks : List HttpTask)
+    (are : AreOf head.method upgrade closed got tasks)
   where
     -- whether the client is of HTTP/1.0
     abbrev old : Bool
@@ -443,7 +457,7 @@ module _
     record IsFinal (final : ResponseHead) (f : Framing) : Type 0 where
       pub told : all.final ≡ Some final
       pub len : ℕ
-      pub has : HasFinal head.method false got all.informed final f len
+      pub has : HasFinal head.method upgrade got all.informed final f len
 
     -- where the response stands behind what was told: no final head, or what it leaves of the body
     -- behind the bytes that were told, or the end, which is among the tasks
@@ -459,6 +473,7 @@ module _
     record Left (told : ToldResponse) (rest : List HttpTask) : Type 0 where
       pub follow : Follow told rest
       pub tells : told_behind told rest ≡ all
+      pub stays : list_any is_switch rest ≡ false
       pub ends_last : EndsLast rest
       pub ends : list_any is_end rest ≡ true → list_any is_end are.given ≡ true
 
@@ -467,6 +482,7 @@ module _
     all_left = record {
       follow = are.follow;
       tells = refl;
+      stays = are.stays;
       ends_last = are.ends_last;
       ends = λ is. is;
     }
@@ -478,6 +494,7 @@ module _
     one_less told one rest left = record {
       follow = left.follow.2;
       tells = left.tells;
+      stays = (neither (is_switch one) (list_any is_switch rest) left.stays).1;
       ends_last = λ front behind same found.
           left.ends_last (one ∷ front) behind (ap (λ (l : List HttpTask). one ∷ l) same)
           (later_passes (is_end one) (list_any is_end front) found);
@@ -504,12 +521,12 @@ module _
     -- what the bytes say of the response, by its final head
     all_said : (final : ResponseHead) (f : Framing) (is : IsFinal final f) (text : BodyText)
         → Body f (drop is.len got) text
-        → Tasks head.method false got closed
+        → Tasks head.method upgrade got closed
         (text_of all.informed (Some final) text.bytes
         (mark_of f is.len (length got) closed text.mark))
     all_said final f is text said =
         subst
-        (λ (k : ℕ). Tasks head.method false got closed
+        (λ (k : ℕ). Tasks head.method upgrade got closed
         (text_of all.informed (Some final) text.bytes
         (mark_of f k (length got) closed text.mark)))
         (sym is.has.ends)
@@ -525,7 +542,7 @@ module _
         let text = of_length k (drop there.len got) in
         let whole = are.whole ends in
         let said = all_said final (framing.Length k) there text refl in
-        let one = Tasks-unique head.method false got closed (says all (ended whole.0))
+        let one = Tasks-unique head.method upgrade got closed (says all (ended whole.0))
         (text_of all.informed (Some final) text.bytes
         (mark_of (framing.Length k) there.len (length got) closed text.mark)) whole.1 said in
         ended_length k whole.0 there.len (length got) closed (drop there.len got) all.body
@@ -579,7 +596,9 @@ module _
         let f = found.0 in
         let is : IsFinal given f = record { told = in_all; len = found.1; has = found.2 } in
         let over = hands_over head.method ends given f
-        (came_framed head.method (drop is.has.place got) given f is.has.own is.has.has) in
+        (framed_plain head.method upgrade given f
+        (neither (given.status == 101) (list_any is_switch rest) left.stays).0
+        (came_framed head.method upgrade (drop is.has.place got) given f is.has.own is.has.has)) in
         let g = over.g in
         let out = handed_head head.method ends given in
         let goes = final_goes (request_of head) out ends
@@ -794,7 +813,7 @@ module _
 
     -- what was told of the response, with its end
     abbrev IsTold : Type 0
-    IsTold = (n : ℕ) × Tasks head.method false got closed (says all (ended n))
+    IsTold = (n : ℕ) × Tasks head.method upgrade got closed (says all (ended n))
 
     -- what the bytes say is what was told
     is_told : (final : ResponseHead) (f : Framing) (is : IsFinal final f) (text : BodyText) (n : ℕ)
@@ -802,7 +821,7 @@ module _
         → mark_of f is.len (length got) closed text.mark ≡ ended n → IsTold
     is_told final f is text n said bytes mark = (
       n,
-      subst (λ (t : ResponseText). Tasks head.method false got closed t)
+      subst (λ (t : ResponseText). Tasks head.method upgrade got closed t)
           (same_text all.informed (Some final) all.final text.bytes all.body
           (mark_of f is.len (length got) closed text.mark) (ended n) (sym is.told) bytes mark)
           (all_said final f is text said),
@@ -861,7 +880,7 @@ module _
     -- where the text of a front of the tasks is over, the response has come whole
     pub over_is_whole : (front rest : List HttpTask) → tasks ≡ front ++ rest
         → is_over (wire (request_of head) place.NoHead front).place ≡ true
-        → (n : ℕ) × Tasks head.method false got closed (says (told_of are.given) (ended n))
+        → (n : ℕ) × Tasks head.method upgrade got closed (says (told_of are.given) (ended n))
     over_is_whole front rest same over =
         let there = sends_front front rest same in
         over_told there.told there.next (wire (request_of head) place.NoHead front).place there.left
@@ -913,7 +932,7 @@ module _
 
     -- where the text of a front of the tasks is over, the end of the response was handed on
     pub over_has_end : (withheld : List HttpTask) (client : ResponseReading)
-        → AreTasks head.method closed got (are.given ++ withheld) client → AreHeads withheld
+        → AreTasks head.method upgrade closed got (are.given ++ withheld) client → AreHeads withheld
         → (front rest : List HttpTask) → tasks ≡ front ++ rest
         → is_over (wire (request_of head) place.NoHead front).place ≡ true
         → list_any is_end are.given ≡ true
@@ -922,6 +941,7 @@ module _
         elim (over_by there.told there.next (wire (request_of head) place.NoHead front).place
         there.left there.stands over) [
           | inl ends ↦ ends
-          | inr full ↦ full_has_end head.method closed got are.given withheld client full.final
+          | inr full ↦ full_has_end head.method upgrade closed got are.given withheld client
+              full.final
               full.form full.is.len reads heads full.is.told full.is.has full.full
         ]

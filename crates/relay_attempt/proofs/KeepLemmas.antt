@@ -145,14 +145,14 @@ keeps_end true false stays is = absurd (cc)
 keeps_end false end stays is = absurd (cc)
 
 -- a place that lets the link be kept, with nothing ahead, has read the response whole
-read_at : (method : List ℕ) (closed : Bool) (given : List ℕ) (told : ToldResponse)
+read_at : (method : List ℕ) (upgrade closed : Bool) (given : List ℕ) (told : ToldResponse)
     (now : ResponsePlace)
-    (ahead : List ℕ) → ReadAt method closed given told now ahead → keeps_at now ≡ true
-    → ahead ≡ [] → IsReadWhole method closed given told
-read_at method closed given told place.NoHead ahead at keeps none = absurd (cc)
-read_at method closed given told place.Informed ahead at keeps none = absurd (cc)
-read_at method closed given told (place.InBody body) ahead at keeps none = absurd (cc)
-read_at method closed given told (place.Ended kept) ahead at keeps none =
+    (ahead : List ℕ) → ReadAt method upgrade closed given told now ahead → keeps_at now ≡ true
+    → ahead ≡ [] → IsReadWhole method upgrade closed given told
+read_at method upgrade closed given told place.NoHead ahead at keeps none = absurd (cc)
+read_at method upgrade closed given told place.Informed ahead at keeps none = absurd (cc)
+read_at method upgrade closed given told (place.InBody body) ahead at keeps none = absurd (cc)
+read_at method upgrade closed given told (place.Ended kept) ahead at keeps none =
     let lets = sym at.keeps ∙ keeps in
     record {
       n = at.n;
@@ -169,16 +169,17 @@ read_at method closed given told (place.Ended kept) ahead at keeps none =
     }
 
 -- the response that was told was read whole, and what it told is what these tell
-pub read_whole : (method : List ℕ) (closed : Bool) (given : List ℕ) (told all : ToldResponse)
-    (now : ResponseReading) (n : ℕ) → ReadSoFar method closed given all now
-    → may_keep_reading now ≡ true → Tasks method false given closed (says told (ended n))
-    → IsReadWhole method closed given told
-read_whole method closed given told all now n so_far kept whole =
-    let read = read_at method closed given all now.place now.ahead so_far.at
+pub read_whole : (method : List ℕ) (upgrade closed : Bool) (given : List ℕ)
+    (told all : ToldResponse)
+    (now : ResponseReading) (n : ℕ) → ReadSoFar method upgrade closed given all now
+    → may_keep_reading now ≡ true → Tasks method upgrade given closed (says told (ended n))
+    → IsReadWhole method upgrade closed given told
+read_whole method upgrade closed given told all now n so_far kept whole =
+    let read = read_at method upgrade closed given all now.place now.ahead so_far.at
     (and_left (keeps_at now.place) _ kept)
     (none_left now.ahead (and_right (keeps_at now.place) _ kept)) in
-    subst (λ (t : ToldResponse). IsReadWhole method closed given t)
-    (same_told all told _ _ (Tasks-unique method false given closed _ _ read.whole whole)) read
+    subst (λ (t : ToldResponse). IsReadWhole method upgrade closed given t)
+    (same_told all told _ _ (Tasks-unique method upgrade given closed _ _ read.whole whole)) read
 
 -- ---- the end of a response
 

@@ -183,38 +183,45 @@ module _
         u.queued.front)
 
     -- the tasks that came, handed on and withheld, for the method of the client
-    pub tasks_own : AreTasks s.head.method link.ended q.got (u.given ++ u.withheld) client.response
+    pub tasks_own : AreTasks s.head.method s.asked link.ended q.got (u.given ++ u.withheld)
+        client.response
     tasks_own =
         subst (λ (h : RequestHead).
-        AreTasks h.method link.ended q.got (u.given ++ u.withheld) client.response) u.own u.tasks
+        AreTasks h.method s.asked link.ended q.got (u.given ++ u.withheld) client.response) u.own
+        u.tasks
 
     -- the tasks are those of the response
-    abbrev pub tasks_of : AreOf s.head.method link.ended q.got q.read
+    abbrev pub tasks_of : AreOf s.head.method s.asked link.ended q.got q.read
     tasks_of =
         let method = s.head.method in
         record {
           given = u.given;
           are = subst (λ (h : RequestHead). q.read ≡ map (handed h.method) u.given) u.own u.is_read;
-          follow = given_follow method link.ended q.got u.given u.withheld client.response
+          follow = given_follow method s.asked link.ended q.got u.given u.withheld client.response
               tasks_own;
           stays = u.none_switches;
           have_room = subst (λ (h : RequestHead). All (HasRoom h.method) u.given) u.own
               u.have_room;
-          informed = given_informed method link.ended q.got u.given u.withheld client.response
+          informed = given_informed method s.asked link.ended q.got u.given u.withheld
+              client.response
               tasks_own;
           final = λ head is.
-              let there = given_final method link.ended q.got u.given u.withheld client.response
+              let there = given_final method s.asked link.ended q.got u.given u.withheld
+              client.response
               tasks_own head is in
               (there.framing, there.len, there.has);
-          body = given_body method link.ended q.got u.given u.withheld client.response tasks_own;
-          ends_last = given_ends_last method link.ended q.got u.given u.withheld client.response
+          body = given_body method s.asked link.ended q.got u.given u.withheld client.response
+              tasks_own;
+          ends_last = given_ends_last method s.asked link.ended q.got u.given u.withheld
+              client.response
               tasks_own;
           whole = λ ends.
-              let all = ended_whole method q.got link.ended u.given client.response
-              (given_all method link.ended q.got u.given u.withheld client.response tasks_own ends)
+              let all = ended_whole method s.asked q.got link.ended u.given client.response
+              (given_all method s.asked link.ended q.got u.given u.withheld client.response
+              tasks_own ends)
               ends in
               (all.place, all.whole);
-          framed = given_framed method link.ended q.got u.given u.withheld client.response
+          framed = given_framed method s.asked link.ended q.got u.given u.withheld client.response
               tasks_own;
         }
 
@@ -223,8 +230,8 @@ module _
         → (head : ResponseHead) × ((told_of u.given).final ≡ Some head)
     headed ends =
         let method = s.head.method in
-        let said = ended_whole method q.got link.ended u.given client.response
-        (given_all method link.ended q.got u.given u.withheld client.response
+        let said = ended_whole method s.asked q.got link.ended u.given client.response
+        (given_all method s.asked link.ended q.got u.given u.withheld client.response
         tasks_own ends) ends in
         (said.head, said.final)
 
@@ -293,7 +300,7 @@ end_given method given batched rest joined last ends =
 
 module _
     (s : Origin) (closed : Bool) (got : List ℕ) (read : List HttpTask)
-    (are_of : AreOf s.head.method closed got read)
+    (are_of : AreOf s.head.method s.asked closed got read)
     (headed : list_any is_end are_of.given ≡ true
     → (head : ResponseHead) × ((told_of are_of.given).final ≡ Some head))
     (batched : List HttpTask) (front : IsFrontOf batched read)
@@ -301,7 +308,7 @@ module _
     -- none of the tasks that were queued is refused
     pub batched_passes : first_refusal (request_of s.head) place.NoHead batched ≡ None
     batched_passes =
-        front_passes s.head closed got read are_of batched front.rest (sym front.joined)
+        front_passes s.head s.asked closed got read are_of batched front.rest (sym front.joined)
 
     -- with an end among the tasks the response is over
     pub over_by_end : list_any is_end batched ≡ true

@@ -43,7 +43,7 @@ use Rattle.relay_attempt.proofs.ValidLemmas.{request_unshort}
 -- the side never answers for a request that ends short: a request in order does not
 pub never_short : (s : Origin) (p : Passed) (closed : Bool) (link : LinkState)
     (start : LinkStart) (order : IsInOrder s p closed) (lost : Bool) (e : Error)
-    → PeerBlames start link s.head (up_past order lost) e → e ≡ short_request → ⊥
+    → PeerBlames start link s.head s.asked (up_past order lost) e → e ≡ short_request → ⊥
 never_short s p closed link start order lost e
     (peer.PeerBlames.link_failed fault is rose answered) same =
     let wrong = ap (λ (x : Error). x.context) (sym is ∙ same) in cc
@@ -191,14 +191,16 @@ same_told a b m k same =
     record { informed = t.informed; final = t.final; body = t.body }) same
 
 -- a final head that the bytes say is no informational one
-said_final : (method bytes : List ℕ) (closed : Bool) (text : ResponseText) (head : ResponseHead)
-    → Tasks method false bytes closed text → text.final ≡ Some head
+said_final : (method : List ℕ) (upgrade : Bool) (bytes : List ℕ) (closed : Bool)
+    (text : ResponseText) (head : ResponseHead)
+    → Tasks method upgrade bytes closed text → text.final ≡ Some head
     → is_informational head.status ≡ false
-said_final method bytes closed _ head (tasks.Tasks.head_open heads n informs still) is =
+said_final method upgrade bytes closed _ head (tasks.Tasks.head_open heads n informs still) is =
     absurd (cc)
-said_final method bytes closed _ head (tasks.Tasks.head_refused heads n why informs refused) is =
+said_final method upgrade bytes closed _ head (tasks.Tasks.head_refused heads n why informs refused)
+    is =
     absurd (cc)
-said_final method bytes closed _ head
+said_final method upgrade bytes closed _ head
     (tasks.Tasks.has_final heads n other given len text informs has final reads) is =
     subst (λ (h : ResponseHead). is_informational h.status ≡ false) (some other head is) final
   where
@@ -213,37 +215,41 @@ keeps_end false end stays is = absurd (cc)
 
 -- a response that was read to its end, and of which the bytes are all that came, lets its link be
 -- kept, where its head and framing do
-pub kept_reading : (method : List ℕ) (closed : Bool) (got : List ℕ) (told all : ToldResponse)
-    (at : ResponsePlace) (ahead : List ℕ) → ReadAt method closed got all at ahead
-    → is_over at ≡ true → IsReadWhole method closed got told
+pub kept_reading : (method : List ℕ) (upgrade closed : Bool) (got : List ℕ)
+    (told all : ToldResponse)
+    (at : ResponsePlace) (ahead : List ℕ) → ReadAt method upgrade closed got all at ahead
+    → is_over at ≡ true → IsReadWhole method upgrade closed got told
     → (keeps_at at && (length ahead == 0)) ≡ true
-kept_reading method closed got told all place.NoHead ahead reads over whole = absurd (cc)
-kept_reading method closed got told all place.Informed ahead reads over whole = absurd (cc)
-kept_reading method closed got told all (place.InBody body) ahead reads over whole = absurd (cc)
-kept_reading method closed got told all (place.Ended keeps) ahead reads over whole =
-    let one = Tasks-unique method false got closed (says all (ended reads.place))
+kept_reading method upgrade closed got told all place.NoHead ahead reads over whole = absurd (cc)
+kept_reading method upgrade closed got told all place.Informed ahead reads over whole = absurd (cc)
+kept_reading method upgrade closed got told all (place.InBody body) ahead reads over whole = absurd
+    (cc)
+kept_reading method upgrade closed got told all (place.Ended keeps) ahead reads over whole =
+    let one = Tasks-unique method upgrade got closed (says all (ended reads.place))
     (says told (ended whole.place)) reads.whole whole.whole in
-    let final : HasFinal method false got all.informed reads.head reads.framing
+    let final : HasFinal method upgrade got all.informed reads.head reads.framing
     (reads.n + reads.len) = record {
       place = reads.n;
       own = reads.len;
       informs = reads.informs;
       has = reads.has;
-      final = said_final method got closed (says all (ended reads.place)) reads.head reads.whole
+      final = said_final method upgrade got closed (says all (ended reads.place)) reads.head
+          reads.whole
           reads.final;
       ends = refl;
     } in
-    let other : HasFinal method false got told.informed whole.head whole.framing
+    let other : HasFinal method upgrade got told.informed whole.head whole.framing
     (whole.n + whole.len) = record {
       place = whole.n;
       own = whole.len;
       informs = whole.informs;
       has = whole.has;
-      final = said_final method got closed (says told (ended whole.place)) whole.head whole.whole
+      final = said_final method upgrade got closed (says told (ended whole.place)) whole.head
+          whole.whole
           whole.final;
       ends = refl;
     } in
-    let same = HasFinal-unique method false got all.informed told.informed reads.head whole.head
+    let same = HasFinal-unique method upgrade got all.informed told.informed reads.head whole.head
     reads.framing whole.framing (reads.n + reads.len) (whole.n + whole.len) final other in
     let lets : lets_keep reads.head reads.framing ≡ true =
     ap (λ (h : ResponseHead). lets_keep h reads.framing) same.head

@@ -117,60 +117,64 @@ follow_parts told (one ∷ front) behind follow =
 -- ---- what the bytes say
 
 -- informational heads are the front of all of them
-informed_front : (method : List ℕ) (closed : Bool) (got : List ℕ) (heads : List ResponseHead)
-    (n : ℕ) (text : ResponseText) → Informs method false got heads n
-    → Tasks method false got closed text → IsFrontOf heads text.informed
-informed_front method closed got heads n _ informs
+informed_front : (method : List ℕ) (upgrade closed : Bool) (got : List ℕ)
+    (heads : List ResponseHead)
+    (n : ℕ) (text : ResponseText) → Informs method upgrade got heads n
+    → Tasks method upgrade got closed text → IsFrontOf heads text.informed
+informed_front method upgrade closed got heads n _ informs
     (tasks.Tasks.head_open others m all still) =
-    let rest = Informs-front method false got heads others n m informs all
-    (Stops-open method false _ still) in
+    let rest = Informs-front method upgrade got heads others n m informs all
+    (Stops-open method upgrade _ still) in
     record { rest = rest.0; joined = sym rest.1 }
-informed_front method closed got heads n _ informs
+informed_front method upgrade closed got heads n _ informs
     (tasks.Tasks.head_refused others m why all refused) =
-    let rest = Informs-front method false got heads others n m informs all
-    (Stops-refused method false _ why refused) in
+    let rest = Informs-front method upgrade got heads others n m informs all
+    (Stops-refused method upgrade _ why refused) in
     record { rest = rest.0; joined = sym rest.1 }
-informed_front method closed got heads n _ informs
+informed_front method upgrade closed got heads n _ informs
     (tasks.Tasks.has_final others m head framing len body all has is_final says) =
-    let rest = Informs-front method false got heads others n m informs all
-    (Stops-final method false _ head framing len has is_final) in
+    let rest = Informs-front method upgrade got heads others n m informs all
+    (Stops-final method upgrade _ head framing len has is_final) in
     record { rest = rest.0; joined = sym rest.1 }
 
 -- the same, by where the reading is
-informed_at : (method : List ℕ) (closed : Bool) (got : List ℕ) (told : ToldResponse)
+informed_at : (method : List ℕ) (upgrade closed : Bool) (got : List ℕ) (told : ToldResponse)
     (at : ResponsePlace)
-    (ahead : List ℕ) (text : ResponseText) → ReadAt method closed got told at ahead
-    → Tasks method false got closed text → IsFrontOf told.informed text.informed
-informed_at method closed got told place.NoHead ahead text read said =
-    informed_front method closed got told.informed read.0.n text read.0.informs said
-informed_at method closed got told place.Informed ahead text read said =
-    informed_front method closed got told.informed read.0.n text read.0.informs said
-informed_at method closed got told (place.InBody body) ahead text read said =
-    informed_front method closed got told.informed read.n text read.informs said
-informed_at method closed got told (place.Ended keeps) ahead text read said =
-    informed_front method closed got told.informed read.n text read.informs said
+    (ahead : List ℕ) (text : ResponseText) → ReadAt method upgrade closed got told at ahead
+    → Tasks method upgrade got closed text → IsFrontOf told.informed text.informed
+informed_at method upgrade closed got told place.NoHead ahead text read said =
+    informed_front method upgrade closed got told.informed read.0.n text read.0.informs said
+informed_at method upgrade closed got told place.Informed ahead text read said =
+    informed_front method upgrade closed got told.informed read.0.n text read.0.informs said
+informed_at method upgrade closed got told (place.InBody body) ahead text read said =
+    informed_front method upgrade closed got told.informed read.n text read.informs said
+informed_at method upgrade closed got told (place.Ended keeps) ahead text read said =
+    informed_front method upgrade closed got told.informed read.n text read.informs said
 
 -- a final head stands in the bytes, behind those that inform
-pub record FinalBehind (method got : List ℕ) (informed : List ResponseHead) (final : ResponseHead)
+pub record FinalBehind (method : List ℕ) (upgrade : Bool) (got : List ℕ)
+    (informed : List ResponseHead) (final : ResponseHead)
     : Type 0 where
   pub framing : Framing
   pub len : ℕ
-  pub has : HasFinal method false got informed final framing len
+  pub has : HasFinal method upgrade got informed final framing len
 
 -- one head
 same_some : (a b : ResponseHead) → Some a ≡ Some b → a ≡ b
 same_some a b same = cc
 
 -- the final head of what the bytes say
-final_said : (method : List ℕ) (closed : Bool) (got : List ℕ) (text : ResponseText)
-    (final : ResponseHead) → Tasks method false got closed text → text.final ≡ Some final
-    → FinalBehind method got text.informed final
-final_said method closed got _ final (tasks.Tasks.head_open heads n informs still) is = absurd (cc)
-final_said method closed got _ final (tasks.Tasks.head_refused heads n why informs refused) is =
+final_said : (method : List ℕ) (upgrade closed : Bool) (got : List ℕ) (text : ResponseText)
+    (final : ResponseHead) → Tasks method upgrade got closed text → text.final ≡ Some final
+    → FinalBehind method upgrade got text.informed final
+final_said method upgrade closed got _ final (tasks.Tasks.head_open heads n informs still) is =
     absurd (cc)
-final_said method closed got _ final
+final_said method upgrade closed got _ final (tasks.Tasks.head_refused heads n why informs refused)
+    is =
+    absurd (cc)
+final_said method upgrade closed got _ final
     (tasks.Tasks.has_final heads n head framing len body informs has is_final says) is =
-    subst (λ (h : ResponseHead). FinalBehind method got heads h) (same_some head final is)
+    subst (λ (h : ResponseHead). FinalBehind method upgrade got heads h) (same_some head final is)
     (record {
       framing = framing;
       len = n + len;
@@ -185,16 +189,16 @@ final_said method closed got _ final
     })
 
 -- the final head that was told, by where the reading is
-final_at : (method : List ℕ) (closed : Bool) (got : List ℕ) (told : ToldResponse)
+final_at : (method : List ℕ) (upgrade closed : Bool) (got : List ℕ) (told : ToldResponse)
     (at : ResponsePlace)
-    (ahead : List ℕ) (final : ResponseHead) → ReadAt method closed got told at ahead
-    → told.final ≡ Some final → FinalBehind method got told.informed final
-final_at method closed got told place.NoHead ahead final read is =
+    (ahead : List ℕ) (final : ResponseHead) → ReadAt method upgrade closed got told at ahead
+    → told.final ≡ Some final → FinalBehind method upgrade got told.informed final
+final_at method upgrade closed got told place.NoHead ahead final read is =
     never_both told.final final read.0.no_final is
-final_at method closed got told place.Informed ahead final read is =
+final_at method upgrade closed got told place.Informed ahead final read is =
     never_both told.final final read.0.no_final is
-final_at method closed got told (place.InBody body) ahead final read is =
-    subst (λ (h : ResponseHead). FinalBehind method got told.informed h)
+final_at method upgrade closed got told (place.InBody body) ahead final read is =
+    subst (λ (h : ResponseHead). FinalBehind method upgrade got told.informed h)
     (same_some read.head final (sym read.final ∙ is))
     (record {
       framing = read.framing;
@@ -208,8 +212,8 @@ final_at method closed got told (place.InBody body) ahead final read is =
         ends = refl;
       };
     })
-final_at method closed got told (place.Ended keeps) ahead final read is =
-    final_said method closed got _ final read.whole is
+final_at method upgrade closed got told (place.Ended keeps) ahead final read is =
+    final_said method upgrade closed got _ final read.whole is
 
 -- ---- tasks that are handed on, and those that are withheld
 
@@ -227,8 +231,8 @@ no_tasks [] behind none = refl
 no_tasks (one ∷ front) behind none = absurd (cc)
 
 module _
-    (method : List ℕ) (closed : Bool) (got : List ℕ) (given withheld : List HttpTask)
-    (client : ResponseReading) (are : AreTasks method closed got (given ++ withheld) client)
+    (method : List ℕ) (upgrade closed : Bool) (got : List ℕ) (given withheld : List HttpTask)
+    (client : ResponseReading) (are : AreTasks method upgrade closed got (given ++ withheld) client)
   where
     -- what those in front tell is the front of what all tell
     given_tell : TellsOn (told_of given) (told_of (given ++ withheld))
@@ -242,43 +246,47 @@ module _
     given_follow = (follow_parts untold given withheld are.follow).0
 
     -- their informational heads are the front of those that the bytes say
-    pub given_informed : (text : ResponseText) → Tasks method false got closed text
+    pub given_informed : (text : ResponseText) → Tasks method upgrade got closed text
         → IsFrontOf (told_of given).informed text.informed
     given_informed text said =
         front_then (told_of given).informed (told_of (given ++ withheld)).informed text.informed
         given_tell.informed
-        (informed_at method closed got (told_of (given ++ withheld)) client.place client.ahead text
+        (informed_at method upgrade closed got (told_of (given ++ withheld)) client.place
+        client.ahead text
         are.so_far.at said)
 
     -- their final head stands in the bytes
     pub given_final : (head : ResponseHead) → (told_of given).final ≡ Some head
-        → FinalBehind method got (told_of given).informed head
+        → FinalBehind method upgrade got (told_of given).informed head
     given_final head is =
         let all = given_tell.final head is in
-        subst (λ (hs : List ResponseHead). FinalBehind method got hs head) all.1
-        (final_at method closed got (told_of (given ++ withheld)) client.place client.ahead head
+        subst (λ (hs : List ResponseHead). FinalBehind method upgrade got hs head) all.1
+        (final_at method upgrade closed got (told_of (given ++ withheld)) client.place client.ahead
+        head
         are.so_far.at all.0)
 
     -- they end its body as it is framed
     pub given_framed : (head : ResponseHead) → (told_of given).final ≡ Some head
-        → EndFramed method got (told_of given).informed head given
+        → EndFramed method upgrade got (told_of given).informed head given
     given_framed head is =
         let all = given_tell.final head is in
         let framed = are.framed head all.0 in
         record {
           framing = framed.framing;
           len = framed.len;
-          has = subst (λ (hs : List ResponseHead). HasFinal method false got hs head framed.framing
+          has = subst (λ (hs : List ResponseHead). HasFinal method upgrade got hs head
+              framed.framing
               framed.len) all.1 framed.has;
           each = all_front (EndsAs framed.framing) given withheld framed.each;
         }
 
     -- the bytes of the body that they bring are the front of those that the bytes say
-    pub given_body : (text : ResponseText) → Tasks method false got closed text
+    pub given_body : (text : ResponseText) → Tasks method upgrade got closed text
         → IsFrontOf (told_of given).body text.body
     given_body text said =
         front_then (told_of given).body (told_of (given ++ withheld)).body text.body
-        given_tell.body (told_front method closed got (given ++ withheld) client text are said)
+        given_tell.body (told_front method upgrade closed got (given ++ withheld) client text are
+        said)
 
     -- an end among them is the last of them
     pub given_ends_last : EndsLast given
@@ -289,9 +297,9 @@ module _
 
     -- and nothing is withheld behind it
     pub given_all : list_any is_end given ≡ true
-        → AreTasks method closed got given client
+        → AreTasks method upgrade closed got given client
     given_all ends =
-        subst (λ (l : List HttpTask). AreTasks method closed got l client)
+        subst (λ (l : List HttpTask). AreTasks method upgrade closed got l client)
         (ap (λ (l : List HttpTask). given ++ l) (are.ends_last given withheld refl ends)
         ∙ append-nil given)
         are

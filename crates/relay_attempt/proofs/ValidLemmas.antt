@@ -165,32 +165,34 @@ broken_body given begins all closed (body.BodyMark.ended n) is = absurd (cc)
 broken_body given begins all closed body.BodyMark.broken is = refl
 
 -- the bytes say a broken response
-record SaysBroken (method bytes : List ℕ) (closed : Bool) : Type 0 where
+record SaysBroken (method : List ℕ) (upgrade : Bool) (bytes : List ℕ) (closed : Bool) : Type 0 where
   pub text : ResponseText
   pub mark : text.mark ≡ broken
-  pub reads : Tasks method false bytes closed text
+  pub reads : Tasks method upgrade bytes closed text
 
 -- a response that is broken stays broken, whatever comes and whether or not its link ends then
-broken_stays : (method bytes more : List ℕ) (closed later : Bool) (text : ResponseText)
-    → text.mark ≡ broken → Tasks method false bytes closed text
-    → SaysBroken method (bytes ++ more) later
-broken_stays method bytes more closed later _ is (tasks.Tasks.head_open heads n informs still) =
+broken_stays : (method : List ℕ) (upgrade : Bool) (bytes more : List ℕ) (closed later : Bool)
+    (text : ResponseText)
+    → text.mark ≡ broken → Tasks method upgrade bytes closed text
+    → SaysBroken method upgrade (bytes ++ more) later
+broken_stays method upgrade bytes more closed later _ is (tasks.Tasks.head_open heads n informs
+    still) =
     absurd (open_unbroken closed is)
-broken_stays method bytes more closed later _ is
+broken_stays method upgrade bytes more closed later _ is
     (tasks.Tasks.head_refused heads n why informs refused) =
-    let there = IsRefusedBehind-append method false bytes more heads why
+    let there = IsRefusedBehind-append method upgrade bytes more heads why
     (record { place = n; informs = informs; refused = refused }) in
     record {
       text = record { informed = heads; final = None; body = []; mark = broken };
       mark = refl;
       reads = tasks.Tasks.head_refused heads there.place why there.informs there.refused;
     }
-broken_stays method bytes more closed later _ is
+broken_stays method upgrade bytes more closed later _ is
     (tasks.Tasks.has_final heads n head given len text informs has final reads) =
-    let own : HasFinal method false bytes heads head given (n + len) =
+    let own : HasFinal method upgrade bytes heads head given (n + len) =
     record { place = n; own = len; informs = informs; has = has; final = final; ends = refl } in
-    let there = HasFinal-append method false bytes more heads head given (n + len) own in
-    let inside = (HasFinal-within method false bytes heads head given (n + len) own).1 in
+    let there = HasFinal-append method upgrade bytes more heads head given (n + len) own in
+    let inside = (HasFinal-within method upgrade bytes heads head given (n + len) own).1 in
     let said : BodyText = record { bytes = text.bytes; mark = body.BodyMark.broken } in
     let stays = Body-broken-append given (drop (n + len) bytes) more text.bytes
     (subst (λ (m : BodyMark). Body given (drop (n + len) bytes)
@@ -213,13 +215,15 @@ broken_stays method bytes more closed later _ is
     }
 
 -- no front of a response is broken
-response_unbroken : (method came response : List ℕ) (closed : Bool) (told : ToldResponse)
-    → IsResponse method response → IsFrontOf came response
-    → Tasks method false came closed (says told broken) → ⊥
-response_unbroken method came response closed told is front reads =
-    let there = broken_stays method came front.rest closed true (says told broken) refl reads in
-    let same = Tasks-unique method false response true there.text is.said
-    (subst (λ (xs : List ℕ). Tasks method false xs true there.text) front.joined there.reads)
+response_unbroken : (method : List ℕ) (upgrade : Bool) (came response : List ℕ) (closed : Bool)
+    (told : ToldResponse)
+    → IsResponse method upgrade response → IsFrontOf came response
+    → Tasks method upgrade came closed (says told broken) → ⊥
+response_unbroken method upgrade came response closed told is front reads =
+    let there = broken_stays method upgrade came front.rest closed true (says told broken) refl
+    reads in
+    let same = Tasks-unique method upgrade response true there.text is.said
+    (subst (λ (xs : List ℕ). Tasks method upgrade xs true there.text) front.joined there.reads)
     is.says in
     apart (sym there.mark ∙ ap (λ (t : ResponseText). t.mark) same ∙ is.whole)
   where
@@ -227,32 +231,36 @@ response_unbroken method came response closed told is front reads =
     apart same = cc
 
 -- a whole response is not cut off
-response_uncut : (method response : List ℕ) (told : ToldResponse) → IsResponse method response
-    → Tasks method false response true (says told cut_off) → ⊥
-response_uncut method response told is reads =
+response_uncut : (method : List ℕ) (upgrade : Bool) (response : List ℕ) (told : ToldResponse)
+    → IsResponse method upgrade response
+    → Tasks method upgrade response true (says told cut_off) → ⊥
+response_uncut method upgrade response told is reads =
     apart (ap (λ (t : ResponseText). t.mark)
-    (Tasks-unique method false response true (says told cut_off) is.said reads is.says) ∙ is.whole)
+    (Tasks-unique method upgrade response true (says told cut_off) is.said reads is.says) ∙
+    is.whole)
   where
     apart : cut_off ≡ ended is.n → ⊥
     apart same = cc
 
 -- a final head is that of what the bytes say
-final_said : (method bytes : List ℕ) (closed : Bool) (text : ResponseText)
+final_said : (method : List ℕ) (upgrade : Bool) (bytes : List ℕ) (closed : Bool)
+    (text : ResponseText)
     (informed : List ResponseHead) (final : ResponseHead) (given : Framing) (len : ℕ)
-    → Tasks method false bytes closed text → HasFinal method false bytes informed final given len
+    → Tasks method upgrade bytes closed text
+    → HasFinal method upgrade bytes informed final given len
     → text.final ≡ Some final
-final_said method bytes closed _ informed final given len
+final_said method upgrade bytes closed _ informed final given len
     (tasks.Tasks.head_open heads n informs still) has =
-    absurd (HasFinal-IsOpenBehind method false bytes informed heads final given len has
+    absurd (HasFinal-IsOpenBehind method upgrade bytes informed heads final given len has
     (record { place = n; informs = informs; is_open = still }))
-final_said method bytes closed _ informed final given len
+final_said method upgrade bytes closed _ informed final given len
     (tasks.Tasks.head_refused heads n why informs refused) has =
-    absurd (HasFinal-IsRefusedBehind method false bytes informed heads final given len why has
+    absurd (HasFinal-IsRefusedBehind method upgrade bytes informed heads final given len why has
     (record { place = n; informs = informs; refused = refused }))
-final_said method bytes closed _ informed final given len
+final_said method upgrade bytes closed _ informed final given len
     (tasks.Tasks.has_final heads n head own_framing own text informs own_head is_final reads) has =
     ap (λ (h : ResponseHead). Some h)
-    (HasFinal-unique method false bytes heads informed head final own_framing given (n + own) len
+    (HasFinal-unique method upgrade bytes heads informed head final own_framing given (n + own) len
     (record {
       place = n;
       own = own;
@@ -263,14 +271,15 @@ final_said method bytes closed _ informed final given len
     }) has).head
 
 -- a final head in the front of a response is relayed
-head_relayed : (method got response : List ℕ) (informed : List ResponseHead) (final : ResponseHead)
-    (given : Framing) (len : ℕ) → IsResponse method response → IsFrontOf got response
-    → HasFinal method false got informed final given len → IsRelayedHead method final
-head_relayed method got response informed final given len is front has =
+head_relayed : (method : List ℕ) (upgrade : Bool) (got response : List ℕ)
+    (informed : List ResponseHead) (final : ResponseHead)
+    (given : Framing) (len : ℕ) → IsResponse method upgrade response → IsFrontOf got response
+    → HasFinal method upgrade got informed final given len → IsRelayedHead method final
+head_relayed method upgrade got response informed final given len is front has =
     is.relayed final
-    (final_said method response true is.said informed final given len is.says
-    (subst (λ (xs : List ℕ). HasFinal method false xs informed final given len) front.joined
-    (HasFinal-append method false got front.rest informed final given len has)))
+    (final_said method upgrade response true is.said informed final given len is.says
+    (subst (λ (xs : List ℕ). HasFinal method upgrade xs informed final given len) front.joined
+    (HasFinal-append method upgrade got front.rest informed final given len has)))
 
 -- ---- the peer's side: its request
 
@@ -373,26 +382,26 @@ request_unshort s p closed order front pieces first found joined =
 -- the peer's side answers for no error
 pub peer_blameless : (s : Origin) (p : Passed) (client link : LinkState) (start : LinkStart)
     → IsValid s p client link start → (order : IsInOrder s p link.ended) (lost : Bool) → (e : Error)
-    → PeerBlames start link s.head (up_past order lost) e → ⊥
+    → PeerBlames start link s.head s.asked (up_past order lost) e → ⊥
 peer_blameless s p client link start valid order lost e
     (peer_side.PeerBlames.link_failed fault is rose answered) = valid.link_faultless rose
 peer_blameless s p client link start valid order lost e
     (peer_side.PeerBlames.is_cut_off told gone is reads) =
-    response_uncut s.head.method valid.answers.response told valid.answers.is_response
-    (subst (λ (xs : List ℕ). Tasks s.head.method false xs true (says told cut_off))
+    response_uncut s.head.method s.asked valid.answers.response told valid.answers.is_response
+    (subst (λ (xs : List ℕ). Tasks s.head.method s.asked xs true (says told cut_off))
     (valid.answers.ends gone) reads)
 peer_blameless s p client link start valid order lost e
     (peer_side.PeerBlames.is_broken why closed came told is front reads breaks) =
-    response_unbroken s.head.method came valid.answers.response closed told
+    response_unbroken s.head.method s.asked came valid.answers.response closed told
     valid.answers.is_response
     (front_then came p.got valid.answers.response front valid.answers.gives) reads
 peer_blameless s p client link start valid order lost e
     (peer_side.PeerBlames.switches informed final given len has is_switch is) =
-    (head_relayed s.head.method p.got valid.answers.response informed final given len
+    (head_relayed s.head.method s.asked p.got valid.answers.response informed final given len
     valid.answers.is_response valid.answers.gives has).stays is_switch
 peer_blameless s p client link start valid order lost e
     (peer_side.PeerBlames.is_full informed final given len has lacks refuses is) =
-    (head_relayed s.head.method p.got valid.answers.response informed final given len
+    (head_relayed s.head.method s.asked p.got valid.answers.response informed final given len
     valid.answers.is_response valid.answers.gives has).room lacks refuses
 peer_blameless s p client link start valid order lost e
     (peer_side.PeerBlames.is_short_request front pieces first found joined short is) =

@@ -127,23 +127,24 @@ none_withheld given (one ∷ rest) final follow heads told =
     apart same = cc
 
 -- a reading that has told a final head, and a body that takes no more bytes, has ended
-full_over : (method : List ℕ) (closed : Bool) (got : List ℕ) (told : ToldResponse)
+full_over : (method : List ℕ) (upgrade closed : Bool) (got : List ℕ) (told : ToldResponse)
     (at : ResponsePlace) (ahead : List ℕ) (final : ResponseHead) (f : Framing) (len : ℕ)
-    → ReadAt method closed got told at ahead → told.final ≡ Some final
-    → HasFinal method false got told.informed final f len → IsFull f told.body
+    → ReadAt method upgrade closed got told at ahead → told.final ≡ Some final
+    → HasFinal method upgrade got told.informed final f len → IsFull f told.body
     → is_over at ≡ true
-full_over method closed got told place.NoHead ahead final f len at is has full =
+full_over method upgrade closed got told place.NoHead ahead final f len at is has full =
     absurd (apart (sym at.0.no_final ∙ is))
   where
     apart : None ≡ Some final → ⊥
     apart same = cc
-full_over method closed got told place.Informed ahead final f len at is has full =
+full_over method upgrade closed got told place.Informed ahead final f len at is has full =
     absurd (apart (sym at.0.no_final ∙ is))
   where
     apart : None ≡ Some final → ⊥
     apart same = cc
-full_over method closed got told (place.InBody body) ahead final f len at is has full =
-    let same = HasFinal-unique method false got told.informed told.informed at.head final at.framing
+full_over method upgrade closed got told (place.InBody body) ahead final f len at is has full =
+    let same = HasFinal-unique method upgrade got told.informed told.informed at.head final
+    at.framing
     f (at.n + at.len) len
     (record {
       place = at.n;
@@ -156,19 +157,20 @@ full_over method closed got told (place.InBody body) ahead final f len at is has
     absurd (full_ends at.framing (drop (at.n + at.len) got) told.body ahead body.reader at.so_far
     at.goes_on
     (subst (λ (x : Framing). IsFull x told.body) (sym same.framing) full))
-full_over method closed got told (place.Ended keeps) ahead final f len at is has full = refl
+full_over method upgrade closed got told (place.Ended keeps) ahead final f len at is has full = refl
 
 -- the end of a response was handed on whose body takes no more bytes
-pub full_has_end : (method : List ℕ) (closed : Bool) (got : List ℕ) (given withheld : List HttpTask)
+pub full_has_end : (method : List ℕ) (upgrade closed : Bool) (got : List ℕ)
+    (given withheld : List HttpTask)
     (client : ResponseReading) (final : ResponseHead) (f : Framing) (len : ℕ)
-    → AreTasks method closed got (given ++ withheld) client → AreHeads withheld
+    → AreTasks method upgrade closed got (given ++ withheld) client → AreHeads withheld
     → (told_of given).final ≡ Some final
-    → HasFinal method false got (told_of given).informed final f len
+    → HasFinal method upgrade got (told_of given).informed final f len
     → IsFull f (told_of given).body → list_any is_end given ≡ true
-full_has_end method closed got given withheld client final f len tasks heads is has full =
+full_has_end method upgrade closed got given withheld client final f len tasks heads is has full =
     let none = none_withheld given withheld final tasks.follow heads is in
-    let own = subst (λ (ts : List HttpTask). AreTasks method closed got ts client)
+    let own = subst (λ (ts : List HttpTask). AreTasks method upgrade closed got ts client)
     (ap (λ (w : List HttpTask). given ++ w) none ∙ append-nil given) tasks in
     own.ended
-    ∙ full_over method closed got (told_of given) client.place client.ahead final f len
+    ∙ full_over method upgrade closed got (told_of given) client.place client.ahead final f len
     own.so_far.at is has full

@@ -71,7 +71,7 @@ pub record UpHalf (o : Origin) (start : LinkStart) (link : LinkState) (q : UpPas
   pub sent : Since [] start.taken link.taken q.sent
   pub faults : start.faults ≤ link.faults
   pub reused : start.reused ≡ o.reused
-  pub are_of : AreOf o.head.method link.ended q.got q.read
+  pub are_of : AreOf o.head.method o.asked link.ended q.got q.read
   pub headed : list_any is_end are_of.given ≡ true
       → (head : ResponseHead) × ((told_of are_of.given).final ≡ Some head)
   pub is_sent : IsFrontOf q.sent (sent_wire (sent_as o.head q.taken))

@@ -50,7 +50,7 @@ module _ {L : Type 0} (state : L → LinkState) (start_at : L → LinkStart) whe
   abbrev pub Blames : PeerSide L → Origin → UpPast → Error → Type 0
   Blames side s q e =
       (head : RequestHead) × (head_in side.client.request.request ≡ Some head)
-      × PeerBlames (start_at side.client.link) (state side.client.link) head q e
+      × PeerBlames (start_at side.client.link) (state side.client.link) head s.asked q e
 
   -- the core of an exchange that moves bodies
   abbrev pub core_of : Duplex → ClientSide → PeerSide L → State

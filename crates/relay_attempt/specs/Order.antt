@@ -53,26 +53,26 @@ pub record ArePieces (framing : Framing) (bytes : List ℕ) (pieces : List HttpT
 -- these tasks are handed on of the response that the bytes say: its heads in order, and the first
 -- bytes of its body; an end among them is the last of them, and the response's, and comes with a
 -- piece where the body has a length, and alone where it has none
-pub record AreOf (method : List ℕ) (closed : Bool) (got : List ℕ) (tasks : List HttpTask)
-    : Type 0 where
+pub record AreOf
+    (method : List ℕ) (upgrade closed : Bool) (got : List ℕ) (tasks : List HttpTask) : Type 0 where
   pub given : List HttpTask
   pub are : tasks ≡ map (handed method) given
   pub follow : Follow untold given
   -- none of the heads switches protocols, and one that is chunked has room for that
   pub stays : list_any is_switch given ≡ false
   pub have_room : All (HasRoom method) given
-  pub informed : (text : ResponseText) → Tasks method false got closed text
+  pub informed : (text : ResponseText) → Tasks method upgrade got closed text
       → IsFrontOf (told_of given).informed text.informed
   pub final : (head : ResponseHead) → (told_of given).final ≡ Some head
       → (framing : Framing) × (len : ℕ)
-      × HasFinal method false got (told_of given).informed head framing len
-  pub body : (text : ResponseText) → Tasks method false got closed text
+      × HasFinal method upgrade got (told_of given).informed head framing len
+  pub body : (text : ResponseText) → Tasks method upgrade got closed text
       → IsFrontOf (told_of given).body text.body
   pub ends_last : EndsLast given
   pub whole : list_any is_end given ≡ true
-      → (n : ℕ) × Tasks method false got closed (says (told_of given) (ended n))
+      → (n : ℕ) × Tasks method upgrade got closed (says (told_of given) (ended n))
   pub framed : (head : ResponseHead) → (told_of given).final ≡ Some head
-      → EndFramed method got (told_of given).informed head given
+      → EndFramed method upgrade got (told_of given).informed head given
 
 -- ---- both
 
@@ -88,7 +88,7 @@ pub record IsInOrder (s : Origin) (p : Passed) (closed : Bool) : Type 0 where
   pub first_taken : IsFrontOf taken pieces
   pub sent : IsFrontOf p.sent (sent_wire (sent_as s.head taken))
   pub read : List HttpTask
-  pub are_of : AreOf s.head.method closed p.got read
+  pub are_of : AreOf s.head.method s.asked closed p.got read
   pub batched : List HttpTask
   pub first_batched : IsFrontOf batched read
   pub closing : List HttpTask
@@ -137,7 +137,8 @@ pub data FailsFor
   by_client : (order : IsInOrder s p link.ended)
       → ClientBlames s (down_past order) client e → FailsFor s p client link start e
   by_peer : (order : IsInOrder s p link.ended) (lost : Bool)
-      → PeerBlames start link s.head (up_past order lost) e → FailsFor s p client link start e
+      → PeerBlames start link s.head s.asked (up_past order lost) e
+      → FailsFor s p client link start e
 
 -- the request has ended: an end is among its pieces, or its head says that it has no body
 abbrev pub HasEnded : {s : Origin} {p : Passed} {closed : Bool} → IsInOrder s p closed → Type 0
@@ -159,12 +160,12 @@ pub record SendsWhole (s : Origin) (p : Passed) (closed : Bool) (order : IsInOrd
 pub record IsRelayed (s : Origin) (p : Passed) (link : LinkState) (start : LinkStart) : Type 0 where
   pub order : IsInOrder s p link.ended
   pub n : ℕ
-  pub whole : Tasks s.head.method false p.got link.ended
+  pub whole : Tasks s.head.method s.asked p.got link.ended
       (says (told_of order.are_of.given) (ended n))
   pub over : is_over (text_of order).place ≡ true
   pub written : p.written ≡ (text_of order).text
   pub request : (SendsWhole s p link.ended order × (link.faults ≡ start.faults))
-      ⊎ ((e : Error) × (lost : Bool) × PeerBlames start link s.head (up_past order lost) e
+      ⊎ ((e : Error) × (lost : Bool) × PeerBlames start link s.head s.asked (up_past order lost) e
       × IsWriteError start link e)
   pub reads : Since [] start.read_faults link.read_faults []
 
@@ -177,7 +178,7 @@ pub record MayServe (s : Origin) (p : Passed) (closed : Bool) (order : IsInOrder
   pub request : p.sent ≡ request_text s.head ++ body_text (body_framing s.head) pieces
   pub complete : is_short (after_pieces (body_framing s.head) pieces) ≡ false
   pub asks : closes s.head.fields ≡ false
-  pub response : IsReadWhole s.head.method closed p.got (told_of order.are_of.given)
+  pub response : IsReadWhole s.head.method s.asked closed p.got (told_of order.are_of.given)
 
 -- what a finished exchange leaves: whether its request has ended, the bytes of the client behind
 -- it, whether the response that was handed on asks to close, and whether the peer's link may be

@@ -1,6 +1,6 @@
 -- A valid exchange: a whole request whose client then is still, and a whole response that is
 -- relayed, with no fault (RFC 9112, sections 2, 3, 4 and 6).
-use Rattle.std.specs.Prelude.{◌≡◌, ◌≢◌, ℕ, true, false, List, [], drop, Some, codes}
+use Rattle.std.specs.Prelude.{◌≡◌, ◌≢◌, ℕ, Bool, true, false, List, [], drop, Some, codes}
 use Rattle.http_header.specs.HeaderMap.{RefusesInsert}
 use Rattle.relay_tasks.specs.Head.{RequestHead, ResponseHead}
 use Rattle.relay_links.specs.Count.{Rose}
@@ -33,11 +33,11 @@ pub record IsRelayedHead (method : List ℕ) (head : ResponseHead) : Type 0 wher
 
 -- the text says a response to that method, whole, where its link ends behind it; and its final head
 -- is relayed
-pub record IsResponse (method text : List ℕ) : Type 0 where
+pub record IsResponse (method : List ℕ) (upgrade : Bool) (text : List ℕ) : Type 0 where
   pub said : ResponseText
   pub n : ℕ
   pub whole : said.mark ≡ ended n
-  pub says : Tasks method false text true said
+  pub says : Tasks method upgrade text true said
   pub relayed : (head : ResponseHead) → said.final ≡ Some head → IsRelayedHead method head
 
 -- the client's bytes are the front of a request with that head, and the client does not end
@@ -48,16 +48,17 @@ pub record AsksFor (s : Origin) (p : Passed) (client : LinkState) : Type 0 where
   pub stays : client.ended ≡ false
 
 -- the peer's bytes are the front of a response to that method, and its link ends only behind it
-pub record AnswersWith (method : List ℕ) (p : Passed) (link : LinkState) : Type 0 where
+pub record AnswersWith (method : List ℕ) (upgrade : Bool) (p : Passed) (link : LinkState)
+    : Type 0 where
   pub response : List ℕ
   pub gives : IsFrontOf p.got response
-  pub is_response : IsResponse method response
+  pub is_response : IsResponse method upgrade response
   pub ends : link.ended ≡ true → p.got ≡ response
 
 -- a valid exchange, in which no call of a link failed
 pub record IsValid (s : Origin) (p : Passed) (client link : LinkState) (start : LinkStart)
     : Type 0 where
   pub asks : AsksFor s p client
-  pub answers : AnswersWith s.head.method p link
+  pub answers : AnswersWith s.head.method s.asked p link
   pub client_faultless : ¬ (Rose s.faults client.faults)
   pub link_faultless : ¬ (Rose start.faults link.faults)

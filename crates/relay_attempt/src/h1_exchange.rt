@@ -48,7 +48,7 @@ impl<L: ByteLink> H1Exchange<L> {
         head: RequestHeader,
     ) -> std::result::Result<H1Exchange<L>, Unbegun<L>>
         ensures begins { IfOk result (λ x. (s : Origin) (came : List ℕ) (client : LinkState)
-            (ahead : List ℕ) (reused : Bool) → head ≡ s.head
+            (ahead : List ℕ) (reused : Bool) → head ≡ s.head → s.asked ≡ false
             → BeginsBehind s came client ahead session
             → IsHandedOut (L.state link) (L.start link) reused → s.reused ≡ reused
             → IsUnderWay L.state L.start s

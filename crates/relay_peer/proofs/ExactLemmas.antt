@@ -119,51 +119,52 @@ Tasks-unique method asked bytes closed _ _
     (subst (λ (k : Framing). Body k (drop (m + l) bytes) said) (sym same.framing) says)))
 
 -- behind what was told they have one mark
-mark_unique : (method : List ℕ) (closed : Bool) (given : List ℕ) (told : ToldResponse)
+mark_unique : (method : List ℕ) (upgrade closed : Bool) (given : List ℕ) (told : ToldResponse)
     (a b : ResponseMark)
-    → Tasks method false given closed (says told a) → Tasks method false given closed (says told b)
+    → Tasks method upgrade given closed (says told a)
+    → Tasks method upgrade given closed (says told b)
     → a ≡ b
-mark_unique method closed given told a b x y =
+mark_unique method upgrade closed given told a b x y =
     ap (λ (t : ResponseText). t.mark)
-    (Tasks-unique method false given closed (says told a) (says told b) x y)
+    (Tasks-unique method upgrade given closed (says told a) (says told b) x y)
 
 -- ---- what heads say more
 
 -- informational heads are the first of those that the text says
-informs_first : (method : List ℕ) (closed : Bool) (given : List ℕ) (text : ResponseText)
-    (heads : List ResponseHead) (n : ℕ) → Informs method false given heads n
-    → Tasks method false given closed text
+informs_first : (method : List ℕ) (upgrade closed : Bool) (given : List ℕ) (text : ResponseText)
+    (heads : List ResponseHead) (n : ℕ) → Informs method upgrade given heads n
+    → Tasks method upgrade given closed text
     → (rest : List ResponseHead) × (text.informed ≡ heads ++ rest)
-informs_first method closed given _ heads n informs
+informs_first method upgrade closed given _ heads n informs
     (tasks.Tasks.head_open others m informed stays) =
-    Informs-front method false given heads others n m informs informed
-    (Stops-open method false (drop m given) stays)
-informs_first method closed given _ heads n informs
+    Informs-front method upgrade given heads others n m informs informed
+    (Stops-open method upgrade (drop m given) stays)
+informs_first method upgrade closed given _ heads n informs
     (tasks.Tasks.head_refused others m why informed refused) =
-    Informs-front method false given heads others n m informs informed
-    (Stops-refused method false (drop m given) why refused)
-informs_first method closed given _ heads n informs
+    Informs-front method upgrade given heads others n m informs informed
+    (Stops-refused method upgrade (drop m given) why refused)
+informs_first method upgrade closed given _ heads n informs
     (tasks.Tasks.has_final others m head framing len text informed has final reads) =
-    Informs-front method false given heads others n m informs informed
-    (Stops-final method false (drop m given) head framing len has final)
+    Informs-front method upgrade given heads others n m informs informed
+    (Stops-final method upgrade (drop m given) head framing len has final)
 
 -- the final head is the one that the text says
-final_said : (method : List ℕ) (closed : Bool) (given : List ℕ) (text : ResponseText)
+final_said : (method : List ℕ) (upgrade closed : Bool) (given : List ℕ) (text : ResponseText)
     (heads : List ResponseHead) (head : ResponseHead) (framing : Framing) (len : ℕ)
-    → HasFinal method false given heads head framing len → Tasks method false given closed text
+    → HasFinal method upgrade given heads head framing len → Tasks method upgrade given closed text
     → text.final ≡ Some head
-final_said method closed given _ heads head framing len has
+final_said method upgrade closed given _ heads head framing len has
     (tasks.Tasks.head_open others m informed stays) =
-    absurd (HasFinal-IsOpenBehind method false given heads others head framing len has
+    absurd (HasFinal-IsOpenBehind method upgrade given heads others head framing len has
     (record { place = m; informs = informed; is_open = stays }))
-final_said method closed given _ heads head framing len has
+final_said method upgrade closed given _ heads head framing len has
     (tasks.Tasks.head_refused others m why informed refused) =
-    absurd (HasFinal-IsRefusedBehind method false given heads others head framing len why has
+    absurd (HasFinal-IsRefusedBehind method upgrade given heads others head framing len why has
     (record { place = m; informs = informed; refused = refused }))
-final_said method closed given _ heads head framing len has
+final_said method upgrade closed given _ heads head framing len has
     (tasks.Tasks.has_final others m other f l text informed had last reads) =
     ap (λ (h : ResponseHead). Some h)
-    (sym (HasFinal-unique method false given heads others head other framing f len (m + l) has
+    (sym (HasFinal-unique method upgrade given heads others head other framing f len (m + l) has
     (record { place = m; own = l; informs = informed; has = had; final = last; ends = refl })).head)
 
 -- a list is not longer than itself
@@ -184,34 +185,38 @@ none_is_some value option none some = apart (sym none ∙ some)
     apart same = cc
 
 -- a head that was told last is more than what was told before it, where no final head comes yet
-awaited_says_more : (method : List ℕ) (closed : Bool) (given : List ℕ) (told : ToldResponse)
+awaited_says_more : (method : List ℕ) (upgrade closed : Bool) (given : List ℕ) (told : ToldResponse)
     (head : ResponseHead) (ahead : List ℕ) (mark : ResponseMark) (inform : Bool)
-    → IsAwaiting method given (
+    → IsAwaiting method upgrade given (
     if inform then record told { informed = told.informed ++ head ∷ [] }
     else record told { final = Some head }) ahead
-    → Tasks method false given closed (says told mark) → ⊥
-awaited_says_more method closed given told head ahead mark true a said =
-    let first = informs_first method closed given (says told mark) (told.informed ++ head ∷ []) a.n
+    → Tasks method upgrade given closed (says told mark) → ⊥
+awaited_says_more method upgrade closed given told head ahead mark true a said =
+    let first = informs_first method upgrade closed given (says told mark)
+    (told.informed ++ head ∷ []) a.n
     a.informs said in
     never_longer told.informed first.0 head first.1
-awaited_says_more method closed given told head ahead mark false a said =
+awaited_says_more method upgrade closed given told head ahead mark false a said =
     none_is_some head (Some head) a.no_final refl
 
 -- a head that was told last is more than what was told before it
-head_says_more : (method : List ℕ) (closed : Bool) (given : List ℕ) (told : ToldResponse)
+head_says_more : (method : List ℕ) (upgrade closed : Bool) (given : List ℕ) (told : ToldResponse)
     (head : ResponseHead) (at : ResponsePlace) (ahead : List ℕ) (mark : ResponseMark)
     → told.final ≡ None
-    → ReadAt method closed given (with_head told head) at ahead
-    → Tasks method false given closed (says told mark) → ⊥
-head_says_more method closed given told head place.NoHead ahead mark none read said =
-    awaited_says_more method closed given told head ahead mark (is_informational head.status) read.0
+    → ReadAt method upgrade closed given (with_head told head) at ahead
+    → Tasks method upgrade given closed (says told mark) → ⊥
+head_says_more method upgrade closed given told head place.NoHead ahead mark none read said =
+    awaited_says_more method upgrade closed given told head ahead mark
+    (is_informational head.status) read.0
     said
-head_says_more method closed given told head place.Informed ahead mark none read said =
-    awaited_says_more method closed given told head ahead mark (is_informational head.status) read.0
+head_says_more method upgrade closed given told head place.Informed ahead mark none read said =
+    awaited_says_more method upgrade closed given told head ahead mark
+    (is_informational head.status) read.0
     said
-head_says_more method closed given told head (place.InBody at) ahead mark none read said =
+head_says_more method upgrade closed given told head (place.InBody at) ahead mark none read said =
     none_is_some read.head told.final none
-    (final_said method closed given (says told mark) (with_head told head).informed read.head
+    (final_said method upgrade closed given (says told mark) (with_head told head).informed
+    read.head
     read.framing (read.n + read.len)
     (record {
       place = read.n;
@@ -221,10 +226,10 @@ head_says_more method closed given told head (place.InBody at) ahead mark none r
       final = read.is_final;
       ends = refl;
     }) said)
-head_says_more method closed given told head (place.Ended keeps) ahead mark none read said =
+head_says_more method upgrade closed given told head (place.Ended keeps) ahead mark none read said =
     none_is_some read.head told.final none
     (ap (λ (t : ResponseText). t.final)
-    (Tasks-unique method false given closed (says told mark)
+    (Tasks-unique method upgrade given closed (says told mark)
     (says (with_head told head) (ended read.place)) said read.whole)
     ∙ read.final)
 
@@ -255,15 +260,15 @@ never_none bytes piece some same =
     omega (arith, some, sizes, length-append bytes piece)
 
 -- a piece that was told last is more than what was told before it
-piece_says_more : (method : List ℕ) (closed : Bool) (given : List ℕ) (told : ToldResponse)
+piece_says_more : (method : List ℕ) (upgrade closed : Bool) (given : List ℕ) (told : ToldResponse)
     (piece : List ℕ) (at : ResponsePlace) (ahead : List ℕ) (mark : ResponseMark) → 0 < length piece
-    → ReadAt method closed given (record told { body = told.body ++ piece }) at ahead
-    → Tasks method false given closed (says told mark) → ⊥
-piece_says_more method closed given told piece place.NoHead ahead mark some read said =
+    → ReadAt method upgrade closed given (record told { body = told.body ++ piece }) at ahead
+    → Tasks method upgrade given closed (says told mark) → ⊥
+piece_says_more method upgrade closed given told piece place.NoHead ahead mark some read said =
     never_none told.body piece some read.0.no_body
-piece_says_more method closed given told piece place.Informed ahead mark some read said =
+piece_says_more method upgrade closed given told piece place.Informed ahead mark some read said =
     never_none told.body piece some read.0.no_body
-piece_says_more method closed given told piece (place.InBody at) ahead mark some read said =
+piece_says_more method upgrade closed given told piece (place.InBody at) ahead mark some read said =
     let rest = Reads-total at.reader ahead in
     let begins = read.n + read.len in
     let bytes = told.body ++ piece in
@@ -274,12 +279,13 @@ piece_says_more method closed given told piece (place.InBody at) ahead mark some
     rest.1) in
     never_more told.body piece rest.0.bytes some
     (ap (λ (t : ResponseText). t.body)
-    (Tasks-unique method false given closed
+    (Tasks-unique method upgrade given closed
     (headed told.informed read.head read.framing begins (length given) closed text)
     (says told mark) whole said))
-piece_says_more method closed given told piece (place.Ended keeps) ahead mark some read said =
+piece_says_more method upgrade closed given told piece (place.Ended keeps) ahead mark some read said
+    =
     let same = ap (λ (t : ResponseText). t.body)
-    (Tasks-unique method false given closed
+    (Tasks-unique method upgrade given closed
     (says (record told { body = told.body ++ piece }) (ended read.place)) (says told mark)
     read.whole said) in
     let sizes = ap (λ (xs : List ℕ). length xs) same in
@@ -288,51 +294,52 @@ piece_says_more method closed given told piece (place.Ended keeps) ahead mark so
 -- ---- what answers say
 
 -- what was told is whole where the reading has ended
-whole_there : (method : List ℕ) (closed : Bool) (given : List ℕ) (told : ToldResponse)
+whole_there : (method : List ℕ) (upgrade closed : Bool) (given : List ℕ) (told : ToldResponse)
     (at : ResponsePlace)
-    (ahead : List ℕ) → is_over at ≡ true → ReadAt method closed given told at ahead
-    → (n : ℕ) × Tasks method false given closed (says told (ended n))
-whole_there method closed given told place.NoHead ahead over read = absurd (cc)
-whole_there method closed given told place.Informed ahead over read = absurd (cc)
-whole_there method closed given told (place.InBody at) ahead over read = absurd (cc)
-whole_there method closed given told (place.Ended keeps) ahead over read = (read.place, read.whole)
+    (ahead : List ℕ) → is_over at ≡ true → ReadAt method upgrade closed given told at ahead
+    → (n : ℕ) × Tasks method upgrade given closed (says told (ended n))
+whole_there method upgrade closed given told place.NoHead ahead over read = absurd (cc)
+whole_there method upgrade closed given told place.Informed ahead over read = absurd (cc)
+whole_there method upgrade closed given told (place.InBody at) ahead over read = absurd (cc)
+whole_there method upgrade closed given told (place.Ended keeps) ahead over read =
+    (read.place, read.whole)
 
 -- an answer says a mark of the bytes behind what was told, and comes with it
-record Marks (method : List ℕ) (closed : Bool) (given : List ℕ) (told : ToldResponse)
+record Marks (method : List ℕ) (upgrade closed : Bool) (given : List ℕ) (told : ToldResponse)
     (asked : Option Got)
     (over : Bool) (answer : Took HttpTask) : Type 0 where
   pub mark : ResponseMark
-  pub said : Tasks method false given closed (says told mark)
+  pub said : Tasks method upgrade given closed (says told mark)
   pub is : IsAnswerAt mark given asked over answer
 
 -- or it is a task of bytes that say more than was told
-record IsNext (method : List ℕ) (closed : Bool) (given : List ℕ) (told : ToldResponse)
+record IsNext (method : List ℕ) (upgrade closed : Bool) (given : List ℕ) (told : ToldResponse)
     (answer : Took HttpTask) : Type 0 where
   pub item : IsItem answer
-  pub more : (mark : ResponseMark) → Tasks method false given closed (says told mark) → ⊥
+  pub more : (mark : ResponseMark) → Tasks method upgrade given closed (says told mark) → ⊥
 
 -- or memory is wanted
-data Says (method : List ℕ) (closed : Bool) (given : List ℕ) (told : ToldResponse)
+data Says (method : List ℕ) (upgrade closed : Bool) (given : List ℕ) (told : ToldResponse)
     (asked : Option Got)
     (over : Bool) (answer : Took HttpTask) : Type 0 where
   wants_memory : answer ≡ took.Failed fail.OutOfMemory
-      → Says method closed given told asked over answer
-  says_mark : Marks method closed given told asked over answer
-      → Says method closed given told asked over answer
-  says_next : IsNext method closed given told answer
-      → Says method closed given told asked over answer
+      → Says method upgrade closed given told asked over answer
+  says_mark : Marks method upgrade closed given told asked over answer
+      → Says method upgrade closed given told asked over answer
+  says_next : IsNext method upgrade closed given told answer
+      → Says method upgrade closed given told asked over answer
 
 -- bytes that leave the response open come with an answer of the link
-open_marks : (method : List ℕ) (closed : Bool) (given : List ℕ) (told : ToldResponse)
+open_marks : (method : List ℕ) (upgrade closed : Bool) (given : List ℕ) (told : ToldResponse)
     (asked : Option Got)
     (over : Bool) (answer : Took HttpTask) → closed ≡ false
-    → Tasks method false given false (says told still_open) → IsAnswerOfLink asked answer
-    → Says method closed given told asked over answer
-open_marks method closed given told asked over answer going said is =
+    → Tasks method upgrade given false (says told still_open) → IsAnswerOfLink asked answer
+    → Says method upgrade closed given told asked over answer
+open_marks method upgrade closed given told asked over answer going said is =
     Says.says_mark
     (record {
       mark = still_open;
-      said = subst (λ (c : Bool). Tasks method false given c (says told still_open)) (sym going)
+      said = subst (λ (c : Bool). Tasks method upgrade given c (says told still_open)) (sym going)
           said;
       is = is;
     })
@@ -348,16 +355,16 @@ done_marks true rests n given asked = absurd (apart (rests refl))
 done_marks false rests n given asked = refl
 
 -- the link ended, and the response has not
-cut_marks : (method : List ℕ) (closed : Bool) (given : List ℕ) (told : ToldResponse)
+cut_marks : (method : List ℕ) (upgrade closed : Bool) (given : List ℕ) (told : ToldResponse)
     (asked : Option Got)
     (over : Bool) (error : Error) → closed ≡ true → error ≡ cut_off_error given
-    → Tasks method false given true (says told cut_off)
-    → Says method closed given told asked over (took.Failed (fail.Error error))
-cut_marks method closed given told asked over error gone is said =
+    → Tasks method upgrade given true (says told cut_off)
+    → Says method upgrade closed given told asked over (took.Failed (fail.Error error))
+cut_marks method upgrade closed given told asked over error gone is said =
     Says.says_mark
     (record {
       mark = cut_off;
-      said = subst (λ (c : Bool). Tasks method false given c (says told cut_off)) (sym gone) said;
+      said = subst (λ (c : Bool). Tasks method upgrade given c (says told cut_off)) (sym gone) said;
       is = ap (λ (e : Error). took.Failed (fail.Error e)) is;
     })
 
@@ -370,12 +377,12 @@ fault_marks fault asked error was is =
     (ap (λ (e : Error). took.Failed (fail.Error e)) is)
 
 -- a refusal
-refusal_says : (method : List ℕ) (before after : LinkState) (given came : List ℕ)
+refusal_says : (method : List ℕ) (upgrade : Bool) (before after : LinkState) (given came : List ℕ)
     (told : ToldResponse)
     (asked : Option Got) (over : Bool) (error : Error) → Asks before after came asked
-    → Refuses method after.ended given told asked error
-    → Says method after.ended given told asked over (took.Failed (fail.Error error))
-refusal_says method before after given came told asked over error asks
+    → Refuses method upgrade after.ended given told asked error
+    → Says method upgrade after.ended given told asked over (took.Failed (fail.Error error))
+refusal_says method upgrade before after given came told asked over error asks
     (reading.Refuses.is_broken why is said breaks) =
     Says.says_mark
     (record {
@@ -383,66 +390,71 @@ refusal_says method before after given came told asked over error asks
       said = said;
       is = (why, ap (λ (e : Error). took.Failed (fail.Error e)) is);
     })
-refusal_says method before after given came told asked over error asks
+refusal_says method upgrade before after given came told asked over error asks
     (reading.Refuses.has_failed fault was is said) =
-    open_marks method after.ended given told asked over (took.Failed (fail.Error error))
+    open_marks method upgrade after.ended given told asked over (took.Failed (fail.Error error))
     (subst (λ (a : Option Got). Asks before after came a) was asks).0.ended said
     (fault_marks fault asked error was is)
-refusal_says method before after given came told asked over error asks
+refusal_says method upgrade before after given came told asked over error asks
     (reading.Refuses.is_cut_off was is said) =
-    cut_marks method after.ended given told asked over error
+    cut_marks method upgrade after.ended given told asked over error
     (subst (λ (a : Option Got). Asks before after came a) was asks).0.ended is said
 
 -- the link gives nothing now
-pause_says : (method : List ℕ) (before after : LinkState) (given came : List ℕ)
+pause_says : (method : List ℕ) (upgrade : Bool) (before after : LinkState) (given came : List ℕ)
     (told : ToldResponse)
     (asked : Option Got) (over : Bool) (why : Pause) → Asks before after came asked
-    → asked ≡ Some (got_of why) → Tasks method false given false (says told still_open)
-    → Says method after.ended given told asked over (took.Waited why)
-pause_says method before after given came told asked over pause.NotReady asks was said =
-    open_marks method after.ended given told asked over (took.Waited pause.NotReady)
+    → asked ≡ Some (got_of why) → Tasks method upgrade given false (says told still_open)
+    → Says method upgrade after.ended given told asked over (took.Waited why)
+pause_says method upgrade before after given came told asked over pause.NotReady asks was said =
+    open_marks method upgrade after.ended given told asked over (took.Waited pause.NotReady)
     (subst (λ (a : Option Got). Asks before after came a) was asks).0.ended said
     (subst (λ (a : Option Got). IsAnswerOfLink a (took.Waited pause.NotReady)) (sym was) refl)
-pause_says method before after given came told asked over pause.Silent asks was said =
+pause_says method upgrade before after given came told asked over pause.Silent asks was said =
     let silent = (subst (λ (a : Option Got). Asks before after came a) was asks).0 in
-    open_marks method after.ended given told asked over (took.Waited pause.Silent)
+    open_marks method upgrade after.ended given told asked over (took.Waited pause.Silent)
     (ap (λ (l : LinkState). l.ended) silent.same ∙ silent.was_open) said
     (subst (λ (a : Option Got). IsAnswerOfLink a (took.Waited pause.Silent)) (sym was) refl)
 
 -- what an answer says
-answer_says : (method : List ℕ) (before after : LinkState) (given came : List ℕ)
+answer_says : (method : List ℕ) (upgrade : Bool) (before after : LinkState) (given came : List ℕ)
     (told : ToldResponse)
     (asked : Option Got) (old new : ResponseReading) (answer : Took HttpTask)
     → Asks before after came asked → (is_over old.place ≡ true → Rests old new asked answer)
-    → Answers method after.ended given told asked old.place new answer
-    → Says method after.ended given told asked (is_over old.place) answer
-answer_says method before after given came told asked old new
+    → Answers method upgrade after.ended given told asked old.place new answer
+    → Says method upgrade after.ended given told asked (is_over old.place) answer
+answer_says method upgrade before after given came told asked old new
     (took.Item (task.Header head end)) asks rests answers =
     Says.says_next
     (record {
       item = tt;
       more = λ mark said.
-          head_says_more method after.ended given told head new.place new.ahead mark answers.0
+          head_says_more method upgrade after.ended given told head new.place new.ahead mark
+          answers.0
           answers.2.at said;
     })
-answer_says method before after given came told asked old new
+answer_says method upgrade before after given came told asked old new
     (took.Item (task.Body None end)) asks rests answers = absurd answers.0
-answer_says method before after given came told asked old new
+answer_says method upgrade before after given came told asked old new
     (took.Item (task.Body (Some piece) end)) asks rests answers =
     Says.says_next
     (record {
       item = tt;
       more = λ mark said.
-          piece_says_more method after.ended given told piece new.place new.ahead mark answers.0
+          piece_says_more method upgrade after.ended given told piece new.place new.ahead mark
+          answers.0
           answers.2.at said;
     })
-answer_says method before after given came told asked old new
+answer_says method upgrade before after given came told asked old new
     (took.Item (task.UpgradedBody piece end)) asks rests answers = absurd answers.0
-answer_says method before after given came told asked old new (took.Item (task.Trailer fields)) asks
+answer_says method upgrade before after given came told asked old new
+    (took.Item (task.Trailer fields)) asks
     rests answers = absurd answers.0
-answer_says method before after given came told asked old new (took.Item task.Done) asks rests
+answer_says method upgrade before after given came told asked old new (took.Item task.Done) asks
+    rests
     answers =
-    let whole = whole_there method after.ended given told new.place new.ahead (sym answers.1)
+    let whole = whole_there method upgrade after.ended given told new.place new.ahead
+    (sym answers.1)
     answers.2.at in
     Says.says_mark
     (record {
@@ -450,18 +462,22 @@ answer_says method before after given came told asked old new (took.Item task.Do
       said = whole.1;
       is = done_marks (is_over old.place) (λ over. (rests over).is_end) whole.0 given asked;
     })
-answer_says method before after given came told asked old new (took.Item (task.Failed error)) asks
+answer_says method upgrade before after given came told asked old new
+    (took.Item (task.Failed error)) asks
     rests answers = absurd answers.0
-answer_says method before after given came told asked old new took.More asks rests answers =
-    open_marks method after.ended given told asked (is_over old.place) took.More
+answer_says method upgrade before after given came told asked old new took.More asks rests answers =
+    open_marks method upgrade after.ended given told asked (is_over old.place) took.More
     (subst (λ (a : Option Got). Asks before after came a) answers.0.1 asks).gives.ended answers.1
     (subst (λ (a : Option Got). IsAnswerOfLink a took.More) (sym answers.0.1) refl)
-answer_says method before after given came told asked old new (took.Waited why) asks rests answers =
-    pause_says method before after given came told asked (is_over old.place) why asks answers.0
+answer_says method upgrade before after given came told asked old new (took.Waited why) asks rests
+    answers =
+    pause_says method upgrade before after given came told asked (is_over old.place) why asks
+    answers.0
     answers.1
-answer_says method before after given came told asked old new took.End asks rests answers =
+answer_says method upgrade before after given came told asked old new took.End asks rests answers =
     let same = ap (λ (r : ResponseReading). is_over r.place) (rests answers.1).same in
-    let whole = whole_there method after.ended given told new.place new.ahead (same ∙ answers.1)
+    let whole = whole_there method upgrade after.ended given told new.place new.ahead
+    (same ∙ answers.1)
     answers.2.at in
     Says.says_mark
     (record {
@@ -469,49 +485,54 @@ answer_says method before after given came told asked old new took.End asks rest
       said = whole.1;
       is = ap (λ (over : Bool). end_answer over) (sym answers.1);
     })
-answer_says method before after given came told asked old new (took.Failed fail.OutOfMemory) asks
+answer_says method upgrade before after given came told asked old new (took.Failed fail.OutOfMemory)
+    asks
     rests answers = Says.wants_memory refl
-answer_says method before after given came told asked old new (took.Failed (fail.Error error)) asks
+answer_says method upgrade before after given came told asked old new
+    (took.Failed (fail.Error error)) asks
     rests answers =
-    refusal_says method before after given came told asked (is_over old.place) error asks answers.0
+    refusal_says method upgrade before after given came told asked (is_over old.place) error asks
+    answers.0
 
 -- ---- exactly
 
 -- an answer comes exactly where the bytes say so
-exactly : (method : List ℕ) (closed : Bool) (given : List ℕ) (told : ToldResponse)
+exactly : (method : List ℕ) (upgrade closed : Bool) (given : List ℕ) (told : ToldResponse)
     (asked : Option Got)
-    (over : Bool) (answer : Took HttpTask) → Says method closed given told asked over answer
-    → AnswersExactly method closed given told asked over answer
-exactly method closed given told asked over answer (Says.wants_memory is) = record {
+    (over : Bool) (answer : Took HttpTask) → Says method upgrade closed given told asked over answer
+    → AnswersExactly method upgrade closed given told asked over answer
+exactly method upgrade closed given told asked over answer (Says.wants_memory is) = record {
   by_mark = λ mark said. inl is;
   next = λ more. inl is;
 }
-exactly method closed given told asked over answer (Says.says_mark marks) = record {
+exactly method upgrade closed given told asked over answer (Says.says_mark marks) = record {
   by_mark = λ mark said.
       inr
       (subst (λ (m : ResponseMark). IsAnswerAt m given asked over answer)
-      (mark_unique method closed given told marks.mark mark marks.said said) marks.is);
+      (mark_unique method upgrade closed given told marks.mark mark marks.said said) marks.is);
   next = λ more. absurd (more marks.mark marks.said);
 }
-exactly method closed given told asked over answer (Says.says_next item) = record {
+exactly method upgrade closed given told asked over answer (Says.says_next item) = record {
   by_mark = λ mark said. absurd (item.more mark said);
   next = λ more. inr item.item;
 }
 
 -- a call on a reading, whose answer comes exactly where the bytes say so
-pub reads_task : (method : List ℕ) (before after : LinkState) (old new : ResponseReading)
+pub reads_task : (method : List ℕ) (upgrade : Bool) (before after : LinkState)
+    (old new : ResponseReading)
     (answer : Took HttpTask) (came : List ℕ) (asked : Option Got) → Asks before after came asked
     → ((fault : Fault) → asked ≡ Some (got.Failed fault)
     → answer ≡ took.Failed (fail.Error (fault_error fault)))
     → (is_over old.place ≡ true → Rests old new asked answer)
     → AnswerCuts old.place (old.ahead ++ came) answer new.ahead
     → ((given : List ℕ) (told : ToldResponse) (got : Got)
-    → ReadSoFar method before.ended given told old
-    → asked ≡ Some got → Tasks method false given false (says told still_open))
-    → ((given : List ℕ) (told : ToldResponse) → ReadSoFar method before.ended given told old
-    → Answers method after.ended (given ++ came) told asked old.place new answer)
-    → ReadsTask method before after old new answer
-reads_task method before after old new answer came asked asks fails rests cuts needs answers =
+    → ReadSoFar method upgrade before.ended given told old
+    → asked ≡ Some got → Tasks method upgrade given false (says told still_open))
+    → ((given : List ℕ) (told : ToldResponse) → ReadSoFar method upgrade before.ended given told old
+    → Answers method upgrade after.ended (given ++ came) told asked old.place new answer)
+    → ReadsTask method upgrade before after old new answer
+reads_task method upgrade before after old new answer came asked asks fails rests cuts needs answers
+    =
     record {
       came = came;
       asked = asked;
@@ -522,7 +543,8 @@ reads_task method before after old new answer came asked asks fails rests cuts n
       needs = needs;
       answers = answers;
       exact = λ given told read.
-          exactly method after.ended (given ++ came) told asked (is_over old.place) answer
-          (answer_says method before after (given ++ came) came told asked old new answer asks rests
+          exactly method upgrade after.ended (given ++ came) told asked (is_over old.place) answer
+          (answer_says method upgrade before after (given ++ came) came told asked old new answer
+          asks rests
           (answers given told read));
     }

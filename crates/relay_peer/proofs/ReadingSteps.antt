@@ -124,19 +124,19 @@ IsFound found.End = Unit {0}
 IsFound (found.Failed fail) = Unit {0}
 
 -- what was found answers the call
-answers_found : (method : List ℕ) (closed : Bool) (given : List ℕ) (told : ToldResponse)
+answers_found : (method : List ℕ) (upgrade closed : Bool) (given : List ℕ) (told : ToldResponse)
     (old : ResponsePlace)
     (new : ResponseReading) (here : Found) → IsFound here
-    → Finds method closed given told old new.place new.ahead here
-    → Answers method closed given told None old new (took_of here)
-answers_found method closed given told old new (found.Task task) is finds =
+    → Finds method upgrade closed given told old new.place new.ahead here
+    → Answers method upgrade closed given told None old new (took_of here)
+answers_found method upgrade closed given told old new (found.Task task) is finds =
     (finds.0, finds.1, record { at = finds.2 })
-answers_found method closed given told old new found.Nothing is finds = absurd is
-answers_found method closed given told old new found.End is finds =
+answers_found method upgrade closed given told old new found.Nothing is finds = absurd is
+answers_found method upgrade closed given told old new found.End is finds =
     (refl, finds.0, record { at = finds.1 })
-answers_found method closed given told old new (found.Failed fail.OutOfMemory) is finds =
+answers_found method upgrade closed given told old new (found.Failed fail.OutOfMemory) is finds =
     record { at = finds }
-answers_found method closed given told old new (found.Failed (fail.Error error)) is finds =
+answers_found method upgrade closed given told old new (found.Failed (fail.Error error)) is finds =
     (reading.Refuses.is_broken finds.0 finds.1 finds.2 finds.3, record { at = finds.4 })
 
 -- the link was not asked
@@ -144,16 +144,17 @@ nothing_asked : {A : Type 0} (got : A) → None ≡ Some got → ⊥
 nothing_asked got same = cc
 
 -- a call that found something ahead
-pub reads_found : (method : List ℕ) (link : LinkState) (old new : ResponseReading) (here : Found)
+pub reads_found : (method : List ℕ) (upgrade : Bool) (link : LinkState) (old new : ResponseReading)
+    (here : Found)
     → IsFound here
     → ((closed : Bool) (given : List ℕ) (told : ToldResponse)
-    → ReadAt method closed given told old.place old.ahead
-    → Finds method closed given told old.place new.place new.ahead here)
+    → ReadAt method upgrade closed given told old.place old.ahead
+    → Finds method upgrade closed given told old.place new.place new.ahead here)
     → (is_over old.place ≡ true → (here ≡ found.End) × (new ≡ old))
     → FoundCuts old.place new.place old.ahead new.ahead here
-    → ReadsTask method link link old new (took_of here)
-reads_found method link old new here is finds rests cuts =
-    reads_task method link link old new (took_of here) [] None (refl, refl)
+    → ReadsTask method upgrade link link old new (took_of here)
+reads_found method upgrade link old new here is finds rests cuts =
+    reads_task method upgrade link link old new (took_of here) [] None (refl, refl)
     (λ fault asked. absurd (nothing_asked (got.Failed fault) asked))
     (λ over. record {
       is_end = ap took_of (rests over).0;
@@ -162,30 +163,34 @@ reads_found method link old new here is finds rests cuts =
     }) (found_cuts old.place new.place old.ahead new.ahead here cuts)
     (λ given told got read asked. absurd (nothing_asked got asked))
     (λ given told read.
-    subst (λ (xs : List ℕ). Answers method link.ended xs told None old.place new (took_of here))
+    subst (λ (xs : List ℕ). Answers method upgrade link.ended xs told None old.place new
+    (took_of here))
     (sym (append-nil given))
-    (answers_found method link.ended given told old.place new here is
+    (answers_found method upgrade link.ended given told old.place new here is
     (finds link.ended given told read.at)))
 
 -- ---- one read of the link
 
 -- an answer that is not the end says nothing of the place before
-answers_as : (method : List ℕ) (closed : Bool) (given : List ℕ) (told : ToldResponse)
+answers_as : (method : List ℕ) (upgrade closed : Bool) (given : List ℕ) (told : ToldResponse)
     (asked : Option Got)
     (mid old : ResponsePlace) (new : ResponseReading) (answer : Took HttpTask) → is_over mid ≡ false
-    → Answers method closed given told asked mid new answer
-    → Answers method closed given told asked old new answer
-answers_as method closed given told asked mid old new (took.Item task) going answers = answers
-answers_as method closed given told asked mid old new took.More going answers = answers
-answers_as method closed given told asked mid old new (took.Waited pause) going answers = answers
-answers_as method closed given told asked mid old new took.End going answers =
+    → Answers method upgrade closed given told asked mid new answer
+    → Answers method upgrade closed given told asked old new answer
+answers_as method upgrade closed given told asked mid old new (took.Item task) going answers =
+    answers
+answers_as method upgrade closed given told asked mid old new took.More going answers = answers
+answers_as method upgrade closed given told asked mid old new (took.Waited pause) going answers =
+    answers
+answers_as method upgrade closed given told asked mid old new took.End going answers =
     absurd (apart (sym going ∙ answers.1))
   where
     apart : false ≡ true → ⊥
     apart same = cc
-answers_as method closed given told asked mid old new (took.Failed fail.OutOfMemory) going answers =
+answers_as method upgrade closed given told asked mid old new (took.Failed fail.OutOfMemory) going
+    answers =
     answers
-answers_as method closed given told asked mid old new (took.Failed (fail.Error error)) going
+answers_as method upgrade closed given told asked mid old new (took.Failed (fail.Error error)) going
     answers = answers
 
 -- to find nothing is not to find the end
@@ -193,32 +198,39 @@ nothing_is_no_end : found.Nothing ≡ found.End → ⊥
 nothing_is_no_end same = cc
 
 -- a call that found nothing ahead and read the link
-pub reads_on : (method : List ℕ) (before after : LinkState) (old mid new : ResponseReading)
+pub reads_on : (method : List ℕ) (upgrade : Bool) (before after : LinkState)
+    (old mid new : ResponseReading)
     (answer : Took HttpTask)
     → ((closed : Bool) (given : List ℕ) (told : ToldResponse)
-    → ReadAt method closed given told old.place old.ahead
-    → OpenAt method given told mid.place mid.ahead)
+    → ReadAt method upgrade closed given told old.place old.ahead
+    → OpenAt method upgrade given told mid.place mid.ahead)
     → (is_over old.place ≡ true → (found.Nothing ≡ found.End) × (mid ≡ old))
     → PassesOn old.place mid.place old.ahead mid.ahead
-    → ReadsOn method before after mid new answer → ReadsTask method before after old new answer
-reads_on method before after old mid new answer opens rests passes reads =
-    reads_task method before after old new answer reads.came reads.asked reads.asks reads.fails
+    → ReadsOn method upgrade before after mid new answer
+    → ReadsTask method upgrade before after old new answer
+reads_on method upgrade before after old mid new answer opens rests passes reads =
+    reads_task method upgrade before after old new answer reads.came reads.asked reads.asks
+    reads.fails
     (λ over. absurd (nothing_is_no_end (rests over).0))
     (answer_cuts old.place mid.place old.ahead mid.ahead reads.came new.ahead answer passes
     reads.cuts)
     (λ given told got read asked.
-    open_tells method given told mid.place mid.ahead (opens before.ended given told read.at))
+    open_tells method upgrade given told mid.place mid.ahead
+    (opens before.ended given told read.at))
     (λ given told read.
     let still = opens before.ended given told read.at in
-    answers_as method after.ended (given ++ reads.came) told reads.asked mid.place old.place new
-    answer (open_not_over method given told mid.place mid.ahead still)
+    answers_as method upgrade after.ended (given ++ reads.came) told reads.asked mid.place old.place
+    new
+    answer (open_not_over method upgrade given told mid.place mid.ahead still)
     (reads.answers given told still))
 
 -- out of memory, before the link was asked
-pub wants_memory : (method : List ℕ) (before after : LinkState) (old : ResponseReading)
+pub wants_memory : (method : List ℕ) (upgrade : Bool) (before after : LinkState)
+    (old : ResponseReading)
     (ahead : List ℕ) → after ≡ before → ahead ≡ old.ahead
-    → ReadsOn method before after old (record old { ahead = ahead }) (took.Failed fail.OutOfMemory)
-wants_memory method before after old ahead same kept = record {
+    → ReadsOn method upgrade before after old (record old { ahead = ahead })
+    (took.Failed fail.OutOfMemory)
+wants_memory method upgrade before after old ahead same kept = record {
   came = [];
   asked = None;
   asks = (same, refl);
@@ -226,10 +238,11 @@ wants_memory method before after old ahead same kept = record {
   cuts = tt;
   answers = λ given told still.
       record {
-        at = subst (λ (xs : List ℕ). ReadAt method after.ended xs told old.place ahead)
+        at = subst (λ (xs : List ℕ). ReadAt method upgrade after.ended xs told old.place ahead)
             (sym (append-nil given))
-            (subst (λ (xs : List ℕ). ReadAt method after.ended given told old.place xs) (sym kept)
-            (open_read method after.ended given told old.place old.ahead still));
+            (subst (λ (xs : List ℕ). ReadAt method upgrade after.ended given told old.place xs)
+            (sym kept)
+            (open_read method upgrade after.ended given told old.place old.ahead still));
       };
 }
 
@@ -243,36 +256,40 @@ same_failed : (a b : Fault) → Some (got.Failed a) ≡ Some (got.Failed b) → 
 same_failed a b same = cc
 
 -- the link did not give anything now
-pub link_waits : (method : List ℕ) (before after : LinkState) (old : ResponseReading)
+pub link_waits : (method : List ℕ) (upgrade : Bool) (before after : LinkState)
+    (old : ResponseReading)
     (ahead : List ℕ) (pause : Pause) → Asks before after [] (Some (got_of pause))
     → ahead ≡ old.ahead
-    → ReadsOn method before after old (record old { ahead = ahead }) (took.Waited pause)
-link_waits method before after old ahead pause asks kept = record {
+    → ReadsOn method upgrade before after old (record old { ahead = ahead }) (took.Waited pause)
+link_waits method upgrade before after old ahead pause asks kept = record {
   came = [];
   asked = Some (got_of pause);
   asks = asks;
   fails = λ fault is. absurd (never_waits pause fault is);
   cuts = tt;
   answers = λ given told still.
-      subst (λ (xs : List ℕ). Answers method after.ended xs told (Some (got_of pause)) old.place
+      subst (λ (xs : List ℕ). Answers method upgrade after.ended xs told (Some (got_of pause))
+      old.place
       (record old { ahead = ahead }) (took.Waited pause)) (sym (append-nil given)) (
         refl,
-        open_tells method given told old.place old.ahead still,
+        open_tells method upgrade given told old.place old.ahead still,
         record {
-          at = subst (λ (xs : List ℕ). ReadAt method after.ended given told old.place xs) (sym kept)
-              (open_read method after.ended given told old.place old.ahead still);
+          at = subst (λ (xs : List ℕ). ReadAt method upgrade after.ended given told old.place xs)
+              (sym kept)
+              (open_read method upgrade after.ended given told old.place old.ahead still);
         },
       );
 }
 
 -- the link failed
-pub link_fails : (method : List ℕ) (before after : LinkState) (old : ResponseReading)
+pub link_fails : (method : List ℕ) (upgrade : Bool) (before after : LinkState)
+    (old : ResponseReading)
     (ahead : List ℕ) (fault : Fault) (error : Error)
     → Asks before after [] (Some (got.Failed fault)) → ahead ≡ old.ahead
     → error ≡ fault_error fault
-    → ReadsOn method before after old (record old { ahead = ahead })
+    → ReadsOn method upgrade before after old (record old { ahead = ahead })
     (took.Failed (fail.Error error))
-link_fails method before after old ahead fault error asks kept is = record {
+link_fails method upgrade before after old ahead fault error asks kept is = record {
   came = [];
   asked = Some (got.Failed fault);
   asks = asks;
@@ -281,93 +298,106 @@ link_fails method before after old ahead fault error asks kept is = record {
       (is ∙ ap fault_error (same_failed fault other same));
   cuts = tt;
   answers = λ given told still.
-      subst (λ (xs : List ℕ). Answers method after.ended xs told (Some (got.Failed fault)) old.place
+      subst (λ (xs : List ℕ). Answers method upgrade after.ended xs told (Some (got.Failed fault))
+      old.place
       (record old { ahead = ahead }) (took.Failed (fail.Error error))) (sym (append-nil given)) (
         reading.Refuses.has_failed fault refl is
-            (open_tells method given told old.place old.ahead still),
+            (open_tells method upgrade given told old.place old.ahead still),
         record {
-          at = subst (λ (xs : List ℕ). ReadAt method after.ended given told old.place xs) (sym kept)
-              (open_read method after.ended given told old.place old.ahead still);
+          at = subst (λ (xs : List ℕ). ReadAt method upgrade after.ended given told old.place xs)
+              (sym kept)
+              (open_read method upgrade after.ended given told old.place old.ahead still);
         },
       );
 }
 
 -- what was found after bytes came answers the call
-answers_again : (method : List ℕ) (closed : Bool) (given : List ℕ) (told : ToldResponse) (n : ℕ)
+answers_again : (method : List ℕ) (upgrade closed : Bool) (given : List ℕ) (told : ToldResponse)
+    (n : ℕ)
     (old : ResponsePlace) (new : ResponseReading) (answer : Took HttpTask) → is_over old ≡ false
-    → FindsAgain method closed given told old new answer
-    → Answers method closed given told (Some (got.Bytes n)) old new answer
-answers_again method closed given told n old new (took.Item task) going finds =
+    → FindsAgain method upgrade closed given told old new answer
+    → Answers method upgrade closed given told (Some (got.Bytes n)) old new answer
+answers_again method upgrade closed given told n old new (took.Item task) going finds =
     (finds.0, finds.1, record { at = finds.2 })
-answers_again method closed given told n old new took.More going finds = (
+answers_again method upgrade closed given told n old new took.More going finds = (
   (n, refl),
-  open_tells method given told new.place new.ahead finds,
-  record { at = open_read method closed given told new.place new.ahead finds },
+  open_tells method upgrade given told new.place new.ahead finds,
+  record { at = open_read method upgrade closed given told new.place new.ahead finds },
 )
-answers_again method closed given told n old new (took.Waited pause) going finds = absurd finds
-answers_again method closed given told n old new took.End going finds =
+answers_again method upgrade closed given told n old new (took.Waited pause) going finds = absurd
+    finds
+answers_again method upgrade closed given told n old new took.End going finds =
     absurd (apart (sym going ∙ finds.0))
   where
     apart : false ≡ true → ⊥
     apart same = cc
-answers_again method closed given told n old new (took.Failed fail.OutOfMemory) going finds =
+answers_again method upgrade closed given told n old new (took.Failed fail.OutOfMemory) going finds
+    =
     record { at = finds }
-answers_again method closed given told n old new (took.Failed (fail.Error error)) going finds =
+answers_again method upgrade closed given told n old new (took.Failed (fail.Error error)) going
+    finds =
     (reading.Refuses.is_broken finds.0 finds.1 finds.2 finds.3, record { at = finds.4 })
 
 -- the link gave bytes
-pub link_gives : (method : List ℕ) (before after : LinkState) (old new : ResponseReading)
+pub link_gives : (method : List ℕ) (upgrade : Bool) (before after : LinkState)
+    (old new : ResponseReading)
     (ahead : List ℕ) (n : ℕ) (answer : Took HttpTask)
     → ReadsMore before after old.ahead ahead (got.Bytes n)
     → ((closed : Bool) (given : List ℕ) (told : ToldResponse)
-    → ReadAt method closed given told old.place ahead
-    → FindsAgain method closed given told old.place new answer)
+    → ReadAt method upgrade closed given told old.place ahead
+    → FindsAgain method upgrade closed given told old.place new answer)
     → AnswerCuts old.place ahead answer new.ahead
-    → ReadsOn method before after old new answer
-link_gives method before after old new ahead n answer more finds cuts = record {
+    → ReadsOn method upgrade before after old new answer
+link_gives method upgrade before after old new ahead n answer more finds cuts = record {
   came = take n more.room;
   asked = Some (got.Bytes n);
   asks = record { room = more.room; sized = more.sized; gives = more.gives; grown = refl };
   fails = λ fault same. absurd (cc);
   cuts = subst (λ (xs : List ℕ). AnswerCuts old.place xs answer new.ahead) more.grown cuts;
   answers = λ given told still.
-      answers_again method after.ended (given ++ take n more.room) told n old.place new answer
-      (open_not_over method given told old.place old.ahead still)
+      answers_again method upgrade after.ended (given ++ take n more.room) told n old.place new
+      answer
+      (open_not_over method upgrade given told old.place old.ahead still)
       (finds after.ended (given ++ take n more.room) told
       (subst (λ (xs : List ℕ).
-      ReadAt method after.ended (given ++ take n more.room) told old.place xs)
+      ReadAt method upgrade after.ended (given ++ take n more.room) told old.place xs)
       (sym more.grown)
-      (came_more method after.ended given (take n more.room) told old.place old.ahead still)));
+      (came_more method upgrade after.ended given (take n more.room) told old.place old.ahead
+      still)));
 }
 
 -- what follows from the end of the link answers the call
-answers_end : (method given : List ℕ) (told : ToldResponse) (old : ResponsePlace)
+answers_end : (method : List ℕ) (upgrade : Bool) (given : List ℕ) (told : ToldResponse)
+    (old : ResponsePlace)
     (new : ResponseReading)
-    (answer : Took HttpTask) → EndsThere method given told new answer
-    → Answers method true given told (Some got.End) old new answer
-answers_end method given told old new (took.Item task.Done) ends =
+    (answer : Took HttpTask) → EndsThere method upgrade given told new answer
+    → Answers method upgrade true given told (Some got.End) old new answer
+answers_end method upgrade given told old new (took.Item task.Done) ends =
     (tt, sym ends.0, record { at = ends.1 })
-answers_end method given told old new (took.Item (task.Header head end)) ends = absurd ends
-answers_end method given told old new (took.Item (task.Body piece end)) ends = absurd ends
-answers_end method given told old new (took.Item (task.UpgradedBody piece end)) ends = absurd ends
-answers_end method given told old new (took.Item (task.Trailer fields)) ends = absurd ends
-answers_end method given told old new (took.Item (task.Failed error)) ends = absurd ends
-answers_end method given told old new took.More ends = absurd ends
-answers_end method given told old new (took.Waited pause) ends = absurd ends
-answers_end method given told old new took.End ends = absurd ends
-answers_end method given told old new (took.Failed fail.OutOfMemory) ends = absurd ends
-answers_end method given told old new (took.Failed (fail.Error error)) ends =
+answers_end method upgrade given told old new (took.Item (task.Header head end)) ends = absurd ends
+answers_end method upgrade given told old new (took.Item (task.Body piece end)) ends = absurd ends
+answers_end method upgrade given told old new (took.Item (task.UpgradedBody piece end)) ends =
+    absurd ends
+answers_end method upgrade given told old new (took.Item (task.Trailer fields)) ends = absurd ends
+answers_end method upgrade given told old new (took.Item (task.Failed error)) ends = absurd ends
+answers_end method upgrade given told old new took.More ends = absurd ends
+answers_end method upgrade given told old new (took.Waited pause) ends = absurd ends
+answers_end method upgrade given told old new took.End ends = absurd ends
+answers_end method upgrade given told old new (took.Failed fail.OutOfMemory) ends = absurd ends
+answers_end method upgrade given told old new (took.Failed (fail.Error error)) ends =
     (reading.Refuses.is_cut_off refl ends.0 ends.1, record { at = ends.2 })
 
 -- the link ended
-pub link_ends : (method : List ℕ) (before after : LinkState) (old new : ResponseReading)
+pub link_ends : (method : List ℕ) (upgrade : Bool) (before after : LinkState)
+    (old new : ResponseReading)
     (ahead : List ℕ) (answer : Took HttpTask)
     → Asks before after [] (Some got.End) → after.ended ≡ true → ahead ≡ old.ahead
-    → ((method given : List ℕ) (told : ToldResponse) → OpenAt method given told old.place ahead
-    → EndsThere method given told new answer)
+    → ((method : List ℕ) (upgrade : Bool) (given : List ℕ) (told : ToldResponse)
+    → OpenAt method upgrade given told old.place ahead
+    → EndsThere method upgrade given told new answer)
     → ((bytes rest : List ℕ) → AnswerCuts old.place bytes answer rest)
-    → ReadsOn method before after old new answer
-link_ends method before after old new ahead answer asks ended kept ends cuts = record {
+    → ReadsOn method upgrade before after old new answer
+link_ends method upgrade before after old new ahead answer asks ended kept ends cuts = record {
   came = [];
   asked = Some got.End;
   asks = asks;
@@ -375,12 +405,12 @@ link_ends method before after old new ahead answer asks ended kept ends cuts = r
   cuts = cuts (old.ahead ++ []) new.ahead;
   answers = λ given told still.
       subst (λ (xs : List ℕ).
-      Answers method after.ended xs told (Some got.End) old.place new answer)
+      Answers method upgrade after.ended xs told (Some got.End) old.place new answer)
       (sym (append-nil given))
       (subst (λ (closed : Bool).
-      Answers method closed given told (Some got.End) old.place new answer)
+      Answers method upgrade closed given told (Some got.End) old.place new answer)
       (sym ended)
-      (answers_end method given told old.place new answer
-      (ends method given told
-      (subst (λ (xs : List ℕ). OpenAt method given told old.place xs) (sym kept) still))));
+      (answers_end method upgrade given told old.place new answer
+      (ends method upgrade given told
+      (subst (λ (xs : List ℕ). OpenAt method upgrade given told old.place xs) (sym kept) still))));
 }

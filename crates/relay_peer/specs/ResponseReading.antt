@@ -207,9 +207,10 @@ step_over head framing =
     }
 
 -- of the bytes that the link gave, the first were the informational heads, and the rest is ahead
-pub record IsAwaiting (method given : List ℕ) (told : ToldResponse) (ahead : List ℕ) : Type 0 where
+pub record IsAwaiting (method : List ℕ) (upgrade : Bool) (given : List ℕ) (told : ToldResponse)
+    (ahead : List ℕ) : Type 0 where
   pub n : ℕ
-  pub informs : Informs method false given told.informed n
+  pub informs : Informs method upgrade given told.informed n
   pub rest : ahead ≡ drop n given
   pub no_final : told.final ≡ None
   pub no_body : told.body ≡ []
@@ -217,13 +218,14 @@ pub record IsAwaiting (method given : List ℕ) (told : ToldResponse) (ahead : L
 -- of the bytes that the link gave, the first were the informational heads and the final head, and
 -- those of the body before the ones ahead said the bytes that were told; more of it is to come
 pub record IsInBody
-    (method given : List ℕ) (told : ToldResponse) (body : OpenBody) (ahead : List ℕ) : Type 0 where
+    (method : List ℕ) (upgrade : Bool) (given : List ℕ) (told : ToldResponse) (body : OpenBody)
+    (ahead : List ℕ) : Type 0 where
   pub n : ℕ
   pub head : ResponseHead
   pub framing : Framing
   pub len : ℕ
-  pub informs : Informs method false given told.informed n
-  pub has : HasResponse method false (drop n given) head framing len
+  pub informs : Informs method upgrade given told.informed n
+  pub has : HasResponse method upgrade (drop n given) head framing len
   pub is_final : is_informational head.status ≡ false
   pub final : told.final ≡ Some head
   pub so_far : SoFar framing (drop (n + len) given) told.body body.reader ahead
@@ -232,49 +234,50 @@ pub record IsInBody
 
 -- what was told is the response whole, which ended with the first so many bytes that the link gave
 pub record IsWhole
-    (method : List ℕ) (closed : Bool) (given : List ℕ) (told : ToldResponse) (kept : Bool)
+    (method : List ℕ) (upgrade closed : Bool) (given : List ℕ) (told : ToldResponse) (kept : Bool)
     (ahead : List ℕ) : Type 0 where
   pub n : ℕ
   pub head : ResponseHead
   pub framing : Framing
   pub len : ℕ
   pub place : ℕ
-  pub informs : Informs method false given told.informed n
-  pub has : HasResponse method false (drop n given) head framing len
+  pub informs : Informs method upgrade given told.informed n
+  pub has : HasResponse method upgrade (drop n given) head framing len
   pub final : told.final ≡ Some head
-  pub whole : Tasks method false given closed (says told (ended place))
+  pub whole : Tasks method upgrade given closed (says told (ended place))
   pub rest : says_end framing ≡ true → ahead ≡ drop place given
   pub keeps : kept ≡ lets_keep head framing
 
 -- where the reading of the response to that method is, after the link gave these bytes since this
--- client began, and what the tasks so far told of them; `closed` is whether the link has ended.
--- What follows is read from here
-abbrev pub ReadAt : List ℕ → Bool → List ℕ → ToldResponse → ResponsePlace → List ℕ → Type 0
-ReadAt method closed given told place.NoHead ahead =
-    IsAwaiting method given told ahead × (ahead ≡ given)
-ReadAt method closed given told place.Informed ahead =
-    IsAwaiting method given told ahead × (0 < length given)
-ReadAt method closed given told (place.InBody body) ahead =
-    IsInBody method given told body ahead
-ReadAt method closed given told (place.Ended keeps) ahead =
-    IsWhole method closed given told keeps ahead
+-- client began, and what the tasks so far told of them; `upgrade` is whether the request asked for
+-- an upgrade, `closed` whether the link has ended. What follows is read from here
+abbrev pub ReadAt :
+    List ℕ → Bool → Bool → List ℕ → ToldResponse → ResponsePlace → List ℕ → Type 0
+ReadAt method upgrade closed given told place.NoHead ahead =
+    IsAwaiting method upgrade given told ahead × (ahead ≡ given)
+ReadAt method upgrade closed given told place.Informed ahead =
+    IsAwaiting method upgrade given told ahead × (0 < length given)
+ReadAt method upgrade closed given told (place.InBody body) ahead =
+    IsInBody method upgrade given told body ahead
+ReadAt method upgrade closed given told (place.Ended keeps) ahead =
+    IsWhole method upgrade closed given told keeps ahead
 
 -- the same, for the whole reading
 pub record ReadSoFar
-    (method : List ℕ) (closed : Bool) (given : List ℕ) (told : ToldResponse)
+    (method : List ℕ) (upgrade closed : Bool) (given : List ℕ) (told : ToldResponse)
     (reading : ResponseReading) : Type 0 where
-  pub at : ReadAt method closed given told reading.place reading.ahead
+  pub at : ReadAt method upgrade closed given told reading.place reading.ahead
 
 -- the same, where the bytes ahead hold no task, no end and nothing to refuse
-abbrev pub OpenAt : List ℕ → List ℕ → ToldResponse → ResponsePlace → List ℕ → Type 0
-OpenAt method given told place.NoHead ahead =
-    IsAwaiting method given told ahead × (ahead ≡ given) × IsOpen ahead
-OpenAt method given told place.Informed ahead =
-    IsAwaiting method given told ahead × (0 < length given) × IsOpen ahead
-OpenAt method given told (place.InBody body) ahead =
-    (here : IsInBody method given told body ahead)
+abbrev pub OpenAt : List ℕ → Bool → List ℕ → ToldResponse → ResponsePlace → List ℕ → Type 0
+OpenAt method upgrade given told place.NoHead ahead =
+    IsAwaiting method upgrade given told ahead × (ahead ≡ given) × IsOpen ahead
+OpenAt method upgrade given told place.Informed ahead =
+    IsAwaiting method upgrade given told ahead × (0 < length given) × IsOpen ahead
+OpenAt method upgrade given told (place.InBody body) ahead =
+    (here : IsInBody method upgrade given told body ahead)
     × Body here.framing (drop (here.n + here.len) given) (open_text told.body)
-OpenAt method given told (place.Ended keeps) ahead = ⊥
+OpenAt method upgrade given told (place.Ended keeps) ahead = ⊥
 
 -- ---- how a body is cut
 
@@ -357,14 +360,15 @@ FoundCuts old new bytes rest (found.Failed fail) = Unit {0}
 -- inform stands no head: none ends within the limit (`HeadTooLong`), the text is none
 -- (`HeadGrammar`), or it has no framing (`BadFraming`). Or behind the final head the body is
 -- broken, as one in chunks may be (`BadFraming`)
-pub data BreaksFor (method given : List ℕ) (told : ToldResponse) (why : Context) : Type 0 where
-  in_head : IsRefusedBehind method false given told.informed why → told.final ≡ None
-      → told.body ≡ [] → BreaksFor method given told why
+pub data BreaksFor (method : List ℕ) (upgrade : Bool) (given : List ℕ) (told : ToldResponse)
+    (why : Context) : Type 0 where
+  in_head : IsRefusedBehind method upgrade given told.informed why → told.final ≡ None
+      → told.body ≡ [] → BreaksFor method upgrade given told why
   in_body : (head : ResponseHead) (framing : Framing) (len : ℕ)
-      → HasFinal method false given told.informed head framing len → told.final ≡ Some head
+      → HasFinal method upgrade given told.informed head framing len → told.final ≡ Some head
       → Body framing (drop len given)
       (record { bytes = told.body; mark = body.BodyMark.broken })
-      → why ≡ BadFraming → BreaksFor method given told why
+      → why ≡ BadFraming → BreaksFor method upgrade given told why
 
 -- ---- what stands ahead
 
@@ -377,20 +381,22 @@ is_task (found.Failed fail) = false
 
 -- what was found ahead, where these bytes came so far and this was told before
 abbrev pub Finds :
-    List ℕ → Bool → List ℕ → ToldResponse → ResponsePlace → ResponsePlace → List ℕ → Found → Type 0
-Finds method closed given told old new rest (found.Task task) =
+    List ℕ → Bool → Bool → List ℕ → ToldResponse → ResponsePlace → ResponsePlace → List ℕ → Found
+    → Type 0
+Finds method upgrade closed given told old new rest (found.Task task) =
     IsResponseTask told task × (is_end task ≡ is_over new)
-    × ReadAt method closed given (with_task told task) new rest
-Finds method closed given told old new rest found.Nothing = OpenAt method given told new rest
-Finds method closed given told old new rest found.End =
-    (is_over old ≡ true) × ReadAt method closed given told new rest
-Finds method closed given told old new rest (found.Failed fail.OutOfMemory) =
-    ReadAt method closed given told new rest
-Finds method closed given told old new rest (found.Failed (fail.Error error)) =
+    × ReadAt method upgrade closed given (with_task told task) new rest
+Finds method upgrade closed given told old new rest found.Nothing =
+    OpenAt method upgrade given told new rest
+Finds method upgrade closed given told old new rest found.End =
+    (is_over old ≡ true) × ReadAt method upgrade closed given told new rest
+Finds method upgrade closed given told old new rest (found.Failed fail.OutOfMemory) =
+    ReadAt method upgrade closed given told new rest
+Finds method upgrade closed given told old new rest (found.Failed (fail.Error error)) =
     (why : Context) × (error ≡ refused_from Upstream why)
-    × Tasks method false given closed (says told broken)
-    × BreaksFor method given told why
-    × ReadAt method closed given told new rest
+    × Tasks method upgrade given closed (says told broken)
+    × BreaksFor method upgrade given told why
+    × ReadAt method upgrade closed given told new rest
 
 -- ---- what a call answers
 
@@ -423,37 +429,39 @@ fault_error fault = record (error_of_fault fault) { esource = Upstream }
 
 -- why a read is refused: the text is broken, the link failed, or it ended inside the response
 pub data Refuses
-    (method : List ℕ) (closed : Bool) (given : List ℕ) (told : ToldResponse) (asked : Option Got)
-    (error : Error) : Type 0 where
+    (method : List ℕ) (upgrade closed : Bool) (given : List ℕ) (told : ToldResponse)
+    (asked : Option Got) (error : Error) : Type 0 where
   is_broken : (why : Context) → error ≡ refused_from Upstream why
-      → Tasks method false given closed (says told broken) → BreaksFor method given told why
-      → Refuses method closed given told asked error
+      → Tasks method upgrade given closed (says told broken)
+      → BreaksFor method upgrade given told why
+      → Refuses method upgrade closed given told asked error
   has_failed : (fault : Fault) → asked ≡ Some (got.Failed fault) → error ≡ fault_error fault
-      → Tasks method false given false (says told still_open)
-      → Refuses method closed given told asked error
+      → Tasks method upgrade given false (says told still_open)
+      → Refuses method upgrade closed given told asked error
   is_cut_off : asked ≡ Some got.End → error ≡ cut_off_error given
-      → Tasks method false given true (says told cut_off)
-      → Refuses method closed given told asked error
+      → Tasks method upgrade given true (says told cut_off)
+      → Refuses method upgrade closed given told asked error
 
 -- the answer of a call, where these bytes came so far, in it too, and this was told before it
 abbrev pub Answers :
-    List ℕ → Bool → List ℕ → ToldResponse → Option Got → ResponsePlace → ResponseReading
+    List ℕ → Bool → Bool → List ℕ → ToldResponse → Option Got → ResponsePlace → ResponseReading
     → Took HttpTask → Type 0
-Answers method closed given told asked old new (took.Item task) =
+Answers method upgrade closed given told asked old new (took.Item task) =
     IsResponseTask told task × (is_end task ≡ is_over new.place)
-    × ReadSoFar method closed given (with_task told task) new
-Answers method closed given told asked old new took.More =
-    GaveBytes asked × Tasks method false given false (says told still_open)
-    × ReadSoFar method closed given told new
-Answers method closed given told asked old new (took.Waited pause) =
-    (asked ≡ Some (got_of pause)) × Tasks method false given false (says told still_open)
-    × ReadSoFar method closed given told new
-Answers method closed given told asked old new took.End =
-    (asked ≡ None) × (is_over old ≡ true) × ReadSoFar method closed given told new
-Answers method closed given told asked old new (took.Failed fail.OutOfMemory) =
-    ReadSoFar method closed given told new
-Answers method closed given told asked old new (took.Failed (fail.Error error)) =
-    Refuses method closed given told asked error × ReadSoFar method closed given told new
+    × ReadSoFar method upgrade closed given (with_task told task) new
+Answers method upgrade closed given told asked old new took.More =
+    GaveBytes asked × Tasks method upgrade given false (says told still_open)
+    × ReadSoFar method upgrade closed given told new
+Answers method upgrade closed given told asked old new (took.Waited pause) =
+    (asked ≡ Some (got_of pause)) × Tasks method upgrade given false (says told still_open)
+    × ReadSoFar method upgrade closed given told new
+Answers method upgrade closed given told asked old new took.End =
+    (asked ≡ None) × (is_over old ≡ true) × ReadSoFar method upgrade closed given told new
+Answers method upgrade closed given told asked old new (took.Failed fail.OutOfMemory) =
+    ReadSoFar method upgrade closed given told new
+Answers method upgrade closed given told asked old new (took.Failed (fail.Error error)) =
+    Refuses method upgrade closed given told asked error
+    × ReadSoFar method upgrade closed given told new
 
 -- behind the end of the response a call answers it again, and changes nothing
 pub record Rests (old new : ResponseReading) (asked : Option Got) (answer : Took HttpTask)
@@ -499,11 +507,11 @@ IsItem (took.Failed fail) = ⊥
 -- out of memory aside, the answer is the one of their mark where the bytes say no more than was
 -- told, and a task where they say more
 pub record AnswersExactly
-    (method : List ℕ) (closed : Bool) (given : List ℕ) (told : ToldResponse) (asked : Option Got)
-    (over : Bool) (answer : Took HttpTask) : Type 0 where
-  pub by_mark : (mark : ResponseMark) → Tasks method false given closed (says told mark)
+    (method : List ℕ) (upgrade closed : Bool) (given : List ℕ) (told : ToldResponse)
+    (asked : Option Got) (over : Bool) (answer : Took HttpTask) : Type 0 where
+  pub by_mark : (mark : ResponseMark) → Tasks method upgrade given closed (says told mark)
       → (answer ≡ took.Failed fail.OutOfMemory) ⊎ IsAnswerAt mark given asked over answer
-  pub next : ((mark : ResponseMark) → Tasks method false given closed (says told mark) → ⊥)
+  pub next : ((mark : ResponseMark) → Tasks method upgrade given closed (says told mark) → ⊥)
       → (answer ≡ took.Failed fail.OutOfMemory) ⊎ IsItem answer
 
 -- ---- a call
@@ -511,7 +519,7 @@ pub record AnswersExactly
 -- a call on a reading: it asks the link only where the bytes ahead hold no task, no end and nothing
 -- to refuse, goes on with what was told, and cuts a piece out of the bytes ahead and those that came
 pub record ReadsTask
-    (method : List ℕ) (before after : LinkState) (old new : ResponseReading)
+    (method : List ℕ) (upgrade : Bool) (before after : LinkState) (old new : ResponseReading)
     (answer : Took HttpTask) : Type 0 where
   pub came : List ℕ
   pub asked : Option Got
@@ -522,17 +530,19 @@ pub record ReadsTask
   pub rests : is_over old.place ≡ true → Rests old new asked answer
   pub cuts : AnswerCuts old.place (old.ahead ++ came) answer new.ahead
   pub needs : (given : List ℕ) (told : ToldResponse) (got : Got)
-      → ReadSoFar method before.ended given told old → asked ≡ Some got
-      → Tasks method false given false (says told still_open)
+      → ReadSoFar method upgrade before.ended given told old → asked ≡ Some got
+      → Tasks method upgrade given false (says told still_open)
   pub answers : (given : List ℕ) (told : ToldResponse)
-      → ReadSoFar method before.ended given told old
-      → Answers method after.ended (given ++ came) told asked old.place new answer
-  pub exact : (given : List ℕ) (told : ToldResponse) → ReadSoFar method before.ended given told old
-      → AnswersExactly method after.ended (given ++ came) told asked (is_over old.place) answer
+      → ReadSoFar method upgrade before.ended given told old
+      → Answers method upgrade after.ended (given ++ came) told asked old.place new answer
+  pub exact : (given : List ℕ) (told : ToldResponse)
+      → ReadSoFar method upgrade before.ended given told old
+      → AnswersExactly method upgrade after.ended (given ++ came) told asked (is_over old.place)
+      answer
 
 -- the same, where nothing stood ahead: one read, and what stands ahead after it
 pub record ReadsOn
-    (method : List ℕ) (before after : LinkState) (old new : ResponseReading)
+    (method : List ℕ) (upgrade : Bool) (before after : LinkState) (old new : ResponseReading)
     (answer : Took HttpTask) : Type 0 where
   pub came : List ℕ
   pub asked : Option Got
@@ -541,61 +551,64 @@ pub record ReadsOn
       → answer ≡ took.Failed (fail.Error (fault_error fault))
   pub cuts : AnswerCuts old.place (old.ahead ++ came) answer new.ahead
   pub answers : (given : List ℕ) (told : ToldResponse)
-      → OpenAt method given told old.place old.ahead
-      → Answers method after.ended (given ++ came) told asked old.place new answer
+      → OpenAt method upgrade given told old.place old.ahead
+      → Answers method upgrade after.ended (given ++ came) told asked old.place new answer
 
 -- what was found ahead after bytes came, as an answer
 abbrev pub FindsAgain :
-    List ℕ → Bool → List ℕ → ToldResponse → ResponsePlace → ResponseReading → Took HttpTask → Type 0
-FindsAgain method closed given told old new (took.Item task) =
-    Finds method closed given told old new.place new.ahead (found.Task task)
-FindsAgain method closed given told old new took.More =
-    Finds method closed given told old new.place new.ahead found.Nothing
-FindsAgain method closed given told old new (took.Waited pause) = ⊥
-FindsAgain method closed given told old new took.End =
-    Finds method closed given told old new.place new.ahead found.End
-FindsAgain method closed given told old new (took.Failed fail) =
-    Finds method closed given told old new.place new.ahead (found.Failed fail)
+    List ℕ → Bool → Bool → List ℕ → ToldResponse → ResponsePlace → ResponseReading → Took HttpTask
+    → Type 0
+FindsAgain method upgrade closed given told old new (took.Item task) =
+    Finds method upgrade closed given told old new.place new.ahead (found.Task task)
+FindsAgain method upgrade closed given told old new took.More =
+    Finds method upgrade closed given told old new.place new.ahead found.Nothing
+FindsAgain method upgrade closed given told old new (took.Waited pause) = ⊥
+FindsAgain method upgrade closed given told old new took.End =
+    Finds method upgrade closed given told old new.place new.ahead found.End
+FindsAgain method upgrade closed given told old new (took.Failed fail) =
+    Finds method upgrade closed given told old new.place new.ahead (found.Failed fail)
 
 -- what follows from the end of the link, where nothing stands ahead: a body that lasts until then
 -- has ended, and else the response is cut off
-abbrev pub FindsAtEnd : List ℕ → List ℕ → ToldResponse → ResponsePlace → List ℕ → Found → Type 0
-FindsAtEnd method given told new ahead (found.Task task.Done) =
-    (is_over new ≡ true) × ReadAt method true given told new ahead
-FindsAtEnd method given told new ahead (found.Task (task.Header head end)) = ⊥
-FindsAtEnd method given told new ahead (found.Task (task.Body piece end)) = ⊥
-FindsAtEnd method given told new ahead (found.Task (task.UpgradedBody piece end)) = ⊥
-FindsAtEnd method given told new ahead (found.Task (task.Trailer fields)) = ⊥
-FindsAtEnd method given told new ahead (found.Task (task.Failed error)) = ⊥
-FindsAtEnd method given told new ahead found.Nothing = ⊥
-FindsAtEnd method given told new ahead found.End = ⊥
-FindsAtEnd method given told new ahead (found.Failed fail.OutOfMemory) = ⊥
-FindsAtEnd method given told new ahead (found.Failed (fail.Error error)) =
-    (error ≡ cut_off_error given) × Tasks method false given true (says told cut_off)
-    × ReadAt method true given told new ahead
+abbrev pub FindsAtEnd :
+    List ℕ → Bool → List ℕ → ToldResponse → ResponsePlace → List ℕ → Found → Type 0
+FindsAtEnd method upgrade given told new ahead (found.Task task.Done) =
+    (is_over new ≡ true) × ReadAt method upgrade true given told new ahead
+FindsAtEnd method upgrade given told new ahead (found.Task (task.Header head end)) = ⊥
+FindsAtEnd method upgrade given told new ahead (found.Task (task.Body piece end)) = ⊥
+FindsAtEnd method upgrade given told new ahead (found.Task (task.UpgradedBody piece end)) = ⊥
+FindsAtEnd method upgrade given told new ahead (found.Task (task.Trailer fields)) = ⊥
+FindsAtEnd method upgrade given told new ahead (found.Task (task.Failed error)) = ⊥
+FindsAtEnd method upgrade given told new ahead found.Nothing = ⊥
+FindsAtEnd method upgrade given told new ahead found.End = ⊥
+FindsAtEnd method upgrade given told new ahead (found.Failed fail.OutOfMemory) = ⊥
+FindsAtEnd method upgrade given told new ahead (found.Failed (fail.Error error)) =
+    (error ≡ cut_off_error given) × Tasks method upgrade given true (says told cut_off)
+    × ReadAt method upgrade true given told new ahead
 
 -- the same, as an answer
-abbrev pub EndsThere : List ℕ → List ℕ → ToldResponse → ResponseReading → Took HttpTask → Type 0
-EndsThere method given told new (took.Item task) =
-    FindsAtEnd method given told new.place new.ahead (found.Task task)
-EndsThere method given told new took.More = ⊥
-EndsThere method given told new (took.Waited pause) = ⊥
-EndsThere method given told new took.End = ⊥
-EndsThere method given told new (took.Failed fail) =
-    FindsAtEnd method given told new.place new.ahead (found.Failed fail)
+abbrev pub EndsThere :
+    List ℕ → Bool → List ℕ → ToldResponse → ResponseReading → Took HttpTask → Type 0
+EndsThere method upgrade given told new (took.Item task) =
+    FindsAtEnd method upgrade given told new.place new.ahead (found.Task task)
+EndsThere method upgrade given told new took.More = ⊥
+EndsThere method upgrade given told new (took.Waited pause) = ⊥
+EndsThere method upgrade given told new took.End = ⊥
+EndsThere method upgrade given told new (took.Failed fail) =
+    FindsAtEnd method upgrade given told new.place new.ahead (found.Failed fail)
 
 -- all that the link gave was the response, whole, and its head and framing let the link be kept
-pub record IsReadWhole (method : List ℕ) (closed : Bool) (given : List ℕ) (told : ToldResponse)
-    : Type 0 where
+pub record IsReadWhole (method : List ℕ) (upgrade closed : Bool) (given : List ℕ)
+    (told : ToldResponse) : Type 0 where
   pub n : ℕ
   pub head : ResponseHead
   pub framing : Framing
   pub len : ℕ
   pub place : ℕ
-  pub informs : Informs method false given told.informed n
-  pub has : HasResponse method false (drop n given) head framing len
+  pub informs : Informs method upgrade given told.informed n
+  pub has : HasResponse method upgrade (drop n given) head framing len
   pub final : told.final ≡ Some head
-  pub whole : Tasks method false given closed (says told (ended place))
+  pub whole : Tasks method upgrade given closed (says told (ended place))
   pub none_past : drop place given ≡ []
   pub keeps : lets_keep head framing ≡ true
 

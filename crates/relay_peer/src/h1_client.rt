@@ -28,6 +28,8 @@ pub struct H1Client<L> {
     received: u64,
     sent: u64,
     failed: bool,
+    // Whether both sides ask for an upgrade.
+    asked: bool,
 }
 
 impl<L> H1Client<L> {
@@ -35,10 +37,11 @@ impl<L> H1Client<L> {
     pub fn new(alloc: Global, link: L) -> H1Client<L>
         ensures link { result.link ≡ link }
         ensures sent { SentSoFar nothing [] result.request }
-        ensures read { (method : List ℕ) (closed : Bool)
-            → ReadSoFar method closed [] untold result.response }
+        ensures read { (method : List ℕ) (upgrade closed : Bool)
+            → ReadSoFar method upgrade closed [] untold result.response }
         ensures counts { (result.received ≡ 0) × (result.sent ≡ 0) }
         ensures failed { result.failed ≡ false }
+        ensures asked { result.asked ≡ false }
     {
         H1Client {
             link,
@@ -47,6 +50,7 @@ impl<L> H1Client<L> {
             received: 0,
             sent: 0,
             failed: false,
+            asked: false,
         }
     }
 
@@ -150,9 +154,9 @@ impl<L> H1Client<L> {
         ensures exact { result ≡ may_keep_client self.now }
         ensures request { (sent : Sent) (taken : List ℕ) → SentSoFar sent taken self.now.request
             → result ≡ true → IsSentWhole sent taken }
-        ensures response { (method given : List ℕ) (closed : Bool) (told : ToldResponse)
-            → ReadSoFar method closed given told self.now.response → result ≡ true
-            → IsReadWhole method closed given told }
+        ensures response { (method given : List ℕ) (upgrade closed : Bool) (told : ToldResponse)
+            → ReadSoFar method upgrade closed given told self.now.response → result ≡ true
+            → IsReadWhole method upgrade closed given told }
     {
         self.request.may_keep() && (self.response.may_keep() && !self.failed)
     }
@@ -177,6 +181,7 @@ impl<L> H1Client<L> {
             received: _,
             sent: _,
             failed: _,
+            asked: _,
         } = self;
         link
     }
@@ -222,8 +227,9 @@ impl<L: ByteLink> H1Client<L> {
     /// Out of memory aside, each of these comes exactly where the bytes and the link say so. After
     /// an error, and when out of memory, what was told stays, and a next call goes on from there.
     pub fn read_response_task(&mut self, alloc: Global) -> Took<HttpTask>
-        ensures reads { ReadsTask (method_of self.old.request.request) (L.state self.old.link)
-            (L.state self.new.link) self.old.response self.new.response result }
+        ensures reads { ReadsTask (method_of self.old.request.request) self.old.asked
+            (L.state self.old.link) (L.state self.new.link) self.old.response self.new.response
+            result }
         ensures start { L.start self.new.link ≡ L.start self.old.link }
         ensures waits { result ≡ Took.Waited Pause.NotReady
             → (L.state self.new.link).waits ≡ up (L.state self.old.link).waits }
@@ -252,8 +258,9 @@ impl<L: ByteLink> H1Client<L> {
     /// The next task of the response to the method of the request. A response that comes before any
     /// request is read as one to GET.
     fn read_task(&mut self, alloc: Global) -> Took<HttpTask>
-        ensures reads { ReadsTask (method_of self.old.request.request) (L.state self.old.link)
-            (L.state self.new.link) self.old.response self.new.response result }
+        ensures reads { ReadsTask (method_of self.old.request.request) self.old.asked
+            (L.state self.old.link) (L.state self.new.link) self.old.response self.new.response
+            result }
         ensures start { L.start self.new.link ≡ L.start self.old.link }
         ensures waits { result ≡ Took.Waited Pause.NotReady
             → (L.state self.new.link).waits ≡ up (L.state self.old.link).waits }
@@ -270,10 +277,13 @@ impl<L: ByteLink> H1Client<L> {
         } }
     {
         match &self.request.request {
-            RequestPlace::NoHead => self.response.read_task(alloc, &Method::GET, &mut self.link),
+            RequestPlace::NoHead => {
+                self.response
+                    .read_task(alloc, &Method::GET, self.asked, &mut self.link)
+            }
             RequestPlace::Sending(sending) => {
                 self.response
-                    .read_task(alloc, sending.head.method(), &mut self.link)
+                    .read_task(alloc, sending.head.method(), self.asked, &mut self.link)
             }
         }
     }

@@ -79,9 +79,10 @@ impl ResponseReading {
         &mut self,
         alloc: Global,
         method: &Method,
+        upgrade: bool,
         link: &mut L,
     ) -> Took<HttpTask>
-        ensures reads { ReadsTask method.now (L.state link.old) (L.state link.new) self.old
+        ensures reads { ReadsTask method.now upgrade (L.state link.old) (L.state link.new) self.old
             self.new result }
         ensures start { L.start link.new ≡ L.start link.old }
         ensures waits { result ≡ Took.Waited Pause.NotReady
@@ -94,28 +95,28 @@ impl ResponseReading {
         ensures ends { is_item result ≡ false
             → is_over self.new.place ≡ is_over self.old.place }
     {
-        match self.find(alloc, method) {
+        match self.find(alloc, method, upgrade) {
             Found::Task(task) => Took::Item(task),
-            Found::Nothing => self.read_on(alloc, method, link),
+            Found::Nothing => self.read_on(alloc, method, upgrade, link),
             Found::End => Took::End,
             Found::Failed(fail) => Took::Failed(fail),
         }
     }
 
     /// What stands ahead; a task is taken.
-    fn find(&mut self, alloc: Global, method: &Method) -> Found
+    fn find(&mut self, alloc: Global, method: &Method, upgrade: bool) -> Found
         ensures ends { is_task result ≡ false
             → is_over self.new.place ≡ is_over self.old.place }
         ensures rests { is_over self.old.place ≡ true
             → (result ≡ Found.End) × (self.new ≡ self.old) }
         ensures cuts { FoundCuts self.old.place self.new.place self.old.ahead self.new.ahead result }
         ensures finds { (closed : Bool) (given : List ℕ) (told : ToldResponse)
-            → ReadAt method.now closed given told self.old.place self.old.ahead
-            → Finds method.now closed given told self.old.place self.new.place self.new.ahead
-            result }
+            → ReadAt method.now upgrade closed given told self.old.place self.old.ahead
+            → Finds method.now upgrade closed given told self.old.place self.new.place
+            self.new.ahead result }
     {
         let place = mem::replace(&mut self.place, ResponsePlace::NoHead);
-        let step = find(alloc, method, place, &mut self.ahead);
+        let step = find(alloc, method, upgrade, place, &mut self.ahead);
         self.place = step.place;
         step.found
     }
@@ -125,10 +126,11 @@ impl ResponseReading {
         &mut self,
         alloc: Global,
         method: &Method,
+        upgrade: bool,
         link: &mut L,
     ) -> Took<HttpTask>
-        ensures reads { ReadsOn method.now (L.state link.old) (L.state link.new) self.old self.new
-            result }
+        ensures reads { ReadsOn method.now upgrade (L.state link.old) (L.state link.new) self.old
+            self.new result }
         ensures start { L.start link.new ≡ L.start link.old }
         ensures waits { result ≡ Took.Waited Pause.NotReady
             → (L.state link.new).waits ≡ up (L.state link.old).waits }
@@ -142,7 +144,7 @@ impl ResponseReading {
     {
         match self.ahead.read_from(link) {
             Err(_) => Took::Failed(Fail::OutOfMemory),
-            Ok(Got::Bytes(_)) => self.find_again(alloc, method),
+            Ok(Got::Bytes(_)) => self.find_again(alloc, method, upgrade),
             Ok(Got::NotReady) => Took::Waited(Pause::NotReady),
             Ok(Got::Silent) => Took::Waited(Pause::Silent),
             Ok(Got::End) => self.end(),
@@ -151,16 +153,16 @@ impl ResponseReading {
     }
 
     /// What stands ahead after bytes came.
-    fn find_again(&mut self, alloc: Global, method: &Method) -> Took<HttpTask>
+    fn find_again(&mut self, alloc: Global, method: &Method, upgrade: bool) -> Took<HttpTask>
         ensures waits { is_wait result ≡ false }
         ensures stays { is_item result ≡ false
             → is_over self.new.place ≡ is_over self.old.place }
         ensures finds { (closed : Bool) (given : List ℕ) (told : ToldResponse)
-            → ReadAt method.now closed given told self.old.place self.old.ahead
-            → FindsAgain method.now closed given told self.old.place self.new result }
+            → ReadAt method.now upgrade closed given told self.old.place self.old.ahead
+            → FindsAgain method.now upgrade closed given told self.old.place self.new result }
         ensures cuts { AnswerCuts self.old.place self.old.ahead result self.new.ahead }
     {
-        match self.find(alloc, method) {
+        match self.find(alloc, method, upgrade) {
             Found::Task(task) => Took::Item(task),
             Found::Nothing => Took::More,
             Found::End => Took::End,
@@ -173,9 +175,9 @@ impl ResponseReading {
         ensures waits { is_wait result ≡ false }
         ensures stays { is_item result ≡ false
             → is_over self.new.place ≡ is_over self.old.place }
-        ensures ends { (method given : List ℕ) (told : ToldResponse)
-            → OpenAt method given told self.old.place self.old.ahead
-            → EndsThere method given told self.new result }
+        ensures ends { (method : List ℕ) (upgrade : Bool) (given : List ℕ) (told : ToldResponse)
+            → OpenAt method upgrade given told self.old.place self.old.ahead
+            → EndsThere method upgrade given told self.new result }
         ensures cuts { (bytes rest : List ℕ) → AnswerCuts self.old.place bytes result rest }
     {
         let place = mem::replace(&mut self.place, ResponsePlace::NoHead);
@@ -201,18 +203,26 @@ impl ResponseReading {
 }
 
 /// What stands ahead, and the place behind it.
-fn find(alloc: Global, method: &Method, place: ResponsePlace, ahead: &mut Ahead) -> ReadingStep
+fn find(
+    alloc: Global,
+    method: &Method,
+    upgrade: bool,
+    place: ResponsePlace,
+    ahead: &mut Ahead,
+) -> ReadingStep
     ensures ends { is_task result.found ≡ false → is_over result.place ≡ is_over place }
     ensures rests { is_over place ≡ true
         → (result ≡ record { place = place; found = Found.End }) × (ahead.new ≡ ahead.old) }
     ensures cuts { FoundCuts place result.place ahead.old ahead.new result.found }
     ensures finds { (closed : Bool) (given : List ℕ) (told : ToldResponse)
-        → ReadAt method.now closed given told place ahead.old
-        → Finds method.now closed given told place result.place ahead.new result.found }
+        → ReadAt method.now upgrade closed given told place ahead.old
+        → Finds method.now upgrade closed given told place result.place ahead.new result.found }
 {
     match place {
-        ResponsePlace::NoHead => find_head(alloc, method, ResponsePlace::NoHead, ahead),
-        ResponsePlace::Informed => find_head(alloc, method, ResponsePlace::Informed, ahead),
+        ResponsePlace::NoHead => { find_head(alloc, method, upgrade, ResponsePlace::NoHead, ahead) }
+        ResponsePlace::Informed => {
+            find_head(alloc, method, upgrade, ResponsePlace::Informed, ahead)
+        }
         ResponsePlace::InBody(body) => find_piece(alloc, body, ahead),
         ResponsePlace::Ended(keeps) => ReadingStep {
             place: ResponsePlace::Ended(keeps),
@@ -222,15 +232,21 @@ fn find(alloc: Global, method: &Method, place: ResponsePlace, ahead: &mut Ahead)
 }
 
 /// The head that stands ahead.
-fn find_head(alloc: Global, method: &Method, place: ResponsePlace, ahead: &mut Ahead) -> ReadingStep
+fn find_head(
+    alloc: Global,
+    method: &Method,
+    upgrade: bool,
+    place: ResponsePlace,
+    ahead: &mut Ahead,
+) -> ReadingStep
     requires { IsAwaitingHead place }
     ensures ends { is_task result.found ≡ false → is_over result.place ≡ is_over place }
     ensures cuts { FoundCuts place result.place ahead.old ahead.new result.found }
     ensures finds { (closed : Bool) (given : List ℕ) (told : ToldResponse)
-        → ReadAt method.now closed given told place ahead.old
-        → Finds method.now closed given told place result.place ahead.new result.found }
+        → ReadAt method.now upgrade closed given told place ahead.old
+        → Finds method.now upgrade closed given told place result.place ahead.new result.found }
 {
-    match judge_response(alloc, ahead, method, false) {
+    match judge_response(alloc, ahead, method, upgrade) {
         Ok(Some(read)) => {
             ahead.consume(read.len);
             step_over(read.head, read.framing)
@@ -274,9 +290,9 @@ fn step_over(head: ResponseHeader, framing: Framing) -> ReadingStep
 fn find_piece(alloc: Global, mut body: OpenBody, ahead: &mut Ahead) -> ReadingStep
     ensures ends { is_task result.found ≡ false → is_over result.place ≡ false }
     ensures cuts { FoundCuts (ResponsePlace.InBody body) result.place ahead.old ahead.new result.found }
-    ensures finds { (method : List ℕ) (closed : Bool) (given : List ℕ) (told : ToldResponse)
-        → ReadAt method closed given told (ResponsePlace.InBody body) ahead.old
-        → Finds method closed given told
+    ensures finds { (method : List ℕ) (upgrade closed : Bool) (given : List ℕ) (told : ToldResponse)
+        → ReadAt method upgrade closed given told (ResponsePlace.InBody body) ahead.old
+        → Finds method upgrade closed given told
         (ResponsePlace.InBody body) result.place ahead.new result.found }
 {
     match body.reader.take(alloc, ahead) {
@@ -310,9 +326,10 @@ fn find_piece(alloc: Global, mut body: OpenBody, ahead: &mut Ahead) -> ReadingSt
 /// The place where a link ended, and the end or the error that follows from it.
 fn end_of_link(place: ResponsePlace, none_ahead: bool) -> ReadingStep
     ensures stays { is_task result.found ≡ false → is_over result.place ≡ is_over place }
-    ensures ends { (method given : List ℕ) (told : ToldResponse) (ahead : List ℕ)
-        → OpenAt method given told place ahead → none_ahead ≡ (length ahead == 0)
-        → FindsAtEnd method given told result.place ahead result.found }
+    ensures ends { (method : List ℕ) (upgrade : Bool) (given : List ℕ) (told : ToldResponse)
+        (ahead : List ℕ)
+        → OpenAt method upgrade given told place ahead → none_ahead ≡ (length ahead == 0)
+        → FindsAtEnd method upgrade given told result.place ahead result.found }
     ensures cuts { (bytes rest : List ℕ) → FoundCuts place result.place bytes rest result.found }
 {
     match place {
@@ -329,9 +346,10 @@ fn end_of_link(place: ResponsePlace, none_ahead: bool) -> ReadingStep
 /// The same inside a body.
 fn end_of_body(mut body: OpenBody) -> ReadingStep
     ensures stays { is_task result.found ≡ false → is_over result.place ≡ false }
-    ensures ends { (method given : List ℕ) (told : ToldResponse) (ahead : List ℕ)
-        → OpenAt method given told (ResponsePlace.InBody body) ahead
-        → FindsAtEnd method given told result.place ahead result.found }
+    ensures ends { (method : List ℕ) (upgrade : Bool) (given : List ℕ) (told : ToldResponse)
+        (ahead : List ℕ)
+        → OpenAt method upgrade given told (ResponsePlace.InBody body) ahead
+        → FindsAtEnd method upgrade given told result.place ahead result.found }
     ensures cuts { (bytes rest : List ℕ)
         → FoundCuts (ResponsePlace.InBody body) result.place bytes rest result.found }
 {

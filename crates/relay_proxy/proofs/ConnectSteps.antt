@@ -118,7 +118,7 @@ module _ {L C : Type 0} (state : L → LinkState) (start_at : L → LinkStart) w
       (link : L) (a : Attempt L C) → head_of session.reading ≡ Some given
       → IsHandedOut (state link) (start_at link) a.lease.reused → IsAskedPeer a.lease.peer
       → ((o : Origin) (came : List ℕ) (client : LinkState) (ahead : List ℕ) (reused : Bool)
-      → given ≡ o.head → BeginsBehind o came client ahead session
+      → given ≡ o.head → o.asked ≡ false → BeginsBehind o came client ahead session
       → IsHandedOut (state link) (start_at link) reused → o.reused ≡ reused
       → IsUnderWay state start_at o
       (record { came = came; written = []; got = []; sent = [] }) client ahead a.exchange)
@@ -139,7 +139,7 @@ module _ {L C : Type 0} (state : L → LinkState) (start_at : L → LinkStart) w
       under = subst (λ (q : Passed). IsUnderWay state start_at origin q w.client w.ahead a.exchange)
           (came_alone p connecting.written connecting.unsent)
           (begins origin p.came w.client w.ahead a.lease.reused
-          (same_head given connecting.head session is connecting.is_head)
+          (same_head given connecting.head session is connecting.is_head) refl
           (connecting.begins a.lease.reused) handed refl)
 
   -- the attempt is held

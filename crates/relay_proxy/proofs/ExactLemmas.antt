@@ -400,7 +400,7 @@ whole_unlinked s p w OutOfMemory ends head relayable asks client connector = inl
 -- a valid exchange, over a link that had been used before or not
 valid_over : (s : Start) (p : Passed) (client link : LinkState) (start : LinkStart)
     (head : RequestHead) (reused : Bool) → AsksFor (origin_of s head false) p client
-    → AnswersWith head.method p link → ¬ (Rose s.faults client.faults)
+    → AnswersWith head.method false p link → ¬ (Rose s.faults client.faults)
     → ¬ (Rose start.faults link.faults) → IsValid (origin_of s head reused) p client link start
 valid_over s p client link start head reused asks answers calm still = record {
   asks = record {
@@ -418,7 +418,7 @@ valid_over s p client link start head reused asks answers calm still = record {
 whole_linked : (s : Start) (p : Passed) (w : World) (link : LinkState) (start : LinkStart)
     (keep : Bool) (outcome : Outcome) → EndsLinked s p w link start keep outcome
     → (head : RequestHead) → AsksFor (origin_of s head false) p w.client
-    → AnswersWith head.method p link → ¬ (Rose s.faults w.client.faults)
+    → AnswersWith head.method false p link → ¬ (Rose s.faults w.client.faults)
     → ¬ (Rose start.faults link.faults)
     → IsUnfinished outcome ⊎ ((reuse : Bool) × (outcome ≡ Served None reuse))
 whole_linked s p w link start keep NoRequest ends head asks answers client faults = absurd ends

@@ -74,6 +74,6 @@ module _ {L : Type 0} (state : L → LinkState) (start_at : L → LinkStart) whe
     -- a valid request of a form that is relayed and a valid response, with no fault
     pub whole : (head : RequestHead) → IsRelayable head
         → AsksFor (origin_of s head false) p w.client
-        → ((r : Returned L) → own ≡ r ∷ [] → AnswersWith head.method p (state r.link))
+        → ((r : Returned L) → own ≡ r ∷ [] → AnswersWith head.method false p (state r.link))
         → IsFaultless s w own
         → IsUnfinished outcome ⊎ ((reuse : Bool) × (outcome ≡ Served None reuse))

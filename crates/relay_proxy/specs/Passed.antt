@@ -1,5 +1,5 @@
 -- What passed between the outside and one request since it began.
-use Rattle.std.specs.Prelude.{◌≡◌, ℕ, Bool, ◌≤◌, List, [], ◌++◌}
+use Rattle.std.specs.Prelude.{◌≡◌, ℕ, Bool, false, ◌≤◌, List, [], ◌++◌}
 use Rattle.relay_tasks.specs.Head.{RequestHead}
 use Rattle.relay_links.specs.Link.{LinkState, LinkStart}
 use Rattle.relay_links.specs.Told.{Since, told_length}
@@ -38,10 +38,11 @@ start_of w = record {
 }
 
 -- where the exchange of a request began that has that head, over a link that had been used before
--- or not
+-- or not; a request that asks for an upgrade is not relayed
 abbrev pub origin_of : Start → RequestHead → Bool → Origin
 origin_of s head reused = record {
   head = head;
+  asked = false;
   ahead = s.ahead;
   given = s.given;
   taken = s.taken;

@@ -1,5 +1,5 @@
 -- How a task that is handed on is cut.
-use Rattle.std.proofs.Common.{◌≡◌, ℕ, false, List, ◌++◌, sym, subst}
+use Rattle.std.proofs.Common.{◌≡◌, ℕ, Bool, false, List, ◌++◌, sym, subst}
 use Rattle.relay_tasks.specs.declared.task.HttpTask.{HttpTask}
 use Rattle.relay_tasks.specs.declared.task.HttpTask.TheVariants as task
 use Rattle.relay_tasks.specs.declared.took.Took.{Took}
@@ -26,10 +26,11 @@ handed_cut method at bytes rest task.Done cuts = cuts
 handed_cut method at bytes rest (task.Failed error) cuts = cuts
 
 -- a read whose task is handed on
-pub cuts_handed : (method other : List ℕ) (before after : LinkState) (old new : ResponseReading)
-    (item given : HttpTask) → ReadsTask method before after old new (took.Item item)
+pub cuts_handed : (method : List ℕ) (upgrade : Bool) (other : List ℕ) (before after : LinkState)
+    (old new : ResponseReading)
+    (item given : HttpTask) → ReadsTask method upgrade before after old new (took.Item item)
     → given ≡ handed other item → CutsTask before after old new (took.Item given)
-cuts_handed method other before after old new item given reads is = record {
+cuts_handed method upgrade other before after old new item given reads is = record {
   came = reads.came;
   asked = reads.asked;
   asks = reads.asks;
@@ -38,10 +39,11 @@ cuts_handed method other before after old new item given reads is = record {
 }
 
 -- a read of which no task is handed on
-pub cuts_none : (method : List ℕ) (before after : LinkState) (old new : ResponseReading)
-    (came given : Took HttpTask) → ReadsTask method before after old new came
+pub cuts_none : (method : List ℕ) (upgrade : Bool) (before after : LinkState)
+    (old new : ResponseReading)
+    (came given : Took HttpTask) → ReadsTask method upgrade before after old new came
     → is_item given ≡ false → CutsTask before after old new given
-cuts_none method before after old new came given reads none = record {
+cuts_none method upgrade before after old new came given reads none = record {
   came = reads.came;
   asked = reads.asked;
   asks = reads.asks;

@@ -177,13 +177,15 @@ marked_read start before after came (Some (got.Failed fault)) answer failed fail
     }
 
 -- the same, as a call of the reading that answered so
-pub marked_task : (method : List ℕ) (start : LinkStart) (before after : LinkState)
+pub marked_task : (method : List ℕ) (upgrade : Bool) (start : LinkStart) (before after : LinkState)
     (old new : ResponseReading) (answer : Took HttpTask) (failed fails was is : Bool)
-    (sends : Option Error) (lost : Option Fail) → ReadsTask method before after old new answer
+    (sends : Option Error) (lost : Option Fail)
+    → ReadsTask method upgrade before after old new answer
     → fails ≡ failed || is_error answer → is ≡ was || is_error answer
     → start.faults ≤ before.faults → AreMarked start before failed was sends lost
     → AreMarked start after fails is sends lost
-marked_task method start before after old new answer failed fails was is sends lost reads stays same
+marked_task method upgrade start before after old new answer failed fails was is sends lost reads
+    stays same
     least m =
     marked_read start before after reads.came reads.asked answer failed fails was is sends lost
     reads.asks reads.fails stays same least m

@@ -39,33 +39,36 @@ pub record GoesOn (start : LinkStart) (before after : LinkState) (q p : UpPast) 
 
 -- what was blamed before it stays blamed
 pub blames_keep : (start : LinkStart) (before after : LinkState) (head : RequestHead)
-    (q p : UpPast) (e : Error) → GoesOn start before after q p
-    → PeerBlames start before head q e → PeerBlames start after head p e
-blames_keep start before after head q p e go (peer.PeerBlames.link_failed fault is rose was) =
+    (upgrade : Bool) (q p : UpPast) (e : Error) → GoesOn start before after q p
+    → PeerBlames start before head upgrade q e → PeerBlames start after head upgrade p e
+blames_keep start before after head upgrade q p e go (peer.PeerBlames.link_failed fault is rose was)
+    =
     peer.PeerBlames.link_failed fault is (go.rises rose)
     (answered_on start before after fault go.grew was)
-blames_keep start before after head q p e go (peer.PeerBlames.is_cut_off told over is said) =
+blames_keep start before after head upgrade q p e go (peer.PeerBlames.is_cut_off told over is said)
+    =
     let still = go.still over in
     let same = go.got ∙ ap (λ (m : List ℕ). q.got ++ m) still.1 ∙ append-nil q.got in
     peer.PeerBlames.is_cut_off told still.0
     (is ∙ ap (λ (g : List ℕ). cut_off_error g) (sym same))
-    (subst (λ (g : List ℕ). Tasks head.method false g true (says told cut_off)) (sym same) said)
-blames_keep start before after head q p e go
+    (subst (λ (g : List ℕ). Tasks head.method upgrade g true (says told cut_off)) (sym same) said)
+blames_keep start before after head upgrade q p e go
     (peer.PeerBlames.is_broken why closed came told is front said breaks) =
     peer.PeerBlames.is_broken why closed came told is
     (front_then came q.got p.got front (record { rest = go.more; joined = sym go.got })) said
     breaks
-blames_keep start before after head q p e go
+blames_keep start before after head upgrade q p e go
     (peer.PeerBlames.switches informed final framing len has status is) =
     peer.PeerBlames.switches informed final framing len
-    (subst (λ (g : List ℕ). HasFinal head.method false g informed final framing len) (sym go.got)
-    (HasFinal-append head.method false q.got go.more informed final framing len has)) status is
-blames_keep start before after head q p e go
+    (subst (λ (g : List ℕ). HasFinal head.method upgrade g informed final framing len) (sym go.got)
+    (HasFinal-append head.method upgrade q.got go.more informed final framing len has)) status is
+blames_keep start before after head upgrade q p e go
     (peer.PeerBlames.is_full informed final framing len has lacks full is) =
     peer.PeerBlames.is_full informed final framing len
-    (subst (λ (g : List ℕ). HasFinal head.method false g informed final framing len) (sym go.got)
-    (HasFinal-append head.method false q.got go.more informed final framing len has)) lacks full is
-blames_keep start before after head q p e go
+    (subst (λ (g : List ℕ). HasFinal head.method upgrade g informed final framing len) (sym go.got)
+    (HasFinal-append head.method upgrade q.got go.more informed final framing len has)) lacks full
+    is
+blames_keep start before after head upgrade q p e go
     (peer.PeerBlames.is_short_request front pieces within ends joined short is) =
     peer.PeerBlames.is_short_request front pieces
     (front_then front q.taken p.taken within go.taken) ends joined short is

@@ -38,10 +38,11 @@ use Rattle.relay_sides.proofs.MoveLemmas.{GoesOn, blames_keep, ReadMoves, read_m
 -- ---- a call
 
 -- what a side answers for, by the head of its request
-abbrev pub Blamed : {L : Type 0} → LinkStart → LinkState → H1Client L → UpPast → Error → Type 0
-Blamed start link client q e =
+abbrev pub Blamed : {L : Type 0} → Bool → LinkStart → LinkState → H1Client L → UpPast → Error
+    → Type 0
+Blamed upgrade start link client q e =
     (head : RequestHead) × (head_in client.request.request ≡ Some head)
-    × PeerBlames start link head q e
+    × PeerBlames start link head upgrade q e
 
 -- one head was queued
 same_head : (a b : RequestHead) → Some a ≡ Some b → a ≡ b
@@ -54,14 +55,15 @@ pub goes : {L : Type 0} (o : Origin) (start started : LinkStart) (before after :
     → started ≡ start → head_in old.request.request ≡ Some head
     → head_in new.request.request ≡ Some head → GoesOn start before after q p
     → IsPeer o start after new stopped lost p → p.read ≡ read → p.taken ≡ taken → p.lost ≡ gone
-    → ((e : Error) → error ≡ Some e → PeerBlames start after head p e)
-    → UpGoes (λ r. IsPeer o started after new stopped lost r) (λ r e. Blamed start before old r e)
-    (λ r e. Blamed started after new r e) q read taken gone error
+    → ((e : Error) → error ≡ Some e → PeerBlames start after head o.asked p e)
+    → UpGoes (λ r. IsPeer o started after new stopped lost r)
+    (λ r e. Blamed o.asked start before old r e)
+    (λ r e. Blamed o.asked started after new r e) q read taken gone error
 goes {L} o start started before after old new stopped lost q p head read taken gone error same was
     is on stands reads takes loses blamed =
     subst (λ (s : LinkStart).
-    UpGoes (λ r. IsPeer o s after new stopped lost r) (λ r e. Blamed start before old r e)
-    (λ r e. Blamed s after new r e) q read taken gone error) (sym same)
+    UpGoes (λ r. IsPeer o s after new stopped lost r) (λ r e. Blamed o.asked start before old r e)
+    (λ r e. Blamed o.asked s after new r e) q read taken gone error) (sym same)
     (record {
       past = p;
       stands = stands;
@@ -71,8 +73,8 @@ goes {L} o start started before after old new stopped lost q p head read taken g
       keeps = λ e blame. (
         head,
         is,
-        blames_keep start before after head q p e on
-            (subst (λ (h : RequestHead). PeerBlames start before h q e)
+        blames_keep start before after head o.asked q p e on
+            (subst (λ (h : RequestHead). PeerBlames start before h o.asked q e)
             (same_head blame.0 head (sym blame.1 ∙ was)) blame.2),
       );
       blamed = λ e told. (head, is, blamed e told);
@@ -84,6 +86,18 @@ pub method_is : (at : RequestPlace) (head : RequestHead) → head_in at ≡ Some
 method_is request.NoHead head is = absurd (cc)
 method_is (request.Sending sending) head is =
     ap (λ (h : RequestHead). h.method) (same_head sending.head head is)
+
+-- a read, as one of the response to the request that was sent, by what both sides asked
+pub at_origin : {L : Type 0} (o : Origin) (start : LinkStart) (before after : LinkState)
+    (old : H1Client L) (stopped lost : Option Fail) (q : UpPast) (new : ResponseReading)
+    (answer : Took HttpTask) (stands : IsPeer o start before old stopped lost q)
+    → ReadsTask (method_of old.request.request) old.asked before after old.response new answer
+    → ReadsTask stands.head.method o.asked before after old.response new answer
+at_origin {L} o start before after old stopped lost q new answer stands reads =
+    subst (λ (b : Bool). ReadsTask stands.head.method b before after old.response new answer)
+    stands.asks
+    (subst (λ (m : List ℕ). ReadsTask m old.asked before after old.response new answer)
+    (method_is old.request.request stands.head stands.is_head) reads)
 
 -- a failure with that error is that error
 pub fail_is : (why : Fail) (e : Error) → error_of_fail why ≡ Some e → why ≡ fail.Error e
@@ -138,17 +152,19 @@ pub peer_read : {L : Type 0} (o : Origin) (start : LinkStart) (before after : Li
     (old new : H1Client L) (stopped_before stopped lost : Option Fail) (q : UpPast) (came : List ℕ)
     (read given withheld : List HttpTask) (asked : Option Got)
     (stands : IsPeer o start before old stopped_before lost q)
-    → new.request ≡ old.request → ReadMoves start before after q.got came asked
-    → AreTasks stands.head.method after.ended (q.got ++ came) (given ++ withheld) new.response
+    → new.request ≡ old.request → new.asked ≡ old.asked
+    → ReadMoves start before after q.got came asked
+    → AreTasks stands.head.method o.asked after.ended (q.got ++ came) (given ++ withheld)
+    new.response
     → read ≡ map (handed stands.head.method) given → list_any is_switch given ≡ false
     → All (HasRoom stands.head.method) given
     → (stopped ≡ None → withheld ≡ []) → AreHeads withheld
     → ((e : Error) → stopped ≡ Some (fail.Error e)
-    → PeerBlames start after stands.head (after_read q came read) e)
+    → PeerBlames start after stands.head o.asked (after_read q came read) e)
     → (new.failed ≡ false → after.faults ≡ start.faults)
     → IsPeer o start after new stopped lost (after_read q came read)
 peer_read {L} o start before after old new stopped_before stopped lost q came read given withheld
-    asked stands same moves tasks is_read unswitched roomy goes_on heads why calm = record {
+    asked stands same unasked moves tasks is_read unswitched roomy goes_on heads why calm = record {
       got = moves.given;
       sent = Since-kept [] start.taken before.taken after.taken q.sent moves.taken stands.sent;
       faults = moves.faults;
@@ -157,6 +173,7 @@ peer_read {L} o start before after old new stopped_before stopped lost q came re
       sound = moves.sound;
       head = stands.head;
       own = stands.own;
+      asks = unasked ∙ stands.asks;
       is_head = ap (λ (w : RequestWriting). head_in w.request) same ∙ stands.is_head;
       sending = stands.sending;
       so_far = subst (λ (w : RequestWriting). SentSoFar stands.sending q.sent w) (sym same)
@@ -173,78 +190,89 @@ peer_read {L} o start before after old new stopped_before stopped lost q came re
       why = why;
       takes = stands.takes;
       why_lost = λ e is.
-          blames_keep start before after stands.head q (after_read q came read) e
+          blames_keep start before after stands.head o.asked q (after_read q came read) e
           (read_on start before after q came read asked moves) (stands.why_lost e is);
     }
 
 -- an answer without a task leaves what was told
-told_stays : (method : List ℕ) (closed : Bool) (had : List ℕ) (told : ToldResponse)
+told_stays : (method : List ℕ) (upgrade closed : Bool) (had : List ℕ) (told : ToldResponse)
     (asked : Option Got)
     (old : ResponsePlace) (new : ResponseReading) (answer : Took HttpTask) → is_item answer ≡ false
-    → Answers method closed had told asked old new answer → ReadSoFar method closed had told new
-told_stays method closed had told asked old new (took.Item item) none answers = absurd (cc)
-told_stays method closed had told asked old new took.More none answers = answers.2
-told_stays method closed had told asked old new (took.Waited pause) none answers = answers.2
-told_stays method closed had told asked old new took.End none answers = answers.2
-told_stays method closed had told asked old new (took.Failed fail.OutOfMemory) none answers =
+    → Answers method upgrade closed had told asked old new answer
+    → ReadSoFar method upgrade closed had told new
+told_stays method upgrade closed had told asked old new (took.Item item) none answers = absurd (cc)
+told_stays method upgrade closed had told asked old new took.More none answers = answers.2
+told_stays method upgrade closed had told asked old new (took.Waited pause) none answers = answers.2
+told_stays method upgrade closed had told asked old new took.End none answers = answers.2
+told_stays method upgrade closed had told asked old new (took.Failed fail.OutOfMemory) none answers
+    =
     answers
-told_stays method closed had told asked old new (took.Failed (fail.Error error)) none answers =
+told_stays method upgrade closed had told asked old new (took.Failed (fail.Error error)) none
+    answers =
     answers.1
 
 -- the error of a refusal is blamed
 refusal_blamed : (start : LinkStart) (before after : LinkState) (head : RequestHead)
+    (upgrade : Bool)
     (q : UpPast) (came : List ℕ) (read : List HttpTask) (told : ToldResponse) (asked : Option Got)
     (error : Error) → ReadMoves start before after q.got came asked
-    → Refuses head.method after.ended (q.got ++ came) told asked error
-    → PeerBlames start after head (after_read q came read) error
-refusal_blamed start before after head q came read told asked error moves
+    → Refuses head.method upgrade after.ended (q.got ++ came) told asked error
+    → PeerBlames start after head upgrade (after_read q came read) error
+refusal_blamed start before after head upgrade q came read told asked error moves
     (reading.Refuses.is_broken why is said breaks) =
     peer.PeerBlames.is_broken why after.ended (q.got ++ came) told is (own_front (q.got ++ came))
     said breaks
-refusal_blamed start before after head q came read told asked error moves
+refusal_blamed start before after head upgrade q came read told asked error moves
     (reading.Refuses.has_failed fault was is said) =
     peer.PeerBlames.link_failed fault is (moves.failed fault was).0 (moves.failed fault was).1
-refusal_blamed start before after head q came read told asked error moves
+refusal_blamed start before after head upgrade q came read told asked error moves
     (reading.Refuses.is_cut_off was is said) =
     peer.PeerBlames.is_cut_off told (moves.over was) is said
 
 -- the side answers for the error of a read
 answer_blamed : (start : LinkStart) (before after : LinkState) (head : RequestHead)
+    (upgrade : Bool)
     (q : UpPast) (came : List ℕ) (read : List HttpTask) (told : ToldResponse) (asked : Option Got)
     (old : ResponsePlace) (new : ResponseReading) (answer : Took HttpTask)
     → ReadMoves start before after q.got came asked
-    → Answers head.method after.ended (q.got ++ came) told asked old new answer → (e : Error)
-    → error_of_took answer ≡ Some e → PeerBlames start after head (after_read q came read) e
-answer_blamed start before after head q came read told asked old new (took.Item item) moves
+    → Answers head.method upgrade after.ended (q.got ++ came) told asked old new answer
+    → (e : Error)
+    → error_of_took answer ≡ Some e → PeerBlames start after head upgrade (after_read q came read) e
+answer_blamed start before after head upgrade q came read told asked old new (took.Item item) moves
     answers e is = absurd (cc)
-answer_blamed start before after head q came read told asked old new took.More moves answers e is =
+answer_blamed start before after head upgrade q came read told asked old new took.More moves answers
+    e is =
     absurd (cc)
-answer_blamed start before after head q came read told asked old new (took.Waited pause) moves
+answer_blamed start before after head upgrade q came read told asked old new (took.Waited pause)
+    moves
     answers e is = absurd (cc)
-answer_blamed start before after head q came read told asked old new took.End moves answers e is =
+answer_blamed start before after head upgrade q came read told asked old new took.End moves answers
+    e is =
     absurd (cc)
-answer_blamed start before after head q came read told asked old new
+answer_blamed start before after head upgrade q came read told asked old new
     (took.Failed fail.OutOfMemory) moves answers e is = absurd (cc)
-answer_blamed start before after head q came read told asked old new
+answer_blamed start before after head upgrade q came read told asked old new
     (took.Failed (fail.Error error)) moves answers e is =
-    subst (λ (x : Error). PeerBlames start after head (after_read q came read) x)
+    subst (λ (x : Error). PeerBlames start after head upgrade (after_read q came read) x)
     (some_error error e is)
-    (refusal_blamed start before after head q came read told asked error moves answers.0)
+    (refusal_blamed start before after head upgrade q came read told asked error moves answers.0)
 
 -- a read that gave no task
 pub read_none : {L : Type 0} (o : Origin) (start started : LinkStart) (before after : LinkState)
     (old new : H1Client L) (stopped lost : Option Fail) (q : UpPast) (answer : Took HttpTask)
-    → started ≡ start → new.request ≡ old.request
-    → ReadsTask (method_of old.request.request) before after old.response new.response answer
+    → started ≡ start → new.request ≡ old.request → new.asked ≡ old.asked
+    → ReadsTask (method_of old.request.request) old.asked before after old.response new.response
+    answer
     → is_item answer ≡ false → is_over new.response.place ≡ is_over old.response.place
     → new.failed ≡ old.failed || is_error answer
     → IsPeer o start before old stopped lost q
-    → UpGoes (λ r. IsPeer o started after new stopped lost r) (λ r e. Blamed start before old r e)
-    (λ r e. Blamed started after new r e) q (q.read ++ []) q.taken q.lost (error_of_took answer)
-read_none {L} o start started before after old new stopped lost q answer same kept reads none over
-    failed stands =
-    let at = subst (λ (m : List ℕ). ReadsTask m before after old.response new.response answer)
-    (method_is old.request.request stands.head stands.is_head) reads in
+    → UpGoes (λ r. IsPeer o started after new stopped lost r)
+    (λ r e. Blamed o.asked start before old r e)
+    (λ r e. Blamed o.asked started after new r e) q (q.read ++ []) q.taken q.lost
+    (error_of_took answer)
+read_none {L} o start started before after old new stopped lost q answer same kept unasked reads
+    none over failed stands =
+    let at = at_origin o start before after old stopped lost q new.response answer stands reads in
     let moves = read_moves start before after q.got at.came at.asked at.asks stands.got
     stands.faults stands.tells stands.sound in
     let tasks = stands.given ++ stands.withheld in
@@ -254,18 +282,19 @@ read_none {L} o start started before after old new stopped lost q answer same ke
     (ap (λ (w : RequestWriting). head_in w.request) kept ∙ stands.is_head)
     (read_on start before after q at.came q.read at.asked moves)
     (peer_read o start before after old new stopped stopped lost q at.came q.read stands.given
-    stands.withheld at.asked stands kept moves
-    (tasks_kept stands.head.method before after q.got at.came tasks old.response new.response
+    stands.withheld at.asked stands kept unasked moves
+    (tasks_kept stands.head.method o.asked before after q.got at.came tasks old.response
+    new.response
     stands.tasks over
-    (told_stays stands.head.method after.ended (q.got ++ at.came) (told_of tasks) at.asked
+    (told_stays stands.head.method o.asked after.ended (q.got ++ at.came) (told_of tasks) at.asked
     old.response.place new.response answer none answers))
     stands.is_read stands.none_switches stands.have_room stands.goes_on stands.heads
-    (λ e is. blames_keep start before after stands.head q (after_read q at.came q.read) e
+    (λ e is. blames_keep start before after stands.head o.asked q (after_read q at.came q.read) e
     (read_on start before after q at.came q.read at.asked moves) (stands.why e is))
     (calm_read start before after q.got at.came at.asked old.failed new.failed answer moves at.fails
     failed stands.calm))
     (sym (append-nil q.read)) refl refl
-    (answer_blamed start before after stands.head q at.came q.read (told_of tasks) at.asked
+    (answer_blamed start before after stands.head o.asked q at.came q.read (told_of tasks) at.asked
     old.response.place new.response answer moves answers)
 
 -- a call that answers why the side stopped, and changes nothing
@@ -273,8 +302,10 @@ pub stopped_still : {L : Type 0} (o : Origin) (start : LinkStart) (link : LinkSt
     (client : H1Client L) (stopped lost : Option Fail) (why : Fail) (q : UpPast)
     → stopped ≡ Some why
     → IsPeer o start link client stopped lost q
-    → UpGoes (λ r. IsPeer o start link client stopped lost r) (λ r e. Blamed start link client r e)
-    (λ r e. Blamed start link client r e) q (q.read ++ []) q.taken q.lost (error_of_fail why)
+    → UpGoes (λ r. IsPeer o start link client stopped lost r)
+    (λ r e. Blamed o.asked start link client r e)
+    (λ r e. Blamed o.asked start link client r e) q (q.read ++ []) q.taken q.lost
+    (error_of_fail why)
 stopped_still {L} o start link client stopped lost why q is stands =
     goes o start start link link client client stopped lost q q stands.head (q.read ++ []) q.taken
     q.lost (error_of_fail why) refl stands.is_head stands.is_head
@@ -292,12 +323,12 @@ stopped_still {L} o start link client stopped lost why q is stands =
 -- where the side has to be asked again the link gave bytes
 pub more_gave : {L : Type 0} (o : Origin) (start : LinkStart) (before after : LinkState)
     (old new : H1Client L) (stopped lost : Option Fail) (q : UpPast)
-    → ReadsTask (method_of old.request.request) before after old.response new.response took.More
+    → ReadsTask (method_of old.request.request) old.asked before after old.response new.response
+    took.More
     → IsPeer o start before old stopped lost q → GaveBytes before after
 more_gave {L} o start before after old new stopped lost q reads stands =
-    let at = subst (λ (m : List ℕ).
-    ReadsTask m before after old.response new.response took.More)
-    (method_is old.request.request stands.head stands.is_head) reads in
+    let at = at_origin o start before after old stopped lost q new.response took.More stands reads
+    in
     let gave = (at.answers q.got (told_of (stands.given ++ stands.withheld)) stands.tasks.so_far).0
     in
     let grew = subst (λ (asked : Option Got). Asks before after at.came asked) gave.1 at.asks in
@@ -321,12 +352,11 @@ handed_ends method (one ∷ tasks) = rw (handed_end method one, handed_ends meth
 -- where the response had ended, its end was handed on
 pub end_read : {L : Type 0} (o : Origin) (start : LinkStart) (before after : LinkState)
     (old new : H1Client L) (stopped lost : Option Fail) (q : UpPast) → stopped ≡ None
-    → ReadsTask (method_of old.request.request) before after old.response new.response took.End
+    → ReadsTask (method_of old.request.request) old.asked before after old.response new.response
+    took.End
     → IsPeer o start before old stopped lost q → list_any is_end q.read ≡ true
 end_read {L} o start before after old new stopped lost q open_yet reads stands =
-    let at = subst (λ (m : List ℕ).
-    ReadsTask m before after old.response new.response took.End)
-    (method_is old.request.request stands.head stands.is_head) reads in
+    let at = at_origin o start before after old stopped lost q new.response took.End stands reads in
     let tasks = stands.given ++ stands.withheld in
     let over = (at.answers q.got (told_of tasks) stands.tasks.so_far).1 in
     let all = ap (λ (w : List HttpTask). stands.given ++ w) (stands.goes_on open_yet)

@@ -27,7 +27,7 @@ use Rattle.relay_sides.specs.Peer.{IsPeer, PeerBlames, AreTasks, HasRoom, Withho
 use Rattle.relay_sides.specs.Peer as peer
 use Rattle.relay_sides.proofs.TaskLemmas.{tasks_push, final_in, lacking_final}
 use Rattle.relay_sides.proofs.MoveLemmas.{ReadMoves, read_moves}
-use Rattle.relay_sides.proofs.PeerLemmas.{Blamed, goes, method_is, fail_is, some_fail, after_read, read_on, calm_read, peer_read}
+use Rattle.relay_sides.proofs.PeerLemmas.{Blamed, at_origin, goes, method_is, fail_is, some_fail, after_read, read_on, calm_read, peer_read}
 
 -- a read that gave a task: what of it the side goes on with
 record Brings {L : Type 0} (o : Origin) (start : LinkStart) (before after : LinkState)
@@ -40,9 +40,9 @@ record Brings {L : Type 0} (o : Origin) (start : LinkStart) (before after : Link
       → took.Item item ≡ took.Failed (fail.Error (fault_error fault))
   pub told : ToldResponse
   pub is : IsResponseTask told item
-  pub read : ReadSoFar stands.head.method after.ended (q.got ++ came) (with_task told item)
+  pub read : ReadSoFar stands.head.method o.asked after.ended (q.got ++ came) (with_task told item)
       new.response
-  pub tasks : AreTasks stands.head.method after.ended (q.got ++ came)
+  pub tasks : AreTasks stands.head.method o.asked after.ended (q.got ++ came)
       (stands.given ++ item ∷ []) new.response
 
 -- a response that has ended gives no task
@@ -57,18 +57,17 @@ never_item false item rests = refl
 -- what a read that gave a task brings
 brings : {L : Type 0} (o : Origin) (start : LinkStart) (before after : LinkState)
     (old new : H1Client L) (lost : Option Fail) (q : UpPast) (item : HttpTask)
-    → ReadsTask (method_of old.request.request) before after old.response new.response
+    → ReadsTask (method_of old.request.request) old.asked before after old.response new.response
     (took.Item item)
     → (stands : IsPeer o start before old None lost q)
     → Brings o start before after old new lost q item stands
 brings {L} o start before after old new lost q item reads stands =
-    let at = subst (λ (m : List ℕ).
-    ReadsTask m before after old.response new.response (took.Item item))
-    (method_is old.request.request stands.head stands.is_head) reads in
+    let at = at_origin o start before after old None lost q new.response (took.Item item) stands
+    reads in
     let all = ap (λ (w : List HttpTask). stands.given ++ w) (stands.goes_on refl)
     ∙ append-nil stands.given in
     let tasks = subst (λ (ts : List HttpTask).
-    AreTasks stands.head.method before.ended q.got ts old.response) all stands.tasks in
+    AreTasks stands.head.method o.asked before.ended q.got ts old.response) all stands.tasks in
     let answers = at.answers q.got (told_of stands.given) tasks.so_far in
     record {
       came = at.came;
@@ -79,7 +78,7 @@ brings {L} o start before after old new lost q item reads stands =
       told = told_of stands.given;
       is = answers.0;
       read = answers.2;
-      tasks = tasks_push stands.head.method before after q.got at.came stands.given item
+      tasks = tasks_push stands.head.method o.asked before after q.got at.came stands.given item
           old.response new.response tasks
           (never_item (is_over old.response.place) item (λ over. (at.rests over).is_end)) answers.0
           answers.1 answers.2 at.cuts;
@@ -88,33 +87,34 @@ brings {L} o start before after old new lost q item reads stands =
 -- a task that is handed on
 pub read_hands : {L : Type 0} (o : Origin) (start started : LinkStart) (before after : LinkState)
     (old new : H1Client L) (stopped lost : Option Fail) (q : UpPast) (item given : HttpTask)
-    → stopped ≡ None → started ≡ start → new.request ≡ old.request
-    → ReadsTask (method_of old.request.request) before after old.response new.response
+    → stopped ≡ None → started ≡ start → new.request ≡ old.request → new.asked ≡ old.asked
+    → ReadsTask (method_of old.request.request) old.asked before after old.response new.response
     (took.Item item)
     → given ≡ handed (method_of new.request.request) item → is_switch item ≡ false
     → HasRoom (method_of new.request.request) item
     → new.failed ≡ old.failed || is_error (took.Item item)
     → IsPeer o start before old stopped lost q
-    → UpGoes (λ r. IsPeer o started after new stopped lost r) (λ r e. Blamed start before old r e)
-    (λ r e. Blamed started after new r e) q (q.read ++ given ∷ []) q.taken q.lost None
+    → UpGoes (λ r. IsPeer o started after new stopped lost r)
+    (λ r e. Blamed o.asked start before old r e)
+    (λ r e. Blamed o.asked started after new r e) q (q.read ++ given ∷ []) q.taken q.lost None
 read_hands {L} o start started before after old new stopped lost q item given open_yet same kept
-    reads is_given plain room failed stood =
+    unasked reads is_given plain room failed stood =
     let stands = subst (λ (s : Option Fail). IsPeer o start before old s lost q) open_yet stood in
     let b = brings o start before after old new lost q item reads stands in
     let method = ap (λ (w : RequestWriting). method_of w.request) kept
     ∙ method_is old.request.request stands.head stands.is_head in
     let read = q.read ++ given ∷ [] in
     subst (λ (s : Option Fail).
-    UpGoes (λ r. IsPeer o started after new s lost r) (λ r e. Blamed start before old r e)
-    (λ r e. Blamed started after new r e) q read q.taken q.lost None) (sym open_yet)
+    UpGoes (λ r. IsPeer o started after new s lost r) (λ r e. Blamed o.asked start before old r e)
+    (λ r e. Blamed o.asked started after new r e) q read q.taken q.lost None) (sym open_yet)
     (goes o start started before after old new None lost q (after_read q b.came read) stands.head
     read q.taken q.lost None same stands.is_head
     (ap (λ (w : RequestWriting). head_in w.request) kept ∙ stands.is_head)
     (read_on start before after q b.came read b.asked b.moves)
     (peer_read o start before after old new None None lost q b.came read
-    (stands.given ++ item ∷ []) [] b.asked stands kept b.moves
+    (stands.given ++ item ∷ []) [] b.asked stands kept unasked b.moves
     (subst (λ (ts : List HttpTask).
-    AreTasks stands.head.method after.ended (q.got ++ b.came) ts new.response)
+    AreTasks stands.head.method o.asked after.ended (q.got ++ b.came) ts new.response)
     (sym (append-nil (stands.given ++ item ∷ []))) b.tasks)
     (ap (λ (r : List HttpTask). r ++ given ∷ []) stands.is_read
     ∙ ap (λ (t : HttpTask). map (handed stands.head.method) stands.given ++ t ∷ [])
@@ -131,36 +131,40 @@ read_hands {L} o start started before after old new stopped lost q item given op
     refl refl refl (λ e none. absurd (cc)))
 
 -- the error for which a task is withheld is blamed
-withheld_blamed : (start : LinkStart) (after : LinkState) (head : RequestHead) (p : UpPast)
+withheld_blamed : (start : LinkStart) (after : LinkState) (head : RequestHead) (upgrade : Bool)
+    (p : UpPast)
     (told : ToldResponse) (new : ResponseReading) (item : HttpTask) (why : Fail) (closed : Bool)
-    → IsResponseTask told item → ReadSoFar head.method closed p.got (with_task told item) new
+    → IsResponseTask told item
+    → ReadSoFar head.method upgrade closed p.got (with_task told item) new
     → Withholds head.method item why → (e : Error) → why ≡ fail.Error e
-    → PeerBlames start after head p e
-withheld_blamed start after head p told new item why closed is read
+    → PeerBlames start after head upgrade p e
+withheld_blamed start after head upgrade p told new item why closed is read
     (peer.Withholds.switches final end at status) e because =
-    let there = final_in head.method closed p.got told final new
+    let there = final_in head.method upgrade closed p.got told final new
     (ap (λ (n : ℕ). is_informational n) status)
-    (subst (λ (t : HttpTask). ReadSoFar head.method closed p.got (with_task told t) new) at read)
+    (subst (λ (t : HttpTask). ReadSoFar head.method upgrade closed p.got (with_task told t) new) at
+    read)
     in
     peer.PeerBlames.switches there.informed final there.framing there.len there.has status
     (error_in because)
   where
     error_in : {a b : Error} → fail.Error a ≡ fail.Error b → b ≡ a
     error_in same = cc
-withheld_blamed start after head p told new item why closed is read
+withheld_blamed start after head upgrade p told new item why closed is read
     (peer.Withholds.is_full final end at lacks full) e because =
     let last = lacking_final head.method end final lacks in
-    let there = final_in head.method closed p.got told final new last.0
-    (subst (λ (t : HttpTask). ReadSoFar head.method closed p.got (with_task told t) new) at read)
+    let there = final_in head.method upgrade closed p.got told final new last.0
+    (subst (λ (t : HttpTask). ReadSoFar head.method upgrade closed p.got (with_task told t) new) at
+    read)
     in
     peer.PeerBlames.is_full there.informed final there.framing there.len there.has last.1 full
     (error_in because)
   where
     error_in : {a b : Error} → fail.Error a ≡ fail.Error b → b ≡ a
     error_in same = cc
-withheld_blamed start after head p told new item why closed is read
+withheld_blamed start after head upgrade p told new item why closed is read
     (peer.Withholds.wants_memory final end at lacks) e because = absurd (cc)
-withheld_blamed start after head p told new item why closed is read
+withheld_blamed start after head upgrade p told new item why closed is read
     (peer.Withholds.tells_error error at) e because =
     absurd (subst (λ (t : HttpTask). IsResponseTask told t) at is)
 
@@ -179,22 +183,25 @@ withheld_head told method item why is (peer.Withholds.tells_error error at) =
 -- a task that is withheld
 pub read_stops : {L : Type 0} (o : Origin) (start started : LinkStart) (before after : LinkState)
     (old new : H1Client L) (stopped lost : Option Fail) (q : UpPast) (item : HttpTask) (why : Fail)
-    → stopped ≡ None → started ≡ start → new.request ≡ old.request
-    → ReadsTask (method_of old.request.request) before after old.response new.response
+    → stopped ≡ None → started ≡ start → new.request ≡ old.request → new.asked ≡ old.asked
+    → ReadsTask (method_of old.request.request) old.asked before after old.response new.response
     (took.Item item)
     → Withholds (method_of new.request.request) item why
     → new.failed ≡ old.failed || is_error (took.Item item)
     → IsPeer o start before old stopped lost q
     → UpGoes (λ r. IsPeer o started after new (Some why) lost r)
-    (λ r e. Blamed start before old r e) (λ r e. Blamed started after new r e) q (q.read ++ [])
+    (λ r e. Blamed o.asked start before old r e) (λ r e. Blamed o.asked started after new r e) q
+    (q.read ++ [])
     q.taken q.lost (error_of_fail why)
-read_stops {L} o start started before after old new stopped lost q item why open_yet same kept reads
+read_stops {L} o start started before after old new stopped lost q item why open_yet same kept
+    unasked
+    reads
     withholds failed stood =
     let stands = subst (λ (s : Option Fail). IsPeer o start before old s lost q) open_yet stood in
     let b = brings o start before after old new lost q item reads stands in
     let method = ap (λ (w : RequestWriting). method_of w.request) kept
     ∙ method_is old.request.request stands.head stands.is_head in
-    let blamed = withheld_blamed start after stands.head (after_read q b.came q.read) b.told
+    let blamed = withheld_blamed start after stands.head o.asked (after_read q b.came q.read) b.told
     new.response item why after.ended b.is b.read
     (subst (λ (m : List ℕ). Withholds m item why) method withholds) in
     goes o start started before after old new (Some why) lost q (after_read q b.came q.read)
@@ -202,7 +209,7 @@ read_stops {L} o start started before after old new stopped lost q item why open
     (ap (λ (w : RequestWriting). head_in w.request) kept ∙ stands.is_head)
     (read_on start before after q b.came q.read b.asked b.moves)
     (peer_read o start before after old new None (Some why) lost q b.came q.read stands.given
-    (item ∷ []) b.asked stands kept b.moves b.tasks stands.is_read stands.none_switches
+    (item ∷ []) b.asked stands kept unasked b.moves b.tasks stands.is_read stands.none_switches
     stands.have_room
     (λ some. absurd (cc)) (
       withheld_head b.told stands.head.method item why b.is

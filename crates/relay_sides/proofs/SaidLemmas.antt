@@ -36,22 +36,22 @@ no_body told all none =
     subst (λ (xs : List ℕ). IsFrontOf xs all) (sym none) (record { rest = all; joined = refl })
 
 -- what was told of the body is the front of what the bytes say of it
-body_at : (method : List ℕ) (closed : Bool) (got : List ℕ) (told : ToldResponse)
+body_at : (method : List ℕ) (upgrade closed : Bool) (got : List ℕ) (told : ToldResponse)
     (at : ResponsePlace)
-    (ahead : List ℕ) (text : ResponseText) → ReadAt method closed got told at ahead
-    → Tasks method false got closed text → IsFrontOf told.body text.body
-body_at method closed got told place.NoHead ahead text read said =
+    (ahead : List ℕ) (text : ResponseText) → ReadAt method upgrade closed got told at ahead
+    → Tasks method upgrade got closed text → IsFrontOf told.body text.body
+body_at method upgrade closed got told place.NoHead ahead text read said =
     no_body told.body text.body read.0.no_body
-body_at method closed got told place.Informed ahead text read said =
+body_at method upgrade closed got told place.Informed ahead text read said =
     no_body told.body text.body read.0.no_body
-body_at method closed got told (place.InBody at) ahead text read said =
+body_at method upgrade closed got told (place.InBody at) ahead text read said =
     let rest = some_text at.reader ahead in
     let begins = read.n + read.len in
     let whole = behind (length (drop begins got) - length ahead) told.body rest.0 in
     record {
       rest = rest.0.bytes;
       joined = ap (λ (t : ResponseText). t.body)
-          (Tasks-unique method false got closed
+          (Tasks-unique method upgrade got closed
           (record {
             informed = told.informed;
             final = Some read.head;
@@ -65,15 +65,17 @@ body_at method closed got told (place.InBody at) ahead text read said =
           rest.1))
           said);
     }
-body_at method closed got told (place.Ended keeps) ahead text read said =
+body_at method upgrade closed got told (place.Ended keeps) ahead text read said =
     subst (λ (xs : List ℕ). IsFrontOf told.body xs)
     (ap (λ (t : ResponseText). t.body)
-    (Tasks-unique method false got closed (says told (ended read.place)) text read.whole said))
+    (Tasks-unique method upgrade got closed (says told (ended read.place)) text read.whole said))
     (own_front told.body)
 
 -- the bytes of the body that tasks brought are the front of those that the link says
-pub told_front : (method : List ℕ) (closed : Bool) (got : List ℕ) (tasks : List HttpTask)
-    (client : ResponseReading) (text : ResponseText) → AreTasks method closed got tasks client
-    → Tasks method false got closed text → IsFrontOf (told_of tasks).body text.body
-told_front method closed got tasks client text are said =
-    body_at method closed got (told_of tasks) client.place client.ahead text are.so_far.at said
+pub told_front : (method : List ℕ) (upgrade closed : Bool) (got : List ℕ) (tasks : List HttpTask)
+    (client : ResponseReading) (text : ResponseText)
+    → AreTasks method upgrade closed got tasks client
+    → Tasks method upgrade got closed text → IsFrontOf (told_of tasks).body text.body
+told_front method upgrade closed got tasks client text are said =
+    body_at method upgrade closed got (told_of tasks) client.place client.ahead text are.so_far.at
+    said

@@ -69,14 +69,15 @@ wire_push head tasks piece xs front =
 peer_take : {L : Type 0} (o : Origin) (start : LinkStart) (link : LinkState) (old new : H1Client L)
     (stopped lost_before lost : Option Fail) (q : UpPast) (piece : HttpTask) (gone : Bool)
     (sending : Sent) (stands : IsPeer o start link old stopped lost_before q)
-    → new.response ≡ old.response → new.failed ≡ old.failed → head_of sending ≡ Some stands.head
+    → new.response ≡ old.response → new.asked ≡ old.asked → new.failed ≡ old.failed → head_of
+    sending ≡ Some stands.head
     → SentSoFar sending q.sent new.request
     → IsQueued stands.head (q.taken ++ piece ∷ []) gone sending → (lost ≡ None → gone ≡ false)
     → ((e : Error) → lost ≡ Some (fail.Error e)
-    → PeerBlames start link stands.head (after_take q piece gone) e)
+    → PeerBlames start link stands.head o.asked (after_take q piece gone) e)
     → IsPeer o start link new stopped lost (after_take q piece gone)
-peer_take {L} o start link old new stopped lost_before lost q piece gone sending stands same calm
-    headed so_far queued takes why = record {
+peer_take {L} o start link old new stopped lost_before lost q piece gone sending stands same unasked
+    calm headed so_far queued takes why = record {
       got = stands.got;
       sent = stands.sent;
       faults = stands.faults;
@@ -85,6 +86,7 @@ peer_take {L} o start link old new stopped lost_before lost q piece gone sending
       sound = stands.sound;
       head = stands.head;
       own = stands.own;
+      asks = unasked ∙ stands.asks;
       is_head = stands_head sending new.request.request so_far.stands ∙ headed;
       sending = sending;
       so_far = so_far;
@@ -92,7 +94,7 @@ peer_take {L} o start link old new stopped lost_before lost q piece gone sending
       given = stands.given;
       withheld = stands.withheld;
       tasks = subst (λ (r : ResponseReading).
-          AreTasks stands.head.method link.ended q.got (stands.given ++ stands.withheld) r)
+          AreTasks stands.head.method o.asked link.ended q.got (stands.given ++ stands.withheld) r)
           (sym same) stands.tasks;
       is_read = stands.is_read;
       none_switches = stands.none_switches;
@@ -100,7 +102,7 @@ peer_take {L} o start link old new stopped lost_before lost q piece gone sending
       goes_on = stands.goes_on;
       heads = stands.heads;
       why = λ e is.
-          blames_keep start link link stands.head q (after_take q piece gone) e
+          blames_keep start link link stands.head o.asked q (after_take q piece gone) e
           (take_on start link q piece gone) (stands.why e is);
       takes = takes;
       why_lost = why;
@@ -117,28 +119,33 @@ sending_head {L} o start link old stopped lost q stands =
 still_there : {L : Type 0} (o : Origin) (start started : LinkStart) (before after : LinkState)
     (old new : H1Client L) (stopped lost : Option Fail) (q : UpPast) (read taken : List HttpTask)
     (gone : Bool) (error : Option Error) → after ≡ before
-    → UpGoes (λ r. IsPeer o started before new stopped lost r) (λ r e. Blamed start before old r e)
-    (λ r e. Blamed started before new r e) q read taken gone error
-    → UpGoes (λ r. IsPeer o started after new stopped lost r) (λ r e. Blamed start before old r e)
-    (λ r e. Blamed started after new r e) q read taken gone error
+    → UpGoes (λ r. IsPeer o started before new stopped lost r)
+    (λ r e. Blamed o.asked start before old r e)
+    (λ r e. Blamed o.asked started before new r e) q read taken gone error
+    → UpGoes (λ r. IsPeer o started after new stopped lost r)
+    (λ r e. Blamed o.asked start before old r e)
+    (λ r e. Blamed o.asked started after new r e) q read taken gone error
 still_there {L} o start started before after old new stopped lost q read taken gone error same
     goes_on =
     subst (λ (l : LinkState). UpGoes (λ r. IsPeer o started l new stopped lost r)
-    (λ r e. Blamed start before old r e) (λ r e. Blamed started l new r e) q read taken gone error)
+    (λ r e. Blamed o.asked start before old r e) (λ r e. Blamed o.asked started l new r e) q read
+    taken gone error)
     (sym same) goes_on
 
 -- a piece that was queued
 pub take_queues : {L : Type 0} (o : Origin) (start started : LinkStart) (before after : LinkState)
     (old new : H1Client L) (stopped lost : Option Fail) (q : UpPast) (piece : HttpTask)
     → lost ≡ None → started ≡ start → after ≡ before → new.response ≡ old.response
-    → new.failed ≡ old.failed
+    → new.asked ≡ old.asked → new.failed ≡ old.failed
     → ((sent : Sent) (had : List ℕ) → SentSoFar sent had old.request
     → SentSoFar (sent_with sent piece) had new.request)
     → IsPeer o start before old stopped lost q
-    → UpGoes (λ r. IsPeer o started after new stopped lost r) (λ r e. Blamed start before old r e)
-    (λ r e. Blamed started after new r e) q q.read (q.taken ++ piece ∷ []) (q.lost || false) None
+    → UpGoes (λ r. IsPeer o started after new stopped lost r)
+    (λ r e. Blamed o.asked start before old r e)
+    (λ r e. Blamed o.asked started after new r e) q q.read (q.taken ++ piece ∷ []) (q.lost || false)
+    None
 take_queues {L} o start started before after old new stopped lost q piece open_yet same unmoved kept
-    calm queues stands =
+    unasked calm queues stands =
     let so_far = queues stands.sending q.sent stands.so_far in
     let headed = task_head stands.sending piece
     ∙ sending_head o start before old stopped lost q stands in
@@ -153,7 +160,7 @@ take_queues {L} o start started before after old new stopped lost q piece open_y
     (stands_head (sent_with stands.sending piece) new.request.request so_far.stands ∙ headed)
     (take_on start before q piece gone)
     (peer_take o start before old new stopped lost lost q piece gone
-    (sent_with stands.sending piece) stands kept calm headed so_far
+    (sent_with stands.sending piece) stands kept unasked calm headed so_far
     (record {
       unlost = λ none. is_sent;
       front = same_front (sent_wire (sent_with stands.sending piece))
@@ -177,7 +184,7 @@ record Left {L : Type 0} (o : Origin) (start : LinkStart) (link : LinkState) (ol
   pub front : IsFrontOf (sent_wire sending)
       (sent_wire (sent_as stands.head (q.taken ++ piece ∷ [])))
   pub blamed : (e : Error) → why ≡ fail.Error e
-      → PeerBlames start link stands.head (after_take q piece true) e
+      → PeerBlames start link stands.head o.asked (after_take q piece true) e
 
 -- bytes that were missing at the end of what was taken
 record ShortHere (head : RequestHead) (tasks : List HttpTask) (piece : HttpTask) : Type 0 where
@@ -294,15 +301,16 @@ or_gone false = refl
 pub take_loses : {L : Type 0} (o : Origin) (start started : LinkStart) (before after : LinkState)
     (old new : H1Client L) (stopped lost : Option Fail) (q : UpPast) (piece : HttpTask) (why : Fail)
     → lost ≡ None → started ≡ start → after ≡ before → new.response ≡ old.response
-    → new.failed ≡ old.failed
+    → new.asked ≡ old.asked → new.failed ≡ old.failed
     → ((sent : Sent) (had : List ℕ) → SentSoFar sent had old.request
     → Loses sent had piece new.request why)
     → IsPeer o start before old stopped lost q
     → UpGoes (λ r. IsPeer o started after new stopped (Some why) r)
-    (λ r e. Blamed start before old r e) (λ r e. Blamed started after new r e) q q.read
+    (λ r e. Blamed o.asked start before old r e) (λ r e. Blamed o.asked started after new r e) q
+    q.read
     (q.taken ++ piece ∷ []) (q.lost || true) (error_of_fail why)
 take_loses {L} o start started before after old new stopped lost q piece why open_yet same unmoved
-    kept calm queues stands =
+    kept unasked calm queues stands =
     let left = left_of o start before old new stopped lost q piece why stands open_yet
     (queues stands.sending q.sent stands.so_far) in
     still_there o start started before after old new stopped (Some why) q q.read
@@ -313,7 +321,10 @@ take_loses {L} o start started before after old new stopped lost q piece why ope
     (stands_head left.sending new.request.request left.so_far.stands ∙ left.headed)
     (take_on start before q piece true)
     (peer_take o start before old new stopped lost (Some why) q piece true left.sending stands kept
-    calm left.headed left.so_far (record { unlost = λ none. absurd (cc); front = left.front })
+    unasked calm left.headed left.so_far (record {
+      unlost = λ none. absurd (cc);
+      front = left.front;
+    })
     (λ none. absurd (cc)) (λ e is. left.blamed e (some_fail why (fail.Error e) is)))
     refl refl (sym (or_gone q.lost)) (λ e told. left.blamed e (fail_is why e told)))
 
@@ -322,18 +333,19 @@ pub take_still : {L : Type 0} (o : Origin) (start : LinkStart) (link : LinkState
     (client : H1Client L) (stopped lost : Option Fail) (why : Fail) (q : UpPast)
     (piece : HttpTask) → lost ≡ Some why
     → IsPeer o start link client stopped lost q
-    → UpGoes (λ r. IsPeer o start link client stopped lost r) (λ r e. Blamed start link client r e)
-    (λ r e. Blamed start link client r e) q q.read (q.taken ++ piece ∷ []) (q.lost || true)
+    → UpGoes (λ r. IsPeer o start link client stopped lost r)
+    (λ r e. Blamed o.asked start link client r e)
+    (λ r e. Blamed o.asked start link client r e) q q.read (q.taken ++ piece ∷ []) (q.lost || true)
     (error_of_fail why)
 take_still {L} o start link client stopped lost why q piece is stands =
     let keeps = λ (e : Error) (told : lost ≡ Some (fail.Error e)).
-    blames_keep start link link stands.head q (after_take q piece true) e
+    blames_keep start link link stands.head o.asked q (after_take q piece true) e
     (take_on start link q piece true) (stands.why_lost e told) in
     goes o start start link link client client stopped lost q (after_take q piece true) stands.head
     q.read (q.taken ++ piece ∷ []) (q.lost || true) (error_of_fail why) refl stands.is_head
     stands.is_head (take_on start link q piece true)
     (peer_take o start link client client stopped lost lost q piece true stands.sending stands refl
-    refl (sending_head o start link client stopped lost q stands) stands.so_far
+    refl refl (sending_head o start link client stopped lost q stands) stands.so_far
     (record {
       unlost = λ none. absurd (cc);
       front = front_then (sent_wire stands.sending) (sent_wire (sent_as stands.head q.taken))
@@ -352,14 +364,18 @@ take_still {L} o start link client stopped lost why q piece is stands =
 -- a write of what is queued
 pub write_goes : {L : Type 0} (o : Origin) (start started : LinkStart) (before after : LinkState)
     (old new : H1Client L) (stopped lost : Option Fail) (q : UpPast) (answer : Put)
-    → started ≡ start → new.response ≡ old.response → new.failed ≡ old.failed || is_fault answer
+    → started ≡ start → new.response ≡ old.response → new.asked ≡ old.asked → new.failed ≡
+    old.failed || is_fault answer
     → WritesOut before after old.request.unsent new.request.unsent answer
     → ((sent : Sent) (gone : List ℕ) → SentSoFar sent gone old.request
     → SentSoFar sent (gone ++ take (taken answer) old.request.unsent) new.request)
     → IsPeer o start before old stopped lost q
-    → UpGoes (λ r. IsPeer o started after new stopped lost r) (λ r e. Blamed start before old r e)
-    (λ r e. Blamed started after new r e) q q.read q.taken q.lost (error_of_put Upstream answer)
-write_goes {L} o start started before after old new stopped lost q answer same kept failed writes
+    → UpGoes (λ r. IsPeer o started after new stopped lost r)
+    (λ r e. Blamed o.asked start before old r e)
+    (λ r e. Blamed o.asked started after new r e) q q.read q.taken q.lost
+    (error_of_put Upstream answer)
+write_goes {L} o start started before after old new stopped lost q answer same kept unasked failed
+    writes
     keeps stands =
     let moves = write_moves start before after q.sent old.request.unsent answer writes.writes
     stands.sent stands.faults stands.tells stands.sound in
@@ -389,6 +405,7 @@ write_goes {L} o start started before after old new stopped lost q answer same k
       sound = moves.sound;
       head = stands.head;
       own = stands.own;
+      asks = unasked ∙ stands.asks;
       is_head = is_head;
       sending = stands.sending;
       so_far = so_far;
@@ -396,19 +413,22 @@ write_goes {L} o start started before after old new stopped lost q answer same k
       given = stands.given;
       withheld = stands.withheld;
       tasks = subst (λ (b : Bool).
-          AreTasks stands.head.method b q.got (stands.given ++ stands.withheld) new.response)
+          AreTasks stands.head.method o.asked b q.got (stands.given ++ stands.withheld)
+          new.response)
           (sym moves.ended)
           (subst (λ (r : ResponseReading).
-          AreTasks stands.head.method before.ended q.got (stands.given ++ stands.withheld) r)
+          AreTasks stands.head.method o.asked before.ended q.got (stands.given ++ stands.withheld)
+          r)
           (sym kept) stands.tasks);
       is_read = stands.is_read;
       none_switches = stands.none_switches;
       have_room = stands.have_room;
       goes_on = stands.goes_on;
       heads = stands.heads;
-      why = λ e is. blames_keep start before after stands.head q p e on (stands.why e is);
+      why = λ e is. blames_keep start before after stands.head o.asked q p e on (stands.why e is);
       takes = stands.takes;
-      why_lost = λ e is. blames_keep start before after stands.head q p e on (stands.why_lost e is);
+      why_lost = λ e is. blames_keep start before after stands.head o.asked q p e on
+          (stands.why_lost e is);
     })
     refl refl refl
     (λ e is.
@@ -418,11 +438,12 @@ write_goes {L} o start started before after old new stopped lost q answer same k
 
 -- a side whose request began on a link that was handed out
 begins : {L : Type 0} (o : Origin) (start : LinkStart) (link : LinkState) (reused : Bool)
-    (old : PeerSide L) (new : H1Client L) (head : RequestHead) → head ≡ o.head → IsNew old
+    (old : PeerSide L) (new : H1Client L) (head : RequestHead) → head ≡ o.head
+    → new.asked ≡ o.asked → IsNew old
     → IsHandedOut link start reused → new.response ≡ old.client.response
     → SentSoFar (writing.Sent.begun head []) [] new.request
     → IsPeer o start link new old.stopped old.lost none_passed
-begins {L} o start link reused old new head own fresh out same so_far = record {
+begins {L} o start link reused old new head own unasked fresh out same so_far = record {
   got = subst (λ (n : ℕ). Since [] n link.given []) (sym out.given) (Since-start [] link.given);
   sent = subst (λ (n : ℕ). Since [] n link.taken []) (sym out.taken) (Since-start [] link.taken);
   faults = omega (arith, out.faults);
@@ -431,6 +452,7 @@ begins {L} o start link reused old new head own fresh out same so_far = record {
   sound = out.sound;
   head = head;
   own = own;
+  asks = unasked;
   is_head = stands_head (writing.Sent.begun head []) new.request.request so_far.stands;
   sending = writing.Sent.begun head [];
   so_far = so_far;
@@ -440,8 +462,10 @@ begins {L} o start link reused old new head own fresh out same so_far = record {
   };
   given = [];
   withheld = [];
-  tasks = subst (λ (r : ResponseReading). AreTasks head.method link.ended [] [] r) (sym same)
-      (no_tasks head.method link.ended old.client.response (fresh.read head.method link.ended));
+  tasks = subst (λ (r : ResponseReading). AreTasks head.method o.asked link.ended [] [] r)
+      (sym same)
+      (no_tasks head.method o.asked link.ended old.client.response
+      (fresh.read head.method o.asked link.ended));
   is_read = refl;
   none_switches = refl;
   have_room = All-nil (HasRoom head.method);
@@ -458,31 +482,32 @@ begins {L} o start link reused old new head own fresh out same so_far = record {
 -- the same, where the call gave its facts
 begins_peer : {L : Type 0} (o : Origin) (start started : LinkStart) (before after : LinkState)
     (reused : Bool) (old : PeerSide L) (new : H1Client L) (head : RequestHead) → head ≡ o.head
-    → started ≡ start → after ≡ before → new.response ≡ old.client.response
+    → new.asked ≡ o.asked → started ≡ start → after ≡ before → new.response ≡ old.client.response
     → ((sent : Sent) (had : List ℕ) → SentSoFar sent had old.client.request
     → SentSoFar (writing.with_head sent head) had new.request)
     → IsNew old → IsHandedOut before start reused
     → IsPeer o started after new old.stopped old.lost none_passed
-begins_peer {L} o start started before after reused old new head own same unmoved kept keeps fresh
+begins_peer {L} o start started before after reused old new head own unasked same unmoved kept keeps
+    fresh
     out =
     subst (λ (s : LinkStart). IsPeer o s after new old.stopped old.lost none_passed) (sym same)
     (subst (λ (l : LinkState). IsPeer o start l new old.stopped old.lost none_passed) (sym unmoved)
-    (begins o start before reused old new head own fresh out kept
+    (begins o start before reused old new head own unasked fresh out kept
     (keeps writing.Sent.nothing [] fresh.sent)))
 
 -- and the side with it
 pub begins_side : {L : Type 0} (o : Origin) (start started : LinkStart) (before after : LinkState)
     (reused : Bool) (old : PeerSide L) (new : H1Client L) (head : RequestHead) → head ≡ o.head
-    → started ≡ start → after ≡ before → new.response ≡ old.client.response
+    → new.asked ≡ o.asked → started ≡ start → after ≡ before → new.response ≡ old.client.response
     → ((sent : Sent) (had : List ℕ) → SentSoFar sent had old.client.request
     → SentSoFar (writing.with_head sent head) had new.request)
     → new.failed ≡ old.client.failed → IsNew old → IsHandedOut before start reused
     → o.reused ≡ reused → IsPeerSide o started after (record old { client = new }) none_passed
-begins_side {L} o start started before after reused old new head own same unmoved kept keeps calm
-    fresh out used =
+begins_side {L} o start started before after reused old new head own unasked same unmoved kept
+    keeps calm fresh out used =
     record {
-      peer = begins_peer o start started before after reused old new head own same unmoved kept
-          keeps fresh out;
+      peer = begins_peer o start started before after reused old new head own unasked same unmoved
+          kept keeps fresh out;
       reused = ap (λ (s : LinkStart). s.reused) same ∙ out.marked ∙ sym used;
       closes = fresh.stays;
       calm = λ none. calm ∙ fresh.calm;

@@ -38,10 +38,11 @@ pub side_goes : {L : Type 0} (o : Origin) (start started : LinkStart) (before af
     → (new.told.errors ≡ 0 → new.client.failed ≡ false)
     → AreMarked start after new.client.failed new.read_failed new.send_failed new.lost
     → UpGoes (λ r. IsPeer o started after new.client new.stopped new.lost r)
-    (λ r e. Blamed start before old r e) (λ r e. Blamed started after new.client r e) q read taken
+    (λ r e. Blamed o.asked start before old r e) (λ r e. Blamed o.asked started after new.client r
+    e) q read taken
     gone error
-    → UpGoes (λ r. IsPeerSide o started after new r) (λ r e. Blamed start before old r e)
-    (λ r e. Blamed started after new.client r e) q read taken gone error
+    → UpGoes (λ r. IsPeerSide o started after new r) (λ r e. Blamed o.asked start before old r e)
+    (λ r e. Blamed o.asked started after new.client r e) q read taken gone error
 side_goes {L} o start started before after old new q read taken gone error same reused closes calm
     marked went =
     record {
@@ -72,10 +73,12 @@ pub side_stays : {L : Type 0} (o : Origin) (start started : LinkStart) (before a
     → AreMarked start after new.client.failed new.read_failed new.send_failed new.lost
     → IsPeerSide o start before old q
     → UpGoes (λ r. IsPeer o started after new.client new.stopped new.lost r)
-    (λ r e. Blamed start before old.client r e) (λ r e. Blamed started after new.client r e) q read
+    (λ r e. Blamed o.asked start before old.client r e) (λ r e. Blamed o.asked started after
+    new.client r e) q read
     taken gone error
-    → UpGoes (λ r. IsPeerSide o started after new r) (λ r e. Blamed start before old.client r e)
-    (λ r e. Blamed started after new.client r e) q read taken gone error
+    → UpGoes (λ r. IsPeerSide o started after new r) (λ r e. Blamed o.asked start before old.client
+    r e)
+    (λ r e. Blamed o.asked started after new.client r e) q read taken gone error
 side_stays {L} o start started before after old new q read taken gone error same stays none calm
     marked stands =
     side_goes o start started before after old.client new q read taken gone error same stands.reused
@@ -86,7 +89,9 @@ side_stays {L} o start started before after old new q read taken gone error same
 pub side_reads : {L : Type 0} (o : Origin) (start started : LinkStart) (before after : LinkState)
     (old : PeerSide L) (client : H1Client L) (told : Told) (failed : Bool) (q : UpPast)
     (answer : Took HttpTask) → started ≡ start → client.request ≡ old.client.request
-    → ReadsTask (method_of old.client.request.request) before after old.client.response
+    → client.asked ≡ old.client.asked
+    → ReadsTask (method_of old.client.request.request) old.client.asked before after
+    old.client.response
     client.response answer
     → is_item answer ≡ false
     → is_over client.response.place ≡ is_over old.client.response.place
@@ -98,19 +103,22 @@ pub side_reads : {L : Type 0} (o : Origin) (start started : LinkStart) (before a
     → UpGoes
     (λ r. IsPeerSide o started after
     (record old { client = client; told = told; read_failed = failed }) r)
-    (λ r e. Blamed start before old.client r e) (λ r e. Blamed started after client r e) q
+    (λ r e. Blamed o.asked start before old.client r e) (λ r e. Blamed o.asked started after client
+    r e) q
     (q.read ++ []) q.taken q.lost (error_of_took answer)
-side_reads {L} o start started before after old client told failed q answer same kept reads none
+side_reads {L} o start started before after old client told failed q answer same kept unasked reads
+    none
     over fails marks calm stands =
     let new : PeerSide L = record old { client = client; told = told; read_failed = failed } in
     side_stays o start started before after old new q (q.read ++ []) q.taken q.lost
     (error_of_took answer) same refl (append-nil q.read) calm
-    (marked_task (method_of old.client.request.request) start before after old.client.response
+    (marked_task (method_of old.client.request.request) old.client.asked start before after
+    old.client.response
     client.response answer old.client.failed client.failed old.read_failed failed old.send_failed
     old.lost reads fails marks stands.peer.faults stands.marked)
     stands
     (read_none o start started before after old.client client old.stopped old.lost q answer same
-    kept reads none over fails stands.peer)
+    kept unasked reads none over fails stands.peer)
 
 -- a call that handed one on
 pub side_hands : {L : Type 0} (o : Origin) (start started : LinkStart) (before after : LinkState)
@@ -122,10 +130,12 @@ pub side_hands : {L : Type 0} (o : Origin) (start started : LinkStart) (before a
     → AreMarked start after new.client.failed new.read_failed new.send_failed new.lost
     → IsPeerSide o start before old q
     → UpGoes (λ r. IsPeer o started after new.client new.stopped new.lost r)
-    (λ r e. Blamed start before old.client r e) (λ r e. Blamed started after new.client r e) q
+    (λ r e. Blamed o.asked start before old.client r e) (λ r e. Blamed o.asked started after
+    new.client r e) q
     (q.read ++ given ∷ []) taken gone error
-    → UpGoes (λ r. IsPeerSide o started after new r) (λ r e. Blamed start before old.client r e)
-    (λ r e. Blamed started after new.client r e) q (q.read ++ given ∷ []) taken gone error
+    → UpGoes (λ r. IsPeerSide o started after new r) (λ r e. Blamed o.asked start before old.client
+    r e)
+    (λ r e. Blamed o.asked started after new.client r e) q (q.read ++ given ∷ []) taken gone error
 side_hands {L} o start started before after old new q given taken gone error same one_more calm
     marked stands =
     side_goes o start started before after old.client new q (q.read ++ given ∷ []) taken gone error

@@ -56,33 +56,33 @@ some_piece body piece some none =
     omega (arith, length-append body piece, empty, some)
 
 -- a piece that was told stands behind the final head: before that no body is told
-piece_behind : (method : List ℕ) (closed : Bool) (got : List ℕ) (told : ToldResponse)
+piece_behind : (method : List ℕ) (upgrade closed : Bool) (got : List ℕ) (told : ToldResponse)
     (piece : List ℕ)
     (at : ResponsePlace) (ahead : List ℕ) → 0 < length piece
-    → ReadAt method closed got (record told { body = told.body ++ piece }) at ahead
+    → ReadAt method upgrade closed got (record told { body = told.body ++ piece }) at ahead
     → is_some told.final ≡ true
-piece_behind method closed got told piece place.NoHead ahead some read =
+piece_behind method upgrade closed got told piece place.NoHead ahead some read =
     absurd (some_piece told.body piece some read.0.no_body)
-piece_behind method closed got told piece place.Informed ahead some read =
+piece_behind method upgrade closed got told piece place.Informed ahead some read =
     absurd (some_piece told.body piece some read.0.no_body)
-piece_behind method closed got told piece (place.InBody body) ahead some read =
+piece_behind method upgrade closed got told piece (place.InBody body) ahead some read =
     ap (λ (h : Option ResponseHead). is_some h) read.final
-piece_behind method closed got told piece (place.Ended keeps) ahead some read =
+piece_behind method upgrade closed got told piece (place.Ended keeps) ahead some read =
     ap (λ (h : Option ResponseHead). is_some h) read.final
 
 -- so does each task that a call gave
-stands_behind : (method : List ℕ) (closed : Bool) (got : List ℕ) (told : ToldResponse)
+stands_behind : (method : List ℕ) (upgrade closed : Bool) (got : List ℕ) (told : ToldResponse)
     (last : HttpTask)
     (new : ResponseReading) → IsResponseTask told last
-    → ReadSoFar method closed got (with_task told last) new → StandsBehind told last
-stands_behind method closed got told (task.Header head end) new is read = tt
-stands_behind method closed got told (task.Body None end) new is read = absurd is
-stands_behind method closed got told (task.Body (Some piece) end) new is read =
-    piece_behind method closed got told piece new.place new.ahead is read.at
-stands_behind method closed got told (task.UpgradedBody piece end) new is read = tt
-stands_behind method closed got told (task.Trailer fields) new is read = tt
-stands_behind method closed got told task.Done new is read = tt
-stands_behind method closed got told (task.Failed error) new is read = tt
+    → ReadSoFar method upgrade closed got (with_task told last) new → StandsBehind told last
+stands_behind method upgrade closed got told (task.Header head end) new is read = tt
+stands_behind method upgrade closed got told (task.Body None end) new is read = absurd is
+stands_behind method upgrade closed got told (task.Body (Some piece) end) new is read =
+    piece_behind method upgrade closed got told piece new.place new.ahead is read.at
+stands_behind method upgrade closed got told (task.UpgradedBody piece end) new is read = tt
+stands_behind method upgrade closed got told (task.Trailer fields) new is read = tt
+stands_behind method upgrade closed got told task.Done new is read = tt
+stands_behind method upgrade closed got told (task.Failed error) new is read = tt
 
 -- nothing stands behind the front of nothing
 none_behind : (front behind : List HttpTask) → [] ≡ front ++ behind → behind ≡ []
@@ -164,25 +164,28 @@ never_both : (final : Option ResponseHead) (head : ResponseHead) → final ≡ N
 never_both final head none some = never_some head (sym none ∙ some)
 
 -- a final head that was told stands in the bytes, behind the heads that inform
-record FinalTold (method got : List ℕ) (informed : List ResponseHead) (final : ResponseHead)
+record FinalTold (method : List ℕ) (upgrade : Bool) (got : List ℕ) (informed : List ResponseHead)
+    (final : ResponseHead)
     : Type 0 where
   framing : Framing
   len : ℕ
-  has : HasFinal method false got informed final framing len
+  has : HasFinal method upgrade got informed final framing len
 
 -- so does one that was told as that of the reading
-told_by : (method got : List ℕ) (informed : List ResponseHead) (final head : ResponseHead)
+told_by : (method : List ℕ) (upgrade : Bool) (got : List ℕ) (informed : List ResponseHead)
+    (final head : ResponseHead)
     (framing : Framing) (n len : ℕ) → is_informational final.status ≡ false
-    → Informs method false got informed n → HasResponse method false (drop n got) head framing len
-    → Some final ≡ Some head → FinalTold method got informed final
-told_by method got informed final head framing n len last informs has same = record {
+    → Informs method upgrade got informed n
+    → HasResponse method upgrade (drop n got) head framing len
+    → Some final ≡ Some head → FinalTold method upgrade got informed final
+told_by method upgrade got informed final head framing n len last informs has same = record {
   framing = framing;
   len = n + len;
   has = record {
     place = n;
     own = len;
     informs = informs;
-    has = subst (λ (h : ResponseHead). HasResponse method false (drop n got) h framing len)
+    has = subst (λ (h : ResponseHead). HasResponse method upgrade (drop n got) h framing len)
         (sym (some_head final head same)) has;
     final = last;
     ends = refl;
@@ -190,20 +193,22 @@ told_by method got informed final head framing n len last informs has same = rec
 }
 
 -- a head told as final is that of the reading
-final_told : (method : List ℕ) (closed : Bool) (got : List ℕ) (told : ToldResponse)
+final_told : (method : List ℕ) (upgrade closed : Bool) (got : List ℕ) (told : ToldResponse)
     (final : ResponseHead) (at : ResponsePlace) (ahead : List ℕ)
     → is_informational final.status ≡ false
-    → ReadAt method closed got (record told { final = Some final }) at ahead
-    → FinalTold method got told.informed final
-final_told method closed got told final place.NoHead ahead last read =
+    → ReadAt method upgrade closed got (record told { final = Some final }) at ahead
+    → FinalTold method upgrade got told.informed final
+final_told method upgrade closed got told final place.NoHead ahead last read =
     absurd (never_final final read.0.no_final)
-final_told method closed got told final place.Informed ahead last read =
+final_told method upgrade closed got told final place.Informed ahead last read =
     absurd (never_final final read.0.no_final)
-final_told method closed got told final (place.InBody body) ahead last read =
-    told_by method got told.informed final read.head read.framing read.n read.len last read.informs
+final_told method upgrade closed got told final (place.InBody body) ahead last read =
+    told_by method upgrade got told.informed final read.head read.framing read.n read.len last
+    read.informs
     read.has read.final
-final_told method closed got told final (place.Ended keeps) ahead last read =
-    told_by method got told.informed final read.head read.framing read.n read.len last read.informs
+final_told method upgrade closed got told final (place.Ended keeps) ahead last read =
+    told_by method upgrade got told.informed final read.head read.framing read.n read.len last
+    read.informs
     read.has read.final
 
 -- a piece ends a body only where that has a length
@@ -292,18 +297,21 @@ body_ends framing at bytes rest task.Done of going cuts = done_ends framing at o
 body_ends framing at bytes rest (task.Failed error) of going cuts = tt
 
 -- so does a task behind the final head
-task_ends : (method : List ℕ) (closed : Bool) (got : List ℕ) (told : ToldResponse)
+task_ends : (method : List ℕ) (upgrade closed : Bool) (got : List ℕ) (told : ToldResponse)
     (at : ResponsePlace) (ahead bytes rest : List ℕ) (last : HttpTask) (head : ResponseHead)
-    (framing : Framing) (len : ℕ) → HasFinal method false got told.informed head framing len
-    → told.final ≡ Some head → ReadAt method closed got told at ahead → is_over at ≡ false
+    (framing : Framing) (len : ℕ) → HasFinal method upgrade got told.informed head framing len
+    → told.final ≡ Some head → ReadAt method upgrade closed got told at ahead → is_over at ≡ false
     → Cuts at bytes last rest → EndsAs framing last
-task_ends method closed got told place.NoHead ahead bytes rest last head framing len has tells read
+task_ends method upgrade closed got told place.NoHead ahead bytes rest last head framing len has
+    tells read
     going cuts = absurd (never_both told.final head read.0.no_final tells)
-task_ends method closed got told place.Informed ahead bytes rest last head framing len has tells
+task_ends method upgrade closed got told place.Informed ahead bytes rest last head framing len has
+    tells
     read going cuts = absurd (never_both told.final head read.0.no_final tells)
-task_ends method closed got told (place.InBody body) ahead bytes rest last head framing len has
+task_ends method upgrade closed got told (place.InBody body) ahead bytes rest last head framing len
+    has
     tells read going cuts =
-    let own : HasFinal method false got told.informed read.head read.framing (read.n + read.len) =
+    let own : HasFinal method upgrade got told.informed read.head read.framing (read.n + read.len) =
     record {
       place = read.n;
       own = read.len;
@@ -312,12 +320,13 @@ task_ends method closed got told (place.InBody body) ahead bytes rest last head 
       final = read.is_final;
       ends = refl;
     } in
-    let same = HasFinal-unique method false got told.informed told.informed read.head head
+    let same = HasFinal-unique method upgrade got told.informed told.informed read.head head
     read.framing framing (read.n + read.len) len own has in
     body_ends framing body.reader bytes rest last
     (subst (λ (f : Framing). is_of f body.reader ≡ true) same.framing read.so_far.of_framing)
     read.goes_on cuts
-task_ends method closed got told (place.Ended keeps) ahead bytes rest last head framing len has
+task_ends method upgrade closed got told (place.Ended keeps) ahead bytes rest last head framing len
+    has
     tells read going cuts = absurd cuts
 
 -- in front of a final head none is told
@@ -358,133 +367,146 @@ heads_alone framing told (task.Done ∷ tasks) follow none unended = cc
 heads_alone framing told (task.Failed error ∷ tasks) follow none unended = absurd follow.0
 
 -- a head in the place of the final one, behind the tasks so far
-head_framed : (method : List ℕ) (now : Bool) (got : List ℕ) (tasks : List HttpTask)
+head_framed : (method : List ℕ) (upgrade : Bool) (now : Bool) (got : List ℕ) (tasks : List HttpTask)
     (told : ToldResponse) (given : ResponseHead) (end inform : Bool) (new : ResponseReading)
     (head : ResponseHead) → is_informational given.status ≡ inform → told.final ≡ None
     → ((framing : Framing) → All (EndsAs framing) tasks)
-    → ReadSoFar method now got
+    → ReadSoFar method upgrade now got
     (if inform then record told { informed = told.informed ++ given ∷ [] }
     else record told { final = Some given }) new
     → (if inform then record told { informed = told.informed ++ given ∷ [] }
     else record told { final = Some given }).final ≡ Some head
-    → EndFramed method got
+    → EndFramed method upgrade got
     (if inform then record told { informed = told.informed ++ given ∷ [] }
     else record told { final = Some given }).informed head (tasks ++ task.Header given end ∷ [])
-head_framed method now got tasks told given end true new head is none each read tells =
+head_framed method upgrade now got tasks told given end true new head is none each read tells =
     absurd (never_both told.final head none tells)
-head_framed method now got tasks told given end false new head is none each read tells =
-    let there = final_told method now got told given new.place new.ahead is read.at in
+head_framed method upgrade now got tasks told given end false new head is none each read tells =
+    let there = final_told method upgrade now got told given new.place new.ahead is read.at in
     record {
       framing = there.framing;
       len = there.len;
-      has = subst (λ (h : ResponseHead). HasFinal method false got told.informed h there.framing
+      has = subst (λ (h : ResponseHead). HasFinal method upgrade got told.informed h there.framing
           there.len) (some_head given head tells) there.has;
       each = All-push (EndsAs there.framing) tasks (task.Header given end) (each there.framing) tt;
     }
 
 -- tasks that end a body as it is framed do so where more bytes came
-framed_more : (method got came : List ℕ) (informed : List ResponseHead) (head : ResponseHead)
-    (tasks : List HttpTask) → EndFramed method got informed head tasks
-    → EndFramed method (got ++ came) informed head tasks
-framed_more method got came informed head tasks framed = record {
+framed_more : (method : List ℕ) (upgrade : Bool) (got came : List ℕ) (informed : List ResponseHead)
+    (head : ResponseHead)
+    (tasks : List HttpTask) → EndFramed method upgrade got informed head tasks
+    → EndFramed method upgrade (got ++ came) informed head tasks
+framed_more method upgrade got came informed head tasks framed = record {
   framing = framed.framing;
   len = framed.len;
-  has = HasFinal-append method false got came informed head framed.framing framed.len framed.has;
+  has = HasFinal-append method upgrade got came informed head framed.framing framed.len framed.has;
   each = framed.each;
 }
 
 -- the same with one task more of the body
-piece_framed : (method : List ℕ) (closed : Bool) (got came : List ℕ) (tasks : List HttpTask)
+piece_framed : (method : List ℕ) (upgrade closed : Bool) (got came : List ℕ) (tasks : List HttpTask)
     (last : HttpTask) (old new : ResponseReading) (head : ResponseHead)
-    → AreTasks method closed got tasks old → is_over old.place ≡ false
+    → AreTasks method upgrade closed got tasks old → is_over old.place ≡ false
     → Cuts old.place (old.ahead ++ came) last new.ahead → (told_of tasks).final ≡ Some head
-    → EndFramed method (got ++ came) (told_of tasks).informed head (tasks ++ last ∷ [])
-piece_framed method closed got came tasks last old new head are going cuts tells =
+    → EndFramed method upgrade (got ++ came) (told_of tasks).informed head (tasks ++ last ∷ [])
+piece_framed method upgrade closed got came tasks last old new head are going cuts tells =
     let framed = are.framed head tells in
     record {
       framing = framed.framing;
       len = framed.len;
-      has = HasFinal-append method false got came (told_of tasks).informed head framed.framing
+      has = HasFinal-append method upgrade got came (told_of tasks).informed head framed.framing
           framed.len framed.has;
       each = All-push (EndsAs framed.framing) tasks last framed.each
-          (task_ends method closed got (told_of tasks) old.place old.ahead (old.ahead ++ came)
+          (task_ends method upgrade closed got (told_of tasks) old.place old.ahead
+          (old.ahead ++ came)
           new.ahead last head framed.framing framed.len framed.has tells are.so_far.at going cuts);
     }
 
 -- the same with one task more
-framed_push : (method : List ℕ) (closed now : Bool) (got came : List ℕ) (tasks : List HttpTask)
+framed_push : (method : List ℕ) (upgrade : Bool) (closed now : Bool) (got came : List ℕ)
+    (tasks : List HttpTask)
     (last : HttpTask) (old new : ResponseReading)
-    → AreTasks method closed got tasks old → is_over old.place ≡ false
+    → AreTasks method upgrade closed got tasks old → is_over old.place ≡ false
     → IsResponseTask (told_of tasks) last
-    → ReadSoFar method now (got ++ came) (with_task (told_of tasks) last) new
+    → ReadSoFar method upgrade now (got ++ came) (with_task (told_of tasks) last) new
     → Cuts old.place (old.ahead ++ came) last new.ahead
     → (head : ResponseHead) → (with_task (told_of tasks) last).final ≡ Some head
-    → EndFramed method (got ++ came) (with_task (told_of tasks) last).informed head
+    → EndFramed method upgrade (got ++ came) (with_task (told_of tasks) last).informed head
     (tasks ++ last ∷ [])
-framed_push method closed now got came tasks (task.Header given end) old new are going is read cuts
+framed_push method upgrade closed now got came tasks (task.Header given end) old new are going is
+    read cuts
     head tells =
-    head_framed method now (got ++ came) tasks (told_of tasks) given end
+    head_framed method upgrade now (got ++ came) tasks (told_of tasks) given end
     (is_informational given.status) new head refl is
     (λ framing. heads_alone framing untold tasks are.follow is (are.ended ∙ going)) read tells
-framed_push method closed now got came tasks (task.Body None end) old new are going is read cuts
+framed_push method upgrade closed now got came tasks (task.Body None end) old new are going is read
+    cuts
     head tells = absurd is
-framed_push method closed now got came tasks (task.Body (Some piece) end) old new are going is read
+framed_push method upgrade closed now got came tasks (task.Body (Some piece) end) old new are going
+    is read
     cuts head tells =
-    piece_framed method closed got came tasks (task.Body (Some piece) end) old new head are going
+    piece_framed method upgrade closed got came tasks (task.Body (Some piece) end) old new head are
+    going
     cuts tells
-framed_push method closed now got came tasks (task.UpgradedBody piece end) old new are going is read
+framed_push method upgrade closed now got came tasks (task.UpgradedBody piece end) old new are going
+    is read
     cuts head tells = absurd is
-framed_push method closed now got came tasks (task.Trailer fields) old new are going is read cuts
+framed_push method upgrade closed now got came tasks (task.Trailer fields) old new are going is read
+    cuts
     head tells = absurd is
-framed_push method closed now got came tasks task.Done old new are going is read cuts head tells =
-    piece_framed method closed got came tasks task.Done old new head are going cuts tells
-framed_push method closed now got came tasks (task.Failed error) old new are going is read cuts head
+framed_push method upgrade closed now got came tasks task.Done old new are going is read cuts head
+    tells =
+    piece_framed method upgrade closed got came tasks task.Done old new head are going cuts tells
+framed_push method upgrade closed now got came tasks (task.Failed error) old new are going is read
+    cuts head
     tells = absurd is
 
 -- the tasks with the one that a call gave
-pub tasks_push : (method : List ℕ) (before after : LinkState) (got came : List ℕ)
+pub tasks_push : (method : List ℕ) (upgrade : Bool) (before after : LinkState) (got came : List ℕ)
     (tasks : List HttpTask) (last : HttpTask) (old new : ResponseReading)
-    → AreTasks method before.ended got tasks old → is_over old.place ≡ false
+    → AreTasks method upgrade before.ended got tasks old → is_over old.place ≡ false
     → IsResponseTask (told_of tasks) last → is_end last ≡ is_over new.place
-    → ReadSoFar method after.ended (got ++ came) (with_task (told_of tasks) last) new
+    → ReadSoFar method upgrade after.ended (got ++ came) (with_task (told_of tasks) last) new
     → Cuts old.place (old.ahead ++ came) last new.ahead
-    → AreTasks method after.ended (got ++ came) (tasks ++ last ∷ []) new
-tasks_push method before after got came tasks last old new are going is ends read cuts = record {
-  so_far = subst (λ (t : ToldResponse). ReadSoFar method after.ended (got ++ came) t new)
-      (sym (told_push untold tasks last)) read;
-  follow = follow_push untold tasks last are.follow is
-      (stands_behind method after.ended (got ++ came) (told_of tasks) last new is read);
-  ended = list_any-append is_end tasks (last ∷ [])
-      ∙ ap (λ (b : Bool). b || list_any is_end (last ∷ [])) (are.ended ∙ going)
-      ∙ or_nil (is_end last) ∙ ends;
-  ends_last = last_ends tasks last (are.ended ∙ going);
-  framed = subst
-      (λ (t : ToldResponse). (head : ResponseHead) → t.final ≡ Some head
-      → EndFramed method (got ++ came) t.informed head (tasks ++ last ∷ []))
-      (sym (told_push untold tasks last))
-      (framed_push method before.ended after.ended got came tasks last old new are going is read
-      cuts);
-}
+    → AreTasks method upgrade after.ended (got ++ came) (tasks ++ last ∷ []) new
+tasks_push method upgrade before after got came tasks last old new are going is ends read cuts =
+    record {
+      so_far = subst (λ (t : ToldResponse). ReadSoFar method upgrade after.ended (got ++ came) t new)
+          (sym (told_push untold tasks last)) read;
+      follow = follow_push untold tasks last are.follow is
+          (stands_behind method upgrade after.ended (got ++ came) (told_of tasks) last new is read);
+      ended = list_any-append is_end tasks (last ∷ [])
+          ∙ ap (λ (b : Bool). b || list_any is_end (last ∷ [])) (are.ended ∙ going)
+          ∙ or_nil (is_end last) ∙ ends;
+      ends_last = last_ends tasks last (are.ended ∙ going);
+      framed = subst
+          (λ (t : ToldResponse). (head : ResponseHead) → t.final ≡ Some head
+          → EndFramed method upgrade (got ++ came) t.informed head (tasks ++ last ∷ []))
+          (sym (told_push untold tasks last))
+          (framed_push method upgrade before.ended after.ended got came tasks last old new are going is
+          read
+          cuts);
+    }
 
 -- the tasks where a call gave none
-pub tasks_kept : (method : List ℕ) (before after : LinkState) (got came : List ℕ)
+pub tasks_kept : (method : List ℕ) (upgrade : Bool) (before after : LinkState) (got came : List ℕ)
     (tasks : List HttpTask) (old new : ResponseReading)
-    → AreTasks method before.ended got tasks old → is_over new.place ≡ is_over old.place
-    → ReadSoFar method after.ended (got ++ came) (told_of tasks) new
-    → AreTasks method after.ended (got ++ came) tasks new
-tasks_kept method before after got came tasks old new are same read = record {
+    → AreTasks method upgrade before.ended got tasks old → is_over new.place ≡ is_over old.place
+    → ReadSoFar method upgrade after.ended (got ++ came) (told_of tasks) new
+    → AreTasks method upgrade after.ended (got ++ came) tasks new
+tasks_kept method upgrade before after got came tasks old new are same read = record {
   so_far = read;
   follow = are.follow;
   ended = are.ended ∙ sym same;
   ends_last = are.ends_last;
-  framed = λ head told. framed_more method got came (told_of tasks).informed head tasks
+  framed = λ head told. framed_more method upgrade got came (told_of tasks).informed head tasks
       (are.framed head told);
 }
 
 -- no task came yet
-pub no_tasks : (method : List ℕ) (closed : Bool) (new : ResponseReading)
-    → ReadSoFar method closed [] untold new → AreTasks method closed [] [] new
-no_tasks method closed new read = record {
+pub no_tasks : (method : List ℕ) (upgrade closed : Bool) (new : ResponseReading)
+    → ReadSoFar method upgrade closed [] untold new → AreTasks method upgrade closed [] [] new
+no_tasks method upgrade closed new read = record {
   so_far = read;
   follow = tt;
   ended = sym (none_over new.place new.ahead read.at);
@@ -492,8 +514,8 @@ no_tasks method closed new read = record {
   framed = λ head told. absurd (never_some head told);
 }
   where
-    none_over : (at : ResponsePlace) (ahead : List ℕ) → ReadAt method closed [] untold at ahead
-        → is_over at ≡ false
+    none_over : (at : ResponsePlace) (ahead : List ℕ)
+        → ReadAt method upgrade closed [] untold at ahead → is_over at ≡ false
     none_over place.NoHead ahead read = refl
     none_over place.Informed ahead read = refl
     none_over (place.InBody body) ahead read = refl
@@ -502,20 +524,21 @@ no_tasks method closed new read = record {
 -- ---- final heads
 
 -- a final head that was told stands in the bytes
-pub record FinalIn (method got : List ℕ) (final : ResponseHead) : Type 0 where
-  pub informed : List ResponseHead
-  pub framing : Framing
-  pub len : ℕ
-  pub has : HasFinal method false got informed final framing len
+pub record FinalIn (method : List ℕ) (upgrade : Bool) (got : List ℕ) (final : ResponseHead) : Type 0
+  where
+    pub informed : List ResponseHead
+    pub framing : Framing
+    pub len : ℕ
+    pub has : HasFinal method upgrade got informed final framing len
 
 -- the same, by where the reading is
-final_at : (method : List ℕ) (closed : Bool) (got : List ℕ) (told : ToldResponse)
+final_at : (method : List ℕ) (upgrade closed : Bool) (got : List ℕ) (told : ToldResponse)
     (final : ResponseHead)
     (at : ResponsePlace) (ahead : List ℕ) → is_informational final.status ≡ false
-    → ReadAt method closed got (record told { final = Some final }) at ahead
-    → FinalIn method got final
-final_at method closed got told final at ahead last read =
-    let there = final_told method closed got told final at ahead last read in
+    → ReadAt method upgrade closed got (record told { final = Some final }) at ahead
+    → FinalIn method upgrade got final
+final_at method upgrade closed got told final at ahead last read =
+    let there = final_told method upgrade closed got told final at ahead last read in
     record {
       informed = told.informed;
       framing = there.framing;
@@ -524,12 +547,13 @@ final_at method closed got told final at ahead last read =
     }
 
 -- the final head that a task brought stands in the bytes
-pub final_in : (method : List ℕ) (closed : Bool) (got : List ℕ) (told : ToldResponse)
+pub final_in : (method : List ℕ) (upgrade closed : Bool) (got : List ℕ) (told : ToldResponse)
     (final : ResponseHead) (new : ResponseReading) → is_informational final.status ≡ false
-    → ReadSoFar method closed got (with_head told final) new → FinalIn method got final
-final_in method closed got told final new last read =
-    final_at method closed got told final new.place new.ahead last
-    (subst (λ (t : ToldResponse). ReadAt method closed got t new.place new.ahead)
+    → ReadSoFar method upgrade closed got (with_head told final) new
+    → FinalIn method upgrade got final
+final_in method upgrade closed got told final new last read =
+    final_at method upgrade closed got told final new.place new.ahead last
+    (subst (λ (t : ToldResponse). ReadAt method upgrade closed got t new.place new.ahead)
     (ap (λ (b : Bool). if b then record told { informed = told.informed ++ final ∷ [] }
     else record told { final = Some final }) last)
     read.at)
@@ -590,27 +614,31 @@ switch_withholds method head end status inner outer of is cause out =
 -- ---- what tasks with an end say
 
 -- tasks that end are the response whole, with its final head
-pub record SaysWhole (method got : List ℕ) (closed : Bool) (told : ToldResponse) : Type 0 where
+pub record SaysWhole (method : List ℕ) (upgrade : Bool) (got : List ℕ) (closed : Bool)
+    (told : ToldResponse) : Type 0 where
   pub place : ℕ
   pub head : ResponseHead
-  pub whole : Tasks method false got closed (says told (ended place))
+  pub whole : Tasks method upgrade got closed (says told (ended place))
   pub final : told.final ≡ Some head
 
 -- a response that has ended is whole
-whole_at : (method got : List ℕ) (closed : Bool) (told : ToldResponse) (at : ResponsePlace)
+whole_at : (method : List ℕ) (upgrade : Bool) (got : List ℕ) (closed : Bool) (told : ToldResponse)
+    (at : ResponsePlace)
     (ahead : List ℕ)
-    → is_over at ≡ true → ReadAt method closed got told at ahead
-    → SaysWhole method got closed told
-whole_at method got closed told place.NoHead ahead over read = absurd (cc)
-whole_at method got closed told place.Informed ahead over read = absurd (cc)
-whole_at method got closed told (place.InBody body) ahead over read = absurd (cc)
-whole_at method got closed told (place.Ended keeps) ahead over read =
+    → is_over at ≡ true → ReadAt method upgrade closed got told at ahead
+    → SaysWhole method upgrade got closed told
+whole_at method upgrade got closed told place.NoHead ahead over read = absurd (cc)
+whole_at method upgrade got closed told place.Informed ahead over read = absurd (cc)
+whole_at method upgrade got closed told (place.InBody body) ahead over read = absurd (cc)
+whole_at method upgrade got closed told (place.Ended keeps) ahead over read =
     record { place = read.place; head = read.head; whole = read.whole; final = read.final }
 
 -- so it is where its tasks have an end
-pub ended_whole : (method got : List ℕ) (closed : Bool) (tasks : List HttpTask)
-    (client : ResponseReading) → AreTasks method closed got tasks client
-    → list_any is_end tasks ≡ true → SaysWhole method got closed (told_of tasks)
-ended_whole method got closed tasks client are ends =
-    whole_at method got closed (told_of tasks) client.place client.ahead (sym are.ended ∙ ends)
+pub ended_whole : (method : List ℕ) (upgrade : Bool) (got : List ℕ) (closed : Bool)
+    (tasks : List HttpTask)
+    (client : ResponseReading) → AreTasks method upgrade closed got tasks client
+    → list_any is_end tasks ≡ true → SaysWhole method upgrade got closed (told_of tasks)
+ended_whole method upgrade got closed tasks client are ends =
+    whole_at method upgrade got closed (told_of tasks) client.place client.ahead
+    (sym are.ended ∙ ends)
     are.so_far.at

@@ -138,23 +138,24 @@ EndsAs framing task.Done = has_length framing ≡ false
 EndsAs framing (task.Failed error) = Unit {0}
 
 -- the final head that was told stands in the bytes, and the tasks end its body as it is framed
-pub record EndFramed (method got : List ℕ) (informed : List ResponseHead) (head : ResponseHead)
+pub record EndFramed (method : List ℕ) (upgrade : Bool) (got : List ℕ)
+    (informed : List ResponseHead) (head : ResponseHead)
     (tasks : List HttpTask) : Type 0 where
   pub framing : Framing
   pub len : ℕ
-  pub has : HasFinal method false got informed head framing len
+  pub has : HasFinal method upgrade got informed head framing len
   pub each : All (EndsAs framing) tasks
 
 -- tasks that tell what the bytes of a link say of the response to that method
 pub record AreTasks
-    (method : List ℕ) (closed : Bool) (got : List ℕ) (tasks : List HttpTask)
+    (method : List ℕ) (upgrade closed : Bool) (got : List ℕ) (tasks : List HttpTask)
     (client : ResponseReading) : Type 0 where
-  pub so_far : ReadSoFar method closed got (told_of tasks) client
+  pub so_far : ReadSoFar method upgrade closed got (told_of tasks) client
   pub follow : Follow untold tasks
   pub ended : list_any is_end tasks ≡ is_over client.place
   pub ends_last : EndsLast tasks
   pub framed : (head : ResponseHead) → (told_of tasks).final ≡ Some head
-      → EndFramed method got (told_of tasks).informed head tasks
+      → EndFramed method upgrade got (told_of tasks).informed head tasks
 
 -- ---- the side
 
@@ -202,28 +203,29 @@ Queues sent taken task writing (Err why) = Loses sent taken task writing why
 
 -- why the side answers with that error: the link failed, the response is cut off or broken,
 -- switches protocols or has no room for the field that frames it, or the request ended short
-pub data PeerBlames (start : LinkStart) (link : LinkState) (head : RequestHead) (q : UpPast)
-    (e : Error) : Type 0 where
+pub data PeerBlames (start : LinkStart) (link : LinkState) (head : RequestHead) (upgrade : Bool)
+    (q : UpPast) (e : Error) : Type 0 where
   link_failed : (fault : Fault) → e ≡ fault_error fault → Rose start.faults link.faults
-      → HasAnswered start link fault → PeerBlames start link head q e
+      → HasAnswered start link fault → PeerBlames start link head upgrade q e
   is_cut_off : (told : reading.ToldResponse) → link.ended ≡ true → e ≡ cut_off_error q.got
-      → Tasks head.method false q.got true (says told cut_off) → PeerBlames start link head q e
+      → Tasks head.method upgrade q.got true (says told cut_off)
+      → PeerBlames start link head upgrade q e
   is_broken : (why : Context) (closed : Bool) (came : List ℕ) (told : reading.ToldResponse)
       → e ≡ refused_from Upstream why → IsFrontOf came q.got
-      → Tasks head.method false came closed (says told broken)
-      → BreaksFor head.method came told why → PeerBlames start link head q e
+      → Tasks head.method upgrade came closed (says told broken)
+      → BreaksFor head.method upgrade came told why → PeerBlames start link head upgrade q e
   switches : (informed : List ResponseHead) (final : ResponseHead) (framing : Framing) (len : ℕ)
-      → HasFinal head.method false q.got informed final framing len → final.status ≡ 101
-      → e ≡ refused_from Upstream Mismatch101 → PeerBlames start link head q e
+      → HasFinal head.method upgrade q.got informed final framing len → final.status ≡ 101
+      → e ≡ refused_from Upstream Mismatch101 → PeerBlames start link head upgrade q e
   is_full : (informed : List ResponseHead) (final : ResponseHead) (framing : Framing) (len : ℕ)
-      → HasFinal head.method false q.got informed final framing len
+      → HasFinal head.method upgrade q.got informed final framing len
       → lacks_framing head.method false final ≡ true
       → RefusesInsert final.fields (codes "transfer-encoding")
-      → e ≡ refused_from Internal HeadTooLong → PeerBlames start link head q e
+      → e ≡ refused_from Internal HeadTooLong → PeerBlames start link head upgrade q e
   is_short_request : (front : List HttpTask) (pieces : List (List ℕ)) → IsFrontOf front q.taken
       → list_any is_end front ≡ true → concat pieces ≡ body_of front
       → wire.is_short (after_pieces (body_framing head) pieces) ≡ true → e ≡ short_request
-      → PeerBlames start link head q e
+      → PeerBlames start link head upgrade q e
 
 -- the tasks are heads
 abbrev pub AreHeads : List HttpTask → Type 0
@@ -247,20 +249,21 @@ pub record IsPeer {L : Type 0}
   pub head : RequestHead
   pub is_head : head_in client.request.request ≡ Some head
   pub own : head ≡ o.head
+  pub asks : client.asked ≡ o.asked
   pub sending : Sent
   pub so_far : SentSoFar sending q.sent client.request
   pub queued : IsQueued head q.taken q.lost sending
   pub given : List HttpTask
   pub withheld : List HttpTask
-  pub tasks : AreTasks head.method link.ended q.got (given ++ withheld) client.response
+  pub tasks : AreTasks head.method o.asked link.ended q.got (given ++ withheld) client.response
   pub is_read : q.read ≡ map (handed head.method) given
   pub none_switches : list_any is_switch given ≡ false
   pub have_room : All (HasRoom head.method) given
   pub goes_on : stopped ≡ None → withheld ≡ []
   pub heads : AreHeads withheld
-  pub why : (e : Error) → stopped ≡ Some (fail.Error e) → PeerBlames start link head q e
+  pub why : (e : Error) → stopped ≡ Some (fail.Error e) → PeerBlames start link head o.asked q e
   pub takes : lost ≡ None → q.lost ≡ false
-  pub why_lost : (e : Error) → lost ≡ Some (fail.Error e) → PeerBlames start link head q e
+  pub why_lost : (e : Error) → lost ≡ Some (fail.Error e) → PeerBlames start link head o.asked q e
 
 -- the error tells of a fault that the link answered on a write, which is among those that it tells
 pub record IsWriteError (start : LinkStart) (link : LinkState) (e : Error) : Type 0 where
@@ -313,12 +316,13 @@ pub record IsPeerSide {L : Type 0}
 -- a side for which nothing was queued, and which read nothing
 pub record IsNew {L : Type 0} (side : PeerSide L) : Type 0 where
   pub sent : SentSoFar nothing [] side.client.request
-  pub read : (method : List ℕ) (closed : Bool)
-      → ReadSoFar method closed [] untold side.client.response
+  pub read : (method : List ℕ) (upgrade closed : Bool)
+      → ReadSoFar method upgrade closed [] untold side.client.response
   pub goes_on : side.stopped ≡ None
   pub takes : side.lost ≡ None
   pub stays : side.closes ≡ false
   pub calm : side.client.failed ≡ false
+  pub unasked : side.client.asked ≡ false
   pub unread : side.read_failed ≡ false
   pub unsent : side.send_failed ≡ None
 

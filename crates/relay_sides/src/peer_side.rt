@@ -1,6 +1,6 @@
 //! The upstream's side of a duplex over the client of a peer: pieces of the request are queued for
 //! its link, and the tasks of the response are read from it (RFC 9112, sections 6, 7 and 9).
-ghost use Rattle.std.specs.Prelude.{◌≡◌, ◌↔◌, ℕ, List, [], Bool, true, None, Some, OnOk, OnErr, IfErr, IsErrOf};
+ghost use Rattle.std.specs.Prelude.{◌≡◌, ◌↔◌, ℕ, List, [], Bool, true, false, None, Some, OnOk, OnErr, IfErr, IsErrOf};
 ghost use Rattle.relay_tasks.specs.Error.{IsMemoryOr};
 ghost use Rattle.relay_tasks.specs.Head.{RequestHead};
 ghost use Rattle.relay_links.specs.Link.{IsHandedOut};
@@ -80,9 +80,10 @@ impl<L> PeerSide<L> {
         ensures request { (sent : Sent) (taken : List ℕ)
             → SentSoFar sent taken self.now.client.request → result ≡ true
             → IsSentWhole sent taken }
-        ensures response { (method given : List ℕ) (closed : Bool) (told : reading.ToldResponse)
-            → ReadSoFar method closed given told self.now.client.response → result ≡ true
-            → IsReadWhole method closed given told }
+        ensures response { (method given : List ℕ) (upgrade closed : Bool)
+            (told : reading.ToldResponse)
+            → ReadSoFar method upgrade closed given told self.now.client.response
+            → result ≡ true → IsReadWhole method upgrade closed given told }
     {
         self.client.may_keep()
     }
@@ -167,8 +168,8 @@ impl<L: ByteLink> PeerSide<L> {
     /// `InvalidHTTPHeader` of the source `Internal`, about `BadFraming`: exactly where
     /// `request_framing` refuses the head. Nothing is queued then.
     pub fn write_request_header(&mut self, head: RequestHeader) -> Result<()>
-        ensures begins { OnOk result ((s : Origin) → head ≡ s.head → IsNew self.old
-            → (reused : Bool)
+        ensures begins { OnOk result ((s : Origin) → head ≡ s.head → s.asked ≡ false
+            → IsNew self.old → (reused : Bool)
             → IsHandedOut (L.state self.old.client.link) (L.start self.old.client.link) reused
             → s.reused ≡ reused
             → IsPeerSide s (L.start self.new.client.link) (L.state self.new.client.link) self.new
@@ -285,7 +286,8 @@ impl<L: ByteLink> Up for PeerSide<L> {
 
     ghost blames = { λ side s q e. (head : RequestHead)
         × (head_in side.client.request.request ≡ Some head)
-        × PeerBlames (L.start side.client.link) (L.state side.client.link) head q e };
+        × PeerBlames (L.start side.client.link) (L.state side.client.link) head
+        s.asked q e };
 
     ghost link = { λ side. L.state side.client.link };
 

@@ -5,18 +5,18 @@ use Rattle.relay_peer.proofs.LengthLemmas.{stream_out}
 use Rattle.relay_peer.proofs.response_reading.end_of_body.Goals as goal
 
 pub returns-in-Ok-clause-ends : goal.returns-in-Ok-clause-ends
-returns-in-Ok-clause-ends c = λ method given told ahead still. (
+returns-in-Ok-clause-ends c = λ method upgrade given told ahead still. (
   refl,
-  ends_there method given told c.args.body ahead still
+  ends_there method upgrade given told c.args.body ahead still
       (c.in-Ok.ensures.answer still.0.framing still.0.so_far.of_framing),
 )
 
 pub returns-in-Err-clause-ends : goal.returns-in-Err-clause-ends
-returns-in-Err-clause-ends c = λ method given told ahead still.
+returns-in-Err-clause-ends c = λ method upgrade given told ahead still.
     let answer = c.in-Err.ensures.answer still.0.framing still.0.so_far.of_framing in
     rw (c.cut_off.ensures.fails given
-    (has_come given (body_has_come method given told c.args.body ahead still.0)))
-    (cut_there method given told c.args.body
+    (has_come given (body_has_come method upgrade given told c.args.body ahead still.0)))
+    (cut_there method upgrade given told c.args.body
     (record c.args.body { reader = c.end_of_stream.new.self }) ahead still answer.1
     c.in-Err.ensures.err)
 

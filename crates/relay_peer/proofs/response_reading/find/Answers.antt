@@ -11,4 +11,5 @@ returns-in-Informed-clause-finds c = λ closed given told.
 
 pub returns-in-InBody-clause-finds : goal.returns-in-InBody-clause-finds
 returns-in-InBody-clause-finds c = λ closed given told.
-    rw c.in-InBody.is (c.find_piece.ensures.finds c.args.method.now closed given told)
+    rw c.in-InBody.is (c.find_piece.ensures.finds c.args.method.now c.args.upgrade closed given
+    told)

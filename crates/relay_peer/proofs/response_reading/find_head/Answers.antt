@@ -15,17 +15,21 @@ pub returns-in-Ok-Some-clause-finds : goal.returns-in-Ok-Some-clause-finds
 returns-in-Ok-Some-clause-finds c = λ closed given told read.
     let verdict = rw c.in-Ok-Some.field-0-is at c.in-Ok-Some.ensures.verdict in
     let at =
-    awaiting c.args.method.now closed given told c.args.place c.args.ahead.now c.requires read in
+    awaiting c.args.method.now c.args.upgrade closed given told c.args.place c.args.ahead.now
+    c.requires read in
     rw (c.step_over.ensures, c.consume.ensures, c.judge_response.ensures.same) (
       at.no_final,
       refl,
-      head_told c.args.method.now closed given told c.args.ahead.now c.in-Ok-Some.read.head
+      head_told c.args.method.now c.args.upgrade closed given told c.args.ahead.now
+          c.in-Ok-Some.read.head
           c.in-Ok-Some.read.framing c.in-Ok-Some.read.len at verdict,
     )
 
 pub returns-in-Err-clause-finds : goal.returns-in-Err-clause-finds
 returns-in-Err-clause-finds c = λ closed given told read.
-    subst (λ (xs : List ℕ). Finds c.args.method.now closed given told c.args.place c.args.place xs
+    subst (λ (xs : List ℕ). Finds c.args.method.now c.args.upgrade closed given told c.args.place
+    c.args.place xs
     (found.Failed c.in-Err.fail)) (sym c.judge_response.ensures.same)
-    (head_refused c.args.method.now closed given told c.args.place c.args.ahead.now c.in-Err.fail
+    (head_refused c.args.method.now c.args.upgrade closed given told c.args.place c.args.ahead.now
+    c.in-Err.fail
     c.requires c.in-Err.ensures.verdict read)

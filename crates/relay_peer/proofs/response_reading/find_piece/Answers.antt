@@ -9,12 +9,12 @@ use Rattle.relay_peer.proofs.LengthLemmas.{ends_out}
 use Rattle.relay_peer.proofs.response_reading.find_piece.Goals as goal
 
 pub returns-in-Piece-default-true-clause-finds : goal.returns-in-Piece-default-true-clause-finds
-returns-in-Piece-default-true-clause-finds c = λ method closed given told here.
+returns-in-Piece-default-true-clause-finds c = λ method upgrade closed given told here.
     let reads = drop (here.n + here.len) given in
     let so_far = c.in-Piece-default-true.ensures.keeps here.framing reads told.body here.so_far in (
       c.in-Piece-default-true.ensures.answer.some,
       refl,
-      body_ended method closed given told c.args.body c.args.ahead.now c.take.new.ahead
+      body_ended method upgrade closed given told c.args.body c.args.ahead.now c.take.new.ahead
           (told.body ++ c.in-Piece-default-true.piece)
           (record c.args.body { reader = c.take.new.self }) here so_far
           (c.in-Piece-default-true.ensures.tells here.framing reads told.body here.so_far
@@ -22,13 +22,14 @@ returns-in-Piece-default-true-clause-finds c = λ method closed given told here.
     )
 
 pub returns-in-Piece-default-false-clause-finds : goal.returns-in-Piece-default-false-clause-finds
-returns-in-Piece-default-false-clause-finds c = λ method closed given told here.
+returns-in-Piece-default-false-clause-finds c = λ method upgrade closed given told here.
     let reads = drop (here.n + here.len) given in
     let so_far =
     c.in-Piece-default-false.ensures.keeps here.framing reads told.body here.so_far in (
       c.in-Piece-default-false.ensures.answer.some,
       refl,
-      body_goes_on method given told c.args.body (record c.args.body { reader = c.take.new.self })
+      body_goes_on method upgrade given told c.args.body (record c.args.body
+          { reader = c.take.new.self })
           c.args.ahead.now c.take.new.ahead (told.body ++ c.in-Piece-default-false.piece) here
           so_far
           (sym c.in-Piece-default-false.ensures.answer.is_end
@@ -37,39 +38,41 @@ returns-in-Piece-default-false-clause-finds c = λ method closed given told here
     )
 
 pub returns-in-End-clause-finds : goal.returns-in-End-clause-finds
-returns-in-End-clause-finds c = λ method closed given told here.
+returns-in-End-clause-finds c = λ method upgrade closed given told here.
     let reads = drop (here.n + here.len) given in (
       tt,
       refl,
-      body_ended_here method closed given told c.args.body c.args.ahead.now c.take.new.ahead
+      body_ended_here method upgrade closed given told c.args.body c.args.ahead.now c.take.new.ahead
           (record c.args.body { reader = c.take.new.self }) here
           (c.in-End.ensures.keeps here.framing reads told.body here.so_far)
           (c.in-End.ensures.tells here.framing reads told.body here.so_far),
     )
 
 pub returns-in-More-clause-finds : goal.returns-in-More-clause-finds
-returns-in-More-clause-finds c = λ method closed given told here.
+returns-in-More-clause-finds c = λ method upgrade closed given told here.
     let reads = drop (here.n + here.len) given in
-    body_open method given told c.args.body (record c.args.body { reader = c.take.new.self })
+    body_open method upgrade given told c.args.body (record c.args.body
+    { reader = c.take.new.self })
     c.args.ahead.now c.take.new.ahead here
     (c.in-More.ensures.keeps here.framing reads told.body here.so_far)
     (c.in-More.ensures.tells here.framing reads told.body here.so_far) refl
 
 pub returns-in-Failed-OutOfMemory-clause-finds : goal.returns-in-Failed-OutOfMemory-clause-finds
-returns-in-Failed-OutOfMemory-clause-finds c = λ method closed given told here.
+returns-in-Failed-OutOfMemory-clause-finds c = λ method upgrade closed given told here.
     let reads = drop (here.n + here.len) given in
     let some = rw c.in-Failed-OutOfMemory.field-0-is at c.in-Failed-OutOfMemory.ensures.answer in
-    body_stays method given told c.args.body (record c.args.body { reader = c.take.new.self })
+    body_stays method upgrade given told c.args.body (record c.args.body
+    { reader = c.take.new.self })
     c.args.ahead.now c.take.new.ahead here
     (c.in-Failed-OutOfMemory.ensures.keeps here.framing reads told.body here.so_far)
     (run_goes_on c.take.new.self c.take.new.ahead some) refl
 
 pub returns-in-Failed-Error-clause-finds : goal.returns-in-Failed-Error-clause-finds
-returns-in-Failed-Error-clause-finds c = λ method closed given told here.
+returns-in-Failed-Error-clause-finds c = λ method upgrade closed given told here.
     let reads = drop (here.n + here.len) given in
     let answer = rw c.in-Failed-Error.field-0-is at c.in-Failed-Error.ensures.answer in
     let told_so = rw c.in-Failed-Error.field-0-is at c.in-Failed-Error.ensures.tells in
-    let is_broken = body_broken method closed given told c.args.body
+    let is_broken = body_broken method upgrade closed given told c.args.body
     (record c.args.body { reader = c.take.new.self }) c.args.ahead.now c.take.new.ahead here
     (c.in-Failed-Error.ensures.keeps here.framing reads told.body here.so_far)
     (told_so here.framing reads told.body here.so_far) refl in (

@@ -25,7 +25,7 @@ returns-in-Ok-clause-begins g c =
     let up = c.write_request_header.new.self in
     let done = ap (λ (x : HttpSession). is_body_done x.reading) c.new-client.ensures.session
     ∙ sym c.is_body_done-body_done.ensures.value in
-    λ s came link ahead reused own behind out used.
+    λ s came link ahead reused own none behind out used.
     let Begun : Exchange ClientSide (PeerSide g.row.L.Denot) → Type 0 = λ x.
     IsUnderWay state start_at s (record { came = came; written = []; got = []; sent = [] }) link
     ahead (record { exchange = x }) in
@@ -45,7 +45,7 @@ returns-in-Ok-clause-begins g c =
     (begun_past came) none_passed
     (record {
       down_holds = c.new-client.ensures.begins s came link ahead behind;
-      up_holds = c.in-Ok.ensures.begins s own c.new-peer.ensures.fresh reused
+      up_holds = c.in-Ok.ensures.begins s own none c.new-peer.ensures.fresh reused
           (subst (λ l. IsHandedOut (state l) (start_at l) reused) (sym c.new-peer.ensures.link) out)
           used;
       none_put = refl;

@@ -3,5 +3,5 @@ use Rattle.relay_peer.proofs.ResponseLemmas.{read_nothing}
 use Rattle.relay_peer.proofs.h1_client.H1Client.new.Goals as goal
 
 pub returns-clause-read : goal.returns-clause-read
-returns-clause-read g c = λ method closed.
-    read_nothing method closed c.new-2.result c.new-2.ensures.place c.new-2.ensures.ahead
+returns-clause-read g c = λ method upgrade closed.
+    read_nothing method upgrade closed c.new-2.result c.new-2.ensures.place c.new-2.ensures.ahead

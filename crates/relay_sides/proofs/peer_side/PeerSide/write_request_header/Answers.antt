@@ -1,5 +1,5 @@
 -- On a link that was handed out, a new side begins with the head that was queued.
-use Rattle.std.proofs.Common.{ap}
+use Rattle.std.proofs.Common.{ap, sym, ◌∙◌}
 use Rattle.relay_peer.specs.declared.h1_client.H1Client.{H1Client}
 use Rattle.relay_sides.proofs.SendLemmas.{begins_side, begins_head, on_ok}
 use Rattle.relay_sides.proofs.peer_side.PeerSide.write_request_header.Goals as goal
@@ -8,12 +8,14 @@ use Rattle.relay_sides.proofs.peer_side.PeerSide.write_request_header.Goals as g
 pub returns-clause-begins : goal.returns-clause-begins
 returns-clause-begins g c =
     on_ok _ _ c.write_request_header.result c.write_request_header.ensures.keeps
-    (λ keeps s own fresh reused out.
+    (λ keeps s own none fresh reused out.
     begins_side s (g.L.ByteLink.start c.args.self.now.client.link)
     (g.L.ByteLink.start c.write_request_header.new.self.link)
     (g.L.ByteLink.state c.args.self.now.client.link)
     (g.L.ByteLink.state c.write_request_header.new.self.link) reused c.args.self.now
     c.write_request_header.new.self c.args.head own
+    (ap (λ (k : H1Client _). k.asked) c.write_request_header.ensures.same ∙ fresh.unasked
+    ∙ sym none)
     (ap (λ (k : H1Client _). g.L.ByteLink.start k.link) c.write_request_header.ensures.same)
     (ap (λ (k : H1Client _). g.L.ByteLink.state k.link) c.write_request_header.ensures.same)
     (ap (λ (k : H1Client _). k.response) c.write_request_header.ensures.same) keeps

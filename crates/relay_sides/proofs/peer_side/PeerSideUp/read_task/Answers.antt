@@ -33,7 +33,7 @@ returns-in-Ok-clause-goes g c = λ s q stands.
     ∙ ap (λ (b : Bool). c.args.self.now.closes || b) c.asks_to_close.ensures)
     (λ calm still. calm_same c.args.self.now.told _ _ _ (took.Item c.in-Item.task)
     c.in-Item.ensures.failed refl refl calm still)
-    (marked_task _ (g.L.ByteLink.start c.args.self.now.client.link)
+    (marked_task _ _ (g.L.ByteLink.start c.args.self.now.client.link)
     (g.L.ByteLink.state c.args.self.now.client.link)
     (g.L.ByteLink.state c.read_response_task.new.self.link)
     c.args.self.now.client.response c.read_response_task.new.self.response
@@ -49,6 +49,7 @@ returns-in-Ok-clause-goes g c = λ s q stands.
     c.read_response_task.new.self c.args.self.now.stopped c.args.self.now.lost q c.in-Item.task
     c.in-Ok.task c.in-None.is c.read_response_task.ensures.start
     (ap (λ (k : H1Client _). k.request) c.read_response_task.ensures.same)
+    (ap (λ (k : H1Client _). k.asked) c.read_response_task.ensures.same)
     c.in-Item.ensures.reads c.in-Ok.ensures.0 c.in-Ok.ensures.2 c.in-Ok.ensures.3
     c.in-Item.ensures.failed stands.peer)
 
@@ -65,7 +66,7 @@ returns-in-Err-clause-goes g c = λ s q stands.
     c.read_response_task.new.self.failed c.args.self.now.read_failed c.is_error-in-Err.result
     c.either-self-in-Err.result c.args.self.now.send_failed c.args.self.now.lost
     c.either-self-in-Err.ensures (λ calm none. calm)
-    (marked_task _ (g.L.ByteLink.start c.args.self.now.client.link)
+    (marked_task _ _ (g.L.ByteLink.start c.args.self.now.client.link)
     (g.L.ByteLink.state c.args.self.now.client.link)
     (g.L.ByteLink.state c.read_response_task.new.self.link)
     c.args.self.now.client.response c.read_response_task.new.self.response
@@ -81,6 +82,7 @@ returns-in-Err-clause-goes g c = λ s q stands.
     c.read_response_task.new.self c.args.self.now.stopped c.args.self.now.lost q c.in-Item.task
     c.in-Err.why c.in-None.is c.read_response_task.ensures.start
     (ap (λ (k : H1Client _). k.request) c.read_response_task.ensures.same)
+    (ap (λ (k : H1Client _). k.asked) c.read_response_task.ensures.same)
     c.in-Item.ensures.reads c.in-Err.ensures c.in-Item.ensures.failed stands.peer)
 
 -- the link gave bytes
@@ -89,6 +91,7 @@ returns-in-More-clause-goes g c = λ s q stands.
     side_reads s _ _ _ _ c.args.self.now c.read_response_task.new.self _ _ q took.More
     c.read_response_task.ensures.start
     (ap (λ (k : H1Client _). k.request) c.read_response_task.ensures.same)
+    (ap (λ (k : H1Client _). k.asked) c.read_response_task.ensures.same)
     c.in-More.ensures.reads refl (c.in-More.ensures.ends refl) c.in-More.ensures.failed
     (sym (or_none c.args.self.now.read_failed))
     (λ calm still. calm_same c.args.self.now.told _ _ _ took.More c.in-More.ensures.failed refl refl
@@ -121,6 +124,7 @@ returns-in-End-clause-goes g c = λ s q stands.
     side_reads s _ _ _ _ c.args.self.now c.read_response_task.new.self _ _ q took.End
     c.read_response_task.ensures.start
     (ap (λ (k : H1Client _). k.request) c.read_response_task.ensures.same)
+    (ap (λ (k : H1Client _). k.asked) c.read_response_task.ensures.same)
     c.in-End.ensures.reads refl (c.in-End.ensures.ends refl) c.in-End.ensures.failed
     (sym (or_none c.args.self.now.read_failed))
     (λ calm still. calm_same c.args.self.now.told _ _ _ took.End c.in-End.ensures.failed refl refl
@@ -133,6 +137,7 @@ returns-in-Waited-clause-goes g c = λ s q stands.
     side_reads s _ _ _ _ c.args.self.now c.read_response_task.new.self _ _ q
     (took.Waited c.in-Waited.pause) c.read_response_task.ensures.start
     (ap (λ (k : H1Client _). k.request) c.read_response_task.ensures.same)
+    (ap (λ (k : H1Client _). k.asked) c.read_response_task.ensures.same)
     c.in-Waited.ensures.reads refl (c.in-Waited.ensures.ends refl) c.in-Waited.ensures.failed
     (sym (or_none c.args.self.now.read_failed))
     (λ calm still. calm_paused c.args.self.now.told _ _ c.in-Waited.pause
@@ -145,6 +150,7 @@ returns-in-Failed-clause-goes g c = λ s q stands.
     side_reads s _ _ _ _ c.args.self.now c.read_response_task.new.self _ _ q
     (took.Failed c.in-Failed.why) c.read_response_task.ensures.start
     (ap (λ (k : H1Client _). k.request) c.read_response_task.ensures.same)
+    (ap (λ (k : H1Client _). k.asked) c.read_response_task.ensures.same)
     c.in-Failed.ensures.reads refl (c.in-Failed.ensures.ends refl) c.in-Failed.ensures.failed
     (c.either-self-in-Failed.ensures
     ∙ ap (λ (b : Bool). c.args.self.now.read_failed || b)
@@ -161,37 +167,37 @@ returns-in-Some-clause-cuts g c =
 -- a task that is handed on is cut as it came
 pub returns-in-Ok-clause-cuts : goal.returns-in-Ok-clause-cuts
 returns-in-Ok-clause-cuts g c =
-    cuts_handed _ _ _ _ c.args.self.now.client.response c.read_response_task.new.self.response
+    cuts_handed _ _ _ _ _ c.args.self.now.client.response c.read_response_task.new.self.response
     c.in-Item.task c.in-Ok.task c.in-Item.ensures.reads c.in-Ok.ensures.0
 
 -- no task is handed on
 pub returns-in-Err-clause-cuts : goal.returns-in-Err-clause-cuts
 returns-in-Err-clause-cuts g c =
-    cuts_none _ _ _ c.args.self.now.client.response c.read_response_task.new.self.response
+    cuts_none _ _ _ _ c.args.self.now.client.response c.read_response_task.new.self.response
     (took.Item c.in-Item.task) (took.Failed c.in-Err.why) c.in-Item.ensures.reads refl
 
 -- the link gave bytes, and no task
 pub returns-in-More-clause-cuts : goal.returns-in-More-clause-cuts
 returns-in-More-clause-cuts g c =
-    cuts_none _ _ _ c.args.self.now.client.response c.read_response_task.new.self.response
+    cuts_none _ _ _ _ c.args.self.now.client.response c.read_response_task.new.self.response
     took.More took.More c.in-More.ensures.reads refl
 
 -- the response had ended
 pub returns-in-End-clause-cuts : goal.returns-in-End-clause-cuts
 returns-in-End-clause-cuts g c =
-    cuts_none _ _ _ c.args.self.now.client.response c.read_response_task.new.self.response
+    cuts_none _ _ _ _ c.args.self.now.client.response c.read_response_task.new.self.response
     took.End took.More c.in-End.ensures.reads refl
 
 -- the link had nothing
 pub returns-in-Waited-clause-cuts : goal.returns-in-Waited-clause-cuts
 returns-in-Waited-clause-cuts g c =
-    cuts_none _ _ _ c.args.self.now.client.response c.read_response_task.new.self.response
+    cuts_none _ _ _ _ c.args.self.now.client.response c.read_response_task.new.self.response
     (took.Waited c.in-Waited.pause) (took.Waited c.in-Waited.pause) c.in-Waited.ensures.reads refl
 
 -- the read failed
 pub returns-in-Failed-clause-cuts : goal.returns-in-Failed-clause-cuts
 returns-in-Failed-clause-cuts g c =
-    cuts_none _ _ _ c.args.self.now.client.response c.read_response_task.new.self.response
+    cuts_none _ _ _ _ c.args.self.now.client.response c.read_response_task.new.self.response
     (took.Failed c.in-Failed.why) (took.Failed c.in-Failed.why) c.in-Failed.ensures.reads refl
 
 -- a task that is handed on asked the link once at most

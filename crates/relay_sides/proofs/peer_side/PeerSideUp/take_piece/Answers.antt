@@ -49,6 +49,7 @@ returns-in-Ok-clause-goes g c = λ s q stands.
     (ap (λ (k : H1Client _). g.L.ByteLink.start k.link) c.queue_piece.ensures.same)
     (ap (λ (k : H1Client _). g.L.ByteLink.state k.link) c.queue_piece.ensures.same)
     (ap (λ (k : H1Client _). k.response) c.queue_piece.ensures.same)
+    (ap (λ (k : H1Client _). k.asked) c.queue_piece.ensures.same)
     (ap (λ (k : H1Client _). k.failed) c.queue_piece.ensures.same) c.in-Ok.ensures.queues
     stands.peer)
 
@@ -86,5 +87,6 @@ returns-in-Err-clause-goes g c = λ s q stands.
     (ap (λ (k : H1Client _). g.L.ByteLink.start k.link) c.queue_piece.ensures.same)
     (ap (λ (k : H1Client _). g.L.ByteLink.state k.link) c.queue_piece.ensures.same)
     (ap (λ (k : H1Client _). k.response) c.queue_piece.ensures.same)
+    (ap (λ (k : H1Client _). k.asked) c.queue_piece.ensures.same)
     (ap (λ (k : H1Client _). k.failed) c.queue_piece.ensures.same) c.in-Err.ensures.queues
     stands.peer)

@@ -34,6 +34,7 @@ returns-clause-goes g c = λ s q stands.
     c.write_pending-put.new.self c.args.self.now.stopped c.args.self.now.lost q
     c.write_pending-put.result c.write_pending-put.ensures.start
     (ap (λ (k : H1Client _). k.response) c.write_pending-put.ensures.same)
+    (ap (λ (k : H1Client _). k.asked) c.write_pending-put.ensures.same)
     c.write_pending-put.ensures.failed
     c.write_pending-put.ensures.answer c.write_pending-put.ensures.keeps stands.peer)
 
