@@ -23,12 +23,13 @@ use Rattle.relay_core.specs.Asked.{WaitRose}
 use Rattle.relay_core.specs.Past.{Origin}
 use Rattle.relay_core.specs.declared.step.Step.TheVariants as step
 use Rattle.relay_attempt.specs.Exchange as exchange_meets
-use Rattle.relay_attempt.specs.Exchange.{AreTold, IsUnderWay, IsFinished, IsFailed, Turns}
+use Rattle.relay_attempt.specs.Exchange.{AreTold, IsUnderWay, IsFinished, Turns}
 use Rattle.relay_attempt.specs.Head.{link_of, may_keep}
 use Rattle.relay_attempt.specs.Order as exchange
 use Rattle.relay_attempt.specs.Order.{Leaves, FailsFor}
 use Rattle.relay_attempt.specs.Passed.{Passed}
 use Rattle.relay_attempt.specs.declared.h1_exchange.H1Exchange.{H1Exchange}
+use Rattle.relay_valid.proofs.ValidLemmas.{never_fails}
 use Rattle.relay_proxy.specs.Relayable.{IsRelayable}
 use Rattle.relay_proxy.specs.Endings.{IsClientReusable, IsRelayedWhole, IsInOrder, EndsLinked, outcome_of}
 use Rattle.relay_proxy.specs.Passed.{World, Start, origin_of, asked, TellsClient}
@@ -357,11 +358,11 @@ module _ {L C : Type 0} (state : L → LinkState) (start_at : L → LinkStart) w
       let told = turns.told in
       let start = start_at (link_of x) in
       let failed = subst
-      (λ (reused : Bool). IsFailed state start_at (origin_of s head reused) turns.passed client
-      x e)
+      (λ (reused : Bool). FailsFor (origin_of s head reused) turns.passed client
+      (state (link_of x)) start e)
       (sym told.reused) turns.comes_to in
       let order =
-      order_of (origin_of s head start.reused) turns.passed client _ start e failed.why in
+      order_of (origin_of s head start.reused) turns.passed client _ start e failed in
       record {
         passed = turns.passed;
         run = closing s p turns.passed v client ahead a x _ _ run told
@@ -370,8 +371,9 @@ module _ {L C : Type 0} (state : L → LinkState) (start_at : L → LinkStart) w
             (record {
               head = head;
               relayable = run.holds.relayable;
-              why = failed.why;
-              invalid = failed.invalid;
+              why = failed;
+              invalid = λ valid. never_fails (origin_of s head start.reused) turns.passed client
+                  (state (link_of x)) start e failed valid;
               not_kept = refl;
               stays = refl;
             });
