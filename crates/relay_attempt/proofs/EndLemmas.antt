@@ -2,7 +2,6 @@
 --
 --   finished_of   from SoFar and Finishes: IsFinished
 --   fails_for     from SoFar and the reason of an error: FailsFor
---   failed_of     from FailsFor: IsFailed
 use Rattle.std.proofs.Common.{◌≡◌, ℕ, Bool, true, false, not, ◌==◌, ◌⊎◌, List, [], ◌∷◌, ◌++◌, length, drop, map, refl, sym, ap, subst, ◌∙◌, append-nil, append_assoc, inl, inr, Option, Some, None, arith}
 use Rattle.std.specs.Prelude.{◌||◌, ◌&&◌, is_some, is_none}
 use Rattle.std.specs.List.{list_any}
@@ -43,11 +42,10 @@ use Rattle.relay_sides.specs.Peer.{IsPeer, AreTasks, PeerBlames, IsWriteError, h
 use Rattle.relay_sides.specs.declared.client_side.ClientSide.{ClientSide}
 use Rattle.relay_sides.specs.declared.peer_side.PeerSide.{PeerSide}
 use Rattle.relay_sides.proofs.ClientPast.{open_is_whole}
-use Rattle.relay_attempt.specs.Exchange.{DownHolds, UpHolds, Blames, down_state, core_of, IsFinished, IsFailed}
+use Rattle.relay_attempt.specs.Exchange.{DownHolds, UpHolds, Blames, down_state, core_of, IsFinished}
 use Rattle.relay_exchange.specs.Exchange.{may_keep_at}
 use Rattle.relay_attempt.specs.Head.{link_of, may_keep}
 use Rattle.relay_attempt.specs.Passed.{Passed}
-use Rattle.relay_attempt.specs.Valid.{IsValid}
 use Rattle.relay_exchange.specs.declared.exchange.Stage.{Stage}
 use Rattle.relay_exchange.specs.declared.exchange.Stage.TheVariants as stage
 use Rattle.relay_attempt.specs.declared.h1_exchange.H1Exchange.{H1Exchange}
@@ -59,7 +57,7 @@ use Rattle.relay_attempt.proofs.OrderLemmas.{passed_by, own_request, answers_own
 use Rattle.relay_attempt.proofs.FitLemmas.{never_refused, over_is_whole, over_has_end}
 use Rattle.relay_attempt.proofs.KeepLemmas.{kept_parts, kept_unfailed, sent_whole, read_whole, over_ends}
 use Rattle.relay_attempt.proofs.ServeLemmas.{never_short, ended_stands, kept_writing, kept_reading, all_keep}
-use Rattle.relay_attempt.proofs.ValidLemmas.{client_blameless, peer_blameless, framing_is}
+use Rattle.relay_attempt.proofs.UnshortLemmas.{framing_is}
 
 -- what is not awaited is empty
 none_waits : (waits : List ℕ) → not (length waits == 0) ≡ false → waits ≡ []
@@ -478,17 +476,3 @@ module _ {L : Type 0} (state : L → LinkState) (start_at : L → LinkStart) whe
             (sym is)
             (keeps_of state start_at s p q link ahead down up duplex f finishes serves faultless);
       }
-
-  -- an exchange that failed for a cause, which no valid one has
-  pub failed_of : (s : Origin) (p : Passed) (link : LinkState) (x : H1Exchange L) (e : Error)
-      → FailsFor s p link (state (link_of x)) (start_at (link_of x)) e
-      → IsFailed state start_at s p link x e
-  failed_of s p link x e why = record { why = why; invalid = λ valid. never why valid }
-    where
-      never : FailsFor s p link (state (link_of x)) (start_at (link_of x)) e
-          → IsValid s p link (state (link_of x)) (start_at (link_of x)) → ⊥
-      never (order.FailsFor.by_client o blames) valid =
-          client_blameless s p link (state (link_of x)) (start_at (link_of x)) valid
-          (order.down_past o) refl e blames
-      never (order.FailsFor.by_peer o lost blames) valid =
-          peer_blameless s p link (state (link_of x)) (start_at (link_of x)) valid o lost e blames

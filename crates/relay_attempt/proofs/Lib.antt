@@ -3,7 +3,7 @@ pub mod ToldLemmas
 pub mod FitLemmas
 pub mod AttemptLemmas
 pub mod OrderLemmas
-pub mod ValidLemmas
+pub mod UnshortLemmas
 pub mod KeepLemmas
 pub mod EndLemmas
 pub mod TurnLemmas

@@ -36,7 +36,7 @@ use Rattle.relay_sides.specs.Peer.{PeerBlames}
 use Rattle.relay_sides.specs.Peer as peer
 use Rattle.relay_attempt.specs.Order.{IsInOrder, up_past}
 use Rattle.relay_attempt.specs.Passed.{Passed}
-use Rattle.relay_attempt.proofs.ValidLemmas.{request_unshort}
+use Rattle.relay_attempt.proofs.UnshortLemmas.{request_unshort}
 
 -- ---- no request ends short
 

@@ -12,12 +12,13 @@ use Rattle.relay_core.specs.declared.step.Step.TheVariants as step
 use Rattle.relay_sides.specs.Client.{ClientBlames, ClientRefuses, CannotEnd}
 use Rattle.relay_exchange.specs.Exchange as over
 use Rattle.relay_exchange.specs.declared.exchange.Stage.TheVariants as stage
-use Rattle.relay_attempt.specs.Exchange.{DownHolds, UpHolds, Blames, IsUnderWay, IsFailed, Turns, ComesTo, down_state, core_of}
+use Rattle.relay_attempt.specs.Exchange.{DownHolds, UpHolds, Blames, IsUnderWay, Turns, ComesTo, down_state, core_of}
 use Rattle.relay_attempt.specs.Head.{link_of, IsRefusedFor}
+use Rattle.relay_attempt.specs.Order.{FailsFor}
 use Rattle.relay_attempt.specs.declared.h1_exchange.H1Exchange.{H1Exchange}
 use Rattle.relay_attempt.specs.declared.h1_exchange.Unbegun.{Unbegun}
 use Rattle.relay_attempt.proofs.OrderLemmas.{passed_by, told_of_attempt, attempt_so_far, order_so_far}
-use Rattle.relay_attempt.proofs.EndLemmas.{finished_of, failed_of, fails_for}
+use Rattle.relay_attempt.proofs.EndLemmas.{finished_of, fails_for}
 
 -- ---- the beginning
 
@@ -92,11 +93,10 @@ module _ {L : Type 0} (state : L → LinkState) (start_at : L → LinkStart) whe
           → HasReason (λ p e. ClientBlames s p link e) (λ p left e. ClientRefuses s p link left e)
           (λ p e. ClientBlames s p link e ⊎ CannotEnd s p e) (Blames state start_at x.exchange.up s)
           (down_state x.exchange.down) went.p went.q e
-          → IsFailed state start_at s (passed_by went.p went.q) link x e
+          → FailsFor s (passed_by went.p went.q) link (state (link_of x)) (start_at (link_of x)) e
       fails e why =
-          failed_of state start_at s (passed_by went.p went.q) link x e
-          (fails_for state start_at s went.p went.q link ahead x.exchange.down x.exchange.up
-          x.exchange.duplex went.so_far e why)
+          fails_for state start_at s went.p went.q link ahead x.exchange.down x.exchange.up
+          x.exchange.duplex went.so_far e why
 
       comes : (result : Step) → (result ≡ step.Finished → x.exchange.stage ≡ stage.Bodies)
           → over.ComesTo (λ p e. ClientBlames s p link e)

@@ -29,7 +29,6 @@ use Rattle.relay_attempt.specs.declared.h1_exchange.H1Exchange.{H1Exchange}
 use Rattle.relay_attempt.specs.Head.{link_of, may_keep}
 use Rattle.relay_attempt.specs.Order.{IsInOrder, FailsFor, IsRelayed, Leaves, MayServe}
 use Rattle.relay_attempt.specs.Passed.{Passed}
-use Rattle.relay_attempt.specs.Valid.{IsValid}
 
 -- the past of the client's side holds
 abbrev pub DownHolds : LinkState → List ℕ → ClientSide → Origin → DownPast → Type 0
@@ -96,19 +95,14 @@ module _ {L : Type 0} (state : L → LinkState) (start_at : L → LinkStart) whe
         → ¬ (Rose (start_at (link_of x)).faults (state (link_of x)).faults)
         → may_keep x ≡ true
 
-  -- it failed for a cause, which no valid exchange has
-  pub record IsFailed (s : Origin) (p : Passed) (link : LinkState) (x : H1Exchange L) (e : Error)
-      : Type 0 where
-    pub why : FailsFor s p link (state (link_of x)) (start_at (link_of x)) e
-    pub invalid : ¬ (IsValid s p link (state (link_of x)) (start_at (link_of x)))
-
   -- what a turn made of it, by its answer: it goes on; both directions were relayed; or it failed,
   -- for a cause
   abbrev pub ComesTo : Origin → Passed → LinkState → List ℕ → H1Exchange L → Step → Type 0
   ComesTo s p link ahead x step.Moved = IsUnderWay s p link ahead x
   ComesTo s p link ahead x (step.Waited pause) = IsUnderWay s p link ahead x
   ComesTo s p link ahead x step.Finished = IsFinished s p ahead x
-  ComesTo s p link ahead x (step.Failed (fail.Error e)) = IsFailed s p link x e
+  ComesTo s p link ahead x (step.Failed (fail.Error e)) =
+      FailsFor s p link (state (link_of x)) (start_at (link_of x)) e
   ComesTo s p link ahead x (step.Failed fail.OutOfMemory) =
       IsInOrder s p (state (link_of x)).ended
 

@@ -1,6 +1,5 @@
 pub mod Passed
 pub mod Order
-pub mod Valid
 pub mod Attempt
 pub mod Head
 pub mod Exchange

@@ -1,34 +1,25 @@
 -- Each cause excludes the others, so that where one stands the outcome is its own.
 use Rattle.std.proofs.Common.{◌≡◌, ℕ, ◌⊎◌, Bool, true, false, List, [], ◌∷◌, Option, Some, None, refl, sym, ap, subst, ◌∙◌, inl, inr, lit<}
-use Rattle.std.specs.Prelude.{◌≢◌, ◌||◌, ◌==◌}
-use Rattle.std.specs.List.{list_any}
-use Rattle.relay_tasks.specs.Head.{RequestHead, ResponseHead}
+use Rattle.relay_tasks.specs.Head.{RequestHead}
 use Rattle.relay_tasks.specs.declared.Error.{Error}
-use Rattle.relay_tasks.specs.declared.task.HttpTask.{HttpTask}
-use Rattle.relay_tasks.specs.declared.task.HttpTask.TheVariants as task
 use Rattle.relay_links.specs.Count.{Rose}
 use Rattle.relay_links.specs.Link.{LinkState, LinkStart}
 use Rattle.relay_links.specs.declared.Returned.{Returned}
-use Rattle.relay_h1.specs.ClientHead.{is_informational}
-use Rattle.relay_h1.specs.Tasks as said
-use Rattle.relay_h1.specs.Tasks.{ResponseText}
 use Rattle.relay_h1.specs.Verdict.{IsOpen, HasRequest, IsRefusedRequest}
 use Rattle.relay_h1.specs.declared.framing.Framing.{Framing}
-use Rattle.relay_h1.proofs.VerdictLemmas.{HasRequest-IsOpen, IsRefusedRequest-IsOpen, HasRequest-IsRefusedRequest, HasRequest-unique, HasRequest-append, IsRefusedRequest-append}
-use Rattle.relay_peer.specs.ResponseReading as reading
-use Rattle.relay_peer.specs.ResponseReading.{untold, with_head, with_task}
-use Rattle.relay_peer.proofs.ExactLemmas.{Tasks-unique}
-use Rattle.relay_sides.specs.Peer.{is_switch, told_behind}
-use Rattle.relay_attempt.specs.Order.{FailsFor, IsRelayed}
+use Rattle.relay_h1.proofs.VerdictLemmas.{HasRequest-IsOpen, IsRefusedRequest-IsOpen, HasRequest-IsRefusedRequest, HasRequest-unique}
+use Rattle.relay_attempt.specs.Order.{FailsFor}
 use Rattle.relay_attempt.specs.Order as order
 use Rattle.relay_attempt.specs.Passed.{Passed}
-use Rattle.relay_attempt.specs.Valid.{AsksFor, AnswersWith, IsValid}
+use Rattle.relay_valid.specs.Unfit.{IsUnfit}
+use Rattle.relay_valid.specs.Valid.{AsksFor, AnswersWith, IsValid}
+use Rattle.relay_valid.proofs.AskedLemmas.{asks_head, asks_unrefused, valid_over}
+use Rattle.relay_valid.proofs.UnfitLemmas.{relayed_fit}
 use Rattle.relay_proxy.specs.Relayable.{IsConnect, IsRelayable}
 use Rattle.relay_proxy.specs.Passed.{World, Start, origin_of, asked}
 use Rattle.relay_proxy.specs.Endings as endings
 use Rattle.relay_proxy.specs.Endings.{IsAccepted, IsTurnedDown, IsLeftAlone, EndsUnlinked, EndsLinked, IsEnded}
-use Rattle.relay_proxy.specs.Exact as exact
-use Rattle.relay_proxy.specs.Exact.{IsUnfinished, IsRefusal, IsLeft, IsMissed, IsUnfit, IsExact}
+use Rattle.relay_proxy.specs.Exact.{IsUnfinished, IsRefusal, IsLeft, IsMissed, IsExact}
 use Rattle.relay_proxy.specs.declared.outcome.Outcome.{Outcome}
 use Rattle.relay_proxy.specs.declared.outcome.Outcome.TheVariants.{NoRequest, Refused, Served, TurnLimit, OutOfMemory}
 use Rattle.relay_proxy.specs.declared.record.AttemptRecord.{AttemptRecord}
@@ -211,52 +202,6 @@ exact_unrelayed s p w OutOfMemory ends e cause = inl (inr refl)
 
 -- ---- a request that had a link
 
--- no head that switches protocols is told of, where none was before and none comes
-final_stays : (told : reading.ToldResponse) (tasks : List HttpTask)
-    → list_any is_switch tasks ≡ false → ((h : ResponseHead) → told.final ≡ Some h → h.status ≢ 101)
-    → (h : ResponseHead) → (told_behind told tasks).final ≡ Some h → h.status ≢ 101
-final_stays told [] none before h is = before h is
-final_stays told (one ∷ tasks) none before h is =
-    let parts = or_false (is_switch one) (list_any is_switch tasks) none in
-    final_stays (with_task told one) tasks parts.1 (one_more told one parts.0 before) h is
-  where
-    or_false : (a b : Bool) → (a || b) ≡ false → (a ≡ false) × (b ≡ false)
-    or_false true b none = absurd (cc)
-    or_false false b none = (refl, none)
-
-    same_status : {n : ℕ} → n ≡ 101 → (n == 101) ≡ true
-    same_status {n} is = rw is refl
-
-    headed : (told : reading.ToldResponse) (head : ResponseHead) (informs : Bool)
-        → is_informational head.status ≡ informs → (head.status == 101) ≡ false
-        → ((h : ResponseHead) → told.final ≡ Some h → h.status ≢ 101)
-        → (h : ResponseHead) → (with_head told head).final ≡ Some h → h.status ≢ 101
-    headed told head true informs stays before h is = before h (rw informs at is)
-    headed told head false informs stays before h is =
-        let same : Some head ≡ Some h = rw informs at is in
-        let this : head ≡ h = cc in
-        λ switch. not_both (same_status (ap (λ (r : ResponseHead). r.status) this ∙ switch)) stays
-
-    one_more : (told : reading.ToldResponse) (one : HttpTask) → is_switch one ≡ false
-        → ((h : ResponseHead) → told.final ≡ Some h → h.status ≢ 101)
-        → (h : ResponseHead) → (with_task told one).final ≡ Some h → h.status ≢ 101
-    one_more told (task.Header head end) stays before h is =
-        headed told head (is_informational head.status) refl stays before h is
-    one_more told (task.Body None end) stays before h is = before h is
-    one_more told (task.Body (Some piece) end) stays before h is = before h is
-    one_more told (task.UpgradedBody piece end) stays before h is = before h is
-    one_more told (task.Trailer fields) stays before h is = before h is
-    one_more told task.Done stays before h is = before h is
-    one_more told (task.Failed error) stays before h is = before h is
-
--- an ended mark is no other
-ended_or_broken : (n : ℕ) → said.ResponseMark.ended n ≡ said.ResponseMark.broken → ⊥
-ended_or_broken n same = cc
-
--- nor is it cut off
-ended_or_cut : (n : ℕ) → said.ResponseMark.ended n ≡ said.ResponseMark.cut_off → ⊥
-ended_or_cut n same = cc
-
 -- a head of the client's bytes
 record IsHeadOf (s : Start) (p : Passed) (head : RequestHead) : Type 0 where
   framing : Framing
@@ -299,24 +244,6 @@ one_head : {s : Start} {p : Passed} {a b : RequestHead}
 one_head {s} {p} {a} {b} x y =
     (HasRequest-unique (asked s p) a b x.framing y.framing x.len y.len x.has y.has).0
 
--- a response that was relayed whole is not unfit
-relayed_fit : (s : Start) (p : Passed) (head : RequestHead) (reused : Bool) (link : LinkState)
-    {start : LinkStart} → IsRelayed (origin_of s head reused) p link start
-    → IsUnfit head.method p.got link.ended → ⊥
-relayed_fit s p head reused link relayed (exact.IsUnfit.is_broken said tasks is) =
-    ended_or_broken relayed.n
-    (ap (λ (t : ResponseText). t.mark)
-    (Tasks-unique head.method false p.got link.ended _ said relayed.whole tasks) ∙ is)
-relayed_fit s p head reused link relayed (exact.IsUnfit.is_cut_off said tasks is) =
-    ended_or_cut relayed.n
-    (ap (λ (t : ResponseText). t.mark)
-    (Tasks-unique head.method false p.got link.ended _ said relayed.whole tasks) ∙ is)
-relayed_fit s p head reused link relayed (exact.IsUnfit.switches said final tasks is switch) =
-    final_stays untold relayed.order.are_of.given relayed.order.are_of.stays (λ h none. absurd (cc))
-    final
-    (ap (λ (t : ResponseText). t.final)
-    (Tasks-unique head.method false p.got link.ended _ said relayed.whole tasks) ∙ is) switch
-
 -- an unfit response is missed, where the request is finished
 exact_unfit : (s : Start) (p : Passed) (w : World) (link : LinkState) (start : LinkStart)
     (keep : Bool) (outcome : Outcome) → EndsLinked s p w link start keep outcome
@@ -328,7 +255,7 @@ exact_unfit s p w link start keep (Served None reuse) ends head accepted unfit =
     let asks = ends.relayed.order.asks in
     let own : IsAccepted s p ends.head =
     record { framing = asks.framing; len = asks.len; has = asks.has; relayable = ends.relayable } in
-    absurd (relayed_fit s p ends.head start.reused link ends.relayed
+    absurd (relayed_fit (origin_of s ends.head start.reused) p link start ends.relayed
     (subst (λ (h : RequestHead). IsUnfit h.method p.got link.ended) (one_head accepted own) unfit))
 exact_unfit s p w link start keep (Served (Some e) reuse) ends head accepted unfit =
     inr (e, ap (λ (b : Bool). Served (Some e) b) ends.stays)
@@ -342,27 +269,11 @@ asks_not_refused : (s : Start) (p : Passed) (w : World) {answer : List ℕ} {err
     (head : RequestHead) → IsRelayable head → AsksFor (origin_of s head false) p w.client
     → IsTurnedDown (asked s p) answer error → ⊥
 asks_not_refused s p w head relayable asks (endings.IsTurnedDown.has_bad_head why refused is told) =
-    let whole = asks.is_request in
-    HasRequest-IsRefusedRequest asks.request head whole.framing whole.len why whole.has
-    (subst (λ (xs : List ℕ). IsRefusedRequest xs why) asks.gives.joined
-    (IsRefusedRequest-append (asked s p) asks.gives.rest why refused))
+    asks_unrefused (origin_of s head false) p w.client why asks refused
 asks_not_refused s p w head relayable asks
     (endings.IsTurnedDown.asks_to_connect other framing len has connect is told) =
-    let whole = asks.is_request in
-    let all = subst (λ (xs : List ℕ). HasRequest xs other framing len) asks.gives.joined
-    (HasRequest-append (asked s p) asks.gives.rest other framing len has) in
     relayable.method (subst (λ (h : RequestHead). IsConnect h)
-    (HasRequest-unique asks.request other head framing whole.framing len whole.len all whole.has).0
-    connect)
-
--- a head of the client's bytes is the one of the whole request
-asks_that : (s : Start) (p : Passed) (w : World) (head other : RequestHead)
-    → AsksFor (origin_of s head false) p w.client → IsHeadOf s p other → other ≡ head
-asks_that s p w head other asks own =
-    let whole = asks.is_request in
-    (HasRequest-unique asks.request other head own.framing whole.framing own.len whole.len
-    (subst (λ (xs : List ℕ). HasRequest xs other own.framing own.len) asks.gives.joined
-    (HasRequest-append (asked s p) asks.gives.rest other own.framing own.len own.has)) whole.has).0
+    (asks_head (origin_of s head false) p w.client other framing len asks has) connect)
 
 -- a request that is relayed is not left alone
 asks_not_left : (s : Start) (p : Passed) (w : World) {e : Error} (head : RequestHead)
@@ -371,8 +282,8 @@ asks_not_left s p w head relayable asks (endings.IsLeftAlone.ends_in_head inside
     not_both inside.ended asks.stays
 asks_not_left s p w head relayable asks (endings.IsLeftAlone.is_unrelayable unrelayable is) =
     unrelayable.unrelayable (subst (λ (h : RequestHead). IsRelayable h)
-    (sym (asks_that s p w head unrelayable.head asks
-    (record { framing = unrelayable.framing; len = unrelayable.len; has = unrelayable.has })))
+    (sym (asks_head (origin_of s head false) p w.client unrelayable.head unrelayable.framing
+    unrelayable.len asks unrelayable.has))
     relayable)
 
 -- a valid request that had no link is served, where it is finished and no fault was met
@@ -397,23 +308,6 @@ whole_unlinked s p w (Served (Some e) reuse) ends head relayable asks client con
 whole_unlinked s p w TurnLimit ends head relayable asks client connector = inl (inl refl)
 whole_unlinked s p w OutOfMemory ends head relayable asks client connector = inl (inr refl)
 
--- a valid exchange, over a link that had been used before or not
-valid_over : (s : Start) (p : Passed) (client link : LinkState) (start : LinkStart)
-    (head : RequestHead) (reused : Bool) → AsksFor (origin_of s head false) p client
-    → AnswersWith head.method false p link → ¬ (Rose s.faults client.faults)
-    → ¬ (Rose start.faults link.faults) → IsValid (origin_of s head reused) p client link start
-valid_over s p client link start head reused asks answers calm still = record {
-  asks = record {
-    request = asks.request;
-    gives = asks.gives;
-    is_request = asks.is_request;
-    stays = asks.stays;
-  };
-  answers = answers;
-  client_faultless = calm;
-  link_faultless = still;
-}
-
 -- a valid request that had a link is served, where it is finished and no fault was met
 whole_linked : (s : Start) (p : Passed) (w : World) (link : LinkState) (start : LinkStart)
     (keep : Bool) (outcome : Outcome) → EndsLinked s p w link start keep outcome
@@ -427,10 +321,12 @@ whole_linked s p w link start keep (Refused error) ends head asks answers client
 whole_linked s p w link start keep (Served None reuse) ends head asks answers client faults =
     inr (reuse, refl)
 whole_linked s p w link start keep (Served (Some e) reuse) ends head asks answers client faults =
+    let own = failed_head s p ends.head start.reused ends.why in
     absurd (ends.invalid
     (subst (λ (h : RequestHead). IsValid (origin_of s h start.reused) p w.client link start)
-    (sym (asks_that s p w head ends.head asks (failed_head s p ends.head start.reused ends.why)))
-    (valid_over s p w.client link start head start.reused asks answers client faults)))
+    (sym (asks_head (origin_of s head false) p w.client ends.head own.framing own.len asks own.has))
+    (valid_over (origin_of s head false) p w.client link start start.reused asks answers client
+    faults)))
 whole_linked s p w link start keep TurnLimit ends head asks answers client faults = inl (inl refl)
 whole_linked s p w link start keep OutOfMemory ends head asks answers client faults = inl (inr refl)
 

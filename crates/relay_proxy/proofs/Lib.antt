@@ -6,5 +6,6 @@ pub mod RelaySteps
 pub mod StepLemmas
 mod TakenLemmas
 mod RefusalLemmas
+mod TurnLemmas
 pub mod ExactLemmas
 pub mod UnderWay

@@ -14,31 +14,37 @@ use Rattle.relay_tasks.specs.declared.error.Error.{Error}
 use Rattle.relay_tasks.specs.declared.error.Fail.{Fail}
 use Rattle.relay_tasks.specs.declared.error.Fail.TheVariants as fail
 use Rattle.relay_tasks.specs.declared.took.Pause.{Pause}
+use Rattle.relay_tasks.specs.declared.took.Pause.TheVariants.{NotReady, Silent}
 use Rattle.relay_links.specs.Link.{LinkState, LinkStart}
 use Rattle.relay_h1.specs.Options.{closes}
 use Rattle.relay_h1.specs.Verdict.{IsOpen}
 use Rattle.relay_peer.specs.ResponseReading.{is_http_11, is_version_11}
 use Rattle.relay_session.specs.Reading.{head_of, is_body_done}
 use Rattle.relay_core.specs.Asked.{WaitRose}
+use Rattle.relay_core.specs.Causes.{says_failed}
 use Rattle.relay_core.specs.Past.{Origin}
+use Rattle.relay_core.specs.declared.step.Step.{Step}
 use Rattle.relay_core.specs.declared.step.Step.TheVariants as step
 use Rattle.relay_attempt.specs.Exchange as exchange_meets
-use Rattle.relay_attempt.specs.Exchange.{AreTold, IsUnderWay, IsFinished, IsFailed, Turns}
+use Rattle.relay_attempt.specs.Exchange.{AreTold, IsUnderWay, IsFinished, Turns}
 use Rattle.relay_attempt.specs.Head.{link_of, may_keep}
 use Rattle.relay_attempt.specs.Order as exchange
 use Rattle.relay_attempt.specs.Order.{Leaves, FailsFor}
 use Rattle.relay_attempt.specs.Passed.{Passed}
 use Rattle.relay_attempt.specs.declared.h1_exchange.H1Exchange.{H1Exchange}
+use Rattle.relay_valid.proofs.ValidLemmas.{never_fails}
 use Rattle.relay_proxy.specs.Relayable.{IsRelayable}
 use Rattle.relay_proxy.specs.Endings.{IsClientReusable, IsRelayedWhole, IsInOrder, EndsLinked, outcome_of}
 use Rattle.relay_proxy.specs.Passed.{World, Start, origin_of, asked, TellsClient}
 use Rattle.relay_proxy.specs.Phases.{IsLeased, RunSoFar}
+use Rattle.relay_proxy.specs.Relaying.{turned, TurnsWithin}
 use Rattle.relay_proxy.specs.Reuse.{lets_ask, client_reusable}
-use Rattle.relay_proxy.specs.Turn.{world_with, Advances, HasWaited, MeetsSilence}
+use Rattle.relay_proxy.specs.Turn.{world_with, Advances, HasMoved, HasWaited, MeetsSilence}
 use Rattle.relay_proxy.proofs.ConnectSteps.{part_relayed}
 use Rattle.relay_proxy.proofs.OpenHead.{exchange_open}
 use Rattle.relay_proxy.specs.declared.machine.Attempt.{Attempt}
 use Rattle.relay_proxy.specs.declared.machine.Lease.{Lease}
+use Rattle.relay_proxy.specs.declared.machine.Phase.{Phase}
 use Rattle.relay_proxy.specs.declared.machine.Phase.TheVariants.{Relay, Close}
 use Rattle.relay_proxy.specs.declared.outcome.Outcome.{Outcome}
 use Rattle.relay_proxy.specs.declared.outcome.Outcome.TheVariants.{Served, TurnLimit}
@@ -193,18 +199,7 @@ module _ {L : Type 0} (state : L → LinkState) (start_at : L → LinkStart) whe
 
 -- ---- a turn
 
--- an attempt where it stands, once its exchange has come to that
-abbrev turned : {L C : Type 0} → Box (Attempt L C) → H1Exchange L → Box (Attempt L C)
-turned a x =
-    with_value a (record { exchange = x; lease = a.value.lease; context = a.value.context })
-
 module _ {L C : Type 0} (state : L → LinkState) (start_at : L → LinkStart) where
-  -- an attempt that its pointer lends is the one that it holds
-  pub lent : (s : Start) (p : Passed) (v : World) (a : Box (Attempt L C)) (given : Attempt L C)
-      → given ≡ a.value → RunSoFar state start_at s p v [] (Relay a)
-      → RunSoFar state start_at s p v [] (Relay (with_value a given))
-  lent s p v a given same run = rw same run
-
   -- the exchange goes on, and so does the attempt
   going_on : (s : Start) (p q : Passed) (v : World) (client : LinkState) (ahead : List ℕ)
       (a : Box (Attempt L C)) (x : H1Exchange L) (run : RunSoFar state start_at s p v [] (Relay a))
@@ -233,7 +228,7 @@ module _ {L C : Type 0} (state : L → LinkState) (start_at : L → LinkStart) w
   }
 
   -- a turn that moved
-  pub moves : (s : Start) (p : Passed) (v : World) (client : LinkState) (ahead : List ℕ)
+  moves : (s : Start) (p : Passed) (v : World) (client : LinkState) (ahead : List ℕ)
       (a : Box (Attempt L C)) (x : H1Exchange L) (run : RunSoFar state start_at s p v [] (Relay a))
       → Turns state start_at (origin_of s run.holds.head a.value.lease.reused) client ahead x
       step.Moved
@@ -247,7 +242,7 @@ module _ {L C : Type 0} (state : L → LinkState) (start_at : L → LinkStart) w
   }
 
   -- a turn that waited
-  pub waits : (s : Start) (p : Passed) (v : World) (client : LinkState) (ahead : List ℕ)
+  waits : (s : Start) (p : Passed) (v : World) (client : LinkState) (ahead : List ℕ)
       (a : Box (Attempt L C)) (x : H1Exchange L) (pause : Pause)
       (run : RunSoFar state start_at s p v [] (Relay a))
       → Turns state start_at (origin_of s run.holds.head a.value.lease.reused) client ahead x
@@ -259,27 +254,6 @@ module _ {L C : Type 0} (state : L → LinkState) (start_at : L → LinkStart) w
     passed = turns.passed;
     run = going_on s p turns.passed v client ahead a x run turns.told turns.comes_to
         (calm ∙ run.calm);
-  }
-
-  -- a turn of the exchange waited, and so did that of the attempt, as its pointer lends it
-  pub has_waited : (w x : World) (a : Box (Attempt L C)) (given : Attempt L C) (y : H1Exchange L)
-      → given ≡ a.value
-      → WaitRose w.client x.client (state (link_of given.exchange))
-      (state (link_of y))
-      → HasWaited state start_at w x (Relay a) (Relay (turned (with_value a given) y))
-  has_waited w x a given y same (inl rose) = inl rose
-  has_waited w x a given y same (inr rose) = inr (rw same at rose)
-
-  -- a turn of the exchange met silence, and so did that of the attempt
-  pub has_stalled : (w x : World) (a : Box (Attempt L C)) (given : Attempt L C) (y : H1Exchange L)
-      → given ≡ a.value
-      → exchange_meets.MeetsSilence state start_at w.client x.client given.exchange y
-      → MeetsSilence state start_at w x (Relay a) (Relay (turned (with_value a given) y))
-  has_stalled w x a given y same meets = record {
-    stalled = meets.silent;
-    client_same = meets.client_same;
-    held_same = ap Some (meets.peer_same
-        ∙ ap (λ (b : Attempt L C). state (link_of b.exchange)) same);
   }
 
   -- the exchange is over, and its link is to be handed back
@@ -307,7 +281,7 @@ module _ {L C : Type 0} (state : L → LinkState) (start_at : L → LinkStart) w
   }
 
   -- a turn that finished the exchange
-  pub finishes : (s : Start) (p : Passed) (v : World) (client : LinkState) (ahead : List ℕ)
+  finishes : (s : Start) (p : Passed) (v : World) (client : LinkState) (ahead : List ℕ)
       (a : Box (Attempt L C)) (x : H1Exchange L) (run : RunSoFar state start_at s p v [] (Relay a))
       → Turns state start_at (origin_of s run.holds.head a.value.lease.reused) client ahead x
       step.Finished
@@ -334,7 +308,7 @@ module _ {L C : Type 0} (state : L → LinkState) (start_at : L → LinkStart) w
       }
 
   -- a turn that failed
-  pub fails : (s : Start) (p : Passed) (v : World) (client : LinkState) (ahead : List ℕ)
+  fails : (s : Start) (p : Passed) (v : World) (client : LinkState) (ahead : List ℕ)
       (a : Box (Attempt L C)) (x : H1Exchange L) (why : Fail)
       (run : RunSoFar state start_at s p v [] (Relay a))
       → Turns state start_at (origin_of s run.holds.head a.value.lease.reused) client ahead x
@@ -357,11 +331,11 @@ module _ {L C : Type 0} (state : L → LinkState) (start_at : L → LinkStart) w
       let told = turns.told in
       let start = start_at (link_of x) in
       let failed = subst
-      (λ (reused : Bool). IsFailed state start_at (origin_of s head reused) turns.passed client
-      x e)
+      (λ (reused : Bool). FailsFor (origin_of s head reused) turns.passed client
+      (state (link_of x)) start e)
       (sym told.reused) turns.comes_to in
       let order =
-      order_of (origin_of s head start.reused) turns.passed client _ start e failed.why in
+      order_of (origin_of s head start.reused) turns.passed client _ start e failed in
       record {
         passed = turns.passed;
         run = closing s p turns.passed v client ahead a x _ _ run told
@@ -370,9 +344,184 @@ module _ {L C : Type 0} (state : L → LinkState) (start_at : L → LinkStart) w
             (record {
               head = head;
               relayable = run.holds.relayable;
-              why = failed.why;
-              invalid = failed.invalid;
+              why = failed;
+              invalid = λ valid. never_fails (origin_of s head start.reused) turns.passed client
+                  (state (link_of x)) start e failed valid;
               not_kept = refl;
               stays = refl;
             });
+      }
+
+-- ---- a turn of a phase that relays
+
+-- one attempt is held
+same_attempt : {L C : Type 0} (a b : Box (Attempt L C)) → Relay a ≡ Relay b → a ≡ b
+same_attempt a b same = cc
+
+-- a phase that relays holds one attempt, so what is shown of it is shown of the attempt
+pub of_attempt : {L C : Type 0} (P : Box (Attempt L C) → Type 0) (phase : Phase L C)
+    (own : Box (Attempt L C)) → phase ≡ Relay own → P own
+    → (a : Box (Attempt L C)) → phase ≡ Relay a → P a
+of_attempt P phase own is holds a same =
+    subst P (same_attempt own a (sym is ∙ same)) holds
+
+module _ {L C : Type 0} (state : L → LinkState) (start_at : L → LinkStart)
+    (w x : World) (phase next : Phase L C) (did : Step)
+    (within : TurnsWithin state start_at w.client x.client w.ahead x.ahead phase next did)
+  where
+    -- the run so far, of the attempt
+    own_run : (s : Start) (p : Passed) → RunSoFar state start_at s p w [] phase
+        → RunSoFar state start_at s p w [] (Relay within.attempt)
+    own_run s p run = subst (λ (k : Phase L C). RunSoFar state start_at s p w [] k) within.was run
+
+    -- the exchange took a turn
+    own_turn : (s : Start) (p : Passed) (to : Step)
+        (run : RunSoFar state start_at s p w [] (Relay within.attempt)) → did ≡ to
+        → Turns state start_at (origin_of s run.holds.head within.attempt.value.lease.reused)
+        x.client x.ahead within.exchange to
+    own_turn s p to run is =
+        subst (λ (d : Step). Turns state start_at
+        (origin_of s run.holds.head within.attempt.value.lease.reused) x.client x.ahead
+        within.exchange d) is (within.goes _ p run.holds.under_way)
+
+    -- the attempt behind the turn is the next phase
+    stands_next : (s : Start) → Advances {C = C} state start_at s x
+        (Relay (turned within.attempt within.exchange))
+        → Advances {C = C} state start_at s x next
+    stands_next s advances =
+        subst (λ (k : Phase L C). Advances state start_at s x k) (sym within.stands) advances
+
+    -- a turn that moved
+    pub moved_within : did ≡ step.Moved → x.connect_faults ≡ w.connect_faults → (s : Start)
+        (p : Passed) → RunSoFar state start_at s p w [] phase
+        → Advances {C = C} state start_at s x next
+    moved_within is same s p run =
+        let own = own_run s p run in
+        stands_next s
+        (subst (λ (n : ℕ). Advances {C = C} state start_at s (world_with x.client x.ahead n)
+        (Relay (turned within.attempt within.exchange))) (sym same)
+        (moves state start_at s p w x.client x.ahead within.attempt within.exchange own
+        (own_turn s p step.Moved own is) (within.calm (ap says_failed is))))
+
+    -- a turn that waited
+    pub waited_within : (pause : Pause) → did ≡ step.Waited pause
+        → x.connect_faults ≡ w.connect_faults → (s : Start) (p : Passed)
+        → RunSoFar state start_at s p w [] phase → Advances {C = C} state start_at s x next
+    waited_within pause is same s p run =
+        let own = own_run s p run in
+        stands_next s
+        (subst (λ (n : ℕ). Advances {C = C} state start_at s (world_with x.client x.ahead n)
+        (Relay (turned within.attempt within.exchange))) (sym same)
+        (waits state start_at s p w x.client x.ahead within.attempt within.exchange pause own
+        (own_turn s p (step.Waited pause) own is) (within.calm (ap says_failed is))))
+
+    -- a turn that finished the exchange, whose attempt is then to be closed
+    pub finished_within : did ≡ step.Finished → x.connect_faults ≡ w.connect_faults
+        → (end : Phase L C)
+        → ((a : Box (Attempt L C)) → next ≡ Relay a
+        → end ≡ Close (link_of a.value.exchange) a.value.lease (may_keep a.value.exchange)
+        (Served None (client_reusable a.value.exchange x.ahead)))
+        → (s : Start) (p : Passed) → RunSoFar state start_at s p w [] phase
+        → Advances {C = C} state start_at s x end
+    finished_within is same end closes s p run =
+        let own = own_run s p run in
+        let y = within.exchange in
+        let closed : Phase L C =
+        Close (link_of y) within.attempt.value.lease (may_keep y)
+        (Served None (client_reusable y x.ahead)) in
+        subst (λ (k : Phase L C). Advances {C = C} state start_at s x k)
+        (sym (closes (turned within.attempt y) within.stands))
+        (subst (λ (n : ℕ). Advances {C = C} state start_at s (world_with x.client x.ahead n) closed)
+        (sym same)
+        (finishes state start_at s p w x.client x.ahead within.attempt y own
+        (own_turn s p step.Finished own is) (within.calm (ap says_failed is))))
+
+    -- a turn that failed, whose attempt is then to be closed
+    pub failed_within : (why : Fail) → did ≡ step.Failed why
+        → x.connect_faults ≡ w.connect_faults → (end : Phase L C)
+        → ((a : Box (Attempt L C)) → next ≡ Relay a
+        → end ≡ Close (link_of a.value.exchange) a.value.lease false (outcome_of why))
+        → (s : Start) (p : Passed) → RunSoFar state start_at s p w [] phase
+        → Advances {C = C} state start_at s x end
+    failed_within why is same end closes s p run =
+        let own = own_run s p run in
+        let y = within.exchange in
+        let closed : Phase L C =
+        Close (link_of y) within.attempt.value.lease false (outcome_of why) in
+        subst (λ (k : Phase L C). Advances {C = C} state start_at s x k)
+        (sym (closes (turned within.attempt y) within.stands))
+        (subst (λ (n : ℕ). Advances {C = C} state start_at s (world_with x.client x.ahead n) closed)
+        (sym same)
+        (fails state start_at s p w x.client x.ahead within.attempt y why own
+        (own_turn s p (step.Failed why) own is)))
+
+    -- what is shown of both attempts is shown of both phases
+    of_both : (P : Phase L C → Phase L C → Type 0)
+        → P (Relay within.attempt) (Relay (turned within.attempt within.exchange)) → P phase next
+    of_both P holds =
+        subst (λ (k : Phase L C). P k next) (sym within.was)
+        (subst (λ (k : Phase L C). P (Relay within.attempt) k) (sym within.stands) holds)
+
+    -- what a turn that moved moved
+    pub moved_cause : HasMoved {C = C} state start_at w x phase next
+    moved_cause = of_both (λ (k n : Phase L C). HasMoved {C = C} state start_at w x k n) tt
+
+    -- a turn that waited waits because a link answered so
+    pub waited_cause : did ≡ step.Waited NotReady → HasWaited {C = C} state start_at w x phase next
+    waited_cause is =
+        of_both (λ (k n : Phase L C). HasWaited {C = C} state start_at w x k n)
+        (by (within.waits is))
+      where
+        by : WaitRose w.client x.client (state (link_of within.attempt.value.exchange))
+            (state (link_of within.exchange))
+            → HasWaited {C = C} state start_at w x (Relay within.attempt)
+            (Relay (turned within.attempt within.exchange))
+        by (inl rose) = inl rose
+        by (inr rose) = inr rose
+
+    -- in silence all that can be done asks a silent link
+    pub silent_cause : did ≡ step.Waited Silent
+        → MeetsSilence {C = C} state start_at w x phase next
+    silent_cause is =
+        let meets = within.quiet is in
+        of_both (λ (k n : Phase L C). MeetsSilence {C = C} state start_at w x k n) (record {
+          stalled = meets.silent;
+          client_same = meets.client_same;
+          held_same = ap Some meets.peer_same;
+        })
+
+module _ {L C : Type 0} (state : L → LinkState) (start_at : L → LinkStart) where
+  -- a turn of the exchange, as the pointer of its attempt lends it, is one of the phase
+  pub lent_turn : (before after : LinkState) (ahead left : List ℕ) (a : Box (Attempt L C))
+      (given : Attempt L C) (y : H1Exchange L) (phase next : Phase L C) (did : Step)
+      → phase ≡ Relay a → given ≡ a.value
+      → next ≡ Relay (with_value a
+      (record { exchange = y; lease = given.lease; context = given.context }))
+      → ((s : Origin) (p : Passed) → IsUnderWay state start_at s p before ahead given.exchange
+      → Turns state start_at s after left y did)
+      → (did ≡ step.Waited NotReady
+      → WaitRose before after (state (link_of given.exchange)) (state (link_of y)))
+      → (did ≡ step.Waited Silent
+      → exchange_meets.MeetsSilence state start_at before after given.exchange y)
+      → (says_failed did ≡ false → after.faults ≡ before.faults)
+      → start_at (link_of y) ≡ start_at (link_of given.exchange)
+      → TurnsWithin {C = C} state start_at before after ahead left phase next did
+  lent_turn before after ahead left a given y phase next did was same stands goes waits quiet calm
+      start = record {
+        attempt = a;
+        was = was;
+        exchange = y;
+        stands = stands
+            ∙ ap (λ (b : Attempt L C). Relay (with_value a
+            (record { exchange = y; lease = b.lease; context = b.context }))) same;
+        goes = λ s p under. goes s p
+            (subst (λ (b : Attempt L C). IsUnderWay state start_at s p before ahead b.exchange)
+            (sym same) under);
+        waits = λ is. subst
+            (λ (b : Attempt L C). WaitRose before after (state (link_of b.exchange))
+            (state (link_of y))) same (waits is);
+        quiet = λ is. subst (λ (b : Attempt L C).
+            exchange_meets.MeetsSilence state start_at before after b.exchange y) same (quiet is);
+        calm = calm;
+        same_start = start ∙ ap (λ (b : Attempt L C). start_at (link_of b.exchange)) same;
       }

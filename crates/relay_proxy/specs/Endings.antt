@@ -30,7 +30,7 @@ use Rattle.relay_sides.specs.Peer.{asks_to_close}
 use Rattle.relay_attempt.specs.Order as exchange
 use Rattle.relay_attempt.specs.Order.{FailsFor, IsRelayed, HasEnded, MayServe}
 use Rattle.relay_attempt.specs.Passed.{Passed}
-use Rattle.relay_attempt.specs.Valid.{IsValid}
+use Rattle.relay_valid.specs.Valid.{IsValid}
 use Rattle.relay_proxy.specs.Relayable.{IsConnect, IsRelayable}
 use Rattle.relay_proxy.specs.Passed.{World, Start, origin_of, asked, TellsClient, TellsLink, IsUnsent, IsUntouched}
 use Rattle.relay_proxy.specs.declared.outcome.Outcome.{Outcome}

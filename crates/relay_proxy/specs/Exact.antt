@@ -1,13 +1,13 @@
 -- Causes the other way round: where a cause stands, the request has that outcome.
 use Rattle.std.specs.Prelude.{◌≡◌, ◌⊎◌, ℕ, Bool, true, false, List, [], ◌∷◌, Option, Some, None}
-use Rattle.relay_tasks.specs.Head.{RequestHead, ResponseHead}
+use Rattle.relay_tasks.specs.Head.{RequestHead}
 use Rattle.relay_tasks.specs.declared.Error.{Error}
 use Rattle.relay_links.specs.Count.{Rose}
 use Rattle.relay_links.specs.Link.{LinkState, LinkStart}
 use Rattle.relay_links.specs.declared.Returned.{Returned}
-use Rattle.relay_h1.specs.Tasks.{Tasks, ResponseText, broken, cut_off}
 use Rattle.relay_attempt.specs.Passed.{Passed}
-use Rattle.relay_attempt.specs.Valid.{AsksFor, AnswersWith}
+use Rattle.relay_valid.specs.Unfit.{IsUnfit}
+use Rattle.relay_valid.specs.Valid.{AsksFor, AnswersWith}
 use Rattle.relay_proxy.specs.Relayable.{IsRelayable}
 use Rattle.relay_proxy.specs.Passed.{World, Start, origin_of, asked}
 use Rattle.relay_proxy.specs.Endings.{IsAccepted, IsTurnedDown, IsLeftAlone}
@@ -34,16 +34,6 @@ pub record IsLeft (s : Start) (p : Passed) (w : World) (outcome : Outcome) : Typ
 -- the attempt failed; the error has its cause by the outcome's own clause
 abbrev pub IsMissed : Outcome → Type 0
 IsMissed outcome = (e : Error) × (outcome ≡ Served (Some e) false)
-
--- what a link gave is no response that is relayed whole: its text is broken, it is cut off by the
--- end of the link, or its final head switches protocols
-pub data IsUnfit (method : List ℕ) (got : List ℕ) (closed : Bool) : Type 0 where
-  is_broken : (said : ResponseText) → Tasks method false got closed said → said.mark ≡ broken
-      → IsUnfit method got closed
-  is_cut_off : (said : ResponseText) → Tasks method false got closed said → said.mark ≡ cut_off
-      → IsUnfit method got closed
-  switches : (said : ResponseText) (head : ResponseHead) → Tasks method false got closed said
-      → said.final ≡ Some head → head.status ≡ 101 → IsUnfit method got closed
 
 module _ {L : Type 0} (state : L → LinkState) (start_at : L → LinkStart) where
   -- no link and no call of the connector failed

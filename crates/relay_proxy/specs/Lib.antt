@@ -9,6 +9,7 @@ pub mod Turn
 pub mod Closing
 pub mod Exact
 pub mod Refusals
+pub mod Relaying
 pub mod Request
 pub mod Reuse
 pub mod Stock

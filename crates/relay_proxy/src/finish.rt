@@ -1,6 +1,7 @@
 //! The end of a request: its link goes back to the connector, and its attempt is recorded.
-ghost use Rattle.std.specs.Prelude.{◌≡◌, ◌+◌, ◌<◌, ◌≤◌, [], ◌∷◌};
+ghost use Rattle.std.specs.Prelude.{◌≡◌, ◌+◌, ◌<◌, ◌≤◌, [], ◌∷◌, true};
 ghost use Rattle.relay_proxy.specs.Closing.{HandsBack, Settles, GivesLinkUp, Finishes};
+ghost use Rattle.relay_proxy.specs.Relaying.{is_closing};
 ghost use Rattle.relay_proxy.specs.Stock.{items_held, all_items};
 ghost use Rattle.relay_proxy.specs.Turn.{links_held, is_over};
 
@@ -10,6 +11,7 @@ use crate::outcome::Outcome;
 use crate::record::{AttemptList, AttemptRecord};
 use relay_links::Connector;
 use std::alloc::Global;
+use std::mem;
 
 /// How a request ended, and its attempts.
 #[derive(Drop)]
@@ -48,33 +50,53 @@ fn release<K: Connector>(
 }
 
 /// Ends a request that is to be closed: its link goes back. Any other phase stays.
-pub(crate) fn settle<K: Connector, C: Drop>(
-    connector: &mut K,
-    phase: Phase<K::Byte, C>,
-) -> Phase<K::Byte, C>
-    requires { links_held K.Byte.state K.Byte.start phase ≤ K.out connector.old }
-    ensures settles { Settles phase (K.returned connector.old) (K.returned connector.new) result }
-    ensures over { is_over result ≡ is_over phase }
-    ensures out { K.out connector.new + links_held K.Byte.state K.Byte.start phase
-        ≡ K.out connector.old + links_held K.Byte.state K.Byte.start result }
+pub(crate) fn settle<K: Connector, C: Drop>(connector: &mut K, phase: &mut Phase<K::Byte, C>)
+    requires { links_held K.Byte.state K.Byte.start phase.old ≤ K.out connector.old }
+    ensures settles { Settles phase.old (K.returned connector.old) (K.returned connector.new)
+        phase.new }
+    ensures over { is_over phase.new ≡ is_over phase.old }
+    ensures out { K.out connector.new + links_held K.Byte.state K.Byte.start phase.old
+        ≡ K.out connector.old + links_held K.Byte.state K.Byte.start phase.new }
     ensures faults { K.fault_count connector.new ≡ K.fault_count connector.old }
     ensures refusals { K.refusals connector.new ≡ K.refusals connector.old }
     ensures offers { K.stock connector.new ≡ K.stock connector.old }
     ensures stock { all_items K.Byte.start (K.returned connector.new)
-        (items_held K.Byte.start result) (K.stock connector.new)
+        (items_held K.Byte.start phase.new) (K.stock connector.new)
         ≡ all_items K.Byte.start (K.returned connector.old)
-        (items_held K.Byte.start phase) (K.stock connector.old) }
+        (items_held K.Byte.start phase.old) (K.stock connector.old) }
 {
-    match phase {
-        Phase::ReadHead => Phase::ReadHead,
-        Phase::Refuse(answer, error) => Phase::Refuse(answer, error),
-        Phase::Connect(context, session) => Phase::Connect(context, session),
-        Phase::Relay(attempt) => Phase::Relay(attempt),
+    if phase.is_closing() {
+        close(connector, phase);
+    }
+}
+
+/// Ends a request that is to be closed: its link goes back.
+fn close<K: Connector, C: Drop>(connector: &mut K, phase: &mut Phase<K::Byte, C>)
+    requires closing { is_closing phase.old ≡ true }
+    requires held { links_held K.Byte.state K.Byte.start phase.old ≤ K.out connector.old }
+    ensures settles { Settles phase.old (K.returned connector.old) (K.returned connector.new)
+        phase.new }
+    ensures over { is_over phase.new ≡ is_over phase.old }
+    ensures out { K.out connector.new + links_held K.Byte.state K.Byte.start phase.old
+        ≡ K.out connector.old + links_held K.Byte.state K.Byte.start phase.new }
+    ensures faults { K.fault_count connector.new ≡ K.fault_count connector.old }
+    ensures refusals { K.refusals connector.new ≡ K.refusals connector.old }
+    ensures offers { K.stock connector.new ≡ K.stock connector.old }
+    ensures stock { all_items K.Byte.start (K.returned connector.new)
+        (items_held K.Byte.start phase.new) (K.stock connector.new)
+        ≡ all_items K.Byte.start (K.returned connector.old)
+        (items_held K.Byte.start phase.old) (K.stock connector.old) }
+{
+    match mem::replace(phase, Phase::ReadHead) {
         Phase::Close(link, lease, keep, outcome) => {
             let attempts = release(connector, link, lease, keep, outcome);
-            Phase::Ended(outcome, attempts)
+            phase.put(Phase::Ended(outcome, attempts));
         }
-        Phase::Ended(outcome, attempts) => Phase::Ended(outcome, attempts),
+        Phase::ReadHead => unreachable!(),
+        Phase::Refuse(_answer, _error) => unreachable!(),
+        Phase::Connect(_context, _session) => unreachable!(),
+        Phase::Relay(_attempt) => unreachable!(),
+        Phase::Ended(_outcome, _attempts) => unreachable!(),
     }
 }
 

@@ -8,7 +8,8 @@
 //!    +-> Ended (nothing asked, nothing relayed)
 //! ```
 
-ghost use Rattle.std.specs.Prelude.{◌≡◌};
+ghost use Rattle.std.specs.Prelude.{◌≡◌, true};
+ghost use Rattle.relay_proxy.specs.Relaying.{is_relaying, is_closing};
 
 use crate::outcome::Outcome;
 use crate::pending::Pending;
@@ -85,6 +86,44 @@ impl<L, C> Machine<L, C> {
 }
 
 impl<L, C> Phase<L, C> {
+    /// Whether the exchange of an attempt is under way.
+    pub(crate) fn is_relaying(&self) -> bool
+        ensures { result ≡ is_relaying self.now }
+    {
+        match self {
+            Phase::Relay(_) => true,
+            Phase::ReadHead | Phase::Refuse(_, _) | Phase::Connect(_, _) => false,
+            Phase::Close(_, _, _, _) | Phase::Ended(_, _) => false,
+        }
+    }
+
+    /// Whether a link is to be handed back.
+    pub(crate) fn is_closing(&self) -> bool
+        ensures { result ≡ is_closing self.now }
+    {
+        match self {
+            Phase::Close(_, _, _, _) => true,
+            Phase::ReadHead | Phase::Refuse(_, _) | Phase::Connect(_, _) => false,
+            Phase::Relay(_) | Phase::Ended(_, _) => false,
+        }
+    }
+
+    /// Takes the attempt out of a phase that relays. Nothing is held then.
+    pub(crate) fn take_attempt(&mut self) -> Box<Attempt<L, C>>
+        requires { is_relaying self.old ≡ true }
+        ensures taken { self.old ≡ Phase.Relay result }
+        ensures left { self.new ≡ Phase.ReadHead }
+    {
+        match mem::replace(self, Phase::ReadHead) {
+            Phase::Relay(attempt) => attempt,
+            Phase::ReadHead => unreachable!(),
+            Phase::Refuse(_answer, _error) => unreachable!(),
+            Phase::Connect(_context, _session) => unreachable!(),
+            Phase::Close(_link, _lease, _keep, _outcome) => unreachable!(),
+            Phase::Ended(_outcome, _attempts) => unreachable!(),
+        }
+    }
+
     /// Puts a phase in the place of one in which nothing is held.
     pub(crate) fn put(&mut self, phase: Phase<L, C>)
         requires { self.old ≡ Phase.ReadHead }
@@ -99,11 +138,30 @@ impl<L, C> Phase<L, C> {
             Phase::Ended(_outcome, _attempts) => unreachable!(),
         }
     }
+
+    /// Goes on to the next phase, where nothing is held.
+    pub(crate) fn go_on(&mut self, next: Next<L, C>) -> Did
+        requires { self.old ≡ Phase.ReadHead }
+        ensures phase { self.new ≡ next.phase }
+        ensures step { result.step ≡ next.step }
+        ensures work { result.work ≡ next.work }
+    {
+        let Next { phase, step, work } = next;
+        self.put(phase);
+        Did { step, work }
+    }
 }
 
-/// What a turn made of a phase.
+/// What a turn made of a phase that it took.
 pub(crate) struct Next<L, C> {
     pub(crate) phase: Phase<L, C>,
+    pub(crate) step: RunStep,
+    pub(crate) work: Work,
+}
+
+/// What a turn did with a phase where it stands.
+#[derive(Clone, Copy)]
+pub(crate) struct Did {
     pub(crate) step: RunStep,
     pub(crate) work: Work,
 }

@@ -11,7 +11,7 @@ ghost use Rattle.relay_proxy.specs.Work.{total_work, Grows};
 
 use crate::finish::{finish, settle};
 use crate::hooks::ProxyHttp;
-use crate::machine::{Machine, Next, Phase, RunStep};
+use crate::machine::{Did, Machine, RunStep};
 use crate::outcome::{Outcome, Processed, count_ended};
 use crate::record::RunRecord;
 use crate::turn::take_turn;
@@ -20,7 +20,6 @@ use relay_h1::Connection;
 use relay_links::{ByteLink, Connector, Delay, Purger, Schedule, ShutdownWatch};
 use relay_tasks::{Pause, PhaseLog};
 use std::alloc::Global;
-use std::mem;
 
 /// How a proxy is set up.
 #[derive(Clone, Copy, Debug, PartialEq, Eq)]
@@ -190,19 +189,17 @@ impl<SV: ProxyHttp, K: Connector, P: Purger> HttpProxy<SV, K, P> {
         ensures keeps { machine.new.kept ≡ machine.old.kept }
         ensures same { self.new ≡ record self.old { connector = self.new.connector } }
     {
-        let phase = mem::replace(&mut machine.machine.phase, Phase::ReadHead);
-        let Next { phase, step, work } = take_turn(
+        let Did { step, work } = take_turn(
             self.alloc,
             &self.inner,
             &mut self.connector,
             client,
             &mut outside.schedule,
-            phase,
+            &mut machine.machine.phase,
         );
         machine.machine.turns = count_turn(machine.machine.turns, work);
         machine.machine.work = machine.machine.work.plus(work);
-        let settled = settle(&mut self.connector, phase);
-        machine.machine.phase.put(settled);
+        settle(&mut self.connector, &mut machine.machine.phase);
         step
     }
 

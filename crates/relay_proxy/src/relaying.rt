@@ -1,6 +1,7 @@
 //! The attempt: one turn of its exchange, and what becomes of the client and of the link once it
 //! has ended (RFC 9112, section 9.3).
-ghost use Rattle.std.specs.Prelude.{◌≡◌, ℕ, [], ◌∷◌, None, false};
+ghost use Rattle.std.specs.Prelude.{◌≡◌, ℕ, [], None, true, false};
+ghost use Rattle.std.specs.Global.{Box};
 ghost use Rattle.relay_core.specs.Asked.{WaitRose};
 ghost use Rattle.relay_core.specs.Causes.{says_failed};
 ghost use Rattle.relay_core.specs.Past.{Origin};
@@ -10,12 +11,13 @@ ghost use Rattle.relay_attempt.specs.Passed.{Passed};
 ghost use Rattle.relay_proxy.specs.Endings.{outcome_of};
 ghost use Rattle.relay_proxy.specs.Passed.{Start};
 ghost use Rattle.relay_proxy.specs.Phases.{RunSoFar};
+ghost use Rattle.relay_proxy.specs.Relaying.{is_relaying, TurnsWithin};
 ghost use Rattle.relay_proxy.specs.Reuse.{client_reusable, lets_ask_again};
 ghost use Rattle.relay_proxy.specs.Stock.{items_held};
 ghost use Rattle.relay_proxy.specs.Turn.{world_of, DoesWork, is_over, is_end, links_held, Advances, HasCause};
 
 use crate::connecting::outcome_of;
-use crate::machine::{Attempt, Next, Phase, RunStep};
+use crate::machine::{Attempt, Did, Phase, RunStep};
 use crate::outcome::Outcome;
 use crate::work::{Work, work_of};
 use http::Version;
@@ -27,58 +29,57 @@ use relay_links::{ByteLink, Schedule};
 use relay_session::HttpSession;
 use relay_tasks::{Fail, Pause};
 
-/// One turn of the attempt's exchange, where it stands. The schedule picks the branch of the
-/// duplex.
+/// One turn of a phase that relays, where it stands. The schedule picks the branch of the duplex.
 pub(crate) fn relay<D: ByteLink, U: Drop, L: ByteLink, H: Schedule, C: Drop>(
     client: &mut Connection<D, U>,
     schedule: &mut H,
-    mut attempt: Box<Attempt<L, C>>,
-) -> Next<L, C>
+    phase: &mut Phase<L, C>,
+) -> Did
+    requires { is_relaying phase.old ≡ true }
     ensures run { (s : Start) (p : Passed) (faults : ℕ)
-        → RunSoFar {C = C} L.state L.start s p (world_of D.state client.old faults) []
-        (Phase.Relay attempt)
-        → Advances {C = C} L.state L.start s (world_of D.state client.new faults) result.phase }
+        → RunSoFar {C = C} L.state L.start s p (world_of D.state client.old faults) [] phase.old
+        → Advances {C = C} L.state L.start s (world_of D.state client.new faults) phase.new }
     ensures cause { (faults : ℕ) → HasCause {C = C} L.state L.start
-        (world_of D.state client.old faults) (world_of D.state client.new faults)
-        (Phase.Relay attempt) result.phase result.step }
+        (world_of D.state client.old faults) (world_of D.state client.new faults) phase.old
+        phase.new result.step }
     ensures work { DoesWork result.step result.work }
-    ensures over { is_over result.phase ≡ is_end result.step }
-    ensures linked { links_held L.state L.start result.phase ≡ 1 }
-    ensures items { items_held L.start result.phase
-        ≡ (L.start (link_of attempt.value.exchange)).items ∷ [] }
+    ensures over { is_over phase.new ≡ is_end result.step }
+    ensures linked { links_held L.state L.start phase.new ≡ links_held L.state L.start phase.old }
+    ensures items { items_held L.start phase.new ≡ items_held L.start phase.old }
     ensures kept { client.new.kept ≡ client.old.kept }
     ensures client_start { D.start client.new.link ≡ D.start client.old.link }
 {
-    let Turn { step, branch } = turn_over(&mut attempt.exchange, client, schedule);
+    let Turn { step, branch } = turn_within(phase, client, schedule);
     match step {
-        Step::Moved => Next {
-            phase: Phase::Relay(attempt),
+        Step::Moved => Did {
             step: RunStep::Moved,
             work: work_of(branch),
         },
-        Step::Waited(Pause::NotReady) => Next {
-            phase: Phase::Relay(attempt),
+        Step::Waited(Pause::NotReady) => Did {
             step: RunStep::Waited(Pause::NotReady),
             work: Work::USED,
         },
-        Step::Waited(Pause::Silent) => Next {
-            phase: Phase::Relay(attempt),
+        Step::Waited(Pause::Silent) => Did {
             step: RunStep::Waited(Pause::Silent),
             work: Work::NONE,
         },
-        Step::Finished => close_finished(client, attempt),
-        Step::Failed(why) => close_failed(attempt, why),
+        Step::Finished => close_finished(client, phase),
+        Step::Failed(why) => close_failed(phase, why),
     }
 }
 
 /// The end of an attempt whose exchange has finished: its link is to go back.
 fn close_finished<D, U, L: ByteLink, C: Drop>(
     client: &Connection<D, U>,
-    attempt: Box<Attempt<L, C>>,
-) -> Next<L, C>
-    ensures phase { let x = attempt.value.exchange in
-        result.phase ≡ Phase.Close (link_of x) attempt.value.lease (may_keep x)
+    phase: &mut Phase<L, C>,
+) -> Did
+    requires { is_relaying phase.old ≡ true }
+    ensures closes { (a : Box (Attempt L C)) → phase.old ≡ Phase.Relay a
+        → let x = a.value.exchange in phase.new ≡ Phase.Close (link_of x) a.value.lease (may_keep x)
         (Outcome.Served None (client_reusable x client.now.ahead)) }
+    ensures over { is_over phase.new ≡ true }
+    ensures linked { links_held L.state L.start phase.new ≡ links_held L.state L.start phase.old }
+    ensures items { items_held L.start phase.new ≡ items_held L.start phase.old }
     ensures step { result.step ≡ RunStep.Ended }
     ensures work { result.work ≡ Work.ENDED }
 {
@@ -86,21 +87,25 @@ fn close_finished<D, U, L: ByteLink, C: Drop>(
         exchange,
         lease,
         context: _,
-    } = Box::into_inner(attempt);
+    } = Box::into_inner(phase.take_attempt());
     let keep = exchange.may_keep();
     let reuse = is_client_reusable(&exchange, client);
     let served = Outcome::Served { error: None, reuse };
-    Next {
-        phase: Phase::Close(exchange.into_link(), lease, keep, served),
+    phase.put(Phase::Close(exchange.into_link(), lease, keep, served));
+    Did {
         step: RunStep::Ended,
         work: Work::ENDED,
     }
 }
 
 /// The end of an attempt whose exchange failed: its link is to go back, and is not kept.
-fn close_failed<L: ByteLink, C: Drop>(attempt: Box<Attempt<L, C>>, why: Fail) -> Next<L, C>
-    ensures phase { result.phase ≡ Phase.Close (link_of attempt.value.exchange)
-        attempt.value.lease false (outcome_of why) }
+fn close_failed<L: ByteLink, C: Drop>(phase: &mut Phase<L, C>, why: Fail) -> Did
+    requires { is_relaying phase.old ≡ true }
+    ensures closes { (a : Box (Attempt L C)) → phase.old ≡ Phase.Relay a
+        → phase.new ≡ Phase.Close (link_of a.value.exchange) a.value.lease false (outcome_of why) }
+    ensures over { is_over phase.new ≡ true }
+    ensures linked { links_held L.state L.start phase.new ≡ links_held L.state L.start phase.old }
+    ensures items { items_held L.start phase.new ≡ items_held L.start phase.old }
     ensures step { result.step ≡ RunStep.Ended }
     ensures work { result.work ≡ Work.ENDED }
 {
@@ -108,11 +113,37 @@ fn close_failed<L: ByteLink, C: Drop>(attempt: Box<Attempt<L, C>>, why: Fail) ->
         exchange,
         lease,
         context: _,
-    } = Box::into_inner(attempt);
-    Next {
-        phase: Phase::Close(exchange.into_link(), lease, false, outcome_of(why)),
+    } = Box::into_inner(phase.take_attempt());
+    phase.put(Phase::Close(exchange.into_link(), lease, false, outcome_of(why)));
+    Did {
         step: RunStep::Ended,
         work: Work::ENDED,
+    }
+}
+
+/// One turn of the exchange of a phase that relays, where it stands.
+fn turn_within<D: ByteLink, U: Drop, L: ByteLink, H: Schedule, C>(
+    phase: &mut Phase<L, C>,
+    client: &mut Connection<D, U>,
+    schedule: &mut H,
+) -> Turn
+    requires { is_relaying phase.old ≡ true }
+    ensures turns { TurnsWithin L.state L.start (D.state client.old.link) (D.state client.new.link)
+        client.old.ahead client.new.ahead phase.old phase.new result.step }
+    ensures relaying { is_relaying phase.new ≡ true }
+    ensures going { is_over phase.new ≡ false }
+    ensures linked { links_held L.state L.start phase.new ≡ links_held L.state L.start phase.old }
+    ensures items { items_held L.start phase.new ≡ items_held L.start phase.old }
+    ensures kept { client.new.kept ≡ client.old.kept }
+    ensures client_start { D.start client.new.link ≡ D.start client.old.link }
+{
+    match phase {
+        Phase::Relay(attempt) => turn_over(&mut attempt.exchange, client, schedule),
+        Phase::ReadHead => unreachable!(),
+        Phase::Refuse(_, _) => unreachable!(),
+        Phase::Connect(_, _) => unreachable!(),
+        Phase::Close(_, _, _, _) => unreachable!(),
+        Phase::Ended(_, _) => unreachable!(),
     }
 }
 

@@ -7,76 +7,131 @@ ghost use Rattle.relay_proxy.specs.Taken.{Takes, offers_before, offers_of_turn};
 ghost use Rattle.relay_proxy.specs.Passed.{Start};
 ghost use Rattle.relay_proxy.specs.Phases.{RunSoFar};
 ghost use Rattle.relay_proxy.specs.Refusals.{faults_of_turn};
+ghost use Rattle.relay_proxy.specs.Relaying.{is_relaying};
 ghost use Rattle.relay_proxy.specs.Stock.{items_held, all_items};
 ghost use Rattle.relay_proxy.specs.Turn.{world_of, links_held, is_over, is_end, WorksIn, HasCause};
 
 use crate::client_head::{read_head, write_refusal};
 use crate::connecting::connect;
 use crate::hooks::ProxyHttp;
-use crate::machine::{Next, Phase, RunStep};
+use crate::machine::{Did, Next, Phase, RunStep};
 use crate::relaying::relay;
 use crate::work::Work;
 use relay_h1::Connection;
 use relay_links::{ByteLink, Connector, Schedule};
 use std::alloc::Global;
+use std::mem;
 
 /// One turn: one call of one link or of the connector, one verdict on a head, or one branch of the
-/// duplex.
+/// duplex. A phase that relays is turned where it stands, since it has the most turns.
 pub(crate) fn take_turn<SV: ProxyHttp, K: Connector, D: ByteLink, U: Drop, H: Schedule>(
     alloc: Global,
     hooks: &SV,
     connector: &mut K,
     client: &mut Connection<D, U>,
     schedule: &mut H,
-    phase: Phase<K::Byte, SV::CTX>,
-) -> Next<K::Byte, SV::CTX>
+    phase: &mut Phase<K::Byte, SV::CTX>,
+) -> Did
     ensures turn { (s : Start) (p : Passed)
         → RunSoFar {C = SV.CTX} K.Byte.state K.Byte.start s p
-        (world_of D.state client.old (K.fault_count connector.old)) [] phase
+        (world_of D.state client.old (K.fault_count connector.old)) [] phase.old
         → TurnOf K.Byte.state K.Byte.start s
         (world_of D.state client.new (K.fault_count connector.new))
-        phase result.phase }
+        phase.old phase.new }
     ensures cause { HasCause K.Byte.state K.Byte.start
         (world_of D.state client.old (K.fault_count connector.old))
         (world_of D.state client.new (K.fault_count connector.new))
-        phase result.phase result.step }
+        phase.old phase.new result.step }
     ensures rests { Rests (world_of D.state client.old (K.fault_count connector.old))
-        (world_of D.state client.new (K.fault_count connector.new)) phase result.phase result.step }
-    ensures work { WorksIn phase result.step result.work }
-    ensures over { is_over result.phase ≡ is_end result.step }
-    ensures out { K.out connector.new + links_held K.Byte.state K.Byte.start phase
-        ≡ K.out connector.old + links_held K.Byte.state K.Byte.start result.phase }
+        (world_of D.state client.new (K.fault_count connector.new)) phase.old phase.new
+        result.step }
+    ensures work { WorksIn phase.old result.step result.work }
+    ensures over { is_over phase.new ≡ is_end result.step }
+    ensures out { K.out connector.new + links_held K.Byte.state K.Byte.start phase.old
+        ≡ K.out connector.old + links_held K.Byte.state K.Byte.start phase.new }
     ensures returned { K.returned connector.new ≡ K.returned connector.old }
-    ensures refusals { Gains (K.refusals connector.old) (faults_of_turn phase result.phase)
+    ensures refusals { Gains (K.refusals connector.old) (faults_of_turn phase.old phase.new)
         (K.refusals connector.new) }
     ensures offers { Takes (K.stock connector.old)
-        (offers_of_turn K.Byte.start phase result.phase) (K.stock connector.new) }
+        (offers_of_turn K.Byte.start phase.old phase.new) (K.stock connector.new) }
     // What the request took goes on by what the turn took.
-    ensures carries { is_over phase ≡ false
-        → offers_before K.Byte.start [] phase ++ offers_of_turn K.Byte.start phase result.phase
-        ≡ offers_before K.Byte.start [] result.phase }
+    ensures carries { is_over phase.old ≡ false → offers_before K.Byte.start [] phase.old
+        ++ offers_of_turn K.Byte.start phase.old phase.new
+        ≡ offers_before K.Byte.start [] phase.new }
     ensures faults { K.fault_count connector.old ≤ K.fault_count connector.new }
     ensures kept { client.new.kept ≡ client.old.kept }
     ensures client_start { D.start client.new.link ≡ D.start client.old.link }
     ensures stock { all_items K.Byte.start (K.returned connector.new)
-        (items_held K.Byte.start result.phase) (K.stock connector.new)
-        ≡ all_items K.Byte.start (K.returned connector.old) (items_held K.Byte.start phase)
+        (items_held K.Byte.start phase.new) (K.stock connector.new)
+        ≡ all_items K.Byte.start (K.returned connector.old) (items_held K.Byte.start phase.old)
         (K.stock connector.old) }
 {
-    match phase {
-        Phase::ReadHead => read_head(alloc, hooks, client),
-        Phase::Refuse(answer, error) => write_refusal(alloc, client, answer, error),
-        Phase::Connect(context, session) => { connect(alloc, connector, context, session) }
-        Phase::Relay(attempt) => relay(client, schedule, attempt),
-        Phase::Close(link, lease, keep, outcome) => Next {
+    if phase.is_relaying() {
+        return relay(client, schedule, phase);
+    }
+    move_on(alloc, hooks, connector, client, phase)
+}
+
+/// One turn of a phase that does not relay. It is taken out of its place, and the next is put
+/// there.
+fn move_on<SV: ProxyHttp, K: Connector, D: ByteLink, U: Drop>(
+    alloc: Global,
+    hooks: &SV,
+    connector: &mut K,
+    client: &mut Connection<D, U>,
+    phase: &mut Phase<K::Byte, SV::CTX>,
+) -> Did
+    requires { is_relaying phase.old ≡ false }
+    ensures turn { (s : Start) (p : Passed)
+        → RunSoFar {C = SV.CTX} K.Byte.state K.Byte.start s p
+        (world_of D.state client.old (K.fault_count connector.old)) [] phase.old
+        → TurnOf K.Byte.state K.Byte.start s
+        (world_of D.state client.new (K.fault_count connector.new))
+        phase.old phase.new }
+    ensures cause { HasCause K.Byte.state K.Byte.start
+        (world_of D.state client.old (K.fault_count connector.old))
+        (world_of D.state client.new (K.fault_count connector.new))
+        phase.old phase.new result.step }
+    ensures rests { Rests (world_of D.state client.old (K.fault_count connector.old))
+        (world_of D.state client.new (K.fault_count connector.new)) phase.old phase.new
+        result.step }
+    ensures work { WorksIn phase.old result.step result.work }
+    ensures over { is_over phase.new ≡ is_end result.step }
+    ensures out { K.out connector.new + links_held K.Byte.state K.Byte.start phase.old
+        ≡ K.out connector.old + links_held K.Byte.state K.Byte.start phase.new }
+    ensures returned { K.returned connector.new ≡ K.returned connector.old }
+    ensures refusals { Gains (K.refusals connector.old) (faults_of_turn phase.old phase.new)
+        (K.refusals connector.new) }
+    ensures offers { Takes (K.stock connector.old)
+        (offers_of_turn K.Byte.start phase.old phase.new) (K.stock connector.new) }
+    // What the request took goes on by what the turn took.
+    ensures carries { is_over phase.old ≡ false → offers_before K.Byte.start [] phase.old
+        ++ offers_of_turn K.Byte.start phase.old phase.new
+        ≡ offers_before K.Byte.start [] phase.new }
+    ensures faults { K.fault_count connector.old ≤ K.fault_count connector.new }
+    ensures kept { client.new.kept ≡ client.old.kept }
+    ensures client_start { D.start client.new.link ≡ D.start client.old.link }
+    ensures stock { all_items K.Byte.start (K.returned connector.new)
+        (items_held K.Byte.start phase.new) (K.stock connector.new)
+        ≡ all_items K.Byte.start (K.returned connector.old) (items_held K.Byte.start phase.old)
+        (K.stock connector.old) }
+{
+    match mem::replace(phase, Phase::ReadHead) {
+        Phase::ReadHead => phase.go_on(read_head(alloc, hooks, client)),
+        Phase::Refuse(answer, error) => { phase.go_on(write_refusal(alloc, client, answer, error)) }
+        Phase::Connect(context, session) => {
+            phase.go_on(connect(alloc, connector, context, session))
+        }
+        Phase::Relay(_attempt) => unreachable!(),
+        Phase::Close(link, lease, keep, outcome) => phase.go_on(Next {
             phase: Phase::Close(link, lease, keep, outcome),
             step: RunStep::Ended,
             work: Work::NONE,
-        },
-        Phase::Ended(outcome, attempts) => Next {
+        }),
+        Phase::Ended(outcome, attempts) => phase.go_on(Next {
             phase: Phase::Ended(outcome, attempts),
             step: RunStep::Ended,
             work: Work::NONE,
-        },
+        }),
     }
 }

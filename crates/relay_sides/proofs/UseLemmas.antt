@@ -43,9 +43,10 @@ module _ (before after : LinkState) where
   asked_may came (Some (got.Failed fault)) asks = inl asks.0.used
 
   -- a read of the peer asks it once at most
-  pub peer_may : (method : List ℕ) (old new : ResponseReading) (answer : Took HttpTask)
-      → ReadsTask method before after old new answer → MayUse before after
-  peer_may method old new answer reads = asked_may reads.came reads.asked reads.asks
+  pub peer_may : (method : List ℕ) (upgrade : Bool) (old new : ResponseReading)
+      (answer : Took HttpTask)
+      → ReadsTask method upgrade before after old new answer → MayUse before after
+  peer_may method upgrade old new answer reads = asked_may reads.came reads.asked reads.asks
 
   -- a read of the peer that waits asked it, or the peer is silent
   pub peer_waits : (pause : Pause) (answer : Took HttpTask) → answer ≡ took.Waited pause

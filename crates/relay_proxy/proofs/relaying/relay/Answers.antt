@@ -1,93 +1,75 @@
--- Each answer of the exchange's turn is a turn of the request. The turn is one of the attempt as
--- its pointer lends it.
-use Rattle.std.proofs.Common.{◌≡◌, ap, ◌∙◌}
-use Rattle.std.specs.Box.{with_value}
+-- Each answer of the exchange's turn is a turn of the request.
+use Rattle.std.proofs.Common.{◌≡◌, refl, ap, ◌∙◌}
 use Rattle.relay_tasks.specs.declared.took.Pause.TheVariants.{NotReady, Silent}
-use Rattle.relay_core.specs.Causes.{says_failed}
 use Rattle.relay_core.specs.declared.step.Step.TheVariants as step
 use Rattle.relay_proxy.specs.Turn.{world_of}
-use Rattle.relay_proxy.proofs.RelaySteps.{lent, moves, waits, has_waited, has_stalled, finishes, fails}
+use Rattle.relay_proxy.proofs.RelaySteps.{moved_within, waited_within, finished_within, failed_within, moved_cause, waited_cause, silent_cause}
 use Rattle.relay_proxy.proofs.relaying.relay.Goals as goal
 
 -- the exchange moved
 pub returns-in-Moved-clause-run : goal.returns-in-Moved-clause-run
-returns-in-Moved-clause-run g c = λ s p faults given.
-    let a = c.deref_mut.result.now in
-    let run = lent g.L.ByteLink.state g.L.ByteLink.start s p _ c.args.attempt a
-    c.deref_mut.ensures.value given in
-    moves g.L.ByteLink.state g.L.ByteLink.start s p _ _ _ (with_value c.args.attempt a) _ run
-    (rw c.in-Moved.is at (c.turn_over-step.ensures.goes _ p run.holds.under_way))
-    (c.turn_over-step.ensures.calm (ap says_failed c.in-Moved.is))
+returns-in-Moved-clause-run g c = λ s p faults run.
+    moved_within g.L.ByteLink.state g.L.ByteLink.start
+    (world_of g.D.ByteLink.state c.args.client.now faults)
+    (world_of g.D.ByteLink.state c.turn_within-step.new.client faults) _ _ _
+    c.turn_within-step.ensures.turns c.in-Moved.is refl s p run
+
+-- it moved something
+pub returns-in-Moved-clause-cause : goal.returns-in-Moved-clause-cause
+returns-in-Moved-clause-cause g c = λ faults.
+    moved_cause g.L.ByteLink.state g.L.ByteLink.start
+    (world_of g.D.ByteLink.state c.args.client.now faults)
+    (world_of g.D.ByteLink.state c.turn_within-step.new.client faults) _ _ _
+    c.turn_within-step.ensures.turns
 
 -- the exchange waits for a link
 pub returns-in-Waited-NotReady-clause-run : goal.returns-in-Waited-NotReady-clause-run
-returns-in-Waited-NotReady-clause-run g c = λ s p faults given.
-    let a = c.deref_mut.result.now in
-    let run = lent g.L.ByteLink.state g.L.ByteLink.start s p _ c.args.attempt a
-    c.deref_mut.ensures.value given in
-    let here = c.in-Waited-NotReady in
-    let pause : here.field-0 ≡ NotReady = rw here.is at here.field-0-is in
-    let is : c.turn_over-step.result.step ≡ step.Waited NotReady =
-    here.is ∙ ap step.Waited pause in
-    waits g.L.ByteLink.state g.L.ByteLink.start s p _ _ _ (with_value c.args.attempt a) _ _ run
-    (rw is at (c.turn_over-step.ensures.goes _ p run.holds.under_way))
-    (c.turn_over-step.ensures.calm (ap says_failed is))
-
--- the exchange met silence
-pub returns-in-Waited-Silent-clause-run : goal.returns-in-Waited-Silent-clause-run
-returns-in-Waited-Silent-clause-run g c = λ s p faults given.
-    let a = c.deref_mut.result.now in
-    let run = lent g.L.ByteLink.state g.L.ByteLink.start s p _ c.args.attempt a
-    c.deref_mut.ensures.value given in
-    let here = c.in-Waited-Silent in
-    let pause : here.field-0 ≡ Silent = rw here.is at here.field-0-is in
-    let is : c.turn_over-step.result.step ≡ step.Waited Silent =
-    here.is ∙ ap step.Waited pause in
-    waits g.L.ByteLink.state g.L.ByteLink.start s p _ _ _ (with_value c.args.attempt a) _ _ run
-    (rw is at (c.turn_over-step.ensures.goes _ p run.holds.under_way))
-    (c.turn_over-step.ensures.calm (ap says_failed is))
+returns-in-Waited-NotReady-clause-run g c = λ s p faults run.
+    waited_within g.L.ByteLink.state g.L.ByteLink.start
+    (world_of g.D.ByteLink.state c.args.client.now faults)
+    (world_of g.D.ByteLink.state c.turn_within-step.new.client faults) _ _ _
+    c.turn_within-step.ensures.turns _ c.in-Waited-NotReady.is refl s p run
 
 -- it waits because a link answered so
 pub returns-in-Waited-NotReady-clause-cause : goal.returns-in-Waited-NotReady-clause-cause
 returns-in-Waited-NotReady-clause-cause g c = λ faults.
     let here = c.in-Waited-NotReady in
     let pause : here.field-0 ≡ NotReady = rw here.is at here.field-0-is in
-    has_waited g.L.ByteLink.state g.L.ByteLink.start
+    waited_cause g.L.ByteLink.state g.L.ByteLink.start
     (world_of g.D.ByteLink.state c.args.client.now faults)
-    (world_of g.D.ByteLink.state c.turn_over-step.new.client faults) c.args.attempt
-    c.deref_mut.result.now c.turn_over-step.new.exchange
-    c.deref_mut.ensures.value
-    (c.turn_over-step.ensures.waits (here.is ∙ ap step.Waited pause))
+    (world_of g.D.ByteLink.state c.turn_within-step.new.client faults) _ _ _
+    c.turn_within-step.ensures.turns (here.is ∙ ap step.Waited pause)
+
+-- the exchange met silence
+pub returns-in-Waited-Silent-clause-run : goal.returns-in-Waited-Silent-clause-run
+returns-in-Waited-Silent-clause-run g c = λ s p faults run.
+    waited_within g.L.ByteLink.state g.L.ByteLink.start
+    (world_of g.D.ByteLink.state c.args.client.now faults)
+    (world_of g.D.ByteLink.state c.turn_within-step.new.client faults) _ _ _
+    c.turn_within-step.ensures.turns _ c.in-Waited-Silent.is refl s p run
 
 -- in silence all that can be done asks a silent link
 pub returns-in-Waited-Silent-clause-cause : goal.returns-in-Waited-Silent-clause-cause
 returns-in-Waited-Silent-clause-cause g c = λ faults.
     let here = c.in-Waited-Silent in
     let pause : here.field-0 ≡ Silent = rw here.is at here.field-0-is in
-    has_stalled g.L.ByteLink.state g.L.ByteLink.start
+    silent_cause g.L.ByteLink.state g.L.ByteLink.start
     (world_of g.D.ByteLink.state c.args.client.now faults)
-    (world_of g.D.ByteLink.state c.turn_over-step.new.client faults) c.args.attempt
-    c.deref_mut.result.now c.turn_over-step.new.exchange
-    c.deref_mut.ensures.value
-    (c.turn_over-step.ensures.quiet (here.is ∙ ap step.Waited pause))
+    (world_of g.D.ByteLink.state c.turn_within-step.new.client faults) _ _ _
+    c.turn_within-step.ensures.turns (here.is ∙ ap step.Waited pause)
 
 -- the exchange finished
 pub returns-in-Finished-clause-run : goal.returns-in-Finished-clause-run
-returns-in-Finished-clause-run g c = λ s p faults given.
-    let a = c.deref_mut.result.now in
-    let run = lent g.L.ByteLink.state g.L.ByteLink.start s p _ c.args.attempt a
-    c.deref_mut.ensures.value given in
-    rw c.close_finished.ensures.phase
-    (finishes g.L.ByteLink.state g.L.ByteLink.start s p _ _ _ (with_value c.args.attempt a) _ run
-    (rw c.in-Finished.is at (c.turn_over-step.ensures.goes _ p run.holds.under_way))
-    (c.turn_over-step.ensures.calm (ap says_failed c.in-Finished.is)))
+returns-in-Finished-clause-run g c = λ s p faults run.
+    finished_within g.L.ByteLink.state g.L.ByteLink.start
+    (world_of g.D.ByteLink.state c.args.client.now faults)
+    (world_of g.D.ByteLink.state c.turn_within-step.new.client faults) _ _ _
+    c.turn_within-step.ensures.turns c.in-Finished.is refl _ c.close_finished.ensures.closes s p run
 
 -- the exchange failed
 pub returns-in-Failed-clause-run : goal.returns-in-Failed-clause-run
-returns-in-Failed-clause-run g c = λ s p faults given.
-    let a = c.deref_mut.result.now in
-    let run = lent g.L.ByteLink.state g.L.ByteLink.start s p _ c.args.attempt a
-    c.deref_mut.ensures.value given in
-    rw c.close_failed.ensures.phase
-    (fails g.L.ByteLink.state g.L.ByteLink.start s p _ _ _ (with_value c.args.attempt a) _ _ run
-    (rw c.in-Failed.is at (c.turn_over-step.ensures.goes _ p run.holds.under_way)))
+returns-in-Failed-clause-run g c = λ s p faults run.
+    failed_within g.L.ByteLink.state g.L.ByteLink.start
+    (world_of g.D.ByteLink.state c.args.client.now faults)
+    (world_of g.D.ByteLink.state c.turn_within-step.new.client faults) _ _ _
+    c.turn_within-step.ensures.turns _ c.in-Failed.is refl _ c.close_failed.ensures.closes s p run

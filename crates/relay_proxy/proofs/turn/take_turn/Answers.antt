@@ -1,92 +1,60 @@
--- A turn that does not ask the connector leaves its count of faults as it was.
-use Rattle.std.proofs.Common.{refl, sym}
-use Rattle.relay_proxy.proofs.RefusalLemmas.{none_added, none_before_link}
-use Rattle.relay_proxy.proofs.TakenLemmas.{takes_none, takes_nothing, one_out, held_offers, no_offers}
+-- A turn of a phase that relays asks no connector, and is a turn of the request.
+use Rattle.std.proofs.Common.{refl, sym, ◌∙◌}
+use Rattle.relay_proxy.specs.Turn.{world_of}
+use Rattle.relay_proxy.proofs.RefusalLemmas.{none_added}
+use Rattle.relay_proxy.proofs.TakenLemmas.{takes_nothing}
+use Rattle.relay_proxy.proofs.TurnLemmas.{relaying_turn, relaying_rests, relaying_works, relaying_unrefused, relaying_takes, relaying_carries}
 use Rattle.relay_proxy.proofs.turn.take_turn.Goals as goal
 
--- a write of the refusal is a turn
-pub returns-in-Refuse-clause-turn : goal.returns-in-Refuse-clause-turn
-returns-in-Refuse-clause-turn g c = λ s p. rw c.in-Refuse.is (λ run.
-    c.write_refusal.ensures.run s p (g.K.Connector.fault_count c.args.connector.now) run)
-
 -- a turn of the attempt is a turn
-pub returns-in-Relay-clause-turn : goal.returns-in-Relay-clause-turn
-returns-in-Relay-clause-turn g c = λ s p. rw c.in-Relay.is (λ run.
-    c.relay.ensures.run s p (g.K.Connector.fault_count c.args.connector.now) run)
+pub returns-then-is_relaying-clause-turn : goal.returns-then-is_relaying-clause-turn
+returns-then-is_relaying-clause-turn g c =
+    λ s p run.
+    relaying_turn g.K.Byte.ByteLink.state g.K.Byte.ByteLink.start s
+    (world_of g.D.ByteLink.state c.relay.new.client
+    (g.K.Connector.fault_count c.args.connector.now))
+    c.args.phase.now c.relay.new.phase (sym c.is_relaying.ensures ∙ c.if-is_relaying.true)
+    (c.relay.ensures.run s p (g.K.Connector.fault_count c.args.connector.now) run)
 
--- the link that the connector gave was the first of those that were left
-pub returns-in-Connect-clause-stock : goal.returns-in-Connect-clause-stock
-returns-in-Connect-clause-stock g c =
-    rw c.in-Connect.is (one_out g.K.Byte.ByteLink.start _ _ _ _ _ _ c.connect.ensures.returned
-    c.connect.ensures.offers)
+-- its cause is that of the attempt
+pub returns-then-is_relaying-clause-cause : goal.returns-then-is_relaying-clause-cause
+returns-then-is_relaying-clause-cause g c =
+    c.relay.ensures.cause (g.K.Connector.fault_count c.args.connector.now)
 
--- the cause of a turn that reads the head
-pub returns-in-ReadHead-clause-cause : goal.returns-in-ReadHead-clause-cause
-returns-in-ReadHead-clause-cause g c =
-    rw c.in-ReadHead.is
-    (c.read_head.ensures.cause (g.K.Connector.fault_count c.args.connector.now))
+-- the request had not ended
+pub returns-then-is_relaying-clause-rests : goal.returns-then-is_relaying-clause-rests
+returns-then-is_relaying-clause-rests g c =
+    relaying_rests g.K.Byte.ByteLink.state g.K.Byte.ByteLink.start
+    (world_of g.D.ByteLink.state c.args.client.now
+    (g.K.Connector.fault_count c.args.connector.now))
+    (world_of g.D.ByteLink.state c.relay.new.client
+    (g.K.Connector.fault_count c.args.connector.now))
+    c.args.phase.now c.relay.new.phase c.relay.result.step
+    (sym c.is_relaying.ensures ∙ c.if-is_relaying.true)
 
--- the cause of a turn that writes the refusal
-pub returns-in-Refuse-clause-cause : goal.returns-in-Refuse-clause-cause
-returns-in-Refuse-clause-cause g c =
-    rw c.in-Refuse.is
-    (c.write_refusal.ensures.cause (g.K.Connector.fault_count c.args.connector.now))
+-- the turn did its work
+pub returns-then-is_relaying-clause-work : goal.returns-then-is_relaying-clause-work
+returns-then-is_relaying-clause-work g c =
+    relaying_works c.args.phase.now c.relay.result.step c.relay.result.work
+    (sym c.is_relaying.ensures ∙ c.if-is_relaying.true)
+    c.relay.ensures.work
 
--- the cause of a turn that asks the connector
-pub returns-in-Connect-clause-cause : goal.returns-in-Connect-clause-cause
-returns-in-Connect-clause-cause g c =
-    rw c.in-Connect.is
-    (c.connect.ensures.cause (g.D.ByteLink.state c.args.client.now.link) c.args.client.now.ahead)
+-- a turn of the attempt adds no refusal of the connector
+pub returns-then-is_relaying-clause-refusals : goal.returns-then-is_relaying-clause-refusals
+returns-then-is_relaying-clause-refusals g c =
+    none_added _ _ _ (relaying_unrefused g.K.Byte.ByteLink.state g.K.Byte.ByteLink.start
+    c.args.phase.now c.relay.new.phase (sym c.is_relaying.ensures ∙ c.if-is_relaying.true)
+    c.relay.ensures.linked) refl
 
--- the cause of a turn of the attempt
-pub returns-in-Relay-clause-cause : goal.returns-in-Relay-clause-cause
-returns-in-Relay-clause-cause g c =
-    rw c.in-Relay.is (c.relay.ensures.cause (g.K.Connector.fault_count c.args.connector.now))
-
--- a turn that reads the head adds no refusal of the connector
-pub returns-in-ReadHead-clause-refusals : goal.returns-in-ReadHead-clause-refusals
-returns-in-ReadHead-clause-refusals g c =
-    rw c.in-ReadHead.is (none_added _ _ _ c.read_head.ensures.unrefused refl)
-
--- nor does one that writes the refusal
-pub returns-in-Refuse-clause-refusals : goal.returns-in-Refuse-clause-refusals
-returns-in-Refuse-clause-refusals g c =
-    rw c.in-Refuse.is (none_added _ _ _ c.write_refusal.ensures.unrefused refl)
-
--- a turn that asks the connector adds its refusals
-pub returns-in-Connect-clause-refusals : goal.returns-in-Connect-clause-refusals
-returns-in-Connect-clause-refusals g c = rw c.in-Connect.is c.connect.ensures.refusals
-
--- a turn of the attempt adds none
-pub returns-in-Relay-clause-refusals : goal.returns-in-Relay-clause-refusals
-returns-in-Relay-clause-refusals g c =
-    rw c.in-Relay.is (none_added _ _ _ (none_before_link g.K.Byte.ByteLink.state
-    g.K.Byte.ByteLink.start c.relay.result.phase c.relay.ensures.linked) refl)
-
--- a turn that reads the head takes none of the offers
-pub returns-in-ReadHead-clause-offers : goal.returns-in-ReadHead-clause-offers
-returns-in-ReadHead-clause-offers g c =
-    rw c.in-ReadHead.is (takes_nothing _ _ _ (no_offers g.K.Byte.ByteLink.start
-    c.read_head.result.phase c.read_head.ensures.no_items c.read_head.ensures.unrefused) refl)
-
--- nor does one that writes the refusal
-pub returns-in-Refuse-clause-offers : goal.returns-in-Refuse-clause-offers
-returns-in-Refuse-clause-offers g c =
-    rw c.in-Refuse.is (takes_nothing _ _ _ (no_offers g.K.Byte.ByteLink.start
-    c.write_refusal.result.phase c.write_refusal.ensures.no_items
-    c.write_refusal.ensures.unrefused) refl)
-
--- a turn that asks the connector takes what the next phase took
-pub returns-in-Connect-clause-offers : goal.returns-in-Connect-clause-offers
-returns-in-Connect-clause-offers g c = rw c.in-Connect.is c.connect.ensures.offers
-
--- a turn of the attempt takes none
-pub returns-in-Relay-clause-offers : goal.returns-in-Relay-clause-offers
-returns-in-Relay-clause-offers g c = rw c.in-Relay.is (takes_none _ _ refl)
+-- nor does it take any of the offers
+pub returns-then-is_relaying-clause-offers : goal.returns-then-is_relaying-clause-offers
+returns-then-is_relaying-clause-offers g c =
+    takes_nothing _ _ _ (relaying_takes g.K.Byte.ByteLink.state g.K.Byte.ByteLink.start
+    c.args.phase.now c.relay.new.phase (sym c.is_relaying.ensures ∙ c.if-is_relaying.true)) refl
 
 -- its next phase holds the same link
-pub returns-in-Relay-clause-carries : goal.returns-in-Relay-clause-carries
-returns-in-Relay-clause-carries g c = rw c.in-Relay.is (λ live.
-    sym (held_offers g.K.Byte.ByteLink.start c.relay.result.phase _ c.relay.ensures.items
-    (none_before_link g.K.Byte.ByteLink.state g.K.Byte.ByteLink.start
-    c.relay.result.phase c.relay.ensures.linked)))
+pub returns-then-is_relaying-clause-carries : goal.returns-then-is_relaying-clause-carries
+returns-then-is_relaying-clause-carries g c = λ live.
+    relaying_carries g.K.Byte.ByteLink.state g.K.Byte.ByteLink.start c.args.phase.now
+    c.relay.new.phase (sym c.is_relaying.ensures ∙ c.if-is_relaying.true) c.relay.ensures.linked
+    c.relay.ensures.items

@@ -5,28 +5,19 @@ use Rattle.relay_proxy.proofs.proxy.HttpProxy.step.Goals as goal
 -- a turn that was settled is a step
 pub returns-clause-steps : goal.returns-clause-steps
 returns-clause-steps g c = λ s p own run.
-    rw (
-      c.settle-settled.ensures.faults,
-      c.settle-settled.ensures.refusals,
-      c.settle-settled.ensures.offers,
-      c.put.ensures,
-    )
+    rw (c.settle.ensures.faults, c.settle.ensures.refusals, c.settle.ensures.offers)
     (step_on g.K.Byte.ByteLink.state g.K.Byte.ByteLink.start s p own _ _
-    c.args.machine.now.machine.phase c.take_turn-phase.result.phase c.settle-settled.result
-    c.take_turn-phase.result.step _ _ _ _ _ _ _
-    (rw c.replace-phase.ensures.value at (c.take_turn-phase.ensures.turn s p))
-    (rw c.replace-phase.ensures.value at c.take_turn-phase.ensures.rests)
-    c.take_turn-phase.ensures.returned c.settle-settled.ensures.settles
-    (rw c.replace-phase.ensures.value at c.take_turn-phase.ensures.refusals)
-    (rw c.replace-phase.ensures.value at c.take_turn-phase.ensures.offers)
-    (rw c.replace-phase.ensures.value at c.take_turn-phase.ensures.carries) run)
+    c.args.machine.now.machine.phase c.take_turn-step.new.phase c.settle.new.phase
+    c.take_turn-step.result.step _ _ _ _ _ _ _ (c.take_turn-step.ensures.turn s p)
+    c.take_turn-step.ensures.rests c.take_turn-step.ensures.returned c.settle.ensures.settles
+    c.take_turn-step.ensures.refusals c.take_turn-step.ensures.offers
+    c.take_turn-step.ensures.carries run)
 
 -- its cause is that of the turn
 pub returns-clause-cause : goal.returns-clause-cause
 returns-clause-cause g c =
-    rw (c.settle-settled.ensures.faults, c.put.ensures)
+    rw c.settle.ensures.faults
     (settled_cause g.K.Byte.ByteLink.state g.K.Byte.ByteLink.start _ _
-    c.args.machine.now.machine.phase c.take_turn-phase.result.phase c.settle-settled.result
-    c.take_turn-phase.result.step _ _ c.settle-settled.ensures.settles
-    c.take_turn-phase.ensures.over
-    (rw c.replace-phase.ensures.value at c.take_turn-phase.ensures.cause))
+    c.args.machine.now.machine.phase c.take_turn-step.new.phase c.settle.new.phase
+    c.take_turn-step.result.step _ _ c.settle.ensures.settles c.take_turn-step.ensures.over
+    c.take_turn-step.ensures.cause)

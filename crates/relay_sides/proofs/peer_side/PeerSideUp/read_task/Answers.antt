@@ -204,35 +204,35 @@ returns-in-Failed-clause-cuts g c =
 pub returns-in-Ok-clause-asks : goal.returns-in-Ok-clause-asks
 returns-in-Ok-clause-asks g c =
     peer_may (g.L.ByteLink.state c.args.self.now.client.link)
-    (g.L.ByteLink.state c.read_response_task.new.self.link) _ c.args.self.now.client.response
+    (g.L.ByteLink.state c.read_response_task.new.self.link) _ _ c.args.self.now.client.response
     c.read_response_task.new.self.response (took.Item c.in-Item.task) c.in-Item.ensures.reads
 
 -- so did one that is not
 pub returns-in-Err-clause-asks : goal.returns-in-Err-clause-asks
 returns-in-Err-clause-asks g c =
     peer_may (g.L.ByteLink.state c.args.self.now.client.link)
-    (g.L.ByteLink.state c.read_response_task.new.self.link) _ c.args.self.now.client.response
+    (g.L.ByteLink.state c.read_response_task.new.self.link) _ _ c.args.self.now.client.response
     c.read_response_task.new.self.response (took.Item c.in-Item.task) c.in-Item.ensures.reads
 
 -- and a read that brought none
 pub returns-in-More-clause-asks : goal.returns-in-More-clause-asks
 returns-in-More-clause-asks g c =
     peer_may (g.L.ByteLink.state c.args.self.now.client.link)
-    (g.L.ByteLink.state c.read_response_task.new.self.link) _ c.args.self.now.client.response
+    (g.L.ByteLink.state c.read_response_task.new.self.link) _ _ c.args.self.now.client.response
     c.read_response_task.new.self.response took.More c.in-More.ensures.reads
 
 -- and one behind the end
 pub returns-in-End-clause-asks : goal.returns-in-End-clause-asks
 returns-in-End-clause-asks g c =
     peer_may (g.L.ByteLink.state c.args.self.now.client.link)
-    (g.L.ByteLink.state c.read_response_task.new.self.link) _ c.args.self.now.client.response
+    (g.L.ByteLink.state c.read_response_task.new.self.link) _ _ c.args.self.now.client.response
     c.read_response_task.new.self.response took.End c.in-End.ensures.reads
 
 -- and one that failed
 pub returns-in-Failed-clause-asks : goal.returns-in-Failed-clause-asks
 returns-in-Failed-clause-asks g c =
     peer_may (g.L.ByteLink.state c.args.self.now.client.link)
-    (g.L.ByteLink.state c.read_response_task.new.self.link) _ c.args.self.now.client.response
+    (g.L.ByteLink.state c.read_response_task.new.self.link) _ _ c.args.self.now.client.response
     c.read_response_task.new.self.response (took.Failed c.in-Failed.why) c.in-Failed.ensures.reads
 
 -- one that waits asked it, or it is silent

@@ -1,27 +1,19 @@
--- In a valid exchange neither side answers for an error.
+-- In a valid exchange neither side answers for an error, so none fails.
 --
 --   client_blameless  the client's side: its request is whole, the client is still, and no call of
 --                     its link failed
 --   peer_blameless    the peer's side: its response is whole and is relayed, and no call of its
 --                     link failed; and no request ends short
-use Rattle.std.proofs.Common.{◌≡◌, ℕ, ◌+◌, ◌-◌, ◌<◌, Bool, true, false, if◌then◌else◌, List, [], ◌∷◌, ◌++◌, length, drop, refl, sym, ap, subst, ◌∙◌, arith, append-nil, inl, inr, Option, Some, None, nat_le}
-use Rattle.std.specs.Prelude.{unwrap_or}
-use Rattle.std.specs.List.{list_any, concat}
-use Rattle.std.proofs.lemmas.Bool.{cases_lt}
-use Rattle.std.proofs.lemmas.Bool.Decides.{nat_tests}
-use Rattle.std.proofs.lemmas.List.{length-append, length-drop, length-take-le, drop-append-le}
+--   never_fails       from FailsFor and IsValid: nothing
+use Rattle.std.proofs.Common.{◌≡◌, ℕ, ◌+◌, ◌<◌, Bool, true, false, if◌then◌else◌, List, [], ◌++◌, length, drop, refl, sym, ap, subst, ◌∙◌, arith, Some, None}
+use Rattle.std.proofs.lemmas.List.{length-append, length-drop, drop-append-le}
 use Rattle.relay_tasks.specs.declared.error.Error.{Error}
-use Rattle.relay_tasks.specs.declared.task.HttpTask.{HttpTask}
 use Rattle.relay_tasks.specs.Head.{RequestHead, ResponseHead}
-use Rattle.relay_tasks.specs.Task.{is_end}
 use Rattle.relay_links.specs.Link.{LinkState, LinkStart}
 use Rattle.relay_h1.specs.declared.framing.Framing.{Framing}
-use Rattle.relay_h1.specs.declared.framing.Framing.TheVariants as framing
-use Rattle.relay_h1.specs.Body.{BodyText, BodyMark, Body, ended_text, of_length}
+use Rattle.relay_h1.specs.Body.{BodyText, BodyMark, Body, ended_text}
 use Rattle.relay_h1.specs.Body as body
 use Rattle.relay_h1.specs.BodyReader.{may_end}
-use Rattle.relay_h1.specs.BodyWire.{after_piece, after_pieces, is_short}
-use Rattle.relay_h1.specs.Framing.{request_framing}
 use Rattle.relay_h1.specs.Tasks.{HasFinal, Tasks, ResponseText, mark_of, open_mark, still_open, ended, broken, cut_off}
 use Rattle.relay_h1.specs.Tasks as tasks
 use Rattle.relay_h1.specs.Verdict.{HasRequest}
@@ -30,20 +22,21 @@ use Rattle.relay_h1.proofs.BodyStays.{Body-ended-append, Body-broken-append}
 use Rattle.relay_h1.proofs.HeadEndLemmas.{head_end-within}
 use Rattle.relay_h1.proofs.TasksLemmas.{HasFinal-within, HasFinal-append, HasFinal-unique, HasFinal-IsOpenBehind, HasFinal-IsRefusedBehind, IsRefusedBehind-append}
 use Rattle.relay_h1.proofs.VerdictLemmas.{HasRequest-unique, HasRequest-append}
-use Rattle.relay_peer.specs.RequestWriting.{body_framing}
 use Rattle.relay_peer.specs.ResponseReading.{ToldResponse, says}
 use Rattle.relay_peer.proofs.ExactLemmas.{Tasks-unique}
 use Rattle.relay_session.specs.Reading.{SaysBody, IsWhole}
 use Rattle.relay_core.specs.Past.{Origin, DownPast}
-use Rattle.relay_sides.specs.Body.{IsFrontOf, body_of}
+use Rattle.relay_sides.specs.Body.{IsFrontOf}
 use Rattle.relay_sides.specs.Client.{ClientBlames, given_to}
 use Rattle.relay_sides.specs.Client as client_side
 use Rattle.relay_sides.specs.Peer.{PeerBlames}
 use Rattle.relay_sides.specs.Peer as peer_side
 use Rattle.relay_sides.proofs.FrontLemmas.{front_then}
-use Rattle.relay_attempt.specs.Order.{IsInOrder, up_past}
-use Rattle.relay_attempt.specs.Passed.{Passed, asked}
-use Rattle.relay_attempt.specs.Valid.{IsRequest, IsRelayedHead, IsResponse, IsValid}
+use Rattle.relay_attempt.specs.Order as order
+use Rattle.relay_attempt.specs.Order.{IsInOrder, FailsFor, up_past}
+use Rattle.relay_attempt.specs.Passed.{Passed}
+use Rattle.relay_attempt.proofs.UnshortLemmas.{request_unshort}
+use Rattle.relay_valid.specs.Valid.{IsRequest, IsRelayedHead, IsResponse, IsValid}
 
 -- a flag is not both
 never_both : {flag : Bool} → flag ≡ true → flag ≡ false → ⊥
@@ -281,104 +274,6 @@ head_relayed method upgrade got response informed final given len is front has =
     (subst (λ (xs : List ℕ). HasFinal method upgrade xs informed final given len) front.joined
     (HasFinal-append method upgrade got front.rest informed final given len has)))
 
--- ---- the peer's side: its request
-
--- what is left of a length behind pieces
-after_length : (n : ℕ) (pieces : List (List ℕ))
-    → after_pieces (framing.Length n) pieces ≡ framing.Length (n - length (concat pieces))
-after_length n [] = ap (λ (k : ℕ). framing.Length k) (none n)
-  where
-    none : (k : ℕ) → k ≡ k - 0
-    none k = omega arith
-after_length n (piece ∷ pieces) =
-    after_length (n - length piece) pieces
-    ∙ ap (λ (k : ℕ). framing.Length k)
-    (parts n (length piece) (length (concat pieces)) (length (piece ++ concat pieces))
-    (length-append piece (concat pieces)))
-  where
-    parts : (k a b all : ℕ) → all ≡ a + b → k - a - b ≡ k - all
-    parts k a b all sum = omega arith
-
--- a framing that a piece leaves as it is stays
-stays_framed : (given : Framing) → ((piece : List ℕ) → after_piece given piece ≡ given)
-    → (pieces : List (List ℕ)) → after_pieces given pieces ≡ given
-stays_framed given keeps [] = refl
-stays_framed given keeps (piece ∷ pieces) =
-    ap (λ (f : Framing). after_pieces f pieces) (keeps piece) ∙ stays_framed given keeps pieces
-
--- so it is not short where it was not
-stays_unshort : (given : Framing) → ((piece : List ℕ) → after_piece given piece ≡ given)
-    → is_short given ≡ false → (pieces : List (List ℕ))
-    → is_short (after_pieces given pieces) ≡ false
-stays_unshort given keeps unshort pieces =
-    ap (λ (f : Framing). is_short f) (stays_framed given keeps pieces) ∙ unshort
-
--- a whole body with a length has that many bytes
-length_whole : (n m : ℕ) (bytes whole : List ℕ) → ended_text whole m ≡ of_length n bytes
-    → length whole ≡ n
-length_whole n m bytes whole is =
-    elim (cases_lt (length bytes) n) [
-      | inl few ↦
-          let open_here : nat_le n (length bytes) ≡ false = grind (arith, nat_tests) in
-          let mark : (of_length n bytes).mark ≡ body.BodyMark.still_open = rw open_here refl in
-          absurd (apart (ap (λ (t : BodyText). t.mark) is ∙ mark))
-      | inr enough ↦
-          ap (λ (t : BodyText). length t.bytes) is ∙ length-take-le n bytes (omega arith)
-    ]
-  where
-    apart : body.BodyMark.ended m ≡ body.BodyMark.still_open → ⊥
-    apart same = cc
-
--- a length of which nothing is missing is not short
-none_missing : (n : ℕ) → n ≡ 0 → is_short (framing.Length n) ≡ false
-none_missing n none = ap (λ (k : ℕ). is_short (framing.Length k)) none
-
--- a whole body does not end short
-whole_unshort : (given : Framing) (bytes whole : List ℕ) (n : ℕ) (pieces : List (List ℕ))
-    → Body given bytes (ended_text whole n) → concat pieces ≡ whole
-    → is_short (after_pieces given pieces) ≡ false
-whole_unshort framing.Empty bytes whole n pieces reads joined =
-    stays_unshort framing.Empty (λ piece. refl) refl pieces
-whole_unshort (framing.Length m) bytes whole n pieces reads joined =
-    ap (λ (f : Framing). is_short f) (after_length m pieces)
-    ∙ none_missing (m - length (concat pieces))
-    (omega (
-      arith,
-      length_whole m n bytes whole reads,
-      ap (λ (xs : List ℕ). length xs) joined,
-    ))
-whole_unshort framing.Chunked bytes whole n pieces reads joined =
-    stays_unshort framing.Chunked (λ piece. refl) refl pieces
-whole_unshort framing.UntilClose bytes whole n pieces reads joined =
-    stays_unshort framing.UntilClose (λ piece. refl) refl pieces
-whole_unshort framing.Tunnel bytes whole n pieces reads joined =
-    stays_unshort framing.Tunnel (λ piece. refl) refl pieces
-
--- the framing of a head that has one
-pub framing_is : (head : RequestHead) (given : Framing) → request_framing head ≡ Some given
-    → body_framing head ≡ given
-unfolding body_framing
-framing_is head given framed = ap (λ (f : Option Framing). unwrap_or f framing.Empty) framed
-
--- a request in order does not end short
-pub request_unshort : (s : Origin) (p : Passed) (closed : Bool) (order : IsInOrder s p closed)
-    (front : List HttpTask) (pieces : List (List ℕ)) → IsFrontOf front order.taken
-    → list_any is_end front ≡ true → concat pieces ≡ body_of front
-    → is_short (after_pieces (body_framing s.head) pieces) ≡ false
-request_unshort s p closed order front pieces first found joined =
-    let said = order.are_pieces in
-    let among = front_then front order.taken order.pieces first order.first_taken in
-    let none = said.ends_last front among.rest (sym among.joined) found in
-    let same : front ≡ order.pieces =
-    sym (append-nil front) ∙ ap (λ (l : List HttpTask). front ++ l) (sym none) ∙ among.joined in
-    let whole = said.whole (subst (λ (l : List HttpTask). list_any is_end l ≡ true) same found) in
-    let bytes = drop order.asks.len (asked s p) in
-    ap (λ (f : Framing). is_short (after_pieces f pieces))
-    (framing_is s.head order.asks.framing order.asks.has.let_in.framed)
-    ∙ whole_unshort order.asks.framing bytes (body_of order.pieces) whole.0 pieces
-    (subst (λ (t : BodyText). Body order.asks.framing bytes t) whole.1 said.says)
-    (joined ∙ ap body_of same)
-
 -- the peer's side answers for no error
 pub peer_blameless : (s : Origin) (p : Passed) (client link : LinkState) (start : LinkStart)
     → IsValid s p client link start → (order : IsInOrder s p link.ended) (lost : Bool) → (e : Error)
@@ -406,3 +301,11 @@ peer_blameless s p client link start valid order lost e
 peer_blameless s p client link start valid order lost e
     (peer_side.PeerBlames.is_short_request front pieces first found joined short is) =
     never_both short (request_unshort s p link.ended order front pieces first found joined)
+
+-- no valid exchange fails
+pub never_fails : (s : Origin) (p : Passed) (client link : LinkState) (start : LinkStart)
+    (e : Error) → FailsFor s p client link start e → IsValid s p client link start → ⊥
+never_fails s p client link start e (order.FailsFor.by_client o blames) valid =
+    client_blameless s p client link start valid (order.down_past o) refl e blames
+never_fails s p client link start e (order.FailsFor.by_peer o lost blames) valid =
+    peer_blameless s p client link start valid o lost e blames

@@ -1,0 +1,120 @@
+-- A request in order is never sent short: its pieces, with the end among them, are a whole body.
+--
+--   request_unshort   from IsInOrder: the pieces that were sent leave nothing of the length missing
+use Rattle.std.proofs.Common.{◌≡◌, ℕ, ◌+◌, ◌-◌, Bool, true, false, List, [], ◌∷◌, ◌++◌, length, drop, refl, sym, ap, subst, ◌∙◌, arith, append-nil, inl, inr, Option, Some, nat_le}
+use Rattle.std.specs.Prelude.{unwrap_or}
+use Rattle.std.specs.List.{list_any, concat}
+use Rattle.std.proofs.lemmas.Bool.{cases_lt}
+use Rattle.std.proofs.lemmas.Bool.Decides.{nat_tests}
+use Rattle.std.proofs.lemmas.List.{length-append, length-take-le}
+use Rattle.relay_tasks.specs.declared.task.HttpTask.{HttpTask}
+use Rattle.relay_tasks.specs.Head.{RequestHead}
+use Rattle.relay_tasks.specs.Task.{is_end}
+use Rattle.relay_h1.specs.declared.framing.Framing.{Framing}
+use Rattle.relay_h1.specs.declared.framing.Framing.TheVariants as framing
+use Rattle.relay_h1.specs.Body.{BodyText, Body, ended_text, of_length}
+use Rattle.relay_h1.specs.Body as body
+use Rattle.relay_h1.specs.BodyWire.{after_piece, after_pieces, is_short}
+use Rattle.relay_h1.specs.Framing.{request_framing}
+use Rattle.relay_peer.specs.RequestWriting.{body_framing}
+use Rattle.relay_core.specs.Past.{Origin}
+use Rattle.relay_sides.specs.Body.{IsFrontOf, body_of}
+use Rattle.relay_sides.proofs.FrontLemmas.{front_then}
+use Rattle.relay_attempt.specs.Order.{IsInOrder}
+use Rattle.relay_attempt.specs.Passed.{Passed, asked}
+
+-- what is left of a length behind pieces
+after_length : (n : ℕ) (pieces : List (List ℕ))
+    → after_pieces (framing.Length n) pieces ≡ framing.Length (n - length (concat pieces))
+after_length n [] = ap (λ (k : ℕ). framing.Length k) (none n)
+  where
+    none : (k : ℕ) → k ≡ k - 0
+    none k = omega arith
+after_length n (piece ∷ pieces) =
+    after_length (n - length piece) pieces
+    ∙ ap (λ (k : ℕ). framing.Length k)
+    (parts n (length piece) (length (concat pieces)) (length (piece ++ concat pieces))
+    (length-append piece (concat pieces)))
+  where
+    parts : (k a b all : ℕ) → all ≡ a + b → k - a - b ≡ k - all
+    parts k a b all sum = omega arith
+
+-- a framing that a piece leaves as it is stays
+stays_framed : (given : Framing) → ((piece : List ℕ) → after_piece given piece ≡ given)
+    → (pieces : List (List ℕ)) → after_pieces given pieces ≡ given
+stays_framed given keeps [] = refl
+stays_framed given keeps (piece ∷ pieces) =
+    ap (λ (f : Framing). after_pieces f pieces) (keeps piece) ∙ stays_framed given keeps pieces
+
+-- so it is not short where it was not
+stays_unshort : (given : Framing) → ((piece : List ℕ) → after_piece given piece ≡ given)
+    → is_short given ≡ false → (pieces : List (List ℕ))
+    → is_short (after_pieces given pieces) ≡ false
+stays_unshort given keeps unshort pieces =
+    ap (λ (f : Framing). is_short f) (stays_framed given keeps pieces) ∙ unshort
+
+-- a whole body with a length has that many bytes
+length_whole : (n m : ℕ) (bytes whole : List ℕ) → ended_text whole m ≡ of_length n bytes
+    → length whole ≡ n
+length_whole n m bytes whole is =
+    elim (cases_lt (length bytes) n) [
+      | inl few ↦
+          let open_here : nat_le n (length bytes) ≡ false = grind (arith, nat_tests) in
+          let mark : (of_length n bytes).mark ≡ body.BodyMark.still_open = rw open_here refl in
+          absurd (apart (ap (λ (t : BodyText). t.mark) is ∙ mark))
+      | inr enough ↦
+          ap (λ (t : BodyText). length t.bytes) is ∙ length-take-le n bytes (omega arith)
+    ]
+  where
+    apart : body.BodyMark.ended m ≡ body.BodyMark.still_open → ⊥
+    apart same = cc
+
+-- a length of which nothing is missing is not short
+none_missing : (n : ℕ) → n ≡ 0 → is_short (framing.Length n) ≡ false
+none_missing n none = ap (λ (k : ℕ). is_short (framing.Length k)) none
+
+-- a whole body does not end short
+whole_unshort : (given : Framing) (bytes whole : List ℕ) (n : ℕ) (pieces : List (List ℕ))
+    → Body given bytes (ended_text whole n) → concat pieces ≡ whole
+    → is_short (after_pieces given pieces) ≡ false
+whole_unshort framing.Empty bytes whole n pieces reads joined =
+    stays_unshort framing.Empty (λ piece. refl) refl pieces
+whole_unshort (framing.Length m) bytes whole n pieces reads joined =
+    ap (λ (f : Framing). is_short f) (after_length m pieces)
+    ∙ none_missing (m - length (concat pieces))
+    (omega (
+      arith,
+      length_whole m n bytes whole reads,
+      ap (λ (xs : List ℕ). length xs) joined,
+    ))
+whole_unshort framing.Chunked bytes whole n pieces reads joined =
+    stays_unshort framing.Chunked (λ piece. refl) refl pieces
+whole_unshort framing.UntilClose bytes whole n pieces reads joined =
+    stays_unshort framing.UntilClose (λ piece. refl) refl pieces
+whole_unshort framing.Tunnel bytes whole n pieces reads joined =
+    stays_unshort framing.Tunnel (λ piece. refl) refl pieces
+
+-- the framing of a head that has one
+pub framing_is : (head : RequestHead) (given : Framing) → request_framing head ≡ Some given
+    → body_framing head ≡ given
+unfolding body_framing
+framing_is head given framed = ap (λ (f : Option Framing). unwrap_or f framing.Empty) framed
+
+-- a request in order does not end short
+pub request_unshort : (s : Origin) (p : Passed) (closed : Bool) (order : IsInOrder s p closed)
+    (front : List HttpTask) (pieces : List (List ℕ)) → IsFrontOf front order.taken
+    → list_any is_end front ≡ true → concat pieces ≡ body_of front
+    → is_short (after_pieces (body_framing s.head) pieces) ≡ false
+request_unshort s p closed order front pieces first found joined =
+    let said = order.are_pieces in
+    let among = front_then front order.taken order.pieces first order.first_taken in
+    let none = said.ends_last front among.rest (sym among.joined) found in
+    let same : front ≡ order.pieces =
+    sym (append-nil front) ∙ ap (λ (l : List HttpTask). front ++ l) (sym none) ∙ among.joined in
+    let whole = said.whole (subst (λ (l : List HttpTask). list_any is_end l ≡ true) same found) in
+    let bytes = drop order.asks.len (asked s p) in
+    ap (λ (f : Framing). is_short (after_pieces f pieces))
+    (framing_is s.head order.asks.framing order.asks.has.let_in.framed)
+    ∙ whole_unshort order.asks.framing bytes (body_of order.pieces) whole.0 pieces
+    (subst (λ (t : BodyText). Body order.asks.framing bytes t) whole.1 said.says)
+    (joined ∙ ap body_of same)

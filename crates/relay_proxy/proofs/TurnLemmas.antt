@@ -1,0 +1,93 @@
+-- What a turn of a phase that relays is, of the phase as it stands.
+use Rattle.std.proofs.Common.{◌≡◌, true, false, List, [], ◌++◌, Option, true≢false, refl, sym}
+use Rattle.relay_links.specs.Link.{LinkState, LinkStart}
+use Rattle.relay_links.specs.declared.Returned.{Returned}
+use Rattle.relay_proxy.specs.Closing.{Rests, Settles, TurnOf}
+use Rattle.relay_proxy.specs.Passed.{World, Start}
+use Rattle.relay_proxy.specs.Refusals.{faults_of_turn}
+use Rattle.relay_proxy.specs.Relaying.{is_relaying, is_closing}
+use Rattle.relay_proxy.specs.Stock.{items_held}
+use Rattle.relay_proxy.specs.Taken.{offers_before, offers_of_turn}
+use Rattle.relay_proxy.specs.Turn.{Advances, DoesWork, WorksIn, links_held}
+use Rattle.relay_proxy.proofs.RefusalLemmas.{none_before_link}
+use Rattle.relay_proxy.proofs.TakenLemmas.{held_offers}
+use Rattle.relay_proxy.specs.declared.machine.Phase.{Phase}
+use Rattle.relay_proxy.specs.declared.machine.Phase.TheVariants.{ReadHead, Refuse, Connect, Relay, Close, Ended}
+use Rattle.relay_proxy.specs.declared.machine.RunStep.{RunStep}
+use Rattle.relay_proxy.specs.declared.work.Work.{Work}
+
+module _ {L C : Type 0} (state : L → LinkState) (start_at : L → LinkStart) where
+  -- a turn of a phase that relays is one of a request that has not ended
+  pub relaying_turn : (s : Start) (x : World) (phase next : Phase L C) → is_relaying phase ≡ true
+      → Advances {C = C} state start_at s x next → TurnOf state start_at s x phase next
+  relaying_turn s x ReadHead next is turn = absurd (true≢false (sym is))
+  relaying_turn s x (Refuse answer error) next is turn = absurd (true≢false (sym is))
+  relaying_turn s x (Connect context session) next is turn = absurd (true≢false (sym is))
+  relaying_turn s x (Relay a) next is turn = turn
+  relaying_turn s x (Close link lease keep outcome) next is turn = absurd (true≢false (sym is))
+  relaying_turn s x (Ended outcome attempts) next is turn = absurd (true≢false (sym is))
+
+  -- it had not ended before
+  pub relaying_rests : (w x : World) (phase next : Phase L C) (did : RunStep)
+      → is_relaying phase ≡ true → Rests {L = L} {C = C} w x phase next did
+  relaying_rests w x ReadHead next did is = absurd (true≢false (sym is))
+  relaying_rests w x (Refuse answer error) next did is = absurd (true≢false (sym is))
+  relaying_rests w x (Connect context session) next did is = absurd (true≢false (sym is))
+  relaying_rests w x (Relay a) next did is = tt
+  relaying_rests w x (Close link lease keep outcome) next did is = absurd (true≢false (sym is))
+  relaying_rests w x (Ended outcome attempts) next did is = absurd (true≢false (sym is))
+
+  -- it holds its link, so the connector refused it none
+  pub relaying_unrefused : (phase next : Phase L C) → is_relaying phase ≡ true
+      → links_held {C = C} state start_at next ≡ links_held {C = C} state start_at phase
+      → faults_of_turn phase next ≡ []
+  relaying_unrefused ReadHead next is held = absurd (true≢false (sym is))
+  relaying_unrefused (Refuse answer error) next is held = absurd (true≢false (sym is))
+  relaying_unrefused (Connect context session) next is held = absurd (true≢false (sym is))
+  relaying_unrefused (Relay a) next is held = none_before_link state start_at next held
+  relaying_unrefused (Close link lease keep outcome) next is held = absurd (true≢false (sym is))
+  relaying_unrefused (Ended outcome attempts) next is held = absurd (true≢false (sym is))
+
+  -- it takes none of the connector's offers
+  pub relaying_takes : (phase next : Phase L C) → is_relaying phase ≡ true
+      → offers_of_turn start_at phase next ≡ []
+  relaying_takes ReadHead next is = absurd (true≢false (sym is))
+  relaying_takes (Refuse answer error) next is = absurd (true≢false (sym is))
+  relaying_takes (Connect context session) next is = absurd (true≢false (sym is))
+  relaying_takes (Relay a) next is = refl
+  relaying_takes (Close link lease keep outcome) next is = absurd (true≢false (sym is))
+  relaying_takes (Ended outcome attempts) next is = absurd (true≢false (sym is))
+
+  -- and its next phase holds the same link
+  pub relaying_carries : (phase next : Phase L C) → is_relaying phase ≡ true
+      → links_held {C = C} state start_at next ≡ links_held {C = C} state start_at phase
+      → items_held start_at next ≡ items_held start_at phase
+      → offers_before start_at [] phase ++ offers_of_turn start_at phase next
+      ≡ offers_before start_at [] next
+  relaying_carries ReadHead next is held items = absurd (true≢false (sym is))
+  relaying_carries (Refuse answer error) next is held items = absurd (true≢false (sym is))
+  relaying_carries (Connect context session) next is held items = absurd (true≢false (sym is))
+  relaying_carries (Relay a) next is held items =
+      sym (held_offers start_at next _ items (none_before_link state start_at next held))
+  relaying_carries (Close link lease keep outcome) next is held items = absurd (true≢false (sym is))
+  relaying_carries (Ended outcome attempts) next is held items = absurd (true≢false (sym is))
+
+-- its turn did its work
+pub relaying_works : {L C : Type 0} (phase : Phase L C) (did : RunStep) (work : Work)
+    → is_relaying phase ≡ true → DoesWork did work → WorksIn phase did work
+relaying_works ReadHead did work is does = absurd (true≢false (sym is))
+relaying_works (Refuse answer error) did work is does = absurd (true≢false (sym is))
+relaying_works (Connect context session) did work is does = absurd (true≢false (sym is))
+relaying_works (Relay a) did work is does = does
+relaying_works (Close link lease keep outcome) did work is does = absurd (true≢false (sym is))
+relaying_works (Ended outcome attempts) did work is does = absurd (true≢false (sym is))
+
+-- a phase that is not to be closed stays as it is
+pub open_settles : {L C : Type 0} (phase : Phase L C) (told : Option (List (Returned L)))
+    → is_closing phase ≡ false → Settles phase told told phase
+open_settles ReadHead told is = (refl, refl)
+open_settles (Refuse answer error) told is = (refl, refl)
+open_settles (Connect context session) told is = (refl, refl)
+open_settles (Relay a) told is = (refl, refl)
+open_settles (Close link lease keep outcome) told is = absurd (true≢false is)
+open_settles (Ended outcome attempts) told is = (refl, refl)

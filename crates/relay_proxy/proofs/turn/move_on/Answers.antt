@@ -1,0 +1,96 @@
+-- A turn of a phase that does not relay. One that does not ask the connector leaves its count of
+-- faults as it was.
+use Rattle.std.proofs.Common.{refl, sym, ◌∙◌}
+use Rattle.relay_proxy.proofs.RefusalLemmas.{none_added}
+use Rattle.relay_proxy.proofs.TakenLemmas.{takes_nothing, one_out, no_offers}
+use Rattle.relay_proxy.proofs.turn.move_on.Goals as goal
+
+-- a turn that reads the head is a turn
+pub returns-in-ReadHead-clause-turn : goal.returns-in-ReadHead-clause-turn
+returns-in-ReadHead-clause-turn g c =
+    rw (c.go_on.ensures.phase, sym c.replace.ensures.value ∙ c.in-ReadHead.is) (λ s p run.
+    c.read_head.ensures.run s p (g.K.Connector.fault_count c.args.connector.now) run)
+
+-- a write of the refusal is a turn
+pub returns-in-Refuse-clause-turn : goal.returns-in-Refuse-clause-turn
+returns-in-Refuse-clause-turn g c =
+    rw (c.go_on-in-Refuse.ensures.phase, sym c.replace.ensures.value ∙ c.in-Refuse.is) (λ s p run.
+    c.write_refusal.ensures.run s p (g.K.Connector.fault_count c.args.connector.now) run)
+
+-- a turn that asks the connector is a turn
+pub returns-in-Connect-clause-turn : goal.returns-in-Connect-clause-turn
+returns-in-Connect-clause-turn g c =
+    rw (c.go_on-in-Connect.ensures.phase, sym c.replace.ensures.value ∙ c.in-Connect.is) (λ s p run.
+    c.connect.ensures.run s p (g.D.ByteLink.state c.args.client.now.link) c.args.client.now.ahead
+    run)
+
+-- the link that the connector gave was the first of those that were left
+pub returns-in-Connect-clause-stock : goal.returns-in-Connect-clause-stock
+returns-in-Connect-clause-stock g c =
+    rw (c.go_on-in-Connect.ensures.phase, sym c.replace.ensures.value ∙ c.in-Connect.is)
+    (one_out g.K.Byte.ByteLink.start _ _ _ _ _ _ c.connect.ensures.returned
+    c.connect.ensures.offers)
+
+-- the cause of a turn that reads the head
+pub returns-in-ReadHead-clause-cause : goal.returns-in-ReadHead-clause-cause
+returns-in-ReadHead-clause-cause g c =
+    rw (c.go_on.ensures.phase, c.go_on.ensures.step, sym c.replace.ensures.value ∙ c.in-ReadHead.is)
+    (c.read_head.ensures.cause (g.K.Connector.fault_count c.args.connector.now))
+
+-- the cause of a turn that writes the refusal
+pub returns-in-Refuse-clause-cause : goal.returns-in-Refuse-clause-cause
+returns-in-Refuse-clause-cause g c =
+    rw (
+      c.go_on-in-Refuse.ensures.phase,
+      c.go_on-in-Refuse.ensures.step,
+      sym c.replace.ensures.value ∙ c.in-Refuse.is,
+    )
+    (c.write_refusal.ensures.cause (g.K.Connector.fault_count c.args.connector.now))
+
+-- the cause of a turn that asks the connector
+pub returns-in-Connect-clause-cause : goal.returns-in-Connect-clause-cause
+returns-in-Connect-clause-cause g c =
+    rw (
+      c.go_on-in-Connect.ensures.phase,
+      c.go_on-in-Connect.ensures.step,
+      sym c.replace.ensures.value ∙ c.in-Connect.is,
+    )
+    (c.connect.ensures.cause (g.D.ByteLink.state c.args.client.now.link) c.args.client.now.ahead)
+
+-- a turn that reads the head adds no refusal of the connector
+pub returns-in-ReadHead-clause-refusals : goal.returns-in-ReadHead-clause-refusals
+returns-in-ReadHead-clause-refusals g c =
+    rw (c.go_on.ensures.phase, sym c.replace.ensures.value ∙ c.in-ReadHead.is)
+    (none_added _ _ _ c.read_head.ensures.unrefused refl)
+
+-- nor does one that writes the refusal
+pub returns-in-Refuse-clause-refusals : goal.returns-in-Refuse-clause-refusals
+returns-in-Refuse-clause-refusals g c =
+    rw (c.go_on-in-Refuse.ensures.phase, sym c.replace.ensures.value ∙ c.in-Refuse.is)
+    (none_added _ _ _ c.write_refusal.ensures.unrefused refl)
+
+-- a turn that asks the connector adds its refusals
+pub returns-in-Connect-clause-refusals : goal.returns-in-Connect-clause-refusals
+returns-in-Connect-clause-refusals g c =
+    rw (c.go_on-in-Connect.ensures.phase, sym c.replace.ensures.value ∙ c.in-Connect.is)
+    c.connect.ensures.refusals
+
+-- a turn that reads the head takes none of the offers
+pub returns-in-ReadHead-clause-offers : goal.returns-in-ReadHead-clause-offers
+returns-in-ReadHead-clause-offers g c =
+    rw (c.go_on.ensures.phase, sym c.replace.ensures.value ∙ c.in-ReadHead.is)
+    (takes_nothing _ _ _ (no_offers g.K.Byte.ByteLink.start c.read_head.result.phase
+    c.read_head.ensures.no_items c.read_head.ensures.unrefused) refl)
+
+-- nor does one that writes the refusal
+pub returns-in-Refuse-clause-offers : goal.returns-in-Refuse-clause-offers
+returns-in-Refuse-clause-offers g c =
+    rw (c.go_on-in-Refuse.ensures.phase, sym c.replace.ensures.value ∙ c.in-Refuse.is)
+    (takes_nothing _ _ _ (no_offers g.K.Byte.ByteLink.start c.write_refusal.result.phase
+    c.write_refusal.ensures.no_items c.write_refusal.ensures.unrefused) refl)
+
+-- a turn that asks the connector takes what the next phase took
+pub returns-in-Connect-clause-offers : goal.returns-in-Connect-clause-offers
+returns-in-Connect-clause-offers g c =
+    rw (c.go_on-in-Connect.ensures.phase, sym c.replace.ensures.value ∙ c.in-Connect.is)
+    c.connect.ensures.offers

@@ -1,0 +1,61 @@
+-- A turn of a phase that relays, where it stands.
+use Rattle.std.specs.Prelude.{◌≡◌, ℕ, Bool, true, false, List}
+use Rattle.std.specs.Box.{with_value}
+use Rattle.std.specs.Global.{Box}
+use Rattle.relay_tasks.specs.declared.took.Pause.TheVariants.{NotReady, Silent}
+use Rattle.relay_links.specs.Link.{LinkState, LinkStart}
+use Rattle.relay_core.specs.Asked.{WaitRose}
+use Rattle.relay_core.specs.Causes.{says_failed}
+use Rattle.relay_core.specs.Past.{Origin}
+use Rattle.relay_core.specs.declared.step.Step.{Step}
+use Rattle.relay_core.specs.declared.step.Step.TheVariants as step
+use Rattle.relay_attempt.specs.Exchange.{IsUnderWay, Turns, MeetsSilence}
+use Rattle.relay_attempt.specs.Head.{link_of}
+use Rattle.relay_attempt.specs.Passed.{Passed}
+use Rattle.relay_attempt.specs.declared.h1_exchange.H1Exchange.{H1Exchange}
+use Rattle.relay_proxy.specs.declared.machine.Attempt.{Attempt}
+use Rattle.relay_proxy.specs.declared.machine.Phase.{Phase}
+use Rattle.relay_proxy.specs.declared.machine.Phase.TheVariants.{ReadHead, Refuse, Connect, Relay, Close, Ended}
+
+-- the exchange of an attempt is under way
+abbrev pub is_relaying : {L C : Type 0} → Phase L C → Bool
+is_relaying ReadHead = false
+is_relaying (Refuse answer error) = false
+is_relaying (Connect context session) = false
+is_relaying (Relay a) = true
+is_relaying (Close link lease keep outcome) = false
+is_relaying (Ended outcome attempts) = false
+
+-- a link is to be handed back
+abbrev pub is_closing : {L C : Type 0} → Phase L C → Bool
+is_closing ReadHead = false
+is_closing (Refuse answer error) = false
+is_closing (Connect context session) = false
+is_closing (Relay a) = false
+is_closing (Close link lease keep outcome) = true
+is_closing (Ended outcome attempts) = false
+
+-- an attempt where it stands, once its exchange has come to that
+abbrev pub turned : {L C : Type 0} → Box (Attempt L C) → H1Exchange L → Box (Attempt L C)
+turned a x =
+    with_value a (record { exchange = x; lease = a.value.lease; context = a.value.context })
+
+module _ {L C : Type 0} (state : L → LinkState) (start_at : L → LinkStart) where
+  -- a phase relayed, and relays behind one turn of its exchange, between these states of the
+  -- client's link and these bytes that were read ahead from it
+  pub record TurnsWithin
+      (before after : LinkState) (ahead left : List ℕ) (phase next : Phase L C) (did : Step)
+      : Type 0 where
+    pub attempt : Box (Attempt L C)
+    pub was : phase ≡ Relay attempt
+    pub exchange : H1Exchange L
+    pub stands : next ≡ Relay (turned attempt exchange)
+    pub goes : (s : Origin) (p : Passed)
+        → IsUnderWay state start_at s p before ahead attempt.value.exchange
+        → Turns state start_at s after left exchange did
+    pub waits : did ≡ step.Waited NotReady
+        → WaitRose before after (state (link_of attempt.value.exchange)) (state (link_of exchange))
+    pub quiet : did ≡ step.Waited Silent
+        → MeetsSilence state start_at before after attempt.value.exchange exchange
+    pub calm : says_failed did ≡ false → after.faults ≡ before.faults
+    pub same_start : start_at (link_of exchange) ≡ start_at (link_of attempt.value.exchange)

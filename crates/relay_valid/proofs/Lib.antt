@@ -1,0 +1,3 @@
+pub mod ValidLemmas
+pub mod AskedLemmas
+pub mod UnfitLemmas
