@@ -247,7 +247,7 @@ one_head {s} {p} {a} {b} x y =
 -- an unfit response is missed, where the request is finished
 exact_unfit : (s : Start) (p : Passed) (w : World) (link : LinkState) (start : LinkStart)
     (keep : Bool) (outcome : Outcome) → EndsLinked s p w link start keep outcome
-    → (head : RequestHead) → IsAccepted s p head → IsUnfit head.method p.got link.ended
+    → (head : RequestHead) → IsAccepted s p head → IsUnfit head.method false p.got link.ended
     → IsUnfinished outcome ⊎ IsMissed outcome
 exact_unfit s p w link start keep NoRequest ends head accepted unfit = absurd ends
 exact_unfit s p w link start keep (Refused error) ends head accepted unfit = absurd ends
@@ -256,7 +256,7 @@ exact_unfit s p w link start keep (Served None reuse) ends head accepted unfit =
     let own : IsAccepted s p ends.head =
     record { framing = asks.framing; len = asks.len; has = asks.has; relayable = ends.relayable } in
     absurd (relayed_fit (origin_of s ends.head start.reused) p link start ends.relayed
-    (subst (λ (h : RequestHead). IsUnfit h.method p.got link.ended) (one_head accepted own) unfit))
+    (subst (λ (h : RequestHead). IsUnfit h.method false p.got link.ended) (one_head accepted own) unfit))
 exact_unfit s p w link start keep (Served (Some e) reuse) ends head accepted unfit =
     inr (e, ap (λ (b : Bool). Served (Some e) b) ends.stays)
 exact_unfit s p w link start keep TurnLimit ends head accepted unfit = inl (inl refl)
@@ -375,7 +375,7 @@ module _ {L : Type 0} (state : L → LinkState) (start_at : L → LinkStart) whe
             ];
         unfit = λ q head one accepted unfit.
             exact_unfit s p w (state r.link) (start_at r.link) r.keep outcome ends head accepted
-            (subst (λ (x : Returned L). IsUnfit head.method p.got (state x.link).ended)
+            (subst (λ (x : Returned L). IsUnfit head.method false p.got (state x.link).ended)
             (sym (same_one one)) unfit);
         whole = λ head relayable asks answers faultless.
             whole_linked s p w (state r.link) (start_at r.link) r.keep outcome ends head asks

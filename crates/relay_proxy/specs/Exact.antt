@@ -59,7 +59,7 @@ module _ {L : Type 0} (state : L → LinkState) (start_at : L → LinkStart) whe
         → IsUnfinished outcome ⊎ IsLeft s p w outcome
     -- the response is broken, cut off, or switches protocols
     pub unfit : (r : Returned L) (head : RequestHead) → own ≡ r ∷ [] → IsAccepted s p head
-        → IsUnfit head.method p.got (state r.link).ended
+        → IsUnfit head.method false p.got (state r.link).ended
         → IsUnfinished outcome ⊎ IsMissed outcome
     -- a valid request of a form that is relayed and a valid response, with no fault
     pub whole : (head : RequestHead) → IsRelayable head
