@@ -8,3 +8,4 @@ mod StockLemmas
 mod RefusalLemmas
 pub mod ExactLemmas
 pub mod UnderWay
+pub mod UseLemmas

@@ -96,10 +96,17 @@ module _ {L C : Type 0} (state : L → LinkState) (start_at : L → LinkStart) w
         → IsUnderWay state start_at s p w.client w.ahead a
         → HasMoved state start_at branch w.client x.client a held.value.exchange
 
-  -- an exchange went on, and its work is that of the branch which it took
-  pub record CountsMove (w x : World) (before after : Work) (a : H1Exchange L) (next : Phase L C)
+  -- an exchange went on, and the work of the turn is that of the branch which it took
+  pub record MovedBy (w x : World) (work : Work) (a : H1Exchange L) (next : Phase L C)
       : Type 0 where
     pub branch : Option Branch
     pub moved : ExchangeMoved branch w x a next
     pub asked : Bool
-    pub counted : after ≡ added_work before (work_by branch asked)
+    pub counted : work ≡ work_by branch asked
+
+  -- the same of a step, with what was counted before it
+  pub record MovesOn (w x : World) (before after : Work) (a : H1Exchange L) (next : Phase L C)
+      : Type 0 where
+    pub work : Work
+    pub moves : MovedBy w x work a next
+    pub adds : after ≡ added_work before work

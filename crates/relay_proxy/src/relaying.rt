@@ -1,10 +1,11 @@
 //! The attempt: one turn of its exchange, and what becomes of the client and of the link once it
 //! has ended (RFC 9112, section 9.3).
-ghost use Rattle.std.specs.Prelude.{◌≡◌, ℕ, [], ◌∷◌, None, false};
+ghost use Rattle.std.specs.Prelude.{◌≡◌, ◌<◌, ℕ, [], ◌∷◌, None, Some, false, if◌then◌else◌};
+ghost use Rattle.relay_links.specs.Link.{LinkState};
 ghost use Rattle.relay_core.specs.Asked.{WaitRose};
 ghost use Rattle.relay_core.specs.Causes.{says_failed};
 ghost use Rattle.relay_core.specs.Past.{Origin};
-ghost use Rattle.relay_attempt.specs.Exchange.{IsUnderWay, Turns, MeetsSilence};
+ghost use Rattle.relay_attempt.specs.Exchange.{IsUnderWay, Turns, MeetsSilence, Asks, HasMoved};
 ghost use Rattle.relay_attempt.specs.Head.{link_of, may_keep};
 ghost use Rattle.relay_attempt.specs.Passed.{Passed};
 ghost use Rattle.relay_proxy.specs.Endings.{outcome_of};
@@ -12,12 +13,15 @@ ghost use Rattle.relay_proxy.specs.Passed.{Start};
 ghost use Rattle.relay_proxy.specs.Phases.{RunSoFar};
 ghost use Rattle.relay_proxy.specs.Reuse.{client_reusable, lets_ask_again};
 ghost use Rattle.relay_proxy.specs.Stock.{items_held};
-ghost use Rattle.relay_proxy.specs.Turn.{world_of, DoesWork, is_over, is_end, links_held, Advances, HasCause};
+ghost use Rattle.relay_proxy.specs.Turn.{world_of, DoesWork, is_over, is_end, held_state, links_held, Advances, HasCause};
+ghost use Rattle.relay_proxy.specs.Uses.{MovedBy, TurnUses};
+ghost use Rattle.relay_proxy.specs.Work.{total_work};
 
 use crate::connecting::outcome_of;
 use crate::machine::{Attempt, Next, Phase, RunStep};
 use crate::outcome::Outcome;
-use crate::work::{Work, work_of};
+use crate::uses::Uses;
+use crate::work::{Work, work_of, work_of_failure};
 use http::Version;
 use relay_attempt::H1Exchange;
 use relay_core::Step;
@@ -42,6 +46,15 @@ pub(crate) fn relay<D: ByteLink, U: Drop, L: ByteLink, H: Schedule, C: Drop>(
         (world_of D.state client.old faults) (world_of D.state client.new faults)
         (Phase.Relay attempt) result.phase result.step }
     ensures work { DoesWork result.step result.work }
+    ensures uses { (s : Origin) (p : Passed)
+        → IsUnderWay L.state L.start s p (D.state client.old.link) client.old.ahead
+        attempt.value.exchange
+        → TurnUses result.work.used (D.state client.old.link) (D.state client.new.link)
+        (Some (L.state (link_of attempt.value.exchange)))
+        (λ link. held_state L.state result.phase ≡ Some link) }
+    ensures moves { (faults : ℕ) → result.step ≡ RunStep.Moved → MovedBy {C = C} L.state L.start
+        (world_of D.state client.old faults) (world_of D.state client.new faults) result.work
+        attempt.value.exchange result.phase }
     ensures over { is_over result.phase ≡ is_end result.step }
     ensures linked { links_held L.state L.start result.phase ≡ 1 }
     ensures items { items_held L.start result.phase
@@ -49,12 +62,14 @@ pub(crate) fn relay<D: ByteLink, U: Drop, L: ByteLink, H: Schedule, C: Drop>(
     ensures kept { client.new.kept ≡ client.old.kept }
     ensures client_start { D.start client.new.link ≡ D.start client.old.link }
 {
+    let before = Uses::of(client, &attempt.exchange);
     let Turn { step, branch } = turn_over(&mut attempt.exchange, client, schedule);
+    let asked = before.have_risen(Uses::of(client, &attempt.exchange));
     match step {
         Step::Moved => Next {
             phase: Phase::Relay(attempt),
             step: RunStep::Moved,
-            work: work_of(branch),
+            work: work_of(branch, asked),
         },
         Step::Waited(Pause::NotReady) => Next {
             phase: Phase::Relay(attempt),
@@ -67,7 +82,7 @@ pub(crate) fn relay<D: ByteLink, U: Drop, L: ByteLink, H: Schedule, C: Drop>(
             work: Work::NONE,
         },
         Step::Finished => close_finished(client, attempt),
-        Step::Failed(why) => close_failed(attempt, why),
+        Step::Failed(why) => close_failed(attempt, why, asked),
     }
 }
 
@@ -97,12 +112,18 @@ fn close_finished<D, U, L: ByteLink, C: Drop>(
     }
 }
 
-/// The end of an attempt whose exchange failed: its link is to go back, and is not kept.
-fn close_failed<L: ByteLink, C: Drop>(attempt: Box<Attempt<L, C>>, why: Fail) -> Next<L, C>
+/// The end of an attempt whose exchange failed, a link having been asked in that turn or not: its
+/// link is to go back, and is not kept.
+fn close_failed<L: ByteLink, C: Drop>(
+    attempt: Box<Attempt<L, C>>,
+    why: Fail,
+    asked: bool,
+) -> Next<L, C>
     ensures phase { result.phase ≡ Phase.Close (link_of attempt.value.exchange)
         attempt.value.lease false (outcome_of why) }
     ensures step { result.step ≡ RunStep.Ended }
-    ensures work { result.work ≡ Work.ENDED }
+    ensures work { 0 < total_work result.work }
+    ensures used { result.work.used ≡ (if asked then 1 else 0) }
 {
     let Attempt {
         exchange,
@@ -112,7 +133,7 @@ fn close_failed<L: ByteLink, C: Drop>(attempt: Box<Attempt<L, C>>, why: Fail) ->
     Next {
         phase: Phase::Close(exchange.into_link(), lease, false, outcome_of(why)),
         step: RunStep::Ended,
-        work: Work::ENDED,
+        work: work_of_failure(asked),
     }
 }
 
@@ -133,6 +154,13 @@ fn turn_over<D: ByteLink, U: Drop, L: ByteLink, H: Schedule>(
     ensures quiet { result.step ≡ Step.Waited Pause.Silent
         → MeetsSilence L.state L.start (D.state client.old.link) (D.state client.new.link)
         exchange.old exchange.new }
+    ensures asks { Asks L.state L.start result.step (D.state client.old.link)
+        (D.state client.new.link) exchange.old exchange.new }
+    ensures moves { (s : Origin) (p : Passed)
+        → IsUnderWay L.state L.start s p (D.state client.old.link) client.old.ahead exchange.old
+        → result.step ≡ Step.Moved
+        → HasMoved L.state L.start result.branch (D.state client.old.link)
+        (D.state client.new.link) exchange.old exchange.new }
     ensures calm { says_failed result.step ≡ false
         → (D.state client.new.link).faults ≡ (D.state client.old.link).faults }
     ensures peer_start { L.start (link_of exchange.new)

@@ -1,0 +1,186 @@
+-- How often a turn of an exchange asked both links, and what it moved.
+--
+--   turned_uses, moved_uses    the uses of a turn, from what both links say of them
+--   exchange_moved             a branch of the exchange that moved
+use Rattle.std.specs.Global.{Box}
+use Rattle.std.specs.Box.{with_value}
+use Rattle.std.proofs.Common.{◌≡◌, ℕ, ◌<◌, ◌≤◌, Bool, true, false, ◌↔◌, ◌⊎◌, List, Option, None, Some, refl, sym, ap, ◌∙◌, subst, inl, inr, arith}
+use Rattle.std.specs.Prelude.{IsTrue, if◌then◌else◌}
+use Rattle.std.proofs.lemmas.Bool.{cases_lt}
+use Rattle.relay_links.specs.Count.{last_count, up, Rose}
+use Rattle.relay_links.specs.Link.{LinkState, LinkStart}
+use Rattle.relay_links.specs.declared.branch.Branch.{Branch}
+use Rattle.relay_links.specs.declared.branch.Branch.TheVariants as branch
+use Rattle.relay_core.specs.Past.{Origin}
+use Rattle.relay_core.specs.Table.{State}
+use Rattle.relay_core.specs.Uses.{AsksEither, AsksNone, MayAsk}
+use Rattle.relay_core.specs.Uses as core
+use Rattle.relay_core.specs.declared.step.Step.{Step}
+use Rattle.relay_exchange.specs.Exchange as over
+use Rattle.relay_attempt.specs.Exchange.{IsUnderWay, Asks, HasMoved}
+use Rattle.relay_attempt.specs.Head.{link_of}
+use Rattle.relay_attempt.specs.Passed.{Passed}
+use Rattle.relay_attempt.specs.declared.h1_exchange.H1Exchange.{H1Exchange}
+use Rattle.relay_proxy.specs.Passed.{World}
+use Rattle.relay_proxy.specs.Uses.{BothUse, ExchangeMoved, work_by}
+use Rattle.relay_proxy.specs.declared.uses.Uses.{Uses}
+use Rattle.relay_proxy.specs.declared.machine.Attempt.{Attempt}
+use Rattle.relay_proxy.specs.declared.machine.Phase.{Phase}
+use Rattle.relay_proxy.specs.declared.machine.Phase.TheVariants.{Relay}
+
+-- a count that went up by one rose
+up_rose : (before after : ℕ) → after ≡ up before → Rose before after
+up_rose before after is = λ below. omega (arith, is, below)
+
+-- one that stands at its last value goes up to it
+stands_up : (before after : ℕ) → before ≤ last_count → after ≡ before → Rose before after
+    → after ≡ up before
+stands_up before after fits same rose = elim (cases_lt after last_count) [
+  | inl below ↦ (let more = rose below in absurd (omega (arith, more, same)))
+  | inr last ↦ omega (arith, same, fits, last)
+]
+
+-- whether a count of both links rose, as they tell it
+pub record Measured (client client' upstream upstream' : LinkState) (asked : Bool) : Type 0 where
+  pub rose : IsTrue asked ↔ (Rose client.used client'.used ⊎ Rose upstream.used upstream'.used)
+  pub client_fits : client.used ≤ last_count
+  pub upstream_fits : upstream.used ≤ last_count
+
+-- the same of the counts that were read
+pub measured : (client client' upstream upstream' : LinkState) (before now : Uses) (asked : Bool)
+    → (IsTrue asked ↔ (Rose before.client now.client ⊎ Rose before.upstream now.upstream))
+    → before.client ≤ last_count → before.upstream ≤ last_count
+    → before ≡ record { client = client.used; upstream = upstream.used }
+    → now ≡ record { client = client'.used; upstream = upstream'.used }
+    → Measured client client' upstream upstream' asked
+measured client client' upstream upstream' before now asked rose fits fits' is is' = record {
+  rose = rw (is, is') at rose;
+  client_fits = rw is at fits;
+  upstream_fits = rw is at fits';
+}
+
+module _ (client client' upstream upstream' : LinkState) (asked : Bool)
+    (m : Measured client client' upstream upstream' asked)
+  where
+    -- where one of both links was asked, a count rose
+    either_rose : AsksEither client client' upstream upstream' → asked ≡ true
+    either_rose (inl one) = m.rose.1 (inl (up_rose client.used client'.used one.used))
+    either_rose (inr one) = m.rose.1 (inr (up_rose upstream.used upstream'.used one.used))
+
+    -- where neither was asked and a count rose, that stands at its last value
+    none_rose : AsksNone client client' upstream upstream' → asked ≡ true
+        → AsksEither client client' upstream upstream'
+    none_rose none is = elim (m.rose.0 is) [
+      | inl risen ↦ inl (record {
+          used = stands_up client.used client'.used m.client_fits
+              (ap (λ (l : LinkState). l.used) none.client_same) risen;
+          other_same = none.upstream_same;
+        })
+      | inr risen ↦ inr (record {
+          used = stands_up upstream.used upstream'.used m.upstream_fits
+              (ap (λ (l : LinkState). l.used) none.upstream_same) risen;
+          other_same = none.client_same;
+        })
+    ]
+
+    -- the uses are one where a count rose
+    pub turned_uses : MayAsk client client' upstream upstream'
+        → BothUse (if asked then 1 else 0) client client' upstream upstream'
+    turned_uses may = by asked refl may
+      where
+        by : (b : Bool) → asked ≡ b → MayAsk client client' upstream upstream'
+            → BothUse (if b then 1 else 0) client client' upstream upstream'
+        by true is (inl either) = inl (refl, either)
+        by true is (inr none) = inl (refl, none_rose none is)
+        by false is (inl either) = let wrong = sym (either_rose either) ∙ is in absurd (cc)
+        by false is (inr none) = inr (refl, none)
+
+    -- the uses of a read: of the branch that it is, or of none
+    read_uses : AsksEither client client' upstream upstream'
+        ⊎ AsksNone client client' upstream upstream'
+        → BothUse (work_by (Some branch.UpRead) asked).used client client' upstream upstream'
+    read_uses may = by asked refl may
+      where
+        by : (b : Bool) → asked ≡ b
+            → AsksEither client client' upstream upstream'
+            ⊎ AsksNone client client' upstream upstream'
+            → BothUse (work_by (Some branch.UpRead) b).used client client' upstream upstream'
+        by true is (inl either) = inl (refl, either)
+        by true is (inr none) = inl (refl, none_rose none is)
+        by false is (inl either) = let wrong = sym (either_rose either) ∙ is in absurd (cc)
+        by false is (inr none) = inr (refl, none)
+
+    -- the uses of a turn that moved are those of its branch
+    pub moved_uses : (b : Option Branch) (old new : State)
+        → over.HasMoved b old new client client' upstream upstream'
+        → BothUse (work_by b asked).used client client' upstream upstream'
+    moved_uses None old new moved = inl (refl, inr moved)
+    moved_uses (Some branch.UpWrite) old new (inl asks) = inl (refl, inr asks)
+    moved_uses (Some branch.UpWrite) old new (inr between) = absurd between.moves
+    moved_uses (Some branch.DownWrite) old new (inl asks) = inl (refl, inl asks)
+    moved_uses (Some branch.DownWrite) old new (inr between) = absurd between.moves
+    moved_uses (Some branch.UpTake) old new (inl asks) = absurd asks
+    moved_uses (Some branch.UpTake) old new (inr between) = inr (refl, between.unasked)
+    moved_uses (Some branch.DownTake) old new (inl asks) = absurd asks
+    moved_uses (Some branch.DownTake) old new (inr between) = inr (refl, between.unasked)
+    moved_uses (Some branch.DownDrop) old new (inl asks) = absurd asks
+    moved_uses (Some branch.DownDrop) old new (inr between) = inr (refl, between.unasked)
+    moved_uses (Some branch.DownEnd) old new (inl asks) = absurd asks
+    moved_uses (Some branch.DownEnd) old new (inr between) = inr (refl, between.unasked)
+    moved_uses (Some branch.DownClosed) old new (inl asks) = absurd asks
+    moved_uses (Some branch.DownClosed) old new (inr between) = inr (refl, between.unasked)
+    moved_uses (Some branch.UpRead) old new (inl asks) = read_uses (inl (inr asks))
+    moved_uses (Some branch.UpRead) old new (inr between) = read_uses (inr between.unasked)
+    moved_uses (Some branch.DownRead) old new (inl asks) = read_uses (inl (inl asks))
+    moved_uses (Some branch.DownRead) old new (inr between) = read_uses (inr between.unasked)
+    moved_uses (Some branch.UpFinish) old new (inl asks) = absurd asks
+    moved_uses (Some branch.UpFinish) old new (inr between) = inr (refl, between.unasked)
+    moved_uses (Some branch.DownFinish) old new (inl asks) = absurd asks
+    moved_uses (Some branch.DownFinish) old new (inr between) = inr (refl, between.unasked)
+    moved_uses (Some branch.MessageUp) old new (inl asks) = absurd asks
+    moved_uses (Some branch.MessageUp) old new (inr between) = absurd between.moves
+    moved_uses (Some branch.MessageDown) old new (inl asks) = absurd asks
+    moved_uses (Some branch.MessageDown) old new (inr between) = absurd between.moves
+
+-- an attempt where it stands, once its exchange has come to that
+abbrev turned : {L C : Type 0} → Box (Attempt L C) → Attempt L C → H1Exchange L
+    → Box (Attempt L C)
+turned a given y =
+    with_value a (record { exchange = y; lease = given.lease; context = given.context })
+
+module _ {L C : Type 0} (state : L → LinkState) (start_at : L → LinkStart) where
+  -- how a turn asked both links, the attempt being the one that its pointer lends
+  pub asks_held : (result is : Step) (client client' : LinkState) (a : Box (Attempt L C))
+      (given : Attempt L C) (y : H1Exchange L) → given ≡ a.value → result ≡ is
+      → Asks state start_at result client client' given.exchange y
+      → core.Asks is client client' (state (link_of a.value.exchange)) (state (link_of y))
+  asks_held result is client client' a given y same came asks =
+      subst (λ (g : Attempt L C).
+      core.Asks is client client' (state (link_of g.exchange)) (state (link_of y))) same
+      (subst (λ (r : Step).
+      core.Asks r client client' (state (link_of given.exchange)) (state (link_of y))) came asks)
+
+  -- what a turn moved, the attempt being that one
+  pub moved_held : (b : Option Branch) (client client' : LinkState) (ahead : List ℕ)
+      (a : Box (Attempt L C)) (given : Attempt L C) (y : H1Exchange L) → given ≡ a.value
+      → ((s : Origin) (p : Passed) → IsUnderWay state start_at s p client ahead given.exchange
+      → HasMoved state start_at b client client' given.exchange y)
+      → (s : Origin) (p : Passed) → IsUnderWay state start_at s p client ahead a.value.exchange
+      → HasMoved state start_at b client client' a.value.exchange y
+  moved_held b client client' ahead a given y same moved =
+      subst
+      (λ (g : Attempt L C). (s : Origin) (p : Passed)
+      → IsUnderWay state start_at s p client ahead g.exchange
+      → HasMoved state start_at b client client' g.exchange y) same moved
+
+  -- a turn of the exchange moved, and so did that of the attempt
+  pub exchange_moved : (b : Option Branch) (w x : World) (a : Box (Attempt L C))
+      (given : Attempt L C) (y : H1Exchange L) → given ≡ a.value
+      → ((s : Origin) (p : Passed) → IsUnderWay state start_at s p w.client w.ahead given.exchange
+      → HasMoved state start_at b w.client x.client given.exchange y)
+      → ExchangeMoved {C = C} state start_at b w x a.value.exchange (Relay (turned a given y))
+  exchange_moved b w x a given y same moved = record {
+    held = turned a given y;
+    goes_on = refl;
+    moved = moved_held b w.client x.client w.ahead a given y same moved;
+  }
