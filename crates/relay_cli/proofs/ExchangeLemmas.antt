@@ -1,15 +1,17 @@
 -- Attempts reported one after another.
-use Rattle.std.proofs.Common.{◌≡◌, ◌≢◌, inl, inr, Option, None, subst, ℕ, suc, ◌+◌, List, [], ◌∷◌, ◌++◌, map, drop, Some, refl, sym, ap, ◌∙◌, add-one, append_assoc, drop-cons}
+use Rattle.std.proofs.Common.{◌≡◌, ◌≢◌, inl, inr, Option, None, Ok, subst, ℕ, suc, ◌+◌, List, [], ◌∷◌, ◌++◌, map, drop, Some, refl, sym, ap, ◌∙◌, add-one, append_assoc, drop-cons}
 use Rattle.std.specs.List.{slice_get}
 use Rattle.std.proofs.lemmas.Option.{slice_get_within, get_or_from_slice_get, same_Some}
 use Rattle.relay_tasks.specs.declared.fault.Fault.{Fault}
+use Rattle.relay_links.specs.Connector.{Offer, links_of}
 use Rattle.relay_links.specs.Link.{LinkState, LinkStart, LinkItems}
 use Rattle.relay_links.specs.ScriptLink.{script_state, script_start, IsFresh, AnswersBy}
-use Rattle.relay_links.specs.ScriptEntries.{links_returned, gets_failed, faults_answered, entry_items, items_left}
+use Rattle.relay_links.specs.ScriptEntries.{links_returned, gets_failed, faults_answered, offer_of, offers_left}
 use Rattle.relay_links.specs.Told.{Since, told_length, more}
 use Rattle.relay_links.specs.declared.connector.Returned.{Returned}
 use Rattle.relay_links.specs.declared.read_script.ReadItem.{ReadItem}
 use Rattle.relay_links.specs.declared.write_script.WriteItem.{WriteItem}
+use Rattle.relay_links.specs.declared.script_connector.PeerScript.{PeerScript}
 use Rattle.relay_links.specs.declared.script_connector.ScriptConnector.{ScriptConnector}
 use Rattle.relay_links.specs.declared.script_link.ScriptLink.{ScriptLink}
 use Rattle.relay_links.specs.declared.list_schedule.ListSchedule.{ListSchedule}
@@ -24,7 +26,7 @@ use Rattle.relay_proxy.specs.declared.outcome.Outcome.{Outcome}
 use Rattle.relay_proxy.specs.declared.outcome.Outcome.TheVariants as ended
 use Rattle.relay_proxy.specs.declared.outcome.Processed.{Processed}
 use Rattle.relay_proxy.specs.declared.record.AttemptRecord.{AttemptRecord}
-use Rattle.relay_cli.specs.Exchange.{attempt_report, taken_of, sent_of, FirstStartsWithin, first_world, IsConnectorOf, IsRun, AllAnswerBy, reported}
+use Rattle.relay_cli.specs.Exchange.{attempt_report, taken_of, sent_of, FirstStartsWithin, first_world, offers_of, IsConnectorOf, IsRun, AllAnswerBy, reported}
 use Rattle.relay_cli.specs.Script.{PeerSpec, ScriptSpec}
 
 -- the list from a place on begins with the item there
@@ -87,36 +89,53 @@ own_is : (before after own : List (Returned ScriptLink)) → before ≡ []
 own_is before after own none gained =
     same_Some after (before ++ own) gained ∙ ap (λ xs. xs ++ own) none
 
+-- the link of the peer's entry answers by the peer's items, so the connector has that to hand out
+pub left_is : (peer : PeerSpec) (connector : ScriptConnector) → IsConnectorOf peer connector
+    → offers_left connector ≡ offers_of peer
+left_is peer connector offered =
+    ap (λ (entries : List PeerScript). map offer_of entries) offered.entries
+    ∙ rw offered.connects (ap (λ (i : Option LinkItems). Ok i ∷ []) offered.link.items)
+
 -- a request over the links that a script makes, by the values that the code has
 pub runs_script : (made first last : ScriptLink) (connector old : ScriptConnector) (peer : PeerSpec)
     (first_ahead ahead : List ℕ) (faults : ℕ) (after : List (Returned ScriptLink))
-    (refusals : Option (List Fault)) (turns : ℕ) (processed : Processed)
+    (refusals : Option (List Fault)) (left : Option (List Offer)) (turns : ℕ)
+    (processed : Processed)
     → IsConnectorOf peer connector → first ≡ made → first_ahead ≡ [] → old ≡ connector
     → Processes script_state script_start
     (start_of (world_with (script_state first) first_ahead (gets_failed old)))
     (world_with (script_state last) ahead faults)
-    (Some (links_returned old)) (Some after) (faults_answered old) refusals turns processed
+    (Some (links_returned old)) (Some after) (faults_answered old) refusals
+    (Some (offers_left old)) left turns processed
     → Processes script_state script_start (start_of (first_world made connector))
     (world_with (script_state last) ahead faults)
-    (Some []) (Some after) (Some []) refusals turns processed
-runs_script made first last connector old peer first_ahead ahead faults after refusals turns
+    (Some []) (Some after) (Some []) refusals (Some (offers_of peer)) left turns processed
+runs_script made first last connector old peer first_ahead ahead faults after refusals left turns
     processed offered is none same run =
     let world : world_with (script_state first) first_ahead (gets_failed old)
     ≡ first_world made connector =
     rw (is, none, same) in
     let unreturned : links_returned old ≡ [] = rw same offered.returned in
     let unrefused : faults_answered old ≡ Some [] = rw same offered.refusals in
+    let stocked : offers_left old ≡ offers_of peer = rw same (left_is peer connector offered) in
     subst (λ (w : World). Processes script_state script_start (start_of w)
     (world_with (script_state last) ahead faults)
-    (Some []) (Some after) (Some []) refusals turns processed) world
+    (Some []) (Some after) (Some []) refusals (Some (offers_of peer)) left turns processed) world
     (subst (λ (rs : List (Returned ScriptLink)). Processes script_state script_start
     (start_of (world_with (script_state first) first_ahead (gets_failed old)))
     (world_with (script_state last) ahead faults)
-    (Some rs) (Some after) (Some []) refusals turns processed) unreturned
+    (Some rs) (Some after) (Some []) refusals (Some (offers_of peer)) left turns processed)
+    unreturned
     (subst (λ (told : Option (List Fault)). Processes script_state script_start
     (start_of (world_with (script_state first) first_ahead (gets_failed old)))
     (world_with (script_state last) ahead faults)
-    (Some (links_returned old)) (Some after) told refusals turns processed) unrefused run))
+    (Some (links_returned old)) (Some after) told refusals (Some (offers_of peer)) left turns
+    processed) unrefused
+    (subst (λ (os : List Offer). Processes script_state script_start
+    (start_of (world_with (script_state first) first_ahead (gets_failed old)))
+    (world_with (script_state last) ahead faults)
+    (Some (links_returned old)) (Some after) (faults_answered old) refusals (Some os) left turns
+    processed) stocked run)))
 
 -- the links that came back, where the connector had one link, are that one
 answer_by : (after : List (Returned ScriptLink)) (left : List (Option LinkItems))
@@ -127,30 +146,23 @@ answer_by [] left read write all = tt
 answer_by (r ∷ []) left read write all = (cc, tt)
 answer_by (r ∷ q ∷ rest) left read write all = cc
 
--- the link of the peer's entry answers by the peer's items, so the connector has those to hand out
-left_is : (peer : PeerSpec) (connector : ScriptConnector) → IsConnectorOf peer connector
-    → items_left connector ≡ Some (record { read = peer.read; write = peer.write }) ∷ []
-left_is peer connector offered =
-    ap entry_items offered.entries
-    ∙ rw offered.connects (ap (λ (i : Option LinkItems). i ∷ []) offered.link.items)
-
 -- the links that came back from a script's connector are those of its peer
 pub are_peer : (peer : PeerSpec) (connector old : ScriptConnector)
-    (after : List (Returned ScriptLink)) (left : List (Option LinkItems))
+    (after : List (Returned ScriptLink)) (left : List Offer)
     → IsConnectorOf peer connector → old ≡ connector
     → all_items script_start (Some after) [] (Some left)
-    ≡ all_items script_start (Some (links_returned old)) [] (Some (items_left old))
+    ≡ all_items script_start (Some (links_returned old)) [] (Some (offers_left old))
     → AllAnswerBy after peer.read peer.write
 are_peer peer connector old after left offered same all =
     let unreturned : links_returned old ≡ [] = rw same offered.returned in
-    let left_old : items_left old ≡ Some (record { read = peer.read; write = peer.write }) ∷ [] =
+    let left_old : offers_left old ≡ offers_of peer =
     rw same (left_is peer connector offered) in
-    let before : all_items script_start (Some (links_returned old)) [] (Some (items_left old))
+    let before : all_items script_start (Some (links_returned old)) [] (Some (offers_left old))
     ≡ Some (Some (record { read = peer.read; write = peer.write }) ∷ []) =
     ap (λ (rs : List (Returned ScriptLink)).
-    all_items script_start (Some rs) [] (Some (items_left old))) unreturned
-    ∙ ap (λ (xs : List (Option LinkItems)). Some xs) left_old in
-    answer_by after left peer.read peer.write (same_Some _ _ (all ∙ before))
+    all_items script_start (Some rs) [] (Some (offers_left old))) unreturned
+    ∙ ap (λ (os : List Offer). Some (links_of os)) left_old in
+    answer_by after (links_of left) peer.read peer.write (same_Some _ _ (all ∙ before))
 
 -- a link that starts as one that answers by these items answers by them
 pub still_answers : (first made last : ScriptLink) (read : List ReadItem) (write : List WriteItem)
@@ -162,18 +174,20 @@ still_answers first made last read write is fresh same =
 -- what is reported of a request over the links of a script is a run of the script
 pub is_run : (script : ScriptSpec) (made last : ScriptLink) (connector : ScriptConnector)
     (schedule : ListSchedule) (ahead : List ℕ) (faults : ℕ)
-    (after : List (Returned ScriptLink)) (refusals : Option (List Fault)) (processed : Processed)
+    (after : List (Returned ScriptLink)) (refusals : Option (List Fault))
+    (left : Option (List Offer)) (processed : Processed)
     → IsFresh made script.client script.client_write → IsConnectorOf script.peer connector
     → branches_left schedule ≡ script.schedule
     → AnswersBy last script.client script.client_write
     → AllAnswerBy after script.peer.read script.peer.write
     → Processes script_state script_start (start_of (first_world made connector))
     (world_with (script_state last) ahead faults)
-    (Some []) (Some after) (Some []) refusals script.turns processed
+    (Some []) (Some after) (Some []) refusals (Some (offers_of script.peer)) left script.turns
+    processed
     → processed.outcome ≢ ended.OutOfMemory
     → IsRun script (reported script.peer.name processed last after)
-is_run script made last connector schedule ahead faults after refusals processed fresh offered named
-    client peer run printable =
+is_run script made last connector schedule ahead faults after refusals left processed fresh offered
+    named client peer run printable =
     let own : after ≡ run.own = own_is [] after run.own refl run.gained in
     record {
       client = made;
@@ -189,6 +203,7 @@ is_run script made last connector schedule ahead faults after refusals processed
       ahead = ahead;
       faults = faults;
       refusals = refusals;
+      left = left;
       processed = processed;
       run = run;
       printable = printable;
@@ -203,12 +218,12 @@ is_run script made last connector schedule ahead faults after refusals processed
 
 -- the first link that came back starts within what it took
 pub first_starts_within : (s : Start) (w : World) (before after : List (Returned ScriptLink))
-    (told refusals : Option (List Fault)) (turns : ℕ) (processed : Processed)
-    → before ≡ []
-    → Processes script_state script_start s w (Some before) (Some after) told refusals turns
+    (told refusals : Option (List Fault)) (had has : Option (List Offer)) (turns : ℕ)
+    (processed : Processed) → before ≡ []
+    → Processes script_state script_start s w (Some before) (Some after) told refusals had has turns
     processed
     → FirstStartsWithin after
-first_starts_within s w before after told refusals turns processed none run =
+first_starts_within s w before after told refusals had has turns processed none run =
     let own : after ≡ run.own = own_is before after run.own none run.gained in
     subst FirstStartsWithin (sym own)
     (starts_within s run.passed w run.own processed.history.attempts processed.outcome

@@ -1,6 +1,8 @@
 -- What a run rules out.
-use Rattle.std.proofs.Common.{◌≡◌, ◌≢◌, ℕ, zero, suc, true, List, [], ◌∷◌, ◌++◌, drop, Some, None, Option, refl, sym, ap, ◌∙◌, subst, inl, inr, length, arith, drop_of_length-le}
+use Rattle.std.proofs.Common.{◌≡◌, ◌≢◌, ℕ, zero, suc, true, List, [], ◌∷◌, ◌++◌, drop, map, Some, None, Ok, Err, Option, refl, sym, ap, ◌∙◌, subst, inl, inr, length, arith, drop_of_length-le}
 use Rattle.std.proofs.lemmas.Option.{same_Some}
+use Rattle.relay_tasks.specs.declared.fault.Fault.{Fault}
+use Rattle.relay_links.specs.Connector.{Offer}
 use Rattle.relay_links.specs.Link.{LinkState, LinkItems}
 use Rattle.relay_links.specs.ReadScript.{given_of, left_items, script_given, script_left, IsAtEnd}
 use Rattle.relay_links.specs.ReadScript as reads
@@ -14,6 +16,9 @@ use Rattle.relay_links.specs.declared.script_link.ScriptLink.{ScriptLink}
 use Rattle.relay_attempt.specs.Passed.{Passed}
 use Rattle.relay_proxy.specs.Endings.{EndsWith, IsNoRequest, IsInOrder, is_nothing}
 use Rattle.relay_proxy.specs.Passed.{World, Start, start_of, nothing}
+use Rattle.relay_proxy.specs.Refusals.{faults_for}
+use Rattle.relay_proxy.specs.Taken.{AreNext, Takes, offers_for}
+use Rattle.relay_proxy.specs.declared.outcome.Outcome.{Outcome}
 use Rattle.relay_proxy.specs.declared.outcome.Processed.{Processed}
 use Rattle.relay_links.specs.ScriptEntries.{gets_failed}
 use Rattle.relay_links.specs.ListSchedule.{branches_left}
@@ -22,7 +27,7 @@ use Rattle.relay_links.specs.declared.script_connector.ScriptConnector.{ScriptCo
 use Rattle.relay_proxy.specs.Turn.{world_with}
 use Rattle.relay_proxy.specs.declared.outcome.Outcome.TheVariants as ended
 use Rattle.relay_proxy.specs.declared.record.AttemptRecord.{AttemptRecord}
-use Rattle.relay_cli.specs.Exchange.{first_world, IsConnectorOf, IsRun}
+use Rattle.relay_cli.specs.Exchange.{first_world, offers_of, IsConnectorOf, IsRun}
 use Rattle.relay_cli.specs.Report.{RequestSpec}
 use Rattle.relay_cli.specs.Script.{ScriptSpec}
 
@@ -72,6 +77,23 @@ never_none script request b bytes items begins run none =
     (subst (λ (xs : List ReadItem). IsAtEnd (left_items xs last.reads.at last.reads.done)) is
     at_end)
 
+-- the one link of a script's connector is offered, so no run tells of a refused one
+never_refused : (own : List (Returned ScriptLink)) (outcome : Outcome) (fault : Fault)
+    (offer : Option LinkItems) (left : Option (List Offer)) → faults_for own outcome ≡ fault ∷ []
+    → Takes (Some (Ok offer ∷ [])) (offers_for script_start own outcome) left → ⊥
+never_refused [] outcome fault offer None is takes = takes
+never_refused [] outcome fault offer (Some left) is takes =
+    let next : AreNext (Err fault ∷ []) (Ok offer ∷ []) left =
+    subst (λ (fs : List Fault). AreNext (map Err fs) (Ok offer ∷ []) left) is takes in
+    cc
+never_refused (r ∷ own) outcome fault offer left is takes = cc
+
+-- no run of a script says that its connector gave no link
+pub is_linked : (script : ScriptSpec) (request : RequestSpec) (run : IsRun script request)
+    → (fault : Fault) → faults_for run.run.own run.processed.outcome ≡ fault ∷ [] → ⊥
+is_linked script request run fault is =
+    never_refused run.run.own run.processed.outcome fault _ run.left is run.run.offered
+
 drop_all : {X : Type 0} (xs : List X) → drop (length xs) xs ≡ []
 drop_all xs = drop_of_length-le xs (omega arith)
 
@@ -99,6 +121,7 @@ always_limit script client connector schedule processed fresh offered named outc
       ahead = [];
       faults = gets_failed connector;
       refusals = Some [];
+      left = Some (offers_of script.peer);
       processed = processed;
       run = record {
         passed = nothing;
@@ -122,6 +145,7 @@ always_limit script client connector schedule processed fresh offered named outc
           ends = rw (outcome, attempts) (record { got = refl; sent = refl }, refl);
         };
         refused = rw outcome refl;
+        offered = rw outcome refl;
         exact = rw outcome (record {
           no_request = λ _ _. inl (inl refl);
           refused = λ _ _ _ _. inl (inl refl);
@@ -155,6 +179,7 @@ schedule_free script request schedule run = record {
   ahead = run.ahead;
   faults = run.faults;
   refusals = run.refusals;
+  left = run.left;
   processed = run.processed;
   run = run.run;
   printable = run.printable;

@@ -1,6 +1,7 @@
 -- One exchange over scripted links, and what is reported of it.
-use Rattle.std.specs.Prelude.{◌≡◌, ◌≢◌, ℕ, ◌≤◌, List, [], ◌∷◌, length, drop, map, Option, Some, None, unwrap_or}
+use Rattle.std.specs.Prelude.{◌≡◌, ◌≢◌, ℕ, ◌≤◌, List, [], ◌∷◌, length, drop, map, Option, Some, None, Ok, unwrap_or}
 use Rattle.relay_tasks.specs.declared.fault.Fault.{Fault}
+use Rattle.relay_links.specs.Connector.{Offer}
 use Rattle.relay_links.specs.ScriptLink.{script_state, script_start, IsFresh, AnswersBy}
 use Rattle.relay_links.specs.declared.connector.Returned.{Returned}
 use Rattle.relay_links.specs.declared.read_script.ReadItem.{ReadItem}
@@ -73,6 +74,10 @@ pub record IsConnectorOf (peer : PeerSpec) (connector : ScriptConnector) : Type 
   pub link : IsFresh entry.link peer.read peer.write
   pub connects : entry.connect ≡ None
 
+-- what a script's connector has: one link, which answers by the peer's items
+abbrev pub offers_of : PeerSpec → List Offer
+offers_of peer = Ok (Some (record { read = peer.read; write = peer.write })) ∷ []
+
 -- the world at the begin of a script's request: its client's link, with nothing read ahead, and its
 -- connector
 abbrev pub first_world : ScriptLink → ScriptConnector → World
@@ -93,15 +98,17 @@ pub record IsRun (script : ScriptSpec) (request : RequestSpec) : Type 0 where
   pub is_client : AnswersBy last script.client script.client_write
   pub returned : List (Returned ScriptLink)
   pub are_peer : AllAnswerBy returned script.peer.read script.peer.write
-  -- the faults that the connector answered
+  -- the faults that the connector answered, and what it has left
   pub refusals : Option (List Fault)
+  pub left : Option (List Offer)
   -- the request over them, from its begin to its end
   pub ahead : List ℕ
   pub faults : ℕ
   pub processed : Processed
   pub run : Processes script_state script_start (start_of (first_world client connector))
       (world_with (script_state last) ahead faults)
-      (Some []) (Some returned) (Some []) refusals script.turns processed
+      (Some []) (Some returned) (Some []) refusals (Some (offers_of script.peer)) left
+      script.turns processed
   -- what is reported is the outcome and what passed
   pub printable : request.outcome ≢ OutOfMemory
   pub outcome : request.outcome ≡ processed.outcome

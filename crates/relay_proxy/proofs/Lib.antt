@@ -4,7 +4,7 @@ pub mod HeadSteps
 pub mod ConnectSteps
 pub mod RelaySteps
 pub mod StepLemmas
-mod StockLemmas
+mod TakenLemmas
 mod RefusalLemmas
 pub mod ExactLemmas
 pub mod UnderWay

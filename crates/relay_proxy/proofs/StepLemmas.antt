@@ -1,7 +1,8 @@
 -- A step takes the run so far on, and the end adds up what it says.
 use Rattle.std.specs.Global.{Box}
-use Rattle.std.proofs.Common.{◌≡◌, ◌≢◌, ℕ, Bool, true, false, List, [], ◌∷◌, ◌++◌, Option, None, Some, true≢false, refl, sym, ap, subst, ◌∙◌, inl, inr, append_assoc, append-nil}
-use Rattle.relay_links.specs.Link.{LinkState, LinkStart}
+use Rattle.std.proofs.Common.{◌≡◌, ◌≢◌, ℕ, Bool, true, false, List, [], ◌∷◌, ◌++◌, Option, None, Some, Ok, Err, map, true≢false, refl, sym, ap, subst, ◌∙◌, inl, inr, append_assoc, append-nil}
+use Rattle.relay_links.specs.Connector.{Offer}
+use Rattle.relay_links.specs.Link.{LinkState, LinkStart, LinkItems}
 use Rattle.relay_links.specs.Told.{more, Gains}
 use Rattle.relay_links.specs.declared.Returned.{Returned}
 use Rattle.relay_tasks.specs.declared.Fault.{Fault}
@@ -11,9 +12,11 @@ use Rattle.relay_attempt.specs.Passed.{Passed}
 use Rattle.relay_attempt.specs.Head.{link_of}
 use Rattle.relay_proxy.specs.Passed.{World, Start, origin_of, IsUnsent}
 use Rattle.relay_proxy.specs.Endings.{EndsLinked, EndsUnlinked, AttemptsUnlinked, EndsReturned, EndsWith}
+use Rattle.relay_proxy.specs.Taken.{Takes, offers_for, offers_before, offers_of_turn}
 use Rattle.relay_proxy.specs.Phases.{IsLeased, IsGoing, IsRelaying, RunSoFar}
 use Rattle.relay_proxy.specs.Refusals.{faults_for, faults_before, faults_of_turn}
 use Rattle.relay_proxy.specs.Request.{StepsOn}
+use Rattle.relay_proxy.specs.Stock.{items_back}
 use Rattle.relay_proxy.specs.Turn.{Advances, HasCause, IsStalled, is_over, is_end}
 use Rattle.relay_proxy.specs.Closing.{Hands, HandsBack, Settles, GivesUp, Finishes, IsQuietExchange, IsQuiet, Rests, TurnOf, Ends}
 use Rattle.relay_proxy.proofs.ConnectSteps.{part_relayed}
@@ -69,6 +72,7 @@ module _ {L C : Type 0} (state : L → LinkState) (start_at : L → LinkStart) w
     gained : after ≡ more before handed
     run : RunSoFar state start_at s p w handed settled
     refused : faults_before [] next ≡ faults_before handed settled
+    offered : offers_before start_at [] next ≡ offers_before start_at handed settled
 
   -- a phase that stays
   stays : (s : Start) (p : Passed) (w : World) (next settled : Phase L C)
@@ -79,6 +83,7 @@ module _ {L C : Type 0} (state : L → LinkState) (start_at : L → LinkStart) w
     gained = kept ∙ more-nil before;
     run = subst (λ (n : Phase L C). RunSoFar state start_at s p w [] n) (sym same) run;
     refused = ap (λ (n : Phase L C). faults_before [] n) (sym same);
+    offered = ap (λ (n : Phase L C). offers_before start_at [] n) (sym same);
   }
 
   -- settling keeps the run so far
@@ -107,6 +112,8 @@ module _ {L C : Type 0} (state : L → LinkState) (start_at : L → LinkStart) w
               run.holds.0 does.2.hands run.holds.1;
         });
     refused = ap (λ (n : Phase L C). faults_before (does.2.entry ∷ []) n) (sym does.1);
+    offered = ap (λ (l : L). Ok (start_at l).items ∷ []) (sym does.2.hands.is_link)
+        ∙ ap (λ (n : Phase L C). offers_before start_at (does.2.entry ∷ []) n) (sym does.1);
   }
   settle_run s p w (Ended outcome attempts) settled before after does run =
       stays s p w (Ended outcome attempts) settled before after does.0 does.1 run
@@ -149,12 +156,15 @@ module _ {L C : Type 0} (state : L → LinkState) (start_at : L → LinkStart) w
   -- a turn of a request that has not ended, settled, is a step
   live_on : (s : Start) (p : Passed) (x : World) (phase next settled : Phase L C)
       (before mid after : Option (List (Returned L))) (told_before told_after : Option (List Fault))
-      → is_over phase ≡ false
+      (had has : Option (List Offer)) → is_over phase ≡ false
       → Advances state start_at s x next → mid ≡ before → Settles next mid after settled
       → Gains told_before (faults_of_turn phase next) told_after
-      → StepsOn state start_at s p x [] before after told_before told_after phase settled
-  live_on s p x phase next settled before mid after told_before told_after live turn kept does
-      told =
+      → Takes had (offers_of_turn start_at phase next) has
+      → offers_before start_at [] phase ++ offers_of_turn start_at phase next
+      ≡ offers_before start_at [] next
+      → StepsOn state start_at s p x [] before after told_before told_after had has phase settled
+  live_on s p x phase next settled before mid after told_before told_after had has live turn kept
+      does told takes carries =
       let done = settle_run s turn.passed x next settled mid after does turn.run in
       record {
         passed = turn.passed;
@@ -166,6 +176,11 @@ module _ {L C : Type 0} (state : L → LinkState) (start_at : L → LinkStart) w
           gained = told;
           are = live_unrefused phase next live ∙ done.refused;
         };
+        offered = record {
+          taken = offers_of_turn start_at phase next;
+          takes = takes;
+          are = carries ∙ done.offered;
+        };
         rested = λ over. absurd (true≢false (sym over ∙ live));
       }
 
@@ -173,13 +188,14 @@ module _ {L C : Type 0} (state : L → LinkState) (start_at : L → LinkStart) w
   ended_on : (s : Start) (p : Passed) (own : List (Returned L)) (w x : World) (outcome : Outcome)
       (attempts : List AttemptRecord) (next settled : Phase L C) (did : RunStep)
       (before mid after : Option (List (Returned L))) (told_before told_after : Option (List Fault))
+      (had has : Option (List Offer))
       → Rests {L = L} {C = C} w x (Ended outcome attempts) next did → mid ≡ before
-      → Settles next mid after settled → Gains told_before [] told_after
+      → Settles next mid after settled → Gains told_before [] told_after → Takes had [] has
       → RunSoFar {C = C} state start_at s p w own (Ended outcome attempts)
-      → StepsOn {C = C} state start_at s p x own before after told_before told_after
+      → StepsOn {C = C} state start_at s p x own before after told_before told_after had has
       (Ended outcome attempts) settled
   ended_on s p own w x outcome attempts next settled did before mid after told_before told_after
-      rests kept does told run =
+      had has rests kept does told takes run =
       let stayed = subst (λ (k : Phase L C). Settles k mid after settled) rests.0 does in
       record {
         passed = p;
@@ -197,6 +213,14 @@ module _ {L C : Type 0} (state : L → LinkState) (start_at : L → LinkStart) w
               ∙ ap (λ (rs : List (Returned L)). faults_for rs outcome) (sym (append-nil own))
               ∙ ap (λ (k : Phase L C). faults_before (own ++ []) k) (sym stayed.0);
         };
+        offered = record {
+          taken = [];
+          takes = takes;
+          are = append-nil (offers_before {C = C} start_at own (Ended outcome attempts))
+              ∙ ap (λ (rs : List (Returned L)).
+              offers_before {C = C} start_at rs (Ended outcome attempts)) (sym (append-nil own))
+              ∙ ap (λ (k : Phase L C). offers_before start_at (own ++ []) k) (sym stayed.0);
+        };
         rested = λ over. refl;
       }
 
@@ -204,13 +228,14 @@ module _ {L C : Type 0} (state : L → LinkState) (start_at : L → LinkStart) w
   closed_on : (s : Start) (p : Passed) (w x : World) (link : L) (lease : Lease) (keep : Bool)
       (outcome : Outcome) (next settled : Phase L C) (did : RunStep)
       (before mid after : Option (List (Returned L))) (told_before told_after : Option (List Fault))
+      (had has : Option (List Offer))
       → Rests w x (Close link lease keep outcome) next did → mid ≡ before
-      → Settles next mid after settled → Gains told_before [] told_after
+      → Settles next mid after settled → Gains told_before [] told_after → Takes had [] has
       → RunSoFar {C = C} state start_at s p w [] (Close link lease keep outcome)
-      → StepsOn state start_at s p x [] before after told_before told_after
+      → StepsOn state start_at s p x [] before after told_before told_after had has
       (Close link lease keep outcome) settled
   closed_on s p w x link lease keep outcome next settled did before mid after told_before told_after
-      rests kept does told run =
+      had has rests kept does told takes run =
       let done = settle_run s p w (Close link lease keep outcome) settled mid after
       (subst (λ (k : Phase L C). Settles k mid after settled) rests.0 does) run in
       record {
@@ -220,6 +245,7 @@ module _ {L C : Type 0} (state : L → LinkState) (start_at : L → LinkStart) w
         run = subst (λ (y : World). RunSoFar state start_at s p y done.handed settled)
             (sym rests.2) done.run;
         refused = record { faults = []; gained = told; are = done.refused };
+        offered = record { taken = []; takes = takes; are = done.offered };
         rested = λ over. refl;
       }
 
@@ -227,54 +253,59 @@ module _ {L C : Type 0} (state : L → LinkState) (start_at : L → LinkStart) w
   pub step_on : (s : Start) (p : Passed) (own : List (Returned L)) (w x : World)
       (phase next settled : Phase L C) (did : RunStep)
       (before mid after : Option (List (Returned L))) (told_before told_after : Option (List Fault))
+      (had has : Option (List Offer))
       → (RunSoFar state start_at s p w [] phase → TurnOf state start_at s x phase next)
       → Rests w x phase next did → mid ≡ before → Settles next mid after settled
       → Gains told_before (faults_of_turn phase next) told_after
+      → Takes had (offers_of_turn start_at phase next) has
+      → (is_over phase ≡ false
+      → offers_before start_at [] phase ++ offers_of_turn start_at phase next
+      ≡ offers_before start_at [] next)
       → RunSoFar state start_at s p w own phase
-      → StepsOn state start_at s p x own before after told_before told_after phase settled
-  step_on s p [] w x ReadHead next settled did before mid after t u
-      turn rests kept does told run =
-      live_on s p x ReadHead next settled before mid after t u refl (turn run)
-      kept does told
-  step_on s p [] w x (Refuse answer e) next settled did before mid after t u
-      turn rests kept does told run =
-      live_on s p x (Refuse answer e) next settled before mid after t u refl (turn run)
-      kept does told
-  step_on s p [] w x (Connect context session) next settled did before mid after t u
-      turn rests kept does told run =
-      live_on s p x (Connect context session) next settled before mid after t u refl (turn run)
-      kept does told
-  step_on s p [] w x (Relay a) next settled did before mid after t u
-      turn rests kept does told run =
-      live_on s p x (Relay a) next settled before mid after t u refl (turn run)
-      kept does told
-  step_on s p [] w x (Close link lease keep outcome) next settled did before mid after t u
-      turn rests kept does told run =
-      closed_on s p w x link lease keep outcome next settled did before mid after t u rests kept
-      does told run
-  step_on s p [] w x (Ended outcome attempts) next settled did before mid after t u
-      turn rests kept does told run =
-      ended_on s p [] w x outcome attempts next settled did before mid after t u rests kept does
-      told run
-  step_on s p (r ∷ own) w x ReadHead next settled did before mid after t u
-      turn rests kept does told run =
+      → StepsOn state start_at s p x own before after told_before told_after had has phase settled
+  step_on s p [] w x ReadHead next settled did before mid after t u h k
+      turn rests kept does told takes carries run =
+      live_on s p x ReadHead next settled before mid after t u h k refl (turn run)
+      kept does told takes (carries refl)
+  step_on s p [] w x (Refuse answer e) next settled did before mid after t u h k
+      turn rests kept does told takes carries run =
+      live_on s p x (Refuse answer e) next settled before mid after t u h k refl (turn run)
+      kept does told takes (carries refl)
+  step_on s p [] w x (Connect context session) next settled did before mid after t u h k
+      turn rests kept does told takes carries run =
+      live_on s p x (Connect context session) next settled before mid after t u h k refl (turn run)
+      kept does told takes (carries refl)
+  step_on s p [] w x (Relay a) next settled did before mid after t u h k
+      turn rests kept does told takes carries run =
+      live_on s p x (Relay a) next settled before mid after t u h k refl (turn run)
+      kept does told takes (carries refl)
+  step_on s p [] w x (Close link lease keep outcome) next settled did before mid after t u h k
+      turn rests kept does told takes carries run =
+      closed_on s p w x link lease keep outcome next settled did before mid after t u h k rests
+      kept does told takes run
+  step_on s p [] w x (Ended outcome attempts) next settled did before mid after t u h k
+      turn rests kept does told takes carries run =
+      ended_on s p [] w x outcome attempts next settled did before mid after t u h k rests kept
+      does told takes run
+  step_on s p (r ∷ own) w x ReadHead next settled did before mid after t u h k
+      turn rests kept does told takes carries run =
       absurd run.holds
-  step_on s p (r ∷ own) w x (Refuse answer e) next settled did before mid after t u
-      turn rests kept does told run =
+  step_on s p (r ∷ own) w x (Refuse answer e) next settled did before mid after t u h k
+      turn rests kept does told takes carries run =
       absurd run.holds
-  step_on s p (r ∷ own) w x (Connect context session) next settled did before mid after t u
-      turn rests kept does told run =
+  step_on s p (r ∷ own) w x (Connect context session) next settled did before mid after t u h k
+      turn rests kept does told takes carries run =
       absurd run.holds
-  step_on s p (r ∷ own) w x (Relay a) next settled did before mid after t u
-      turn rests kept does told run =
+  step_on s p (r ∷ own) w x (Relay a) next settled did before mid after t u h k
+      turn rests kept does told takes carries run =
       absurd run.holds
-  step_on s p (r ∷ own) w x (Close link lease keep outcome) next settled did before mid after t u
-      turn rests kept does told run =
+  step_on s p (r ∷ own) w x (Close link lease keep outcome) next settled did before mid after t u h k
+      turn rests kept does told takes carries run =
       absurd run.holds
-  step_on s p (r ∷ own) w x (Ended outcome attempts) next settled did before mid after t u
-      turn rests kept does told run =
-      ended_on s p (r ∷ own) w x outcome attempts next settled did before mid after t u rests kept
-      does told run
+  step_on s p (r ∷ own) w x (Ended outcome attempts) next settled did before mid after t u h k
+      turn rests kept does told takes carries run =
+      ended_on s p (r ∷ own) w x outcome attempts next settled did before mid after t u h k rests
+      kept does told takes run
 
   -- an attempt in which all that can be done asks a silent link
   quiet_over : (s : Start) (p : Passed) (w : World) (a : Box (Attempt L C))
@@ -299,9 +330,10 @@ module _ {L C : Type 0} (state : L → LinkState) (start_at : L → LinkStart) w
       → EndsLinked s p w (state link) (start_at link) keep outcome
       → (IsStalled state start_at w phase → IsQuietExchange state start_at s p w link)
       → faults_before [] phase ≡ []
+      → offers_before start_at [] phase ≡ Ok (start_at link).items ∷ []
       → Ends state start_at s p w [] before after phase ending
   linked_end s p w phase link lease keep before after ending outcome is back run leased ends
-      stalled none = record {
+      stalled none holds = record {
         handed = back.entry ∷ [];
         gained = back.gained;
         ended = record {
@@ -315,6 +347,7 @@ module _ {L C : Type 0} (state : L → LinkState) (start_at : L → LinkStart) w
               leased back.hands ends);
         };
         refused = sym none;
+        offered = ap (λ (l : L). Ok (start_at l).items ∷ []) back.hands.is_link ∙ sym holds;
         quiet = λ limit still. subst (λ (l : L). IsQuietExchange state start_at s p w l)
             (sym back.hands.is_link) (stalled still);
       }
@@ -324,9 +357,9 @@ module _ {L C : Type 0} (state : L → LinkState) (start_at : L → LinkStart) w
       (before after : Option (List (Returned L))) (ending : Ending) → GivesUp before after ending
       → RunSoFar state start_at s p w [] phase → IsUnsent p
       → (IsStalled state start_at w phase → IsQuiet state start_at s p w [])
-      → faults_before [] phase ≡ []
+      → faults_before [] phase ≡ [] → offers_before start_at [] phase ≡ []
       → Ends state start_at s p w [] before after phase ending
-  unlinked_end s p w phase before after ending gives run unsent stalled none = record {
+  unlinked_end s p w phase before after ending gives run unsent stalled none bare = record {
     handed = [];
     gained = gives.same ∙ more-nil before;
     ended = record {
@@ -337,6 +370,7 @@ module _ {L C : Type 0} (state : L → LinkState) (start_at : L → LinkStart) w
           (sym gives.limit) (unsent, gives.none);
     };
     refused = ap (λ (o : Outcome). faults_for {L = L} [] o) gives.limit ∙ sym none;
+    offered = ap (λ (o : Outcome). offers_for start_at [] o) gives.limit ∙ sym bare;
     quiet = λ limit still. stalled still;
   }
 
@@ -363,6 +397,10 @@ module _ {L C : Type 0} (state : L → LinkState) (start_at : L → LinkStart) w
     };
     refused = ap (λ (o : Outcome). faults_for (own ++ []) o) is
         ∙ ap (λ (rs : List (Returned L)). faults_for rs outcome) (append-nil own);
+    offered = ap (λ (o : Outcome). offers_for start_at (own ++ []) o) is
+        ∙ ap (λ (rs : List (Returned L)). offers_for start_at rs outcome) (append-nil own)
+        ∙ ap (λ (xs : List (Option LinkItems)). map Ok xs ++ map Err (faults_for own outcome))
+        (sym (append-nil (items_back start_at own)));
     quiet = λ limit never. absurd never;
   }
 
@@ -373,13 +411,13 @@ module _ {L C : Type 0} (state : L → LinkState) (start_at : L → LinkStart) w
       → Ends state start_at s p w own before after phase ending
   end_of s p [] w ReadHead before after ending does run =
       unlinked_end s p w ReadHead before after ending does run run.holds.unsent
-      (λ h. inl (subst (λ (xs : List ℕ). IsOpen xs) run.holds.whole h.0, h.1)) refl
+      (λ h. inl (subst (λ (xs : List ℕ). IsOpen xs) run.holds.whole h.0, h.1)) refl refl
   end_of s p [] w (Refuse answer e) before after ending does run =
       unlinked_end s p w (Refuse answer e) before after ending does run run.holds.unsent
-      (λ h. inr (half_answered s p answer e run.holds, h)) refl
+      (λ h. inr (half_answered s p answer e run.holds, h)) refl refl
   end_of s p [] w (Connect context session) before after ending does run =
       unlinked_end s p w (Connect context session) before after ending does run run.holds.unsent
-      (λ h. absurd h) refl
+      (λ h. absurd h) refl refl
   end_of s p [] w (Relay a) before after ending does run =
       linked_end s p w (Relay a) (link_of a.value.exchange) a.value.lease false before after
       ending TurnLimit does.limit does.back run run.holds.leased (
@@ -387,10 +425,10 @@ module _ {L C : Type 0} (state : L → LinkState) (start_at : L → LinkStart) w
             run.holds.leased.reused run.holds.under_way.order,
         refl,
       )
-      (λ h. quiet_over s p w a run.holds h) refl
+      (λ h. quiet_over s p w a run.holds h) refl refl
   end_of s p [] w (Close link lease keep outcome) before after ending does run =
       linked_end s p w (Close link lease keep outcome) link lease keep before after ending outcome
-      does.0 does.1 run run.holds.0 run.holds.1 (λ h. absurd h) refl
+      does.0 does.1 run run.holds.0 run.holds.1 (λ h. absurd h) refl refl
   end_of s p [] w (Ended outcome attempts) before after ending does run =
       ended_end s p w [] outcome attempts before after ending run.holds does.0 does.1 does.2 run
   end_of s p (r ∷ own) w ReadHead before after ending does run = absurd run.holds

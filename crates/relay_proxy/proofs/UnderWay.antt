@@ -1,6 +1,7 @@
 -- A request between two steps of one call.
 use Rattle.std.proofs.Common.{◌≡◌, ◌≢◌, ℕ, ◌+◌, ◌≤◌, true, false, List, [], ◌++◌, Option, true≢false, refl, sym, ap, subst, ◌∙◌, inl, inr, arith}
 use Rattle.relay_links.specs.Count.{last_count, up}
+use Rattle.relay_links.specs.Connector.{Offer}
 use Rattle.relay_links.specs.Link.{LinkState, LinkStart}
 use Rattle.relay_links.specs.Told.{more, Gains}
 use Rattle.relay_links.proofs.GainsLemmas.{Gains-nothing, Gains-twice}
@@ -9,10 +10,11 @@ use Rattle.relay_tasks.specs.declared.Fault.{Fault}
 use Rattle.relay_tasks.specs.declared.took.Pause.TheVariants.{NotReady, Silent}
 use Rattle.relay_attempt.specs.Passed.{Passed}
 use Rattle.relay_proxy.specs.Passed.{World, Start, start_of, nothing}
+use Rattle.relay_proxy.specs.Taken.{Takes, offers_before}
 use Rattle.relay_proxy.specs.Phases.{RunSoFar}
 use Rattle.relay_proxy.specs.Refusals.{faults_before}
 use Rattle.relay_proxy.specs.Request.{is_stop, Counts, StepsOn, ComesToEnd, Processes}
-use Rattle.relay_proxy.specs.Turn.{IsStalled, HasCause, is_over, is_end}
+use Rattle.relay_proxy.specs.Turn.{IsStalled, HasCause, links_held, is_over, is_end}
 use Rattle.relay_proxy.specs.declared.machine.Machine.{Machine}
 use Rattle.relay_proxy.specs.declared.machine.Phase.{Phase}
 use Rattle.relay_proxy.specs.declared.machine.Phase.TheVariants.{ReadHead, Refuse, Connect, Relay, Close, Ended}
@@ -22,6 +24,7 @@ use Rattle.relay_proxy.specs.declared.outcome.Outcome.TheVariants.{TurnLimit}
 use Rattle.relay_proxy.specs.declared.outcome.Processed.{Processed}
 use Rattle.relay_proxy.proofs.StepLemmas.{more-nil, more-more}
 use Rattle.relay_proxy.proofs.ExactLemmas.{exact_of}
+use Rattle.relay_proxy.proofs.TakenLemmas.{takes_nothing, takes_twice}
 
 -- a step after which the call goes on is counted
 pub one_more : (before after : ℕ) (did : RunStep) → Counts before after did
@@ -42,12 +45,14 @@ module _ {L C : Type 0} (state : L → LinkState) (start_at : L → LinkStart) w
   -- the run so far since the call began, and the turns that were taken
   pub record IsUnderWay
       (s : Start) (w : World) (before now : Option (List (Returned L)))
-      (told_before told_now : Option (List Fault)) (m : Machine L C) (turns : ℕ) : Type 0 where
+      (told_before told_now : Option (List Fault)) (had has : Option (List Offer))
+      (m : Machine L C) (turns : ℕ) : Type 0 where
     pub passed : Passed
     pub own : List (Returned L)
     pub gained : now ≡ more before own
     pub run : RunSoFar state start_at s passed w own m.phase
     pub refused : Gains told_before (faults_before own m.phase) told_now
+    pub offered : Takes had (offers_before start_at own m.phase) has
     pub counted : m.turns ≡ turns
 
   -- a request that has not ended was refused nothing
@@ -59,30 +64,45 @@ module _ {L C : Type 0} (state : L → LinkState) (start_at : L → LinkStart) w
   none_before (Close link lease keep outcome) going = refl
   none_before (Ended outcome attempts) going = absurd (true≢false going)
 
+  -- and where it holds no link it took nothing
+  none_taken : (phase : Phase L C) → is_over phase ≡ false
+      → links_held state start_at phase ≡ 0 → offers_before start_at [] phase ≡ []
+  none_taken ReadHead going none = refl
+  none_taken (Refuse answer e) going none = refl
+  none_taken (Connect context session) going none = refl
+  none_taken (Relay a) going none = cc
+  none_taken (Close link lease keep outcome) going none = absurd (true≢false going)
+  none_taken (Ended outcome attempts) going none = absurd (true≢false going)
+
   -- a request that was just begun
   pub begun : (w x : World) (before now : Option (List (Returned L)))
-      (told_before told_now : Option (List Fault)) (m : Machine L C) → now ≡ before
-      → told_now ≡ told_before → RunSoFar state start_at (start_of w) nothing x [] m.phase
-      → is_over m.phase ≡ false → m.turns ≡ 0
-      → IsUnderWay (start_of w) x before now told_before told_now m 0
-  begun w x before now told_before told_now m same told run going none = record {
-    passed = nothing;
-    own = [];
-    gained = same ∙ more-nil before;
-    run = run;
-    refused = subst (λ (fs : List Fault). Gains told_before fs told_now)
-        (sym (none_before m.phase going)) (Gains-nothing told_before told_now told);
-    counted = none;
-  }
+      (told_before told_now : Option (List Fault)) (had has : Option (List Offer))
+      (m : Machine L C) → now ≡ before
+      → told_now ≡ told_before → has ≡ had
+      → RunSoFar state start_at (start_of w) nothing x [] m.phase
+      → is_over m.phase ≡ false → links_held state start_at m.phase ≡ 0 → m.turns ≡ 0
+      → IsUnderWay (start_of w) x before now told_before told_now had has m 0
+  begun w x before now told_before told_now had has m same told kept run going unlinked none =
+      record {
+        passed = nothing;
+        own = [];
+        gained = same ∙ more-nil before;
+        run = run;
+        refused = subst (λ (fs : List Fault). Gains told_before fs told_now)
+            (sym (none_before m.phase going)) (Gains-nothing told_before told_now told);
+        offered = takes_nothing (offers_before start_at [] m.phase) had has
+            (none_taken m.phase going unlinked) kept;
+        counted = none;
+      }
 
   -- one more step that is counted
   pub goes_on : (s : Start) (w x : World) (before now after : Option (List (Returned L)))
-      (t u v : Option (List Fault)) (m n : Machine L C) (turns : ℕ)
-      (under : IsUnderWay s w before now t u m turns)
-      → StepsOn state start_at s under.passed x under.own now after u v m.phase n.phase
+      (t u v : Option (List Fault)) (h k l : Option (List Offer)) (m n : Machine L C) (turns : ℕ)
+      (under : IsUnderWay s w before now t u h k m turns)
+      → StepsOn state start_at s under.passed x under.own now after u v k l m.phase n.phase
       → n.turns ≡ up m.turns → turns + 1 ≤ last_count
-      → IsUnderWay s x before after t v n (turns + 1)
-  goes_on s w x before now after t u v m n turns under steps one few = record {
+      → IsUnderWay s x before after t v h l n (turns + 1)
+  goes_on s w x before now after t u v h k l m n turns under steps one few = record {
     passed = steps.passed;
     own = under.own ++ steps.handed;
     gained = steps.gained
@@ -92,42 +112,51 @@ module _ {L C : Type 0} (state : L → LinkState) (start_at : L → LinkStart) w
     refused = subst (λ (fs : List Fault). Gains t fs v) steps.refused.are
         (Gains-twice t u v (faults_before under.own m.phase) steps.refused.faults under.refused
         steps.refused.gained);
+    offered = subst (λ (os : List Offer). Takes h os l) steps.offered.are
+        (takes_twice h k l (offers_before start_at under.own m.phase) steps.offered.taken
+        under.offered steps.offered.takes);
     counted = omega (arith, one, under.counted);
   }
 
   -- the end of a request whose turns were all taken
   pub all_taken : (s : Start) (w x : World) (before now after : Option (List (Returned L)))
-      (t u v : Option (List Fault)) (m : Machine L C) (turns most : ℕ) (processed : Processed)
-      (under : IsUnderWay s w before now t u m turns) → most ≡ turns
+      (t u v : Option (List Fault)) (h k l : Option (List Offer)) (m : Machine L C)
+      (turns most : ℕ) (processed : Processed)
+      (under : IsUnderWay s w before now t u h k m turns) → most ≡ turns
       → ComesToEnd state start_at s under.passed x under.own now after m.phase processed
-      → v ≡ u → processed.history.turns_taken ≡ m.turns
-      → Processes state start_at s x before after t v most processed
-  all_taken s w x before now after t u v m turns most processed under all ends told taken = record {
-    passed = under.passed;
-    own = under.own ++ ends.handed;
-    gained = ends.gained
-        ∙ ap (λ (t : Option (List (Returned L))). more t ends.handed) under.gained
-        ∙ more-more before under.own ends.handed;
-    ended = ends.ended;
-    refused = subst (λ (fs : List Fault). Gains t fs v) (sym ends.refused)
-        (subst (λ (o : Option (List Fault)). Gains t (faults_before under.own m.phase) o) (sym told)
-        under.refused);
-    exact = exact_of state start_at s under.passed x (under.own ++ ends.handed)
-        processed.history.attempts processed.outcome ends.ended;
-    limit = λ is. inl (taken ∙ under.counted ∙ sym all);
-  }
+      → v ≡ u → l ≡ k → processed.history.turns_taken ≡ m.turns
+      → Processes state start_at s x before after t v h l most processed
+  all_taken s w x before now after t u v h k l m turns most processed under all ends told kept
+      taken = record {
+        passed = under.passed;
+        own = under.own ++ ends.handed;
+        gained = ends.gained
+            ∙ ap (λ (t : Option (List (Returned L))). more t ends.handed) under.gained
+            ∙ more-more before under.own ends.handed;
+        ended = ends.ended;
+        refused = subst (λ (fs : List Fault). Gains t fs v) (sym ends.refused)
+            (subst (λ (o : Option (List Fault)). Gains t (faults_before under.own m.phase) o) (sym told)
+            under.refused);
+        offered = subst (λ (os : List Offer). Takes h os l) (sym ends.offered)
+            (subst (λ (o : Option (List Offer)). Takes h (offers_before start_at under.own m.phase) o)
+            (sym kept) under.offered);
+        exact = exact_of state start_at s under.passed x (under.own ++ ends.handed)
+            processed.history.attempts processed.outcome ends.ended;
+        limit = λ is. inl (taken ∙ under.counted ∙ sym all);
+      }
 
   -- the end of a request after a step that ended it, or that met silence
   pub stopped : (s : Start) (w x y : World) (before now mid after : Option (List (Returned L)))
-      (t u v z : Option (List Fault)) (m n : Machine L C) (turns most : ℕ) (processed : Processed)
-      (under : IsUnderWay s w before now t u m turns)
-      (steps : StepsOn state start_at s under.passed x under.own now mid u v m.phase n.phase)
+      (t u v z : Option (List Fault)) (h k l a : Option (List Offer)) (m n : Machine L C)
+      (turns most : ℕ) (processed : Processed)
+      (under : IsUnderWay s w before now t u h k m turns)
+      (steps : StepsOn state start_at s under.passed x under.own now mid u v k l m.phase n.phase)
       → ComesToEnd state start_at s steps.passed y (under.own ++ steps.handed) mid after n.phase
       processed
-      → z ≡ v → (processed.outcome ≡ TurnLimit → IsStalled state start_at y n.phase)
-      → Processes state start_at s y before after t z most processed
-  stopped s w x y before now mid after t u v z m n turns most processed under steps ends told
-      stalled =
+      → z ≡ v → a ≡ l → (processed.outcome ≡ TurnLimit → IsStalled state start_at y n.phase)
+      → Processes state start_at s y before after t z h a most processed
+  stopped s w x y before now mid after t u v z h k l a m n turns most processed under steps ends
+      told kept stalled =
       record {
         passed = steps.passed;
         own = (under.own ++ steps.handed) ++ ends.handed;
@@ -143,6 +172,11 @@ module _ {L C : Type 0} (state : L → LinkState) (start_at : L → LinkStart) w
             (faults_before under.own m.phase ++ steps.refused.faults) o) (sym told)
             (Gains-twice t u v (faults_before under.own m.phase) steps.refused.faults under.refused
             steps.refused.gained));
+        offered = subst (λ (os : List Offer). Takes h os a) (steps.offered.are ∙ sym ends.offered)
+            (subst (λ (o : Option (List Offer)). Takes h
+            (offers_before start_at under.own m.phase ++ steps.offered.taken) o) (sym kept)
+            (takes_twice h k l (offers_before start_at under.own m.phase) steps.offered.taken
+            under.offered steps.offered.takes));
         exact = exact_of state start_at s steps.passed y
             ((under.own ++ steps.handed) ++ ends.handed) processed.history.attempts
             processed.outcome ends.ended;

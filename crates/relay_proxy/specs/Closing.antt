@@ -11,6 +11,7 @@ use Rattle.relay_attempt.specs.declared.h1_exchange.H1Exchange.{H1Exchange}
 use Rattle.relay_attempt.specs.Head.{link_of}
 use Rattle.relay_proxy.specs.Passed.{World, Start, origin_of, asked}
 use Rattle.relay_proxy.specs.Endings.{error_of, IsAskedPeer, IsHalfAnswered, IsEnded}
+use Rattle.relay_proxy.specs.Taken.{offers_for, offers_before}
 use Rattle.relay_proxy.specs.Refusals.{faults_for, faults_before}
 use Rattle.relay_proxy.specs.Relayable.{IsRelayable}
 use Rattle.relay_proxy.specs.Turn.{IsStalled, Advances}
@@ -137,5 +138,8 @@ module _ {L C : Type 0} (state : L → LinkState) (start_at : L → LinkStart) w
     pub ended : IsEnded state start_at s p w (own ++ handed) ending.attempts ending.outcome
     -- the connector answered faults for no other request
     pub refused : faults_for (own ++ handed) ending.outcome ≡ faults_before own phase
+    -- nor were offers taken for another
+    pub offered : offers_for start_at (own ++ handed) ending.outcome
+        ≡ offers_before start_at own phase
     pub quiet : ending.outcome ≡ TurnLimit → IsStalled state start_at w phase
         → IsQuiet state start_at s p w (own ++ handed)

@@ -12,3 +12,4 @@ pub mod Refusals
 pub mod Request
 pub mod Reuse
 pub mod Stock
+pub mod Taken

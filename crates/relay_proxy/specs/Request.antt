@@ -1,6 +1,7 @@
 -- One request over one proxy: what a step and the end make of its run so far, and what the whole
 -- call promises.
 use Rattle.std.specs.Prelude.{◌≡◌, ◌≢◌, ℕ, ◌⊎◌, Bool, true, false, List, ◌++◌, Option}
+use Rattle.relay_links.specs.Connector.{Offer}
 use Rattle.relay_links.specs.Count.{up}
 use Rattle.relay_links.specs.Link.{LinkState, LinkStart}
 use Rattle.relay_links.specs.Told.{more, Gains}
@@ -11,6 +12,7 @@ use Rattle.relay_attempt.specs.Passed.{Passed}
 use Rattle.relay_proxy.specs.Passed.{World, Start}
 use Rattle.relay_proxy.specs.Endings.{IsEnded}
 use Rattle.relay_proxy.specs.Exact.{IsExact}
+use Rattle.relay_proxy.specs.Taken.{Takes, TakesOn, offers_for, offers_before}
 use Rattle.relay_proxy.specs.Phases.{RunSoFar}
 use Rattle.relay_proxy.specs.Refusals.{faults_for, faults_before, AnswersFaults}
 use Rattle.relay_proxy.specs.Turn.{IsStalled, is_over}
@@ -45,17 +47,19 @@ ended_after ended TurnLimit = ended
 ended_after ended OutOfMemory = ended
 
 module _ {L C : Type 0} (state : L → LinkState) (start_at : L → LinkStart) where
-  -- a step took the run so far on from one phase to the next, and handed these links back; the
-  -- connector answered no fault but the one of a request that ended so
+  -- a step took the run so far on from one phase to the next, and handed these links back; it took
+  -- no more of the connector's offers than the request's link, or the fault with which the request
+  -- ended; and the connector answered no fault but that one
   pub record StepsOn
       (s : Start) (p : Passed) (w : World) (own : List (Returned L))
       (before after : Option (List (Returned L))) (told_before told_after : Option (List Fault))
-      (phase next : Phase L C) : Type 0 where
+      (had has : Option (List Offer)) (phase next : Phase L C) : Type 0 where
     pub passed : Passed
     pub handed : List (Returned L)
     pub gained : after ≡ more before handed
     pub run : RunSoFar state start_at s passed w (own ++ handed) next
     pub refused : AnswersFaults told_before told_after own phase (own ++ handed) next
+    pub offered : TakesOn start_at had has own phase (own ++ handed) next
     -- a request that has ended passes nothing more
     pub rested : is_over phase ≡ true → passed ≡ p
 
@@ -70,6 +74,9 @@ module _ {L C : Type 0} (state : L → LinkState) (start_at : L → LinkStart) w
         processed.outcome
     -- it is the request for which the connector answered its faults
     pub refused : faults_for (own ++ handed) processed.outcome ≡ faults_before own phase
+    -- and the one that took what was taken of the offers
+    pub offered : offers_for start_at (own ++ handed) processed.outcome
+        ≡ offers_before start_at own phase
     -- a request that has ended gives no `TurnLimit`
     pub over : is_over phase ≡ true → processed.outcome ≢ TurnLimit
     pub quiet : processed.outcome ≡ TurnLimit → IsStalled state start_at w phase
@@ -80,14 +87,16 @@ module _ {L C : Type 0} (state : L → LinkState) (start_at : L → LinkStart) w
 -- cause
 pub record Processes {L : Type 0} (state : L → LinkState) (start_at : L → LinkStart)
     (s : Start) (w : World) (before after : Option (List (Returned L)))
-    (told_before told_after : Option (List Fault)) (turns : ℕ) (processed : Processed)
-    : Type 0 where
+    (told_before told_after : Option (List Fault)) (had has : Option (List Offer)) (turns : ℕ)
+    (processed : Processed) : Type 0 where
   pub passed : Passed
   pub own : List (Returned L)
   pub gained : after ≡ more before own
   pub ended : IsEnded state start_at s passed w own processed.history.attempts processed.outcome
   -- the connector refused a link exactly where the request ended with that fault's error
   pub refused : Gains told_before (faults_for own processed.outcome) told_after
+  -- of what the connector had it took the first: the link, or that fault
+  pub offered : Takes had (offers_for start_at own processed.outcome) has
   -- the other way round: where a cause stands, the outcome is its own
   pub exact : IsExact state start_at s passed w own processed.outcome
   -- a request that has not ended took all its turns, or all that it asks is silent

@@ -1,6 +1,7 @@
 -- The links of a connector: those that came back, the one that a request holds, and those that it
 -- will hand out, by the items by which they answer.
 use Rattle.std.specs.Prelude.{List, [], ◌∷◌, ◌++◌, map, Option, Some, None}
+use Rattle.relay_links.specs.Connector.{Offer, links_of}
 use Rattle.relay_links.specs.Link.{LinkStart, LinkItems}
 use Rattle.relay_links.specs.declared.Returned.{Returned}
 use Rattle.relay_attempt.specs.Head.{link_of}
@@ -23,7 +24,8 @@ items_back start back = map (λ r. (start r.link).items) back
 -- the items of all links, in order: those that came back, the one that is held, and those that are
 -- left; where the connector tells its links
 abbrev pub all_items : {L : Type 0} → (L → LinkStart) → Option (List (Returned L))
-    → List (Option LinkItems) → Option (List (Option LinkItems)) → Option (List (Option LinkItems))
+    → List (Option LinkItems) → Option (List Offer) → Option (List (Option LinkItems))
 all_items start None held left = None
 all_items start (Some back) held None = None
-all_items start (Some back) held (Some left) = Some (items_back start back ++ (held ++ left))
+all_items start (Some back) held (Some left) =
+    Some (items_back start back ++ (held ++ links_of left))

@@ -1,5 +1,5 @@
 //! The connector: asked once for a link, over which the request's one attempt then goes.
-ghost use Rattle.std.specs.Prelude.{◌≡◌, ◌+◌, ◌≤◌, [], ◌∷◌, ◌++◌, option_map, ℕ, List, Some, IfSome, false};
+ghost use Rattle.std.specs.Prelude.{◌≡◌, ◌+◌, ◌≤◌, [], ◌∷◌, ℕ, List, Some, IfSome, false};
 ghost use Rattle.std.specs.Global.{Box};
 ghost use Rattle.relay_links.specs.Link.{LinkState, IsHandedOut};
 ghost use Rattle.relay_links.specs.Told.{Gains};
@@ -7,6 +7,7 @@ ghost use Rattle.relay_attempt.specs.Head.{link_of};
 ghost use Rattle.relay_attempt.specs.Passed.{Passed};
 ghost use Rattle.relay_session.specs.Reading.{head_of};
 ghost use Rattle.relay_proxy.specs.Endings.{IsInOrder, IsAskedPeer, fault_error, outcome_of};
+ghost use Rattle.relay_proxy.specs.Taken.{Takes, offers_before};
 ghost use Rattle.relay_proxy.specs.Passed.{World, Start, TellsClient};
 ghost use Rattle.relay_proxy.specs.Phases.{IsRelaying, RunSoFar};
 ghost use Rattle.relay_proxy.specs.Refusals.{faults_before};
@@ -71,8 +72,8 @@ pub(crate) fn connect<K: Connector, C: Drop>(
     ensures out { K.out connector.new
         ≡ K.out connector.old + links_held K.Byte.state K.Byte.start result.phase }
     ensures returned { K.returned connector.new ≡ K.returned connector.old }
-    ensures stock { K.stock connector.old ≡ option_map
-        (λ rest. items_held K.Byte.start result.phase ++ rest) (K.stock connector.new) }
+    ensures offers { Takes (K.stock connector.old) (offers_before K.Byte.start [] result.phase)
+        (K.stock connector.new) }
     ensures refusals { Gains (K.refusals connector.old) (faults_before [] result.phase)
         (K.refusals connector.new) }
     ensures faults { K.fault_count connector.old ≤ K.fault_count connector.new }

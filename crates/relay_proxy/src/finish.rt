@@ -32,6 +32,7 @@ fn release<K: Connector>(
     ensures out { K.out connector.new + 1 ≡ K.out connector.old }
     ensures faults { K.fault_count connector.new ≡ K.fault_count connector.old }
     ensures refusals { K.refusals connector.new ≡ K.refusals connector.old }
+    ensures offers { K.stock connector.new ≡ K.stock connector.old }
     ensures stock { all_items K.Byte.start (K.returned connector.new) [] (K.stock connector.new)
         ≡ all_items K.Byte.start (K.returned connector.old) ((K.Byte.start link).items ∷ [])
         (K.stock connector.old) }
@@ -58,6 +59,7 @@ pub(crate) fn settle<K: Connector, C: Drop>(
         ≡ K.out connector.old + links_held K.Byte.state K.Byte.start result }
     ensures faults { K.fault_count connector.new ≡ K.fault_count connector.old }
     ensures refusals { K.refusals connector.new ≡ K.refusals connector.old }
+    ensures offers { K.stock connector.new ≡ K.stock connector.old }
     ensures stock { all_items K.Byte.start (K.returned connector.new)
         (items_held K.Byte.start result) (K.stock connector.new)
         ≡ all_items K.Byte.start (K.returned connector.old)
@@ -95,6 +97,7 @@ fn give_link_up<K: Connector>(connector: &mut K, link: K::Byte, lease: Lease) ->
     ensures out { K.out connector.new + 1 ≡ K.out connector.old }
     ensures faults { K.fault_count connector.new ≡ K.fault_count connector.old }
     ensures refusals { K.refusals connector.new ≡ K.refusals connector.old }
+    ensures offers { K.stock connector.new ≡ K.stock connector.old }
     ensures stock { all_items K.Byte.start (K.returned connector.new) [] (K.stock connector.new)
         ≡ all_items K.Byte.start (K.returned connector.old) ((K.Byte.start link).items ∷ [])
         (K.stock connector.old) }
@@ -118,6 +121,7 @@ pub(crate) fn finish<K: Connector, C: Drop>(
         ≡ K.out connector.old }
     ensures faults { K.fault_count connector.new ≡ K.fault_count connector.old }
     ensures refusals { K.refusals connector.new ≡ K.refusals connector.old }
+    ensures offers { K.stock connector.new ≡ K.stock connector.old }
     ensures stock { all_items K.Byte.start (K.returned connector.new) []
         (K.stock connector.new) ≡ all_items K.Byte.start (K.returned connector.old)
         (items_held K.Byte.start phase) (K.stock connector.old) }

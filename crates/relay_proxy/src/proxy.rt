@@ -138,8 +138,8 @@ impl<SV: ProxyHttp, K: Connector, P: Purger> HttpProxy<SV, K, P> {
     ) -> RunStep
         requires { links_held K.Byte.state K.Byte.start machine.old.machine.phase
             ≤ K.out self.old.connector }
-        // The run so far goes on, these links were handed back, and the connector answered no fault
-        // but the one of which the error of a request tells that ends so.
+        // The run so far goes on, these links were handed back, and of what the connector has the
+        // request took its link, or the one fault of which its error tells.
         ensures steps { (s : Start) (p : Passed) (own : List _)
             → RunSoFar K.Byte.state K.Byte.start s p
             (world_of D.state client.old (K.fault_count self.old.connector)) own
@@ -148,6 +148,7 @@ impl<SV: ProxyHttp, K: Connector, P: Purger> HttpProxy<SV, K, P> {
             (world_of D.state client.new (K.fault_count self.new.connector)) own
             (K.returned self.old.connector) (K.returned self.new.connector)
             (K.refusals self.old.connector) (K.refusals self.new.connector)
+            (K.stock self.old.connector) (K.stock self.new.connector)
             machine.old.machine.phase machine.new.machine.phase }
         // Before there is a link it moved something of the client, or went on to its next phase; in
         // an exchange it asked a link once, or none and it moved a task or brought an end, by the
@@ -259,6 +260,7 @@ impl<SV: ProxyHttp, K: Connector, P: Purger> HttpProxy<SV, K, P> {
         ensures log { result.0.history.log ≡ [] }
         ensures faults { K.fault_count self.new.connector ≡ K.fault_count self.old.connector }
         ensures refusals { K.refusals self.new.connector ≡ K.refusals self.old.connector }
+        ensures offers { K.stock self.new.connector ≡ K.stock self.old.connector }
         ensures out { K.out self.new.connector
             + links_held K.Byte.state K.Byte.start machine.machine.phase
             ≡ K.out self.old.connector }
@@ -306,7 +308,8 @@ impl<SV: ProxyHttp, K: Connector, P: Purger> HttpProxy<SV, K, P> {
             (start_of (world_of D.state client.old (K.fault_count self.old.connector)))
             (world_of D.state client.new (K.fault_count self.new.connector))
             (K.returned self.old.connector) (K.returned self.new.connector)
-            (K.refusals self.old.connector) (K.refusals self.new.connector) turns result }
+            (K.refusals self.old.connector) (K.refusals self.new.connector)
+            (K.stock self.old.connector) (K.stock self.new.connector) turns result }
         ensures within { result.history.turns_taken ≤ turns }
         // Each turn that was counted did some work.
         ensures worked { result.history.turns_taken ≤ result.history.items_used
@@ -361,6 +364,7 @@ impl<SV: ProxyHttp, K: Connector, P: Purger> HttpProxy<SV, K, P> {
         ensures sides { result.history.sides_ended ≡ machine.machine.work.ended }
         ensures faults { K.fault_count self.new.connector ≡ K.fault_count self.old.connector }
         ensures refusals { K.refusals self.new.connector ≡ K.refusals self.old.connector }
+        ensures offers { K.stock self.new.connector ≡ K.stock self.old.connector }
         ensures out { K.out self.new.connector
             + links_held K.Byte.state K.Byte.start machine.machine.phase
             ≡ K.out self.old.connector }

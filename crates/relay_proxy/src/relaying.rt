@@ -1,7 +1,6 @@
 //! The attempt: one turn of its exchange, and what becomes of the client and of the link once it
 //! has ended (RFC 9112, section 9.3).
 ghost use Rattle.std.specs.Prelude.{◌≡◌, ◌<◌, ℕ, [], ◌∷◌, None, Some, false, if◌then◌else◌};
-ghost use Rattle.relay_links.specs.Link.{LinkState};
 ghost use Rattle.relay_core.specs.Asked.{WaitRose};
 ghost use Rattle.relay_core.specs.Causes.{says_failed};
 ghost use Rattle.relay_core.specs.Past.{Origin};

@@ -1,10 +1,10 @@
 //! One turn of a request, by the phase in which it stands.
-ghost use Rattle.std.specs.Prelude.{◌≡◌, ◌+◌, ◌≤◌, List, [], Some};
+ghost use Rattle.std.specs.Prelude.{◌≡◌, ◌+◌, ◌≤◌, List, [], ◌++◌, Some, false};
 ghost use Rattle.std.specs.Global.{Box};
-ghost use Rattle.relay_links.specs.Link.{LinkState};
 ghost use Rattle.relay_links.specs.Told.{Gains};
 ghost use Rattle.relay_attempt.specs.Passed.{Passed};
 ghost use Rattle.relay_proxy.specs.Closing.{Rests, TurnOf};
+ghost use Rattle.relay_proxy.specs.Taken.{Takes, offers_before, offers_of_turn};
 ghost use Rattle.relay_proxy.specs.Passed.{Start};
 ghost use Rattle.relay_proxy.specs.Phases.{RunSoFar};
 ghost use Rattle.relay_proxy.specs.Refusals.{faults_of_turn};
@@ -62,6 +62,12 @@ pub(crate) fn take_turn<SV: ProxyHttp, K: Connector, D: ByteLink, U: Drop, H: Sc
     ensures returned { K.returned connector.new ≡ K.returned connector.old }
     ensures refusals { Gains (K.refusals connector.old) (faults_of_turn phase result.phase)
         (K.refusals connector.new) }
+    ensures offers { Takes (K.stock connector.old)
+        (offers_of_turn K.Byte.start phase result.phase) (K.stock connector.new) }
+    // What the request took goes on by what the turn took.
+    ensures carries { is_over phase ≡ false
+        → offers_before K.Byte.start [] phase ++ offers_of_turn K.Byte.start phase result.phase
+        ≡ offers_before K.Byte.start [] result.phase }
     ensures faults { K.fault_count connector.old ≤ K.fault_count connector.new }
     ensures kept { client.new.kept ≡ client.old.kept }
     ensures client_start { D.start client.new.link ≡ D.start client.old.link }

@@ -2,6 +2,7 @@
 use Rattle.std.proofs.Common.{◌≡◌, ℕ, ◌+◌, ◌≤◌, true, false, true≢false, List, [], ◌∷◌, ◌++◌, Option, Some, None, refl, sym, ap, subst, ◌∙◌, arith}
 use Rattle.std.proofs.lemmas.List.{append-nil, append_assoc}
 use Rattle.relay_tasks.specs.declared.Fault.{Fault}
+use Rattle.relay_links.specs.Connector.{Offer}
 use Rattle.relay_links.specs.Link.{LinkState, LinkStart}
 use Rattle.relay_links.specs.Told.{more}
 use Rattle.relay_links.specs.declared.Returned.{Returned}
@@ -145,23 +146,23 @@ module _ {L C D U : Type 0}
 
   -- a turn of the first request: none is counted, and what passed goes on
   pub record TakesTurn (old now : Books L) (visit next : Visit D U L C) (t u : Option (List Fault))
-      : Type 0 where
+      (h k : Option (List Offer)) : Type 0 where
     pub counted : now.requests_ended ≡ old.requests_ended
     pub faults : old.faults ≤ now.faults
     pub steps : (s : Start) (p : Passed) (own : List (Returned L))
         → RunSoFar state start_at s p (world_of client_state visit.client old.faults) own
         visit.phase
         → StepsOn state start_at s p (world_of client_state next.client now.faults) own
-        old.returned now.returned t u visit.phase next.phase
+        old.returned now.returned t u h k visit.phase next.phase
 
   -- a turn behind which the request goes on
   pub goes_on : (before old now : Books L) (visit next : Visit D U L C)
-      (rest : List (Visit D U L C)) (t u : Option (List Fault))
+      (rest : List (Visit D U L C)) (t u : Option (List Fault)) (h k : Option (List Offer))
       → Serves state start_at client_state before old (visit ∷ rest)
-      → TakesTurn old now visit next t u
+      → TakesTurn old now visit next t u h k
       → is_over next.phase ≡ false
       → Serves state start_at client_state before now (next ∷ rest)
-  goes_on before old now visit next rest t u serves turn going =
+  goes_on before old now visit next rest t u h k serves turn going =
       let under = serves.under_way.0 in
       let taken = turn.steps under.start under.passed [] under.run in
       let w = world_of client_state next.client now.faults in
@@ -187,12 +188,12 @@ module _ {L C D U : Type 0}
 
   -- a turn behind which the request has ended
   pub ends_now : (before old now : Books L) (visit next : Visit D U L C)
-      (rest : List (Visit D U L C)) (t u : Option (List Fault))
+      (rest : List (Visit D U L C)) (t u : Option (List Fault)) (h k : Option (List Offer))
       → Serves state start_at client_state before old (visit ∷ rest)
-      → TakesTurn old now visit next t u
+      → TakesTurn old now visit next t u h k
       → is_over next.phase ≡ true
       → EndsOne state start_at client_state before now next rest
-  ends_now before old now visit next rest t u serves turn over =
+  ends_now before old now visit next rest t u h k serves turn over =
       let under = serves.under_way.0 in
       let taken = turn.steps under.start under.passed [] under.run in
       record {

@@ -1,7 +1,7 @@
 -- What is reported is the run that the proxy made over the links of the script.
-use Rattle.std.proofs.Common.{◌≡◌, ◌≢◌, ◌∙◌, ap, sym, subst, true≢false}
+use Rattle.std.proofs.Common.{Some, ◌≡◌, ◌≢◌, ◌∙◌, ap, sym, subst, true≢false}
 use Rattle.std.proofs.lemmas.Result.{IfOk-weaker}
-use Rattle.relay_links.specs.ScriptEntries.{links_returned, items_left, gets_failed, faults_answered}
+use Rattle.relay_links.specs.ScriptEntries.{links_returned, offers_left, gets_failed, faults_answered}
 use Rattle.relay_proxy.specs.declared.outcome.Outcome.TheVariants.{OutOfMemory}
 use Rattle.relay_cli.specs.Exchange.{IsRun, reported}
 use Rattle.relay_cli.specs.Report.{RequestSpec, request_spec}
@@ -21,7 +21,8 @@ returns c =
     let run = runs_script c.new-link.result c.new-client.result.link last.link
     c.in_ok-connector.connector c.new-proxy.result.connector script.peer
     c.new-client.result.ahead last.ahead (gets_failed after)
-    (links_returned after) (faults_answered after) script.turns processed c.in_ok-connector.ensures
+    (links_returned after) (faults_answered after) (Some (offers_left after)) script.turns processed
+    c.in_ok-connector.ensures
     c.new-client.ensures.link c.new-client.ensures.ahead c.new-proxy.ensures.connector
     c.process_new_http-processed.ensures.processes in
     let client = still_answers c.new-client.result.link c.new-link.result last.link script.client
@@ -29,13 +30,13 @@ returns c =
     c.new-client.ensures.link c.new-link.ensures
     c.process_new_http-processed.ensures.client_start in
     let peer = are_peer script.peer c.in_ok-connector.connector c.new-proxy.result.connector
-    (links_returned after) (items_left after)
+    (links_returned after) (offers_left after)
     c.in_ok-connector.ensures c.new-proxy.ensures.connector
     c.process_new_http-processed.ensures.stock in
     let is : IsRun script (reported script.peer.name processed last.link (links_returned after)) =
     is_run script c.new-link.result last.link c.in_ok-connector.connector
     c.outside_of-outside.result.schedule last.ahead (gets_failed after) (links_returned after)
-    (faults_answered after) processed
+    (faults_answered after) (Some (offers_left after)) processed
     c.new-link.ensures c.in_ok-connector.ensures c.outside_of-outside.ensures client peer run
     printable in
     let link : c.link.result.now ≡ last.link = c.link.ensures in

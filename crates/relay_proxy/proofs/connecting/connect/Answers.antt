@@ -1,8 +1,12 @@
 -- Over a link that the connector gave the exchange begins; where it gave none, its count rose.
+use Rattle.std.proofs.Common.{◌∷◌, [], List, Err, sym, subst}
+use Rattle.relay_tasks.specs.declared.Fault.{Fault}
+use Rattle.relay_links.specs.Connector.{Offer}
+use Rattle.relay_proxy.specs.Taken.{Takes}
 use Rattle.relay_proxy.specs.Turn.{world_with}
 use Rattle.relay_proxy.proofs.ConnectSteps.{not_connected}
-use Rattle.relay_proxy.proofs.StockLemmas.{none_out}
-use Rattle.relay_proxy.proofs.RefusalLemmas.{none_added, one_added, none_before_link}
+use Rattle.relay_proxy.proofs.TakenLemmas.{takes_link, takes_fault, held_offers}
+use Rattle.relay_proxy.proofs.RefusalLemmas.{none_added, one_added, none_before_link, is_its_fault}
 use Rattle.relay_proxy.proofs.connecting.connect.Goals as goal
 
 -- the run goes on over the link that the connector gave
@@ -22,11 +26,24 @@ returns-in-Err-clause-run g c = λ s p client ahead run.
     c.asked_peer-peer.result c.in-Err.fault c.get.ensures.fits.0 c.in-Err.ensures.rose
     c.in-Err.ensures.fault c.asked_peer-peer.ensures run)
 
--- a refused link leaves the links as they were
-pub returns-in-Err-clause-stock : goal.returns-in-Err-clause-stock
-returns-in-Err-clause-stock g c =
-    rw (c.refused_link.ensures.phase, c.in-Err.ensures.stays)
-    (none_out (g.K.Connector.stock c.args.connector.now))
+-- the link that was given was the first of the offers
+pub returns-in-Ok-get-clause-offers : goal.returns-in-Ok-get-clause-offers
+returns-in-Ok-get-clause-offers g c =
+    subst (λ (os : List Offer).
+    Takes (g.K.Connector.stock c.args.connector.now) os (g.K.Connector.stock c.get.new.self))
+    (sym (held_offers g.K.Byte.ByteLink.start c.begin.result.phase _ c.begin.ensures.items
+    (none_before_link g.K.Byte.ByteLink.state g.K.Byte.ByteLink.start c.begin.result.phase
+    c.begin.ensures.linked)))
+    (takes_link _ _ _ c.in-Ok-get.ensures.first)
+
+-- and so was the fault of one that was refused
+pub returns-in-Err-clause-offers : goal.returns-in-Err-clause-offers
+returns-in-Err-clause-offers g c =
+    rw c.refused_link.ensures.phase
+    (subst (λ (f : Fault).
+    Takes (g.K.Connector.stock c.args.connector.now) (Err f ∷ []) (g.K.Connector.stock c.get.new.self))
+    (sym (is_its_fault c.in-Err.fault c.in-Err.ensures.fault))
+    (takes_fault c.in-Err.fault _ _ c.in-Err.ensures.foretold))
 
 -- over a link the cause is that of the beginning of the exchange
 pub returns-in-Ok-get-clause-cause : goal.returns-in-Ok-get-clause-cause

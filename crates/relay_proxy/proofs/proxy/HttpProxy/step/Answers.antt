@@ -5,14 +5,21 @@ use Rattle.relay_proxy.proofs.proxy.HttpProxy.step.Goals as goal
 -- a turn that was settled is a step
 pub returns-clause-steps : goal.returns-clause-steps
 returns-clause-steps g c = λ s p own run.
-    rw (c.settle-settled.ensures.faults, c.settle-settled.ensures.refusals, c.put.ensures)
+    rw (
+      c.settle-settled.ensures.faults,
+      c.settle-settled.ensures.refusals,
+      c.settle-settled.ensures.offers,
+      c.put.ensures,
+    )
     (step_on g.K.Byte.ByteLink.state g.K.Byte.ByteLink.start s p own _ _
     c.args.machine.now.machine.phase c.take_turn-phase.result.phase c.settle-settled.result
-    c.take_turn-phase.result.step _ _ _ _ _
+    c.take_turn-phase.result.step _ _ _ _ _ _ _
     (rw c.replace-phase.ensures.value at (c.take_turn-phase.ensures.turn s p))
     (rw c.replace-phase.ensures.value at c.take_turn-phase.ensures.rests)
     c.take_turn-phase.ensures.returned c.settle-settled.ensures.settles
-    (rw c.replace-phase.ensures.value at c.take_turn-phase.ensures.refusals) run)
+    (rw c.replace-phase.ensures.value at c.take_turn-phase.ensures.refusals)
+    (rw c.replace-phase.ensures.value at c.take_turn-phase.ensures.offers)
+    (rw c.replace-phase.ensures.value at c.take_turn-phase.ensures.carries) run)
 
 -- its cause is that of the turn
 pub returns-clause-cause : goal.returns-clause-cause

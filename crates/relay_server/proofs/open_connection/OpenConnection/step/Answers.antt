@@ -15,6 +15,8 @@ turn : (g : Over) → (c : goal.After-is_end g)
     (record { client = c.step-step.new.client; phase = c.step-step.new.machine.machine.phase })
     (g.K.Connector.refusals c.args.proxy.now.connector)
     (g.K.Connector.refusals c.step-step.new.self.connector)
+    (g.K.Connector.stock c.args.proxy.now.connector)
+    (g.K.Connector.stock c.step-step.new.self.connector)
 turn g c = record {
   counted = ap (λ (p : HttpProxy g.row.SV.Denot g.row.K.Denot g.row.P.Denot). p.requests_ended)
       c.step-step.ensures.same;
@@ -28,7 +30,7 @@ returns-clause-goes g c = λ before rest goes serves.
     goes_on g.K.Byte.ByteLink.state g.K.Byte.ByteLink.start g.D.ByteLink.state before
     (books g.K.Connector.returned g.K.Connector.fault_count c.args.proxy.now) _
     (record { client = c.self.inside.client; phase = c.self.inside.machine.machine.phase })
-    _ rest _ _ (rw c.self.view_is serves) (turn g c)
+    _ rest _ _ _ _ (rw c.self.view_is serves) (turn g c)
     (c.step-step.ensures.ended ∙ sym c.is_end.ensures ∙ goes)
 
 -- one that ends it leaves it at its end
@@ -37,5 +39,5 @@ returns-clause-ends g c = λ before rest ends serves.
     ends_now g.K.Byte.ByteLink.state g.K.Byte.ByteLink.start g.D.ByteLink.state before
     (books g.K.Connector.returned g.K.Connector.fault_count c.args.proxy.now) _
     (record { client = c.self.inside.client; phase = c.self.inside.machine.machine.phase })
-    _ rest _ _ (rw c.self.view_is serves) (turn g c)
+    _ rest _ _ _ _ (rw c.self.view_is serves) (turn g c)
     (c.step-step.ensures.ended ∙ sym c.is_end.ensures ∙ ends)

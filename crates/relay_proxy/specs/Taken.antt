@@ -1,0 +1,54 @@
+-- What a request took of all that its connector has for it: its link, or the fault with which it was
+-- refused one.
+use Rattle.std.specs.Prelude.{◌≡◌, List, [], ◌∷◌, ◌++◌, map, Option, None, Some, Ok, Err}
+use Rattle.relay_links.specs.Connector.{Offer}
+use Rattle.relay_links.specs.Link.{LinkStart}
+use Rattle.relay_links.specs.declared.Returned.{Returned}
+use Rattle.relay_proxy.specs.Refusals.{faults_for, faults_before}
+use Rattle.relay_proxy.specs.Stock.{items_held, items_back}
+use Rattle.relay_proxy.specs.declared.machine.Phase.{Phase}
+use Rattle.relay_proxy.specs.declared.machine.Phase.TheVariants.{ReadHead, Refuse, Connect, Relay, Close, Ended}
+use Rattle.relay_proxy.specs.declared.outcome.Outcome.{Outcome}
+
+-- these were the next of the offers, in order, and those are left; past the last of them there are
+-- faults alone
+abbrev pub AreNext : List Offer → List Offer → List Offer → Type 0
+AreNext [] offers left = offers ≡ left
+AreNext (Ok items ∷ taken) [] left = ⊥
+AreNext (Err fault ∷ taken) [] left = AreNext taken [] left
+AreNext (Ok items ∷ taken) (offer ∷ offers) left = (offer ≡ Ok items) × AreNext taken offers left
+AreNext (Err fault ∷ taken) (offer ∷ offers) left = (offer ≡ Err fault) × AreNext taken offers left
+
+-- the same, where the connector tells what it has
+abbrev pub Takes : Option (List Offer) → List Offer → Option (List Offer) → Type 0
+Takes None taken after = after ≡ None
+Takes (Some offers) taken None = ⊥
+Takes (Some offers) taken (Some left) = AreNext taken offers left
+
+-- what a request took that handed these links back and came to that outcome
+abbrev pub offers_for : {L : Type 0} → (L → LinkStart) → List (Returned L) → Outcome → List Offer
+offers_for start own outcome =
+    map Ok (items_back start own) ++ map Err (faults_for own outcome)
+
+-- what a request took before that phase
+abbrev pub offers_before : {L C : Type 0} → (L → LinkStart) → List (Returned L) → Phase L C
+    → List Offer
+offers_before start own phase =
+    map Ok (items_back start own ++ items_held start phase) ++ map Err (faults_before own phase)
+
+-- what a turn takes: before there is a link what the next phase took, and then nothing
+abbrev pub offers_of_turn : {L C : Type 0} → (L → LinkStart) → Phase L C → Phase L C → List Offer
+offers_of_turn start ReadHead next = offers_before start [] next
+offers_of_turn start (Refuse answer error) next = offers_before start [] next
+offers_of_turn start (Connect context session) next = offers_before start [] next
+offers_of_turn start (Relay a) next = []
+offers_of_turn start (Close link lease keep outcome) next = []
+offers_of_turn start (Ended outcome attempts) next = []
+
+-- between two phases these were taken, and no others
+pub record TakesOn {L C : Type 0} (start : L → LinkStart)
+    (before after : Option (List Offer)) (own : List (Returned L)) (phase : Phase L C)
+    (now : List (Returned L)) (next : Phase L C) : Type 0 where
+  pub taken : List Offer
+  pub takes : Takes before taken after
+  pub are : offers_before start own phase ++ taken ≡ offers_before start now next
