@@ -2,13 +2,16 @@
 --
 --   turned_uses, moved_uses    the uses of a turn, from what both links say of them
 --   exchange_moved             a branch of the exchange that moved
+--   settled_uses, settled_moves    the same of a step, whose phase was settled
 use Rattle.std.specs.Global.{Box}
 use Rattle.std.specs.Box.{with_value}
-use Rattle.std.proofs.Common.{◌≡◌, ℕ, ◌<◌, ◌≤◌, Bool, true, false, ◌↔◌, ◌⊎◌, List, Option, None, Some, refl, sym, ap, ◌∙◌, subst, inl, inr, arith}
+use Rattle.std.proofs.Common.{◌≡◌, ℕ, ◌<◌, ◌≤◌, Bool, true, false, ◌↔◌, ◌⊎◌, List, [], ◌∷◌, Option, None, Some, refl, sym, ap, ◌∙◌, subst, inl, inr, arith}
 use Rattle.std.specs.Prelude.{IsTrue, if◌then◌else◌}
 use Rattle.std.proofs.lemmas.Bool.{cases_lt}
 use Rattle.relay_links.specs.Count.{last_count, up, Rose}
 use Rattle.relay_links.specs.Link.{LinkState, LinkStart}
+use Rattle.relay_links.specs.Told.{more}
+use Rattle.relay_links.specs.declared.Returned.{Returned}
 use Rattle.relay_links.specs.declared.branch.Branch.{Branch}
 use Rattle.relay_links.specs.declared.branch.Branch.TheVariants as branch
 use Rattle.relay_core.specs.Past.{Origin}
@@ -21,12 +24,16 @@ use Rattle.relay_attempt.specs.Exchange.{IsUnderWay, Asks, HasMoved}
 use Rattle.relay_attempt.specs.Head.{link_of}
 use Rattle.relay_attempt.specs.Passed.{Passed}
 use Rattle.relay_attempt.specs.declared.h1_exchange.H1Exchange.{H1Exchange}
-use Rattle.relay_proxy.specs.Passed.{World}
-use Rattle.relay_proxy.specs.Uses.{BothUse, ExchangeMoved, work_by}
+use Rattle.relay_proxy.specs.Closing.{Settles}
+use Rattle.relay_proxy.specs.Passed.{World, Start}
+use Rattle.relay_proxy.specs.Phases.{IsRelaying, RunSoFar}
+use Rattle.relay_proxy.specs.Turn.{held_state}
+use Rattle.relay_proxy.specs.Uses.{BothUse, ExchangeMoved, MovedBy, StandsBehind, TurnUses, work_by}
+use Rattle.relay_proxy.specs.declared.work.Work.{Work}
 use Rattle.relay_proxy.specs.declared.uses.Uses.{Uses}
 use Rattle.relay_proxy.specs.declared.machine.Attempt.{Attempt}
 use Rattle.relay_proxy.specs.declared.machine.Phase.{Phase}
-use Rattle.relay_proxy.specs.declared.machine.Phase.TheVariants.{Relay}
+use Rattle.relay_proxy.specs.declared.machine.Phase.TheVariants.{ReadHead, Refuse, Connect, Relay, Close, Ended}
 
 -- a count that went up by one rose
 up_rose : (before after : ℕ) → after ≡ up before → Rose before after
@@ -184,3 +191,60 @@ module _ {L C : Type 0} (state : L → LinkState) (start_at : L → LinkStart) w
     goes_on = refl;
     moved = moved_held b w.client x.client w.ahead a given y same moved;
   }
+
+  -- a request that is relayed handed nothing back
+  pub relaying_of : (s : Start) (p : Passed) (w : World) (own : List (Returned L))
+      (a : Box (Attempt L C)) → RunSoFar state start_at s p w own (Relay a)
+      → IsRelaying state start_at s p w a.value
+  relaying_of s p w [] a run = run.holds
+  relaying_of s p w (r ∷ own) a run = absurd run.holds
+
+  -- the attempt of a phase that is relayed is its own
+  pub attempt_is : (a b : Box (Attempt L C)) → ◌≡◌ {A = Phase L C} (Relay a) (Relay b) → a ≡ b
+  attempt_is a b same = cc
+
+  -- the link of a turn, held behind it, stands behind its settling
+  pub settled_stands : (next settled : Phase L C) (before mid after : Option (List (Returned L)))
+      (link : LinkState) → mid ≡ before → Settles next mid after settled
+      → held_state state next ≡ Some link
+      → StandsBehind state before after (held_state state settled) link
+  settled_stands ReadHead settled before mid after link same does held = absurd (cc)
+  settled_stands (Refuse answer e) settled before mid after link same does held = absurd (cc)
+  settled_stands (Connect context session) settled before mid after link same does held =
+      absurd (cc)
+  settled_stands (Relay a) settled before mid after link same does held =
+      inl (ap (λ (n : Phase L C). held_state state n) does.0 ∙ held)
+  settled_stands (Close l lease keep outcome) settled before mid after link same does held =
+      let is : state l ≡ link = cc in
+      inr (
+        does.2.entry,
+        does.2.gained
+            ∙ ap (λ (t : Option (List (Returned L))). more t (does.2.entry ∷ [])) same,
+        ap state does.2.hands.is_link ∙ is,
+      )
+  settled_stands (Ended outcome attempts) settled before mid after link same does held =
+      absurd (cc)
+
+  -- the uses of a turn are those of its step
+  pub settled_uses : (n : ℕ) (client client' : LinkState) (held : Option LinkState)
+      (next settled : Phase L C) (before mid after : Option (List (Returned L)))
+      → mid ≡ before → Settles next mid after settled
+      → TurnUses n client client' held (λ link. held_state state next ≡ Some link)
+      → TurnUses n client client' held
+      (StandsBehind state before after (held_state state settled))
+  settled_uses n client client' None next settled before mid after same does uses = uses
+  settled_uses n client client' (Some link) next settled before mid after same does uses = (
+    uses.0,
+    settled_stands next settled before mid after uses.0 same does uses.1,
+    uses.2,
+  )
+
+  -- a turn that moved left a phase that settling leaves
+  pub settled_moves : (w x : World) (work : Work) (a : H1Exchange L) (next settled : Phase L C)
+      (before after : Option (List (Returned L))) → Settles next before after settled
+      → MovedBy state start_at w x work a next → MovedBy state start_at w x work a settled
+  settled_moves w x work a next settled before after does moves =
+      let does : Settles (Relay moves.moved.held) before after settled =
+      subst (λ (n : Phase L C). Settles n before after settled) moves.moved.goes_on does in
+      subst (λ (n : Phase L C). MovedBy state start_at w x work a n)
+      (moves.moved.goes_on ∙ sym does.0) moves

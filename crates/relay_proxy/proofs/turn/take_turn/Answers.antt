@@ -1,7 +1,10 @@
 -- A turn that does not ask the connector leaves its count of faults as it was.
-use Rattle.std.proofs.Common.{refl, sym}
+use Rattle.std.proofs.Common.{refl, sym, subst, inr}
+use Rattle.std.specs.Global.{Box}
 use Rattle.relay_proxy.proofs.RefusalLemmas.{none_added, none_before_link}
 use Rattle.relay_proxy.proofs.TakenLemmas.{takes_none, takes_nothing, one_out, held_offers, no_offers}
+use Rattle.relay_proxy.specs.Passed.{origin_of}
+use Rattle.relay_proxy.proofs.UseLemmas.{attempt_is, relaying_of}
 use Rattle.relay_proxy.proofs.turn.take_turn.Goals as goal
 
 -- a write of the refusal is a turn
@@ -90,3 +93,11 @@ returns-in-Relay-clause-carries g c = rw c.in-Relay.is (λ live.
     sym (held_offers g.K.Byte.ByteLink.start c.relay.result.phase _ c.relay.ensures.items
     (none_before_link g.K.Byte.ByteLink.state g.K.Byte.ByteLink.start
     c.relay.result.phase c.relay.ensures.linked)))
+
+-- the uses of a turn of the attempt are those of both links
+pub returns-in-Relay-clause-uses : goal.returns-in-Relay-clause-uses
+returns-in-Relay-clause-uses g c = λ s p own. rw c.in-Relay.is (λ run.
+    let relays = relaying_of g.K.Byte.ByteLink.state g.K.Byte.ByteLink.start s p _ own
+    c.in-Relay.attempt run in
+    c.relay.ensures.uses (origin_of s relays.head c.in-Relay.attempt.value.lease.reused) p
+    relays.under_way)

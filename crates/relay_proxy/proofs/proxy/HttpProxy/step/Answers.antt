@@ -1,5 +1,8 @@
 -- The turn and its settling are a step.
 use Rattle.relay_proxy.proofs.StepLemmas.{step_on, settled_cause}
+use Rattle.std.proofs.Common.{ap, ◌∙◌}
+use Rattle.relay_proxy.specs.declared.work.Work.{Work}
+use Rattle.relay_proxy.proofs.UseLemmas.{settled_moves, settled_uses}
 use Rattle.relay_proxy.proofs.proxy.HttpProxy.step.Goals as goal
 
 -- a turn that was settled is a step
@@ -30,3 +33,29 @@ returns-clause-cause g c =
     c.take_turn-phase.result.step _ _ c.settle-settled.ensures.settles
     c.take_turn-phase.ensures.over
     (rw c.replace-phase.ensures.value at c.take_turn-phase.ensures.cause))
+
+-- its uses are those of the turn
+pub returns-clause-uses : goal.returns-clause-uses
+returns-clause-uses g c = λ s p own run. (
+  c.take_turn-phase.result.work.used,
+  ap (λ (work : Work). work.used) c.plus-machine.ensures.sum,
+  rw c.put.ensures
+      (settled_uses g.K.Byte.ByteLink.state g.K.Byte.ByteLink.start
+      c.take_turn-phase.result.work.used (g.D.ByteLink.state c.args.client.now.link)
+      (g.D.ByteLink.state c.take_turn-phase.new.client.link) _ c.take_turn-phase.result.phase
+      c.settle-settled.result _ _ _ c.take_turn-phase.ensures.returned
+      c.settle-settled.ensures.settles
+      (rw c.replace-phase.ensures.value at (c.take_turn-phase.ensures.uses s p own) run)),
+)
+
+-- and what it moved in an exchange
+pub returns-clause-moves : goal.returns-clause-moves
+returns-clause-moves g c = λ a is did. record {
+  work = c.take_turn-phase.result.work;
+  moves = rw (c.settle-settled.ensures.faults, c.put.ensures)
+      (settled_moves g.K.Byte.ByteLink.state g.K.Byte.ByteLink.start _ _
+      c.take_turn-phase.result.work a.value.exchange c.take_turn-phase.result.phase
+      c.settle-settled.result _ _ c.settle-settled.ensures.settles
+      (c.take_turn-phase.ensures.moves a (c.replace-phase.ensures.value ∙ is) did));
+  adds = c.plus-machine.ensures.sum;
+}
