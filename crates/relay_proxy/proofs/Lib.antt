@@ -9,3 +9,4 @@ mod RefusalLemmas
 mod TurnLemmas
 pub mod ExactLemmas
 pub mod UnderWay
+pub mod UseLemmas

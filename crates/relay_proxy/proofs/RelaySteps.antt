@@ -1,6 +1,6 @@
 -- What a turn of an attempt's exchange makes of the run so far.
 use Rattle.std.proofs.Common.{◌≡◌, ◌≢◌, ◌↔◌, ℕ, Bool, true, false, not, ◌&&◌, List, [], length, Option, None, Some, refl, sym, ap, subst, ◌∙◌, inl, inr}
-use Rattle.std.specs.Prelude.{IsTrue, ◌==◌}
+use Rattle.std.specs.Prelude.{IsTrue, ◌==◌, if◌then◌else◌}
 use Rattle.std.specs.Box.{with_value}
 use Rattle.std.specs.Global.{Box}
 use Rattle.std.proofs.lemmas.Bool.{eqb-true}
@@ -25,6 +25,8 @@ use Rattle.relay_core.specs.Causes.{says_failed}
 use Rattle.relay_core.specs.Past.{Origin}
 use Rattle.relay_core.specs.declared.step.Step.{Step}
 use Rattle.relay_core.specs.declared.step.Step.TheVariants as step
+use Rattle.relay_core.specs.Uses as core_uses
+use Rattle.relay_exchange.specs.declared.exchange.Turn.{Turn}
 use Rattle.relay_attempt.specs.Exchange as exchange_meets
 use Rattle.relay_attempt.specs.Exchange.{AreTold, IsUnderWay, IsFinished, Turns}
 use Rattle.relay_attempt.specs.Head.{link_of, may_keep}
@@ -37,11 +39,13 @@ use Rattle.relay_proxy.specs.Relayable.{IsRelayable}
 use Rattle.relay_proxy.specs.Endings.{IsClientReusable, IsRelayedWhole, IsInOrder, EndsLinked, outcome_of}
 use Rattle.relay_proxy.specs.Passed.{World, Start, origin_of, asked, TellsClient}
 use Rattle.relay_proxy.specs.Phases.{IsLeased, RunSoFar}
-use Rattle.relay_proxy.specs.Relaying.{turned, TurnsWithin}
+use Rattle.relay_proxy.specs.Relaying.{turned, TurnsOver, TurnsWithin}
 use Rattle.relay_proxy.specs.Reuse.{lets_ask, client_reusable}
-use Rattle.relay_proxy.specs.Turn.{world_with, Advances, HasMoved, HasWaited, MeetsSilence}
+use Rattle.relay_proxy.specs.Turn.{world_with, Advances, HasMoved, HasWaited, MeetsSilence, held_state}
+use Rattle.relay_proxy.specs.Uses.{BothUse, ExchangeMoved, TurnUses, work_by}
 use Rattle.relay_proxy.proofs.ConnectSteps.{part_relayed}
 use Rattle.relay_proxy.proofs.OpenHead.{exchange_open}
+use Rattle.relay_proxy.proofs.UseLemmas.{moved_uses, turned_uses}
 use Rattle.relay_proxy.specs.declared.machine.Attempt.{Attempt}
 use Rattle.relay_proxy.specs.declared.machine.Lease.{Lease}
 use Rattle.relay_proxy.specs.declared.machine.Phase.{Phase}
@@ -366,8 +370,8 @@ of_attempt P phase own is holds a same =
     subst P (same_attempt own a (sym is ∙ same)) holds
 
 module _ {L C : Type 0} (state : L → LinkState) (start_at : L → LinkStart)
-    (w x : World) (phase next : Phase L C) (did : Step)
-    (within : TurnsWithin state start_at w.client x.client w.ahead x.ahead phase next did)
+    (w x : World) (phase next : Phase L C) (did : Turn) (asked : Bool)
+    (within : TurnsWithin state start_at w.client x.client w.ahead x.ahead phase next did asked)
   where
     -- the run so far, of the attempt
     own_run : (s : Start) (p : Passed) → RunSoFar state start_at s p w [] phase
@@ -376,13 +380,13 @@ module _ {L C : Type 0} (state : L → LinkState) (start_at : L → LinkStart)
 
     -- the exchange took a turn
     own_turn : (s : Start) (p : Passed) (to : Step)
-        (run : RunSoFar state start_at s p w [] (Relay within.attempt)) → did ≡ to
+        (run : RunSoFar state start_at s p w [] (Relay within.attempt)) → did.step ≡ to
         → Turns state start_at (origin_of s run.holds.head within.attempt.value.lease.reused)
         x.client x.ahead within.exchange to
     own_turn s p to run is =
         subst (λ (d : Step). Turns state start_at
         (origin_of s run.holds.head within.attempt.value.lease.reused) x.client x.ahead
-        within.exchange d) is (within.goes _ p run.holds.under_way)
+        within.exchange d) is (within.turns.goes _ p run.holds.under_way)
 
     -- the attempt behind the turn is the next phase
     stands_next : (s : Start) → Advances {C = C} state start_at s x
@@ -392,7 +396,7 @@ module _ {L C : Type 0} (state : L → LinkState) (start_at : L → LinkStart)
         subst (λ (k : Phase L C). Advances state start_at s x k) (sym within.stands) advances
 
     -- a turn that moved
-    pub moved_within : did ≡ step.Moved → x.connect_faults ≡ w.connect_faults → (s : Start)
+    pub moved_within : did.step ≡ step.Moved → x.connect_faults ≡ w.connect_faults → (s : Start)
         (p : Passed) → RunSoFar state start_at s p w [] phase
         → Advances {C = C} state start_at s x next
     moved_within is same s p run =
@@ -401,10 +405,10 @@ module _ {L C : Type 0} (state : L → LinkState) (start_at : L → LinkStart)
         (subst (λ (n : ℕ). Advances {C = C} state start_at s (world_with x.client x.ahead n)
         (Relay (turned within.attempt within.exchange))) (sym same)
         (moves state start_at s p w x.client x.ahead within.attempt within.exchange own
-        (own_turn s p step.Moved own is) (within.calm (ap says_failed is))))
+        (own_turn s p step.Moved own is) (within.turns.calm (ap says_failed is))))
 
     -- a turn that waited
-    pub waited_within : (pause : Pause) → did ≡ step.Waited pause
+    pub waited_within : (pause : Pause) → did.step ≡ step.Waited pause
         → x.connect_faults ≡ w.connect_faults → (s : Start) (p : Passed)
         → RunSoFar state start_at s p w [] phase → Advances {C = C} state start_at s x next
     waited_within pause is same s p run =
@@ -413,10 +417,10 @@ module _ {L C : Type 0} (state : L → LinkState) (start_at : L → LinkStart)
         (subst (λ (n : ℕ). Advances {C = C} state start_at s (world_with x.client x.ahead n)
         (Relay (turned within.attempt within.exchange))) (sym same)
         (waits state start_at s p w x.client x.ahead within.attempt within.exchange pause own
-        (own_turn s p (step.Waited pause) own is) (within.calm (ap says_failed is))))
+        (own_turn s p (step.Waited pause) own is) (within.turns.calm (ap says_failed is))))
 
     -- a turn that finished the exchange, whose attempt is then to be closed
-    pub finished_within : did ≡ step.Finished → x.connect_faults ≡ w.connect_faults
+    pub finished_within : did.step ≡ step.Finished → x.connect_faults ≡ w.connect_faults
         → (end : Phase L C)
         → ((a : Box (Attempt L C)) → next ≡ Relay a
         → end ≡ Close (link_of a.value.exchange) a.value.lease (may_keep a.value.exchange)
@@ -434,10 +438,10 @@ module _ {L C : Type 0} (state : L → LinkState) (start_at : L → LinkStart)
         (subst (λ (n : ℕ). Advances {C = C} state start_at s (world_with x.client x.ahead n) closed)
         (sym same)
         (finishes state start_at s p w x.client x.ahead within.attempt y own
-        (own_turn s p step.Finished own is) (within.calm (ap says_failed is))))
+        (own_turn s p step.Finished own is) (within.turns.calm (ap says_failed is))))
 
     -- a turn that failed, whose attempt is then to be closed
-    pub failed_within : (why : Fail) → did ≡ step.Failed why
+    pub failed_within : (why : Fail) → did.step ≡ step.Failed why
         → x.connect_faults ≡ w.connect_faults → (end : Phase L C)
         → ((a : Box (Attempt L C)) → next ≡ Relay a
         → end ≡ Close (link_of a.value.exchange) a.value.lease false (outcome_of why))
@@ -462,15 +466,115 @@ module _ {L C : Type 0} (state : L → LinkState) (start_at : L → LinkStart)
         subst (λ (k : Phase L C). P k next) (sym within.was)
         (subst (λ (k : Phase L C). P (Relay within.attempt) k) (sym within.stands) holds)
 
+    -- an exchange under way is that of the attempt
+    own_under : (s : Origin) (p : Passed) (a : Box (Attempt L C)) → phase ≡ Relay a
+        → IsUnderWay state start_at s p w.client w.ahead a.value.exchange
+        → IsUnderWay state start_at s p w.client w.ahead within.attempt.value.exchange
+    own_under s p a is under =
+        subst (λ (b : Box (Attempt L C)).
+        IsUnderWay state start_at s p w.client w.ahead b.value.exchange)
+        (sym (same_attempt within.attempt a (sym within.was ∙ is))) under
+
     -- what a turn that moved moved
-    pub moved_cause : HasMoved {C = C} state start_at w x phase next
-    moved_cause = of_both (λ (k n : Phase L C). HasMoved {C = C} state start_at w x k n) tt
+    pub moved_by : did.step ≡ step.Moved → (a : Box (Attempt L C)) → phase ≡ Relay a
+        → ExchangeMoved {C = C} state start_at did.branch w x a.value.exchange next
+    moved_by did_move a is = record {
+      held = turned within.attempt within.exchange;
+      goes_on = within.stands;
+      moved = λ s p under. subst
+          (λ (b : Box (Attempt L C)). exchange_meets.HasMoved state start_at did.branch w.client
+          x.client b.value.exchange within.exchange)
+          (same_attempt within.attempt a (sym within.was ∙ is))
+          (within.turns.moves s p (own_under s p a is under) did_move);
+    }
+
+    -- the same as the cause of the turn
+    pub moved_cause : did.step ≡ step.Moved → HasMoved {C = C} state start_at w x phase next
+    moved_cause did_move =
+        subst (λ (k : Phase L C). HasMoved {C = C} state start_at w x k next) (sym within.was)
+        (did.branch, moved_by did_move within.attempt within.was)
+
+    -- the uses of a turn, where the link stands so behind it
+    uses_at : (n : ℕ) (end : Phase L C)
+        → held_state state end ≡ Some (state (link_of within.exchange))
+        → BothUse n w.client x.client (state (link_of within.attempt.value.exchange))
+        (state (link_of within.exchange))
+        → TurnUses n w.client x.client (held_state state phase)
+        (λ link. held_state state end ≡ Some link)
+    uses_at n end held uses =
+        subst (λ (k : Phase L C). TurnUses n w.client x.client (held_state state k)
+        (λ link. held_state state end ≡ Some link)) (sym within.was)
+        (state (link_of within.exchange), held, uses)
+
+    -- the next phase holds the link
+    next_held : held_state state next ≡ Some (state (link_of within.exchange))
+    next_held = ap (λ (k : Phase L C). held_state state k) within.stands
+
+    -- how both links were asked, by the answer
+    asked_so : (to : Step) → did.step ≡ to
+        → core_uses.Asks to w.client x.client (state (link_of within.attempt.value.exchange))
+        (state (link_of within.exchange))
+    asked_so to is =
+        subst (λ (d : Step). core_uses.Asks d w.client x.client
+        (state (link_of within.attempt.value.exchange)) (state (link_of within.exchange))) is
+        within.turns.asks
+
+    -- the uses of a turn that moved
+    pub moved_uses_within : did.step ≡ step.Moved → (s : Origin) (p : Passed)
+        (a : Box (Attempt L C)) → phase ≡ Relay a
+        → IsUnderWay state start_at s p w.client w.ahead a.value.exchange
+        → TurnUses (work_by did.branch asked).used w.client x.client (held_state state phase)
+        (λ link. held_state state next ≡ Some link)
+    moved_uses_within did_move s p a is under =
+        uses_at (work_by did.branch asked).used next next_held
+        (moved_uses w.client x.client (state (link_of within.attempt.value.exchange))
+        (state (link_of within.exchange)) asked within.turns.measured did.branch _ _
+        (within.turns.moves s p (own_under s p a is under) did_move))
+
+    -- one that waits asked the link that it waits for
+    pub waited_uses_within : did.step ≡ step.Waited NotReady
+        → TurnUses 1 w.client x.client (held_state state phase)
+        (λ link. held_state state next ≡ Some link)
+    waited_uses_within is =
+        uses_at 1 next next_held (inl (refl, asked_so (step.Waited NotReady) is))
+
+    -- one that met silence asked none
+    pub silent_uses_within : did.step ≡ step.Waited Silent
+        → TurnUses 0 w.client x.client (held_state state phase)
+        (λ link. held_state state next ≡ Some link)
+    silent_uses_within is =
+        uses_at 0 next next_held (inr (refl, asked_so (step.Waited Silent) is))
+
+    -- one that finished asked none
+    pub finished_uses_within : did.step ≡ step.Finished → (end : Phase L C)
+        → ((a : Box (Attempt L C)) → next ≡ Relay a
+        → end ≡ Close (link_of a.value.exchange) a.value.lease (may_keep a.value.exchange)
+        (Served None (client_reusable a.value.exchange x.ahead)))
+        → TurnUses 0 w.client x.client (held_state state phase)
+        (λ link. held_state state end ≡ Some link)
+    finished_uses_within is end closes =
+        uses_at 0 end (ap (λ (k : Phase L C). held_state state k)
+        (closes (turned within.attempt within.exchange) within.stands))
+        (inr (refl, asked_so step.Finished is))
+
+    -- one that failed asked one or none
+    pub failed_uses_within : (why : Fail) → did.step ≡ step.Failed why → (end : Phase L C)
+        → ((a : Box (Attempt L C)) → next ≡ Relay a
+        → end ≡ Close (link_of a.value.exchange) a.value.lease false (outcome_of why))
+        → TurnUses (if asked then 1 else 0) w.client x.client (held_state state phase)
+        (λ link. held_state state end ≡ Some link)
+    failed_uses_within why is end closes =
+        uses_at (if asked then 1 else 0) end (ap (λ (k : Phase L C). held_state state k)
+        (closes (turned within.attempt within.exchange) within.stands))
+        (turned_uses w.client x.client (state (link_of within.attempt.value.exchange))
+        (state (link_of within.exchange)) asked within.turns.measured
+        (asked_so (step.Failed why) is))
 
     -- a turn that waited waits because a link answered so
-    pub waited_cause : did ≡ step.Waited NotReady → HasWaited {C = C} state start_at w x phase next
+    pub waited_cause : did.step ≡ step.Waited NotReady → HasWaited {C = C} state start_at w x phase next
     waited_cause is =
         of_both (λ (k n : Phase L C). HasWaited {C = C} state start_at w x k n)
-        (by (within.waits is))
+        (by (within.turns.waits is))
       where
         by : WaitRose w.client x.client (state (link_of within.attempt.value.exchange))
             (state (link_of within.exchange))
@@ -480,10 +584,10 @@ module _ {L C : Type 0} (state : L → LinkState) (start_at : L → LinkStart)
         by (inr rose) = inr rose
 
     -- in silence all that can be done asks a silent link
-    pub silent_cause : did ≡ step.Waited Silent
+    pub silent_cause : did.step ≡ step.Waited Silent
         → MeetsSilence {C = C} state start_at w x phase next
     silent_cause is =
-        let meets = within.quiet is in
+        let meets = within.turns.quiet is in
         of_both (λ (k n : Phase L C). MeetsSilence {C = C} state start_at w x k n) (record {
           stalled = meets.silent;
           client_same = meets.client_same;
@@ -493,35 +597,19 @@ module _ {L C : Type 0} (state : L → LinkState) (start_at : L → LinkStart)
 module _ {L C : Type 0} (state : L → LinkState) (start_at : L → LinkStart) where
   -- a turn of the exchange, as the pointer of its attempt lends it, is one of the phase
   pub lent_turn : (before after : LinkState) (ahead left : List ℕ) (a : Box (Attempt L C))
-      (given : Attempt L C) (y : H1Exchange L) (phase next : Phase L C) (did : Step)
-      → phase ≡ Relay a → given ≡ a.value
+      (given : Attempt L C) (y : H1Exchange L) (phase next : Phase L C) (did : Turn)
+      (asked : Bool) → phase ≡ Relay a → given ≡ a.value
       → next ≡ Relay (with_value a
       (record { exchange = y; lease = given.lease; context = given.context }))
-      → ((s : Origin) (p : Passed) → IsUnderWay state start_at s p before ahead given.exchange
-      → Turns state start_at s after left y did)
-      → (did ≡ step.Waited NotReady
-      → WaitRose before after (state (link_of given.exchange)) (state (link_of y)))
-      → (did ≡ step.Waited Silent
-      → exchange_meets.MeetsSilence state start_at before after given.exchange y)
-      → (says_failed did ≡ false → after.faults ≡ before.faults)
-      → start_at (link_of y) ≡ start_at (link_of given.exchange)
-      → TurnsWithin {C = C} state start_at before after ahead left phase next did
-  lent_turn before after ahead left a given y phase next did was same stands goes waits quiet calm
-      start = record {
-        attempt = a;
-        was = was;
-        exchange = y;
-        stands = stands
-            ∙ ap (λ (b : Attempt L C). Relay (with_value a
-            (record { exchange = y; lease = b.lease; context = b.context }))) same;
-        goes = λ s p under. goes s p
-            (subst (λ (b : Attempt L C). IsUnderWay state start_at s p before ahead b.exchange)
-            (sym same) under);
-        waits = λ is. subst
-            (λ (b : Attempt L C). WaitRose before after (state (link_of b.exchange))
-            (state (link_of y))) same (waits is);
-        quiet = λ is. subst (λ (b : Attempt L C).
-            exchange_meets.MeetsSilence state start_at before after b.exchange y) same (quiet is);
-        calm = calm;
-        same_start = start ∙ ap (λ (b : Attempt L C). start_at (link_of b.exchange)) same;
-      }
+      → TurnsOver state start_at before after ahead left given.exchange y did asked
+      → TurnsWithin {C = C} state start_at before after ahead left phase next did asked
+  lent_turn before after ahead left a given y phase next did asked was same stands turns = record {
+    attempt = a;
+    was = was;
+    exchange = y;
+    stands = stands
+        ∙ ap (λ (b : Attempt L C). Relay (with_value a
+        (record { exchange = y; lease = b.lease; context = b.context }))) same;
+    turns = subst (λ (b : Attempt L C).
+        TurnsOver state start_at before after ahead left b.exchange y did asked) same turns;
+  }

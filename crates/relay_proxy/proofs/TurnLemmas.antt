@@ -1,9 +1,14 @@
 -- What a turn of a phase that relays is, of the phase as it stands.
-use Rattle.std.proofs.Common.{◌≡◌, true, false, List, [], ◌++◌, Option, true≢false, refl, sym}
+use Rattle.std.proofs.Common.{◌≡◌, true, false, List, [], ◌++◌, Option, true≢false, refl, sym, ap, ◌∙◌}
+use Rattle.std.specs.Global.{Box}
 use Rattle.relay_links.specs.Link.{LinkState, LinkStart}
 use Rattle.relay_links.specs.declared.Returned.{Returned}
 use Rattle.relay_proxy.specs.Closing.{Rests, Settles, TurnOf}
-use Rattle.relay_proxy.specs.Passed.{World, Start}
+use Rattle.relay_core.specs.Past.{Origin}
+use Rattle.relay_attempt.specs.Exchange.{IsUnderWay}
+use Rattle.relay_attempt.specs.Passed.{Passed}
+use Rattle.relay_proxy.specs.Passed.{World, Start, origin_of}
+use Rattle.relay_proxy.specs.Phases.{RunSoFar}
 use Rattle.relay_proxy.specs.Refusals.{faults_of_turn}
 use Rattle.relay_proxy.specs.Relaying.{is_relaying, is_closing}
 use Rattle.relay_proxy.specs.Stock.{items_held}
@@ -11,6 +16,8 @@ use Rattle.relay_proxy.specs.Taken.{offers_before, offers_of_turn}
 use Rattle.relay_proxy.specs.Turn.{Advances, DoesWork, WorksIn, links_held}
 use Rattle.relay_proxy.proofs.RefusalLemmas.{none_before_link}
 use Rattle.relay_proxy.proofs.TakenLemmas.{held_offers}
+use Rattle.relay_proxy.proofs.UseLemmas.{relaying_of}
+use Rattle.relay_proxy.specs.declared.machine.Attempt.{Attempt}
 use Rattle.relay_proxy.specs.declared.machine.Phase.{Phase}
 use Rattle.relay_proxy.specs.declared.machine.Phase.TheVariants.{ReadHead, Refuse, Connect, Relay, Close, Ended}
 use Rattle.relay_proxy.specs.declared.machine.RunStep.{RunStep}
@@ -71,6 +78,28 @@ module _ {L C : Type 0} (state : L → LinkState) (start_at : L → LinkStart) w
       sym (held_offers start_at next _ items (none_before_link state start_at next held))
   relaying_carries (Close link lease keep outcome) next is held items = absurd (true≢false (sym is))
   relaying_carries (Ended outcome attempts) next is held items = absurd (true≢false (sym is))
+
+  -- its uses are those of its exchange, which is under way
+  pub relaying_uses : (s : Start) (p : Passed) (own : List (Returned L)) (w : World)
+      (phase : Phase L C) (T : Type 0) → is_relaying phase ≡ true
+      → RunSoFar state start_at s p w own phase
+      → ((o : Origin) (q : Passed) (a : Box (Attempt L C)) → phase ≡ Relay a
+      → IsUnderWay state start_at o q w.client w.ahead a.value.exchange → T) → T
+  relaying_uses s p own w ReadHead T is run uses = absurd (true≢false (sym is))
+  relaying_uses s p own w (Refuse answer error) T is run uses = absurd (true≢false (sym is))
+  relaying_uses s p own w (Connect context session) T is run uses = absurd (true≢false (sym is))
+  relaying_uses s p own w (Relay a) T is run uses =
+      let relays = relaying_of state start_at s p w own a run in
+      uses (origin_of s relays.head a.value.lease.reused) p a refl relays.under_way
+  relaying_uses s p own w (Close link lease keep outcome) T is run uses =
+      absurd (true≢false (sym is))
+  relaying_uses s p own w (Ended outcome attempts) T is run uses = absurd (true≢false (sym is))
+
+-- a phase that does not relay holds no attempt
+pub not_relaying : {L C : Type 0} (phase : Phase L C) (a : Box (Attempt L C))
+    → is_relaying phase ≡ false → phase ≡ Relay a → ⊥
+not_relaying {L = L} {C = C} phase a not_so is =
+    true≢false (sym (ap (λ (k : Phase L C). is_relaying k) is) ∙ not_so)
 
 -- its turn did its work
 pub relaying_works : {L C : Type 0} (phase : Phase L C) (did : RunStep) (work : Work)

@@ -7,12 +7,13 @@ use Rattle.relay_links.specs.Link.{LinkState, LinkStart}
 use Rattle.relay_core.specs.Asked.{WaitRose}
 use Rattle.relay_core.specs.Causes.{says_failed}
 use Rattle.relay_core.specs.Past.{Origin}
-use Rattle.relay_core.specs.declared.step.Step.{Step}
 use Rattle.relay_core.specs.declared.step.Step.TheVariants as step
-use Rattle.relay_attempt.specs.Exchange.{IsUnderWay, Turns, MeetsSilence}
+use Rattle.relay_exchange.specs.declared.exchange.Turn.{Turn}
+use Rattle.relay_attempt.specs.Exchange.{IsUnderWay, Turns, MeetsSilence, Asks, HasMoved}
 use Rattle.relay_attempt.specs.Head.{link_of}
 use Rattle.relay_attempt.specs.Passed.{Passed}
 use Rattle.relay_attempt.specs.declared.h1_exchange.H1Exchange.{H1Exchange}
+use Rattle.relay_proxy.specs.Uses.{Measured}
 use Rattle.relay_proxy.specs.declared.machine.Attempt.{Attempt}
 use Rattle.relay_proxy.specs.declared.machine.Phase.{Phase}
 use Rattle.relay_proxy.specs.declared.machine.Phase.TheVariants.{ReadHead, Refuse, Connect, Relay, Close, Ended}
@@ -40,22 +41,31 @@ abbrev pub turned : {L C : Type 0} → Box (Attempt L C) → H1Exchange L → Bo
 turned a x =
     with_value a (record { exchange = x; lease = a.value.lease; context = a.value.context })
 
+module _ {L : Type 0} (state : L → LinkState) (start_at : L → LinkStart) where
+  -- one turn of an exchange, between these states of the client's link and these bytes that were
+  -- read ahead from it, and whether a count of uses rose in it
+  pub record TurnsOver
+      (before after : LinkState) (ahead left : List ℕ) (x y : H1Exchange L) (did : Turn)
+      (asked : Bool) : Type 0 where
+    pub goes : (s : Origin) (p : Passed) → IsUnderWay state start_at s p before ahead x
+        → Turns state start_at s after left y did.step
+    pub waits : did.step ≡ step.Waited NotReady
+        → WaitRose before after (state (link_of x)) (state (link_of y))
+    pub quiet : did.step ≡ step.Waited Silent → MeetsSilence state start_at before after x y
+    pub asks : Asks state start_at did.step before after x y
+    pub moves : (s : Origin) (p : Passed) → IsUnderWay state start_at s p before ahead x
+        → did.step ≡ step.Moved → HasMoved state start_at did.branch before after x y
+    pub calm : says_failed did.step ≡ false → after.faults ≡ before.faults
+    pub same_start : start_at (link_of y) ≡ start_at (link_of x)
+    pub measured : Measured before after (state (link_of x)) (state (link_of y)) asked
+
 module _ {L C : Type 0} (state : L → LinkState) (start_at : L → LinkStart) where
-  -- a phase relayed, and relays behind one turn of its exchange, between these states of the
-  -- client's link and these bytes that were read ahead from it
+  -- a phase relayed, and relays behind one turn of its exchange
   pub record TurnsWithin
-      (before after : LinkState) (ahead left : List ℕ) (phase next : Phase L C) (did : Step)
-      : Type 0 where
+      (before after : LinkState) (ahead left : List ℕ) (phase next : Phase L C) (did : Turn)
+      (asked : Bool) : Type 0 where
     pub attempt : Box (Attempt L C)
     pub was : phase ≡ Relay attempt
     pub exchange : H1Exchange L
     pub stands : next ≡ Relay (turned attempt exchange)
-    pub goes : (s : Origin) (p : Passed)
-        → IsUnderWay state start_at s p before ahead attempt.value.exchange
-        → Turns state start_at s after left exchange did
-    pub waits : did ≡ step.Waited NotReady
-        → WaitRose before after (state (link_of attempt.value.exchange)) (state (link_of exchange))
-    pub quiet : did ≡ step.Waited Silent
-        → MeetsSilence state start_at before after attempt.value.exchange exchange
-    pub calm : says_failed did ≡ false → after.faults ≡ before.faults
-    pub same_start : start_at (link_of exchange) ≡ start_at (link_of attempt.value.exchange)
+    pub turns : TurnsOver state start_at before after ahead left attempt.value.exchange exchange did asked

@@ -1,7 +1,7 @@
 -- How a turn uses the links, and what it moved in an exchange, by the branch that it took.
 use Rattle.std.specs.Global.{Box}
-use Rattle.std.specs.Prelude.{◌≡◌, ◌⊎◌, ℕ, ◌+◌, Bool, true, false, min, if◌then◌else◌, List, [], ◌∷◌, Option, None, Some}
-use Rattle.relay_links.specs.Count.{last_count, up}
+use Rattle.std.specs.Prelude.{◌≡◌, ◌⊎◌, ◌↔◌, ℕ, ◌+◌, ◌≤◌, Bool, IsTrue, min, if◌then◌else◌, List, [], ◌∷◌, Option, None, Some}
+use Rattle.relay_links.specs.Count.{last_count, Rose}
 use Rattle.relay_links.specs.Link.{LinkState, LinkStart}
 use Rattle.relay_links.specs.Told.{more}
 use Rattle.relay_links.specs.declared.Returned.{Returned}
@@ -52,6 +52,12 @@ abbrev pub CountsUses : ℕ → ℕ → LinkState → LinkState → Option LinkS
 CountsUses before after client client' held stands =
     (n : ℕ) × (after ≡ min (before + n) last_count) × TurnUses n client client' held stands
 
+-- whether a count of both links rose, as they tell it
+pub record Measured (client client' upstream upstream' : LinkState) (asked : Bool) : Type 0 where
+  pub rose : IsTrue asked ↔ (Rose client.used client'.used ⊎ Rose upstream.used upstream'.used)
+  pub client_fits : client.used ≤ last_count
+  pub upstream_fits : upstream.used ≤ last_count
+
 -- ---- what moved in an exchange
 
 -- a use of a link
@@ -96,10 +102,17 @@ module _ {L C : Type 0} (state : L → LinkState) (start_at : L → LinkStart) w
         → IsUnderWay state start_at s p w.client w.ahead a
         → HasMoved state start_at branch w.client x.client a held.value.exchange
 
-  -- an exchange went on, and its work is that of the branch which it took
-  pub record CountsMove (w x : World) (before after : Work) (a : H1Exchange L) (next : Phase L C)
+  -- an exchange went on, and the work of the turn is that of the branch which it took
+  pub record MovedBy (w x : World) (work : Work) (a : H1Exchange L) (next : Phase L C)
       : Type 0 where
     pub branch : Option Branch
     pub moved : ExchangeMoved branch w x a next
     pub asked : Bool
-    pub counted : after ≡ added_work before (work_by branch asked)
+    pub counted : work ≡ work_by branch asked
+
+  -- the same of a step, with what was counted before it
+  pub record MovesOn (w x : World) (before after : Work) (a : H1Exchange L) (next : Phase L C)
+      : Type 0 where
+    pub work : Work
+    pub moves : MovedBy w x work a next
+    pub adds : after ≡ added_work before work

@@ -10,6 +10,7 @@ ghost use Rattle.relay_proxy.specs.Passed.{World, Start};
 ghost use Rattle.relay_proxy.specs.Phases.{RunSoFar};
 ghost use Rattle.relay_proxy.specs.Refusals.{faults_before};
 ghost use Rattle.relay_proxy.specs.Stock.{items_held};
+ghost use Rattle.relay_proxy.specs.Uses.{ClientUses};
 ghost use Rattle.relay_proxy.specs.Turn.{world_of, DoesWork, is_over, is_end, links_held, Advances, HasCause};
 
 use crate::hooks::ProxyHttp;
@@ -44,6 +45,7 @@ pub(crate) fn read_head<SV: ProxyHttp, D: ByteLink, U, L: ByteLink>(
     ensures unlinked { links_held L.state L.start result.phase ≡ 0 }
     ensures no_items { items_held L.start result.phase ≡ [] }
     ensures unrefused { faults_before [] result.phase ≡ [] }
+    ensures uses { ClientUses result.work.used (D.state client.old.link) (D.state client.new.link) }
     ensures kept { client.new.kept ≡ client.old.kept }
     ensures client_start { D.start client.new.link ≡ D.start client.old.link }
 {
@@ -78,6 +80,7 @@ fn await_head<D: ByteLink, U, L: ByteLink, C>(
     ensures unlinked { links_held L.state L.start result.phase ≡ 0 }
     ensures no_items { items_held L.start result.phase ≡ [] }
     ensures unrefused { faults_before [] result.phase ≡ [] }
+    ensures uses { ClientUses result.work.used (D.state client.old.link) (D.state client.new.link) }
     ensures kept { client.new.kept ≡ client.old.kept }
     ensures client_start { D.start client.new.link ≡ D.start client.old.link }
 {
@@ -157,6 +160,7 @@ fn take_head<SV: ProxyHttp, D: ByteLink, U, L: ByteLink>(
     ensures unlinked { links_held L.state L.start result.phase ≡ 0 }
     ensures no_items { items_held L.start result.phase ≡ [] }
     ensures unrefused { faults_before [] result.phase ≡ [] }
+    ensures uses { ClientUses result.work.used (D.state client.old.link) (D.state client.new.link) }
     ensures kept { client.new.kept ≡ client.old.kept }
     ensures client_start { D.start client.new.link ≡ D.start client.old.link }
 {
@@ -190,6 +194,7 @@ fn accept_head<SV: ProxyHttp, D: ByteLink, U, L: ByteLink>(
     ensures unlinked { links_held L.state L.start result.phase ≡ 0 }
     ensures no_items { items_held L.start result.phase ≡ [] }
     ensures unrefused { faults_before [] result.phase ≡ [] }
+    ensures uses { ClientUses result.work.used (D.state client.old.link) (D.state client.new.link) }
     ensures kept { client.new.kept ≡ client.old.kept }
     ensures client_start { D.start client.new.link ≡ D.start client.old.link }
 {
@@ -237,6 +242,7 @@ fn give_answer<L: ByteLink, C>(alloc: Global, status: u16, error: Option<Error>)
     ensures unlinked { links_held L.state L.start result.phase ≡ 0 }
     ensures no_items { items_held L.start result.phase ≡ [] }
     ensures unrefused { faults_before [] result.phase ≡ [] }
+    ensures unused { result.work.used ≡ 0 }
 {
     let mut text = Vec::new(alloc);
     let Ok(()) = write_generated(&mut text, status) else {
@@ -276,6 +282,7 @@ pub(crate) fn write_refusal<D: ByteLink, U, L: ByteLink, C>(
     ensures unlinked { links_held L.state L.start result.phase ≡ 0 }
     ensures no_items { items_held L.start result.phase ≡ [] }
     ensures unrefused { faults_before [] result.phase ≡ [] }
+    ensures uses { ClientUses result.work.used (D.state client.old.link) (D.state client.new.link) }
     ensures kept { client.new.kept ≡ client.old.kept }
     ensures client_start { D.start client.new.link ≡ D.start client.old.link }
 {

@@ -67,6 +67,7 @@ pub(crate) fn connect<K: Connector, C: Drop>(
         (world_with client ahead (K.fault_count connector.new)) (Phase.Connect context session)
         result.phase result.step }
     ensures work { DoesWork result.step result.work }
+    ensures unused { result.work.used ≡ 0 }
     ensures over { is_over result.phase ≡ is_end result.step }
     ensures out { K.out connector.new
         ≡ K.out connector.old + links_held K.Byte.state K.Byte.start result.phase }
@@ -146,6 +147,7 @@ fn begin<L: ByteLink, C: Drop>(
     ensures cause { (w x : World) → HasCause L.state L.start w x (Phase.Connect context session)
         result.phase result.step }
     ensures work { DoesWork result.step result.work }
+    ensures unused { result.work.used ≡ 0 }
     ensures over { is_over result.phase ≡ is_end result.step }
     ensures linked { links_held L.state L.start result.phase ≡ 1 }
     ensures items { items_held L.start result.phase ≡ (L.start link).items ∷ [] }
@@ -176,6 +178,7 @@ fn hold<L: ByteLink, C: Drop>(alloc: Global, attempt: Attempt<L, C>) -> Next<L, 
     ensures cause { (w x : World) (context : C) (session : Box HttpSession)
         → HasCause L.state L.start w x (Phase.Connect context session) result.phase result.step }
     ensures work { DoesWork result.step result.work }
+    ensures unused { result.work.used ≡ 0 }
     ensures over { is_over result.phase ≡ is_end result.step }
     ensures linked { links_held L.state L.start result.phase ≡ 1 }
     ensures items { items_held L.start result.phase

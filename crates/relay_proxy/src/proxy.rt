@@ -1,13 +1,16 @@
 //! The proxy: requests are begun, stepped and ended, or processed in one call.
 ghost use Rattle.std.specs.Prelude.{◌≡◌, ◌⊎◌, ◌+◌, ◌≤◌, [], List, None, true, false};
+ghost use Rattle.std.specs.Global.{Box};
 ghost use Rattle.relay_links.specs.Count.{Rose};
 ghost use Rattle.relay_attempt.specs.Passed.{Passed};
 ghost use Rattle.relay_proxy.specs.Passed.{Start, start_of, nothing};
 ghost use Rattle.relay_proxy.specs.Phases.{RunSoFar};
 ghost use Rattle.relay_proxy.specs.Request.{is_stop, ended_after, Counts, StepsOn, ComesToEnd, Processes};
 ghost use Rattle.relay_proxy.specs.Stock.{items_held, all_items};
-ghost use Rattle.relay_proxy.specs.Turn.{world_of, links_held, is_over, is_end, HasCause};
+ghost use Rattle.relay_proxy.specs.Turn.{world_of, held_state, links_held, is_over, is_end, HasCause};
+ghost use Rattle.relay_proxy.specs.Uses.{CountsUses, MovesOn, StandsBehind};
 ghost use Rattle.relay_proxy.specs.Work.{total_work, Grows};
+ghost use Rattle.relay_proxy.specs.declared.machine.Phase.{Phase};
 
 use crate::finish::{finish, settle};
 use crate::hooks::ProxyHttp;
@@ -147,13 +150,33 @@ impl<SV: ProxyHttp, K: Connector, P: Purger> HttpProxy<SV, K, P> {
             (K.refusals self.old.connector) (K.refusals self.new.connector)
             (K.stock self.old.connector) (K.stock self.new.connector)
             machine.old.machine.phase machine.new.machine.phase }
-        // Before there is a link it moved something of the client, or went on to its next phase; it
-        // waits only where a link answered so in this step; and in silence all that can be done
-        // asks a link that is silent on it, and neither link changed.
+        // Before there is a link it moved something of the client, or went on to its next phase; in
+        // an exchange it asked a link once, or none and it moved a task or brought an end, by the
+        // branch that it took. It waits only where a link answered so in this step; and in silence
+        // all that can be done asks a link that is silent on it, and neither link changed.
         ensures cause { HasCause K.Byte.state K.Byte.start
             (world_of D.state client.old (K.fault_count self.old.connector))
             (world_of D.state client.new (K.fault_count self.new.connector))
             machine.old.machine.phase machine.new.machine.phase result }
+        // What was counted of uses rose by one where one of both links was asked, and else not: the
+        // link that was held is held still, or it was handed back.
+        ensures uses { (s : Start) (p : Passed) (own : List _)
+            → RunSoFar K.Byte.state K.Byte.start s p
+            (world_of D.state client.old (K.fault_count self.old.connector)) own
+            machine.old.machine.phase
+            → CountsUses machine.old.machine.work.used machine.new.machine.work.used
+            (D.state client.old.link) (D.state client.new.link)
+            (held_state K.Byte.state machine.old.machine.phase)
+            (StandsBehind K.Byte.state (K.returned self.old.connector)
+            (K.returned self.new.connector)
+            (held_state K.Byte.state machine.new.machine.phase)) }
+        // In an exchange that moved, a use, a task or an end was counted by the branch that it took.
+        ensures moves { (a : Box _) → machine.old.machine.phase ≡ Phase.Relay a
+            → result ≡ RunStep.Moved → MovesOn K.Byte.state K.Byte.start
+            (world_of D.state client.old (K.fault_count self.old.connector))
+            (world_of D.state client.new (K.fault_count self.new.connector))
+            machine.old.machine.work machine.new.machine.work a.value.exchange
+            machine.new.machine.phase }
         // A step that moved did some work.
         ensures progress { result ≡ RunStep.Moved
             → Rose (total_work machine.old.machine.work) (total_work machine.new.machine.work) }

@@ -1,25 +1,29 @@
 //! The attempt: one turn of its exchange, and what becomes of the client and of the link once it
 //! has ended (RFC 9112, section 9.3).
-ghost use Rattle.std.specs.Prelude.{◌≡◌, ℕ, [], None, true, false};
+ghost use Rattle.std.specs.Prelude.{◌≡◌, ◌<◌, ℕ, [], None, Some, true, false, if◌then◌else◌};
 ghost use Rattle.std.specs.Global.{Box};
+ghost use Rattle.relay_links.specs.Link.{LinkState};
 ghost use Rattle.relay_core.specs.Asked.{WaitRose};
 ghost use Rattle.relay_core.specs.Causes.{says_failed};
 ghost use Rattle.relay_core.specs.Past.{Origin};
-ghost use Rattle.relay_attempt.specs.Exchange.{IsUnderWay, Turns, MeetsSilence};
+ghost use Rattle.relay_attempt.specs.Exchange.{IsUnderWay, Turns, MeetsSilence, Asks, HasMoved};
 ghost use Rattle.relay_attempt.specs.Head.{link_of, may_keep};
 ghost use Rattle.relay_attempt.specs.Passed.{Passed};
 ghost use Rattle.relay_proxy.specs.Endings.{outcome_of};
 ghost use Rattle.relay_proxy.specs.Passed.{Start};
 ghost use Rattle.relay_proxy.specs.Phases.{RunSoFar};
-ghost use Rattle.relay_proxy.specs.Relaying.{is_relaying, TurnsWithin};
+ghost use Rattle.relay_proxy.specs.Relaying.{is_relaying, TurnsOver, TurnsWithin};
 ghost use Rattle.relay_proxy.specs.Reuse.{client_reusable, lets_ask_again};
 ghost use Rattle.relay_proxy.specs.Stock.{items_held};
-ghost use Rattle.relay_proxy.specs.Turn.{world_of, DoesWork, is_over, is_end, links_held, Advances, HasCause};
+ghost use Rattle.relay_proxy.specs.Turn.{world_of, DoesWork, is_over, is_end, held_state, links_held, Advances, HasCause};
+ghost use Rattle.relay_proxy.specs.Uses.{MovedBy, TurnUses};
+ghost use Rattle.relay_proxy.specs.Work.{total_work};
 
 use crate::connecting::outcome_of;
 use crate::machine::{Attempt, Did, Phase, RunStep};
 use crate::outcome::Outcome;
-use crate::work::{Work, work_of};
+use crate::uses::Uses;
+use crate::work::{Work, work_of, work_of_failure};
 use http::Version;
 use relay_attempt::H1Exchange;
 use relay_core::Step;
@@ -28,6 +32,13 @@ use relay_h1::{Connection, closes};
 use relay_links::{ByteLink, Schedule};
 use relay_session::HttpSession;
 use relay_tasks::{Fail, Pause};
+
+/// What one turn of an exchange came to, and whether a count of uses of both links rose in it.
+#[derive(Clone, Copy)]
+struct Turned {
+    turn: Turn,
+    asked: bool,
+}
 
 /// One turn of a phase that relays, where it stands. The schedule picks the branch of the duplex.
 pub(crate) fn relay<D: ByteLink, U: Drop, L: ByteLink, H: Schedule, C: Drop>(
@@ -43,17 +54,26 @@ pub(crate) fn relay<D: ByteLink, U: Drop, L: ByteLink, H: Schedule, C: Drop>(
         (world_of D.state client.old faults) (world_of D.state client.new faults) phase.old
         phase.new result.step }
     ensures work { DoesWork result.step result.work }
+    ensures uses { (s : Origin) (p : Passed) (a : Box (Attempt L C)) → phase.old ≡ Phase.Relay a
+        → IsUnderWay L.state L.start s p (D.state client.old.link) client.old.ahead
+        a.value.exchange
+        → TurnUses result.work.used (D.state client.old.link) (D.state client.new.link)
+        (held_state L.state phase.old) (λ link. held_state L.state phase.new ≡ Some link) }
+    ensures moves { (faults : ℕ) (a : Box (Attempt L C)) → phase.old ≡ Phase.Relay a
+        → result.step ≡ RunStep.Moved → MovedBy {C = C} L.state L.start
+        (world_of D.state client.old faults) (world_of D.state client.new faults) result.work
+        a.value.exchange phase.new }
     ensures over { is_over phase.new ≡ is_end result.step }
     ensures linked { links_held L.state L.start phase.new ≡ links_held L.state L.start phase.old }
     ensures items { items_held L.start phase.new ≡ items_held L.start phase.old }
     ensures kept { client.new.kept ≡ client.old.kept }
     ensures client_start { D.start client.new.link ≡ D.start client.old.link }
 {
-    let Turn { step, branch } = turn_within(phase, client, schedule);
-    match step {
+    let Turned { turn, asked } = turn_within(phase, client, schedule);
+    match turn.step {
         Step::Moved => Did {
             step: RunStep::Moved,
-            work: work_of(branch),
+            work: work_of(turn.branch, asked),
         },
         Step::Waited(Pause::NotReady) => Did {
             step: RunStep::Waited(Pause::NotReady),
@@ -64,7 +84,7 @@ pub(crate) fn relay<D: ByteLink, U: Drop, L: ByteLink, H: Schedule, C: Drop>(
             work: Work::NONE,
         },
         Step::Finished => close_finished(client, phase),
-        Step::Failed(why) => close_failed(phase, why),
+        Step::Failed(why) => close_failed(phase, why, asked),
     }
 }
 
@@ -98,8 +118,9 @@ fn close_finished<D, U, L: ByteLink, C: Drop>(
     }
 }
 
-/// The end of an attempt whose exchange failed: its link is to go back, and is not kept.
-fn close_failed<L: ByteLink, C: Drop>(phase: &mut Phase<L, C>, why: Fail) -> Did
+/// The end of an attempt whose exchange failed, a link having been asked in that turn or not: its
+/// link is to go back, and is not kept.
+fn close_failed<L: ByteLink, C: Drop>(phase: &mut Phase<L, C>, why: Fail, asked: bool) -> Did
     requires { is_relaying phase.old ≡ true }
     ensures closes { (a : Box (Attempt L C)) → phase.old ≡ Phase.Relay a
         → phase.new ≡ Phase.Close (link_of a.value.exchange) a.value.lease false (outcome_of why) }
@@ -107,7 +128,8 @@ fn close_failed<L: ByteLink, C: Drop>(phase: &mut Phase<L, C>, why: Fail) -> Did
     ensures linked { links_held L.state L.start phase.new ≡ links_held L.state L.start phase.old }
     ensures items { items_held L.start phase.new ≡ items_held L.start phase.old }
     ensures step { result.step ≡ RunStep.Ended }
-    ensures work { result.work ≡ Work.ENDED }
+    ensures work { 0 < total_work result.work }
+    ensures used { result.work.used ≡ (if asked then 1 else 0) }
 {
     let Attempt {
         exchange,
@@ -117,7 +139,7 @@ fn close_failed<L: ByteLink, C: Drop>(phase: &mut Phase<L, C>, why: Fail) -> Did
     phase.put(Phase::Close(exchange.into_link(), lease, false, outcome_of(why)));
     Did {
         step: RunStep::Ended,
-        work: Work::ENDED,
+        work: work_of_failure(asked),
     }
 }
 
@@ -126,10 +148,10 @@ fn turn_within<D: ByteLink, U: Drop, L: ByteLink, H: Schedule, C>(
     phase: &mut Phase<L, C>,
     client: &mut Connection<D, U>,
     schedule: &mut H,
-) -> Turn
+) -> Turned
     requires { is_relaying phase.old ≡ true }
     ensures turns { TurnsWithin L.state L.start (D.state client.old.link) (D.state client.new.link)
-        client.old.ahead client.new.ahead phase.old phase.new result.step }
+        client.old.ahead client.new.ahead phase.old phase.new result.turn result.asked }
     ensures relaying { is_relaying phase.new ≡ true }
     ensures going { is_over phase.new ≡ false }
     ensures linked { links_held L.state L.start phase.new ≡ links_held L.state L.start phase.old }
@@ -138,13 +160,30 @@ fn turn_within<D: ByteLink, U: Drop, L: ByteLink, H: Schedule, C>(
     ensures client_start { D.start client.new.link ≡ D.start client.old.link }
 {
     match phase {
-        Phase::Relay(attempt) => turn_over(&mut attempt.exchange, client, schedule),
+        Phase::Relay(attempt) => turn_counted(&mut attempt.exchange, client, schedule),
         Phase::ReadHead => unreachable!(),
         Phase::Refuse(_, _) => unreachable!(),
         Phase::Connect(_, _) => unreachable!(),
         Phase::Close(_, _, _, _) => unreachable!(),
         Phase::Ended(_, _) => unreachable!(),
     }
+}
+
+/// One turn of an exchange over the client's connection, and whether a count of uses rose in it.
+fn turn_counted<D: ByteLink, U: Drop, L: ByteLink, H: Schedule>(
+    exchange: &mut H1Exchange<L>,
+    client: &mut Connection<D, U>,
+    schedule: &mut H,
+) -> Turned
+    ensures turns { TurnsOver L.state L.start (D.state client.old.link) (D.state client.new.link)
+        client.old.ahead client.new.ahead exchange.old exchange.new result.turn result.asked }
+    ensures kept { client.new.kept ≡ client.old.kept }
+    ensures client_start { D.start client.new.link ≡ D.start client.old.link }
+{
+    let before = Uses::of(client, exchange);
+    let turn = turn_over(exchange, client, schedule);
+    let asked = before.have_risen(Uses::of(client, exchange));
+    Turned { turn, asked }
 }
 
 /// One turn of an exchange over the client's connection. An exchange knows nothing of the value
@@ -164,6 +203,13 @@ fn turn_over<D: ByteLink, U: Drop, L: ByteLink, H: Schedule>(
     ensures quiet { result.step ≡ Step.Waited Pause.Silent
         → MeetsSilence L.state L.start (D.state client.old.link) (D.state client.new.link)
         exchange.old exchange.new }
+    ensures asks { Asks L.state L.start result.step (D.state client.old.link)
+        (D.state client.new.link) exchange.old exchange.new }
+    ensures moves { (s : Origin) (p : Passed)
+        → IsUnderWay L.state L.start s p (D.state client.old.link) client.old.ahead exchange.old
+        → result.step ≡ Step.Moved
+        → HasMoved L.state L.start result.branch (D.state client.old.link)
+        (D.state client.new.link) exchange.old exchange.new }
     ensures calm { says_failed result.step ≡ false
         → (D.state client.new.link).faults ≡ (D.state client.old.link).faults }
     ensures peer_start { L.start (link_of exchange.new)

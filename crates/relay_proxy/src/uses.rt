@@ -1,5 +1,5 @@
 //! How often the links of an exchange were asked, as they tell it.
-ghost use Rattle.std.specs.Prelude.{◌≡◌, ◌≤◌, ◌×◌, ◌⊎◌, ◌↔◌, IsTrue};
+ghost use Rattle.std.specs.Prelude.{◌≡◌, ◌≤◌, ◌⊎◌, ◌↔◌, IsTrue};
 ghost use Rattle.relay_links.specs.Count.{last_count, Rose};
 ghost use Rattle.relay_attempt.specs.Head.{link_of};
 

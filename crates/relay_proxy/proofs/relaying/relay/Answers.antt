@@ -3,7 +3,7 @@ use Rattle.std.proofs.Common.{◌≡◌, refl, ap, ◌∙◌}
 use Rattle.relay_tasks.specs.declared.took.Pause.TheVariants.{NotReady, Silent}
 use Rattle.relay_core.specs.declared.step.Step.TheVariants as step
 use Rattle.relay_proxy.specs.Turn.{world_of}
-use Rattle.relay_proxy.proofs.RelaySteps.{moved_within, waited_within, finished_within, failed_within, moved_cause, waited_cause, silent_cause}
+use Rattle.relay_proxy.proofs.RelaySteps.{moved_within, waited_within, finished_within, failed_within, moved_by, moved_cause, waited_cause, silent_cause, moved_uses_within, waited_uses_within, silent_uses_within, finished_uses_within, failed_uses_within}
 use Rattle.relay_proxy.proofs.relaying.relay.Goals as goal
 
 -- the exchange moved
@@ -11,24 +11,24 @@ pub returns-in-Moved-clause-run : goal.returns-in-Moved-clause-run
 returns-in-Moved-clause-run g c = λ s p faults run.
     moved_within g.L.ByteLink.state g.L.ByteLink.start
     (world_of g.D.ByteLink.state c.args.client.now faults)
-    (world_of g.D.ByteLink.state c.turn_within-step.new.client faults) _ _ _
-    c.turn_within-step.ensures.turns c.in-Moved.is refl s p run
+    (world_of g.D.ByteLink.state c.turn_within-asked.new.client faults) _ _ _ _
+    c.turn_within-asked.ensures.turns c.in-Moved.is refl s p run
 
 -- it moved something
 pub returns-in-Moved-clause-cause : goal.returns-in-Moved-clause-cause
 returns-in-Moved-clause-cause g c = λ faults.
     moved_cause g.L.ByteLink.state g.L.ByteLink.start
     (world_of g.D.ByteLink.state c.args.client.now faults)
-    (world_of g.D.ByteLink.state c.turn_within-step.new.client faults) _ _ _
-    c.turn_within-step.ensures.turns
+    (world_of g.D.ByteLink.state c.turn_within-asked.new.client faults) _ _ _ _
+    c.turn_within-asked.ensures.turns c.in-Moved.is
 
 -- the exchange waits for a link
 pub returns-in-Waited-NotReady-clause-run : goal.returns-in-Waited-NotReady-clause-run
 returns-in-Waited-NotReady-clause-run g c = λ s p faults run.
     waited_within g.L.ByteLink.state g.L.ByteLink.start
     (world_of g.D.ByteLink.state c.args.client.now faults)
-    (world_of g.D.ByteLink.state c.turn_within-step.new.client faults) _ _ _
-    c.turn_within-step.ensures.turns _ c.in-Waited-NotReady.is refl s p run
+    (world_of g.D.ByteLink.state c.turn_within-asked.new.client faults) _ _ _ _
+    c.turn_within-asked.ensures.turns _ c.in-Waited-NotReady.is refl s p run
 
 -- it waits because a link answered so
 pub returns-in-Waited-NotReady-clause-cause : goal.returns-in-Waited-NotReady-clause-cause
@@ -37,16 +37,16 @@ returns-in-Waited-NotReady-clause-cause g c = λ faults.
     let pause : here.field-0 ≡ NotReady = rw here.is at here.field-0-is in
     waited_cause g.L.ByteLink.state g.L.ByteLink.start
     (world_of g.D.ByteLink.state c.args.client.now faults)
-    (world_of g.D.ByteLink.state c.turn_within-step.new.client faults) _ _ _
-    c.turn_within-step.ensures.turns (here.is ∙ ap step.Waited pause)
+    (world_of g.D.ByteLink.state c.turn_within-asked.new.client faults) _ _ _ _
+    c.turn_within-asked.ensures.turns (here.is ∙ ap step.Waited pause)
 
 -- the exchange met silence
 pub returns-in-Waited-Silent-clause-run : goal.returns-in-Waited-Silent-clause-run
 returns-in-Waited-Silent-clause-run g c = λ s p faults run.
     waited_within g.L.ByteLink.state g.L.ByteLink.start
     (world_of g.D.ByteLink.state c.args.client.now faults)
-    (world_of g.D.ByteLink.state c.turn_within-step.new.client faults) _ _ _
-    c.turn_within-step.ensures.turns _ c.in-Waited-Silent.is refl s p run
+    (world_of g.D.ByteLink.state c.turn_within-asked.new.client faults) _ _ _ _
+    c.turn_within-asked.ensures.turns _ c.in-Waited-Silent.is refl s p run
 
 -- in silence all that can be done asks a silent link
 pub returns-in-Waited-Silent-clause-cause : goal.returns-in-Waited-Silent-clause-cause
@@ -55,21 +55,80 @@ returns-in-Waited-Silent-clause-cause g c = λ faults.
     let pause : here.field-0 ≡ Silent = rw here.is at here.field-0-is in
     silent_cause g.L.ByteLink.state g.L.ByteLink.start
     (world_of g.D.ByteLink.state c.args.client.now faults)
-    (world_of g.D.ByteLink.state c.turn_within-step.new.client faults) _ _ _
-    c.turn_within-step.ensures.turns (here.is ∙ ap step.Waited pause)
+    (world_of g.D.ByteLink.state c.turn_within-asked.new.client faults) _ _ _ _
+    c.turn_within-asked.ensures.turns (here.is ∙ ap step.Waited pause)
 
 -- the exchange finished
 pub returns-in-Finished-clause-run : goal.returns-in-Finished-clause-run
 returns-in-Finished-clause-run g c = λ s p faults run.
     finished_within g.L.ByteLink.state g.L.ByteLink.start
     (world_of g.D.ByteLink.state c.args.client.now faults)
-    (world_of g.D.ByteLink.state c.turn_within-step.new.client faults) _ _ _
-    c.turn_within-step.ensures.turns c.in-Finished.is refl _ c.close_finished.ensures.closes s p run
+    (world_of g.D.ByteLink.state c.turn_within-asked.new.client faults) _ _ _ _
+    c.turn_within-asked.ensures.turns c.in-Finished.is refl _ c.close_finished.ensures.closes s p run
 
 -- the exchange failed
 pub returns-in-Failed-clause-run : goal.returns-in-Failed-clause-run
 returns-in-Failed-clause-run g c = λ s p faults run.
     failed_within g.L.ByteLink.state g.L.ByteLink.start
     (world_of g.D.ByteLink.state c.args.client.now faults)
-    (world_of g.D.ByteLink.state c.turn_within-step.new.client faults) _ _ _
-    c.turn_within-step.ensures.turns _ c.in-Failed.is refl _ c.close_failed.ensures.closes s p run
+    (world_of g.D.ByteLink.state c.turn_within-asked.new.client faults) _ _ _ _
+    c.turn_within-asked.ensures.turns _ c.in-Failed.is refl _ c.close_failed.ensures.closes s p run
+
+-- and its work is that of the branch
+pub returns-in-Moved-clause-moves : goal.returns-in-Moved-clause-moves
+returns-in-Moved-clause-moves g c = λ faults a is did. record {
+  branch = c.turn_within-asked.result.turn.branch;
+  moved = moved_by g.L.ByteLink.state g.L.ByteLink.start
+      (world_of g.D.ByteLink.state c.args.client.now faults)
+      (world_of g.D.ByteLink.state c.turn_within-asked.new.client faults) _ _ _ _
+      c.turn_within-asked.ensures.turns c.in-Moved.is a is;
+  asked = c.turn_within-asked.result.asked;
+  counted = c.work_of.ensures.exact;
+}
+
+-- its uses are those of the branch
+pub returns-in-Moved-clause-uses : goal.returns-in-Moved-clause-uses
+returns-in-Moved-clause-uses g c = λ s p a is under.
+    rw c.work_of.ensures.exact
+    (moved_uses_within g.L.ByteLink.state g.L.ByteLink.start
+    (world_of g.D.ByteLink.state c.args.client.now 0)
+    (world_of g.D.ByteLink.state c.turn_within-asked.new.client 0) _ _ _ _
+    c.turn_within-asked.ensures.turns c.in-Moved.is s p a is under)
+
+-- one that waits asked the link that it waits for
+pub returns-in-Waited-NotReady-clause-uses : goal.returns-in-Waited-NotReady-clause-uses
+returns-in-Waited-NotReady-clause-uses g c = λ s p a is under.
+    let here = c.in-Waited-NotReady in
+    let pause : here.field-0 ≡ NotReady = rw here.is at here.field-0-is in
+    waited_uses_within g.L.ByteLink.state g.L.ByteLink.start
+    (world_of g.D.ByteLink.state c.args.client.now 0)
+    (world_of g.D.ByteLink.state c.turn_within-asked.new.client 0) _ _ _ _
+    c.turn_within-asked.ensures.turns (here.is ∙ ap step.Waited pause)
+
+-- one that met silence asked none
+pub returns-in-Waited-Silent-clause-uses : goal.returns-in-Waited-Silent-clause-uses
+returns-in-Waited-Silent-clause-uses g c = λ s p a is under.
+    let here = c.in-Waited-Silent in
+    let pause : here.field-0 ≡ Silent = rw here.is at here.field-0-is in
+    silent_uses_within g.L.ByteLink.state g.L.ByteLink.start
+    (world_of g.D.ByteLink.state c.args.client.now 0)
+    (world_of g.D.ByteLink.state c.turn_within-asked.new.client 0) _ _ _ _
+    c.turn_within-asked.ensures.turns (here.is ∙ ap step.Waited pause)
+
+-- one that finished asked none
+pub returns-in-Finished-clause-uses : goal.returns-in-Finished-clause-uses
+returns-in-Finished-clause-uses g c = λ s p a is under.
+    rw c.close_finished.ensures.work
+    (finished_uses_within g.L.ByteLink.state g.L.ByteLink.start
+    (world_of g.D.ByteLink.state c.args.client.now 0)
+    (world_of g.D.ByteLink.state c.turn_within-asked.new.client 0) _ _ _ _
+    c.turn_within-asked.ensures.turns c.in-Finished.is _ c.close_finished.ensures.closes)
+
+-- one that failed asked one or none
+pub returns-in-Failed-clause-uses : goal.returns-in-Failed-clause-uses
+returns-in-Failed-clause-uses g c = λ s p a is under.
+    rw c.close_failed.ensures.used
+    (failed_uses_within g.L.ByteLink.state g.L.ByteLink.start
+    (world_of g.D.ByteLink.state c.args.client.now 0)
+    (world_of g.D.ByteLink.state c.turn_within-asked.new.client 0) _ _ _ _
+    c.turn_within-asked.ensures.turns _ c.in-Failed.is _ c.close_failed.ensures.closes)

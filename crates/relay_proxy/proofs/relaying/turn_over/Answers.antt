@@ -12,3 +12,15 @@ pub returns-in_default-clause-goes : goal.returns-in_default-clause-goes
 returns-in_default-clause-goes g c = λ s p under.
     rw c.take_kept.ensures.after
     (c.turn-turn.ensures.goes s p (rw c.take_kept-kept.ensures.after under))
+
+-- what a turn moved over a value that was kept
+pub returns-in-Some-clause-moves : goal.returns-in-Some-clause-moves
+returns-in-Some-clause-moves g c = λ s p under.
+    rw (c.set_kept.ensures, c.take_kept.ensures.after)
+    ((rw c.take_kept-kept.ensures.after at (c.turn-turn.ensures.moves s p)) under)
+
+-- and where none was kept
+pub returns-in_default-clause-moves : goal.returns-in_default-clause-moves
+returns-in_default-clause-moves g c = λ s p under.
+    rw c.take_kept.ensures.after
+    ((rw c.take_kept-kept.ensures.after at (c.turn-turn.ensures.moves s p)) under)

@@ -7,6 +7,5 @@ use Rattle.relay_proxy.proofs.relaying.turn_within.Goals as goal
 pub returns-clause-turns : goal.returns-clause-turns
 returns-clause-turns g c =
     lent_turn g.L.ByteLink.state g.L.ByteLink.start _ _ _ _ c.in-Relay.attempt
-    c.deref_mut.result.now c.turn_over.new.exchange _ _ _ c.in-Relay.is c.deref_mut.ensures.value
-    refl c.turn_over.ensures.goes c.turn_over.ensures.waits c.turn_over.ensures.quiet
-    c.turn_over.ensures.calm c.turn_over.ensures.peer_start
+    c.deref_mut.result.now c.turn_counted.new.exchange _ _ _ _ c.in-Relay.is
+    c.deref_mut.ensures.value refl c.turn_counted.ensures.turns

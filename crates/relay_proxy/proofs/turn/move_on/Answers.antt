@@ -1,6 +1,6 @@
 -- A turn of a phase that does not relay. One that does not ask the connector leaves its count of
 -- faults as it was.
-use Rattle.std.proofs.Common.{refl, sym, ◌∙◌}
+use Rattle.std.proofs.Common.{refl, sym, ◌∙◌, inr}
 use Rattle.relay_proxy.proofs.RefusalLemmas.{none_added}
 use Rattle.relay_proxy.proofs.TakenLemmas.{takes_nothing, one_out, no_offers}
 use Rattle.relay_proxy.proofs.turn.move_on.Goals as goal
@@ -94,3 +94,17 @@ pub returns-in-Connect-clause-offers : goal.returns-in-Connect-clause-offers
 returns-in-Connect-clause-offers g c =
     rw (c.go_on-in-Connect.ensures.phase, sym c.replace.ensures.value ∙ c.in-Connect.is)
     c.connect.ensures.offers
+
+-- one that was to be closed, or had ended, asks no link
+pub returns-in-Close-clause-uses : goal.returns-in-Close-clause-uses
+returns-in-Close-clause-uses g c =
+    rw (
+      c.go_on-in-Close.ensures.phase,
+      c.go_on-in-Close.ensures.work,
+      sym c.replace.ensures.value ∙ c.in-Close.is,
+    )
+    (λ s p own run. (
+      g.K.Byte.ByteLink.state c.in-Close.link,
+      refl,
+      inr (refl, record { client_same = refl; upstream_same = refl }),
+    ))

@@ -3,7 +3,7 @@ use Rattle.std.proofs.Common.{refl, sym, ◌∙◌}
 use Rattle.relay_proxy.specs.Turn.{world_of}
 use Rattle.relay_proxy.proofs.RefusalLemmas.{none_added}
 use Rattle.relay_proxy.proofs.TakenLemmas.{takes_nothing}
-use Rattle.relay_proxy.proofs.TurnLemmas.{relaying_turn, relaying_rests, relaying_works, relaying_unrefused, relaying_takes, relaying_carries}
+use Rattle.relay_proxy.proofs.TurnLemmas.{relaying_turn, relaying_rests, relaying_uses, relaying_works, relaying_unrefused, relaying_takes, relaying_carries, not_relaying}
 use Rattle.relay_proxy.proofs.turn.take_turn.Goals as goal
 
 -- a turn of the attempt is a turn
@@ -58,3 +58,22 @@ returns-then-is_relaying-clause-carries g c = λ live.
     relaying_carries g.K.Byte.ByteLink.state g.K.Byte.ByteLink.start c.args.phase.now
     c.relay.new.phase (sym c.is_relaying.ensures ∙ c.if-is_relaying.true) c.relay.ensures.linked
     c.relay.ensures.items
+
+-- its uses are those of both links
+pub returns-then-is_relaying-clause-uses : goal.returns-then-is_relaying-clause-uses
+returns-then-is_relaying-clause-uses g c = λ s p own run.
+    relaying_uses g.K.Byte.ByteLink.state g.K.Byte.ByteLink.start s p own
+    (world_of g.D.ByteLink.state c.args.client.now
+    (g.K.Connector.fault_count c.args.connector.now))
+    c.args.phase.now _ (sym c.is_relaying.ensures ∙ c.if-is_relaying.true) run
+    c.relay.ensures.uses
+
+-- and what it moved is what the exchange moved
+pub returns-then-is_relaying-clause-moves : goal.returns-then-is_relaying-clause-moves
+returns-then-is_relaying-clause-moves g c =
+    c.relay.ensures.moves (g.K.Connector.fault_count c.args.connector.now)
+
+-- a phase that does not relay moves nothing of an exchange
+pub returns-clause-moves : goal.returns-clause-moves
+returns-clause-moves g c = λ a is did.
+    absurd (not_relaying c.args.phase.now a (sym c.is_relaying.ensures ∙ c.if-is_relaying.false) is)

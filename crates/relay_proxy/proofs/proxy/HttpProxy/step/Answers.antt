@@ -1,5 +1,8 @@
 -- The turn and its settling are a step.
+use Rattle.std.proofs.Common.{ap}
+use Rattle.relay_proxy.specs.declared.work.Work.{Work}
 use Rattle.relay_proxy.proofs.StepLemmas.{step_on, settled_cause}
+use Rattle.relay_proxy.proofs.UseLemmas.{settled_moves, settled_uses}
 use Rattle.relay_proxy.proofs.proxy.HttpProxy.step.Goals as goal
 
 -- a turn that was settled is a step
@@ -21,3 +24,26 @@ returns-clause-cause g c =
     c.args.machine.now.machine.phase c.take_turn-step.new.phase c.settle.new.phase
     c.take_turn-step.result.step _ _ c.settle.ensures.settles c.take_turn-step.ensures.over
     c.take_turn-step.ensures.cause)
+
+-- its uses are those of the turn
+pub returns-clause-uses : goal.returns-clause-uses
+returns-clause-uses g c = λ s p own run. (
+  c.take_turn-step.result.work.used,
+  ap (λ (work : Work). work.used) c.plus-machine.ensures.sum,
+  settled_uses g.K.Byte.ByteLink.state g.K.Byte.ByteLink.start
+      c.take_turn-step.result.work.used (g.D.ByteLink.state c.args.client.now.link)
+      (g.D.ByteLink.state c.take_turn-step.new.client.link) _ c.take_turn-step.new.phase
+      c.settle.new.phase _ _ _ c.take_turn-step.ensures.returned c.settle.ensures.settles
+      (c.take_turn-step.ensures.uses s p own run),
+)
+
+-- and what it moved in an exchange
+pub returns-clause-moves : goal.returns-clause-moves
+returns-clause-moves g c = λ a is did. record {
+  work = c.take_turn-step.result.work;
+  moves = rw c.settle.ensures.faults
+      (settled_moves g.K.Byte.ByteLink.state g.K.Byte.ByteLink.start _ _
+      c.take_turn-step.result.work a.value.exchange c.take_turn-step.new.phase
+      c.settle.new.phase _ _ c.settle.ensures.settles (c.take_turn-step.ensures.moves a is did));
+  adds = c.plus-machine.ensures.sum;
+}
