@@ -79,15 +79,15 @@ module _ (client client' upstream upstream' : LinkState) (asked : Bool)
         → AsksEither client client' upstream upstream'
     none_rose none is = elim (m.rose.0 is) [
       | inl risen ↦ inl (record {
-          used = stands_up client.used client'.used m.client_fits
-              (ap (λ (l : LinkState). l.used) none.client_same) risen;
-          other_same = none.upstream_same;
-        })
+        used = stands_up client.used client'.used m.client_fits
+            (ap (λ (l : LinkState). l.used) none.client_same) risen;
+        other_same = none.upstream_same;
+      })
       | inr risen ↦ inr (record {
-          used = stands_up upstream.used upstream'.used m.upstream_fits
-              (ap (λ (l : LinkState). l.used) none.upstream_same) risen;
-          other_same = none.client_same;
-        })
+        used = stands_up upstream.used upstream'.used m.upstream_fits
+            (ap (λ (l : LinkState). l.used) none.upstream_same) risen;
+        other_same = none.client_same;
+      })
     ]
 
     -- the uses are one where a count rose

@@ -124,23 +124,23 @@ returns-in-Moved-clause-uses g c = λ s p under. (
   _,
   refl,
   rw c.work_of.ensures.exact (moved_uses
-    (g.D.ByteLink.state c.args.client.now.link)
-    (g.D.ByteLink.state c.turn_over-step.new.client.link)
-    (g.L.ByteLink.state (link_of c.args.attempt.value.exchange))
-    (g.L.ByteLink.state (link_of c.turn_over-step.new.exchange))
-    c.have_risen-asked.result (measured (g.D.ByteLink.state c.args.client.now.link)
-    (g.D.ByteLink.state c.turn_over-step.new.client.link)
-    (g.L.ByteLink.state (link_of c.args.attempt.value.exchange))
-    (g.L.ByteLink.state (link_of c.turn_over-step.new.exchange)) c.of-before.result c.of.result
-    c.have_risen-asked.result c.have_risen-asked.ensures.rose
-    c.have_risen-asked.ensures.client_fits c.have_risen-asked.ensures.upstream_fits
-    (rw c.deref.ensures at c.of-before.ensures) (rw c.deref-2.ensures at c.of.ensures))
-    c.turn_over-step.result.branch _ _
-    (moved_held g.L.ByteLink.state g.L.ByteLink.start c.turn_over-step.result.branch
-    (g.D.ByteLink.state c.args.client.now.link)
-    (g.D.ByteLink.state c.turn_over-step.new.client.link) c.args.client.now.ahead c.args.attempt
-    c.deref_mut.result.now c.turn_over-step.new.exchange c.deref_mut.ensures.value
-    (λ s p under. c.turn_over-step.ensures.moves s p under c.in-Moved.is) s p under)),
+      (g.D.ByteLink.state c.args.client.now.link)
+      (g.D.ByteLink.state c.turn_over-step.new.client.link)
+      (g.L.ByteLink.state (link_of c.args.attempt.value.exchange))
+      (g.L.ByteLink.state (link_of c.turn_over-step.new.exchange))
+      c.have_risen-asked.result (measured (g.D.ByteLink.state c.args.client.now.link)
+      (g.D.ByteLink.state c.turn_over-step.new.client.link)
+      (g.L.ByteLink.state (link_of c.args.attempt.value.exchange))
+      (g.L.ByteLink.state (link_of c.turn_over-step.new.exchange)) c.of-before.result c.of.result
+      c.have_risen-asked.result c.have_risen-asked.ensures.rose
+      c.have_risen-asked.ensures.client_fits c.have_risen-asked.ensures.upstream_fits
+      (rw c.deref.ensures at c.of-before.ensures) (rw c.deref-2.ensures at c.of.ensures))
+      c.turn_over-step.result.branch _ _
+      (moved_held g.L.ByteLink.state g.L.ByteLink.start c.turn_over-step.result.branch
+      (g.D.ByteLink.state c.args.client.now.link)
+      (g.D.ByteLink.state c.turn_over-step.new.client.link) c.args.client.now.ahead c.args.attempt
+      c.deref_mut.result.now c.turn_over-step.new.exchange c.deref_mut.ensures.value
+      (λ s p under. c.turn_over-step.ensures.moves s p under c.in-Moved.is) s p under)),
 )
 
 -- one that waits asked the link that it waits for
@@ -149,10 +149,16 @@ returns-in-Waited-NotReady-clause-uses g c = λ s p under.
     let here = c.in-Waited-NotReady in
     let pause : here.field-0 ≡ NotReady = rw here.is at here.field-0-is in
     let is : c.turn_over-step.result.step ≡ step.Waited NotReady =
-    here.is ∙ ap step.Waited pause in
-    (_, refl, inl (refl, (asks_held g.L.ByteLink.state g.L.ByteLink.start _ (step.Waited NotReady) (g.D.ByteLink.state c.args.client.now.link)
-    (g.D.ByteLink.state c.turn_over-step.new.client.link) c.args.attempt c.deref_mut.result.now
-    c.turn_over-step.new.exchange c.deref_mut.ensures.value is c.turn_over-step.ensures.asks)))
+    here.is ∙ ap step.Waited pause in (
+      _,
+      refl,
+      inl (
+        refl,
+        (asks_held g.L.ByteLink.state g.L.ByteLink.start _ (step.Waited NotReady) (g.D.ByteLink.state c.args.client.now.link)
+            (g.D.ByteLink.state c.turn_over-step.new.client.link) c.args.attempt c.deref_mut.result.now
+            c.turn_over-step.new.exchange c.deref_mut.ensures.value is c.turn_over-step.ensures.asks),
+      ),
+    )
 
 -- one that met silence asked none
 pub returns-in-Waited-Silent-clause-uses : goal.returns-in-Waited-Silent-clause-uses
@@ -160,19 +166,28 @@ returns-in-Waited-Silent-clause-uses g c = λ s p under.
     let here = c.in-Waited-Silent in
     let pause : here.field-0 ≡ Silent = rw here.is at here.field-0-is in
     let is : c.turn_over-step.result.step ≡ step.Waited Silent =
-    here.is ∙ ap step.Waited pause in
-    (_, refl, inr (refl, (asks_held g.L.ByteLink.state g.L.ByteLink.start _ (step.Waited Silent) (g.D.ByteLink.state c.args.client.now.link)
-    (g.D.ByteLink.state c.turn_over-step.new.client.link) c.args.attempt c.deref_mut.result.now
-    c.turn_over-step.new.exchange c.deref_mut.ensures.value is c.turn_over-step.ensures.asks)))
+    here.is ∙ ap step.Waited pause in (
+      _,
+      refl,
+      inr (
+        refl,
+        (asks_held g.L.ByteLink.state g.L.ByteLink.start _ (step.Waited Silent) (g.D.ByteLink.state c.args.client.now.link)
+            (g.D.ByteLink.state c.turn_over-step.new.client.link) c.args.attempt c.deref_mut.result.now
+            c.turn_over-step.new.exchange c.deref_mut.ensures.value is c.turn_over-step.ensures.asks),
+      ),
+    )
 
 -- one that finished asked none
 pub returns-in-Finished-clause-uses : goal.returns-in-Finished-clause-uses
 returns-in-Finished-clause-uses g c = λ s p under. (
   g.L.ByteLink.state (link_of c.turn_over-step.new.exchange),
   rw c.close_finished.ensures.phase refl,
-  rw c.close_finished.ensures.work (inr (refl, (asks_held g.L.ByteLink.state g.L.ByteLink.start _ step.Finished (g.D.ByteLink.state c.args.client.now.link)
-    (g.D.ByteLink.state c.turn_over-step.new.client.link) c.args.attempt c.deref_mut.result.now
-    c.turn_over-step.new.exchange c.deref_mut.ensures.value c.in-Finished.is c.turn_over-step.ensures.asks))),
+  rw c.close_finished.ensures.work (inr (
+    refl,
+    (asks_held g.L.ByteLink.state g.L.ByteLink.start _ step.Finished (g.D.ByteLink.state c.args.client.now.link)
+        (g.D.ByteLink.state c.turn_over-step.new.client.link) c.args.attempt c.deref_mut.result.now
+        c.turn_over-step.new.exchange c.deref_mut.ensures.value c.in-Finished.is c.turn_over-step.ensures.asks),
+  )),
 )
 
 -- one that failed asked one or none
@@ -181,18 +196,18 @@ returns-in-Failed-clause-uses g c = λ s p under. (
   g.L.ByteLink.state (link_of c.turn_over-step.new.exchange),
   rw c.close_failed.ensures.phase refl,
   rw c.close_failed.ensures.used (turned_uses
-    (g.D.ByteLink.state c.args.client.now.link)
-    (g.D.ByteLink.state c.turn_over-step.new.client.link)
-    (g.L.ByteLink.state (link_of c.args.attempt.value.exchange))
-    (g.L.ByteLink.state (link_of c.turn_over-step.new.exchange))
-    c.have_risen-asked.result (measured (g.D.ByteLink.state c.args.client.now.link)
-    (g.D.ByteLink.state c.turn_over-step.new.client.link)
-    (g.L.ByteLink.state (link_of c.args.attempt.value.exchange))
-    (g.L.ByteLink.state (link_of c.turn_over-step.new.exchange)) c.of-before.result c.of.result
-    c.have_risen-asked.result c.have_risen-asked.ensures.rose
-    c.have_risen-asked.ensures.client_fits c.have_risen-asked.ensures.upstream_fits
-    (rw c.deref.ensures at c.of-before.ensures) (rw c.deref-2.ensures at c.of.ensures))
-    (asks_held g.L.ByteLink.state g.L.ByteLink.start _ (step.Failed c.in-Failed.why) (g.D.ByteLink.state c.args.client.now.link)
-    (g.D.ByteLink.state c.turn_over-step.new.client.link) c.args.attempt c.deref_mut.result.now
-    c.turn_over-step.new.exchange c.deref_mut.ensures.value c.in-Failed.is c.turn_over-step.ensures.asks)),
+      (g.D.ByteLink.state c.args.client.now.link)
+      (g.D.ByteLink.state c.turn_over-step.new.client.link)
+      (g.L.ByteLink.state (link_of c.args.attempt.value.exchange))
+      (g.L.ByteLink.state (link_of c.turn_over-step.new.exchange))
+      c.have_risen-asked.result (measured (g.D.ByteLink.state c.args.client.now.link)
+      (g.D.ByteLink.state c.turn_over-step.new.client.link)
+      (g.L.ByteLink.state (link_of c.args.attempt.value.exchange))
+      (g.L.ByteLink.state (link_of c.turn_over-step.new.exchange)) c.of-before.result c.of.result
+      c.have_risen-asked.result c.have_risen-asked.ensures.rose
+      c.have_risen-asked.ensures.client_fits c.have_risen-asked.ensures.upstream_fits
+      (rw c.deref.ensures at c.of-before.ensures) (rw c.deref-2.ensures at c.of.ensures))
+      (asks_held g.L.ByteLink.state g.L.ByteLink.start _ (step.Failed c.in-Failed.why) (g.D.ByteLink.state c.args.client.now.link)
+      (g.D.ByteLink.state c.turn_over-step.new.client.link) c.args.attempt c.deref_mut.result.now
+      c.turn_over-step.new.exchange c.deref_mut.ensures.value c.in-Failed.is c.turn_over-step.ensures.asks)),
 )
