@@ -22,7 +22,7 @@ use Rattle.relay_core.proofs.OrdinaryLemmas.{ordinary_at}
 use Rattle.relay_core.proofs.SteadyLemmas.{steady_same, steady_down_write, steady_down_read, asked_when_done, steady_down_finish}
 use Rattle.relay_core.proofs.RunsLemmas.{down_writes_body, down_ends_body}
 use Rattle.relay_core.proofs.SoundLemmas.{step_sound, enabled_sound}
-use Rattle.relay_core.proofs.KeepLemmas.{down_open, held_so_far, ordinary_then, alive_then, down_write_error, down_read_error, down_finish_error, no_error, error_is, held_behind, LeavesResponses, leaves_read, tasks_read, read_upgraded, sends, no_end, more_none, extends_same, extends_down, goes_by, quiet}
+use Rattle.relay_core.proofs.KeepLemmas.{down_open, held_so_far, ordinary_then, alive_then, down_write_error, down_read_error, down_finish_error, no_error, error_is, held_behind, LeavesResponses, leaves_read, tasks_read, read_upgraded, no_end, more_none, extends_same, extends_down, goes_by, quiet}
 
 -- ---- over what both sides then mean
 

@@ -18,7 +18,7 @@ use Rattle.relay_core.specs.Moves.{Ordinary, EndsLast}
 use Rattle.relay_core.specs.Past.{DownPast, UpPast, loses}
 use Rattle.relay_core.specs.Pipe as pipe
 use Rattle.relay_core.specs.Sound.{Runs}
-use Rattle.relay_core.specs.State.{is_complete, finished}
+use Rattle.relay_core.specs.State.{is_complete}
 use Rattle.relay_core.specs.Steps.{with_requests}
 use Rattle.relay_core.specs.Table.{core, is_failed, with_send_error, after_up_write, after_up_take, with_piece_sent, ends_request, ends_tunnel, after_up_read, with_task_read, told_error, after_up_finish, up_is_through}
 use Rattle.relay_core.specs.Up.{UpState}

@@ -10,7 +10,7 @@ use Rattle.relay_core.specs.Down.{DownState}
 use Rattle.relay_core.specs.Pipe.{Held, places, with_task}
 use Rattle.relay_core.specs.Sound.{IsSound}
 use Rattle.relay_core.specs.Steps.{StepsTo}
-use Rattle.relay_core.specs.Table.{State, enabled, down_runs, up_runs, is_failed, failed}
+use Rattle.relay_core.specs.Table.{State, enabled, down_runs, up_runs, is_failed}
 use Rattle.relay_core.specs.Up.{UpState}
 use Rattle.relay_core.proofs.BoolLemmas.{clash, and_left}
 use Rattle.relay_core.proofs.RunsLemmas.{up_sound, down_sound, step_runs}

@@ -1,6 +1,6 @@
 -- Without a tunnel, whether a half failed or not, nothing is put behind the end of the request,
 -- and an end of the response is asked for only where it is due.
-use Rattle.std.proofs.Common.{◌≡◌, true, false, not, List, [], ◌++◌, Result, Ok, Err, refl, sym, ap, ◌∙◌, subst, inl, inr, ◌⊎◌, append-nil}
+use Rattle.std.proofs.Common.{◌≡◌, true, false, List, [], ◌++◌, Result, Ok, Err, refl, sym, ap, ◌∙◌, subst, inl, inr, ◌⊎◌, append-nil}
 use Rattle.std.specs.List.{list_any}
 use Rattle.relay_tasks.specs.declared.error.Fail.{Fail}
 use Rattle.relay_tasks.specs.declared.task.HttpTask.{HttpTask}

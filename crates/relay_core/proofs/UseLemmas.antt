@@ -3,7 +3,7 @@
 --   up_write_uses, down_write_uses, up_read_uses, down_read_uses    from the answer of a side
 --   step_asks     from what each branch did with its link: Asks
 --   step_moved    from that, and a step that moved: HasMoved
-use Rattle.std.proofs.Common.{◌≡◌, ℕ, Bool, true, false, ◌&&◌, ◌||◌, not, if◌then◌else◌, ◌⊎◌, List, [], ◌∷◌, ◌++◌, ◌==◌, length, Option, Some, None, is_some, Result, Ok, Err, refl, sym, ap, ◌∙◌, subst, inl, inr}
+use Rattle.std.proofs.Common.{◌≡◌, Bool, true, false, ◌&&◌, ◌||◌, not, if◌then◌else◌, ◌⊎◌, List, [], ◌∷◌, ◌++◌, ◌==◌, length, Option, Some, None, is_some, Result, Ok, Err, refl, sym, ap, ◌∙◌, subst, inl, inr}
 use Rattle.relay_tasks.specs.declared.error.Error.{Error}
 use Rattle.relay_tasks.specs.declared.error.Fail.{Fail}
 use Rattle.relay_tasks.specs.declared.error.Fail.TheVariants as fail
@@ -25,14 +25,13 @@ use Rattle.relay_core.specs.declared.step.Step.{Step}
 use Rattle.relay_core.specs.declared.step.Step.TheVariants as step
 use Rattle.relay_core.specs.Asked.{Brings}
 use Rattle.relay_core.specs.Batch.{batch_of, rest_of, plain_front}
-use Rattle.relay_core.specs.Down.{DownState}
 use Rattle.relay_core.specs.Pipe.{is_failure}
-use Rattle.relay_core.specs.Piece.{put_of, task_put_of}
+use Rattle.relay_core.specs.Piece.{task_put_of}
 use Rattle.relay_core.specs.Sound.{IsSound}
 use Rattle.relay_core.specs.State.{is_reading, is_response_done, finished}
 use Rattle.relay_core.specs.Steps.{StepsTo, with_requests, with_responses}
-use Rattle.relay_core.specs.Table.{State, enabled, down_runs, up_runs, is_failed, step_of_up_write, step_of_down_write, step_of_up_take, step_of_batch, step_of_up_read, step_of_down_read, step_of_half, step_of_up_finish, step_of_down_finish, after_up_take, after_batch, after_up_finish, after_down_finish, with_piece_read, with_piece_sent, custom_error}
-use Rattle.relay_core.specs.Uses.{IsUsed, MayUse, ReadUses, WriteUses, StepUses, PutsTask, AsksOne, AsksNone, Asks, GainsTask, LosesTasks, MovesInside, HasMoved, BranchUses, BranchGains}
+use Rattle.relay_core.specs.Table.{State, enabled, down_runs, up_runs, is_failed, step_of_up_write, step_of_down_write, step_of_up_take, step_of_batch, step_of_up_read, step_of_down_read, step_of_half, step_of_up_finish, step_of_down_finish, after_up_take, after_up_finish, after_down_finish, with_piece_read, with_piece_sent, custom_error}
+use Rattle.relay_core.specs.Uses.{IsUsed, MayUse, ReadUses, WriteUses, StepUses, PutsTask, Asks, GainsTask, LosesTasks, MovesInside, HasMoved, BranchUses, BranchGains}
 use Rattle.relay_core.proofs.BoolLemmas.{and_left, and_right, not_true}
 use Rattle.relay_core.proofs.KeepLemmas.{up_open, down_open}
 use Rattle.relay_core.proofs.MoveLemmas.{batch-rest, leaves_batch, leaves_piece}
@@ -363,9 +362,9 @@ module _ (client client' upstream upstream' : LinkState) where
       elim gains [
         | inl used ↦ inl (record { used = used; other_same = uses.1 })
         | inr task ↦ elim may [
-            | inl used ↦ inl (record { used = used; other_same = uses.1 })
-            | inr still ↦ inside branch.UpRead old new (still, uses.1) task
-          ]
+          | inl used ↦ inl (record { used = used; other_same = uses.1 })
+          | inr still ↦ inside branch.UpRead old new (still, uses.1) task
+        ]
       ]
   step_moved branch.DownRead old new result on sound by uses moved gains =
       let may : MayUse client client' =
@@ -373,9 +372,9 @@ module _ (client client' upstream upstream' : LinkState) where
       elim gains [
         | inl used ↦ inl (record { used = used; other_same = uses.1 })
         | inr task ↦ elim may [
-            | inl used ↦ inl (record { used = used; other_same = uses.1 })
-            | inr still ↦ inside branch.DownRead old new (uses.1, still) task
-          ]
+          | inl used ↦ inl (record { used = used; other_same = uses.1 })
+          | inr still ↦ inside branch.DownRead old new (uses.1, still) task
+        ]
       ]
   step_moved branch.UpFinish old new result on sound by uses moved gains =
       inside branch.UpFinish old new uses (
