@@ -18,7 +18,8 @@ use Rattle.relay_h1.proofs.VerdictLemmas.{HasRequest-IsOpen, IsRefusedRequest-Is
 use Rattle.relay_peer.specs.ResponseReading as reading
 use Rattle.relay_peer.specs.ResponseReading.{untold, with_head, with_task}
 use Rattle.relay_peer.proofs.ExactLemmas.{Tasks-unique}
-use Rattle.relay_sides.specs.Peer.{is_switch, told_behind}
+use Rattle.relay_sides.specs.Filtered.{is_switch}
+use Rattle.relay_sides.specs.Peer.{told_behind}
 use Rattle.relay_attempt.specs.Order.{FailsFor, IsRelayed}
 use Rattle.relay_attempt.specs.Order as order
 use Rattle.relay_attempt.specs.Passed.{Passed}
@@ -270,6 +271,8 @@ failed_head : (s : Start) (p : Passed) (head : RequestHead) (reused : Bool)
 failed_head s p head reused (order.FailsFor.by_client o blames) =
     record { framing = o.asks.framing; len = o.asks.len; has = o.asks.has }
 failed_head s p head reused (order.FailsFor.by_peer o lost blames) =
+    record { framing = o.asks.framing; len = o.asks.len; has = o.asks.has }
+failed_head s p head reused (order.FailsFor.by_refusal o refused) =
     record { framing = o.asks.framing; len = o.asks.len; has = o.asks.has }
 
 -- the head of a request that had a link, and was not left unfinished

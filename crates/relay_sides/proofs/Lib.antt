@@ -15,3 +15,5 @@ pub mod SideLemmas
 pub mod CutLemmas
 pub mod ClientBatch
 pub mod ClientEnds
+pub mod FilterLemmas
+pub mod RefusalLemmas
