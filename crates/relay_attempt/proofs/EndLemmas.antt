@@ -20,7 +20,7 @@ use Rattle.relay_h1.proofs.VerdictLemmas.{HasRequest-unique}
 use Rattle.relay_peer.specs.H1Client.{may_keep_client}
 use Rattle.relay_peer.specs.ResponseReading.{says, may_keep_reading}
 use Rattle.relay_peer.specs.ResponseReading as reading
-use Rattle.relay_peer.specs.RequestWriting.{Sent, Stands, sent_wire, may_keep_writing}
+use Rattle.relay_peer.specs.RequestWriting.{Sent, Stands, sent_wire, may_keep_writing, short_request}
 use Rattle.relay_session.specs.Response.{IsOpen, is_over, pending}
 use Rattle.relay_session.specs.declared.task_text.Place.TheVariants as place
 use Rattle.relay_session.specs.declared.writing.Outgoing.TheVariants as outgoing
@@ -31,18 +31,24 @@ use Rattle.relay_session.specs.TaskWire.{refusal, wire}
 use Rattle.relay_core.specs.Moves.{SoFar, Finishes, HasReason, Refused, Unended}
 use Rattle.relay_core.specs.Table as core
 use Rattle.relay_core.specs.declared.step.UpKind.{UpKind}
-use Rattle.relay_core.proofs.BoolLemmas.{and_right, and_both, clash, decide, not_false}
+use Rattle.relay_core.proofs.BoolLemmas.{and_right, and_both, or_left, clash, decide, not_false}
 use Rattle.relay_core.proofs.TaskLemmas.{any_left}
 use Rattle.relay_core.specs.Past.{Origin, DownPast, UpPast}
 use Rattle.relay_core.specs.declared.duplex.Duplex.{Duplex}
 use Rattle.relay_sides.specs.Body.{IsFrontOf, sent_as}
 use Rattle.relay_sides.specs.Client as client
 use Rattle.relay_sides.specs.Client.{ClientBlames, ClientRefuses, CannotEnd, given_to, queued}
-use Rattle.relay_sides.specs.Peer.{IsPeer, AreTasks, PeerBlames, IsWriteError, handed, told_of}
+use Rattle.relay_sides.specs.Faults as faults
+use Rattle.relay_sides.specs.Filtered.{AreHeads, stops_for_error}
+use Rattle.relay_sides.specs.Filtered as filtered
+use Rattle.relay_sides.specs.Peer.{IsPeer, AreTasks, PeerBlames, IsWriteError, told_of}
+use Rattle.relay_sides.specs.Peer as peer
 use Rattle.relay_sides.specs.declared.client_side.ClientSide.{ClientSide}
+use Rattle.relay_sides.specs.declared.filtered.Filtered.{Filtered}
 use Rattle.relay_sides.specs.declared.peer_side.PeerSide.{PeerSide}
 use Rattle.relay_sides.proofs.ClientPast.{open_is_whole}
-use Rattle.relay_attempt.specs.Exchange.{DownHolds, UpHolds, Blames, down_state, core_of, IsFinished}
+use Rattle.relay_sides.proofs.FilterLemmas.{inside_of}
+use Rattle.relay_attempt.specs.Exchange.{DownHolds, UpHolds, Blames, BlamesInside, down_state, core_of, IsFinished}
 use Rattle.relay_exchange.specs.Exchange.{may_keep_at}
 use Rattle.relay_attempt.specs.Head.{link_of, may_keep}
 use Rattle.relay_attempt.specs.Passed.{Passed}
@@ -53,10 +59,10 @@ use Rattle.relay_attempt.specs.Order.{FailsFor, SendsWhole, IsRelayed, IsInOrder
 use Rattle.relay_attempt.specs.Order as order
 use Rattle.relay_attempt.proofs.SentLemmas.{IsWritten, stays_over}
 use Rattle.relay_attempt.proofs.ToldLemmas.{given_ends_last}
-use Rattle.relay_attempt.proofs.OrderLemmas.{passed_by, own_request, answers_own, text_written, tasks_own, batched_front, handed_any, IsEndGiven, end_given, headed, over_by_end, ended_said, order_so_far}
+use Rattle.relay_attempt.proofs.OrderLemmas.{passed_by, own_request, answers_own, text_written, tasks_own, batched_front, handed_any, IsEndGiven, end_given, headed, heads_withheld, refused_for, over_by_end, ended_said, order_so_far}
 use Rattle.relay_attempt.proofs.FitLemmas.{never_refused, over_is_whole, over_has_end}
 use Rattle.relay_attempt.proofs.KeepLemmas.{kept_parts, kept_unfailed, sent_whole, read_whole, over_ends}
-use Rattle.relay_attempt.proofs.ServeLemmas.{never_short, ended_stands, kept_writing, kept_reading, all_keep}
+use Rattle.relay_attempt.proofs.ServeLemmas.{never_refused_short, never_short, ended_stands, kept_writing, kept_reading, all_keep}
 use Rattle.relay_attempt.proofs.UnshortLemmas.{framing_is}
 
 -- what is not awaited is empty
@@ -80,52 +86,65 @@ same_head a b same = cc
 
 -- the peer's side answers for the error, by the head that the client asked with
 own_blames : {L : Type 0} (state : L → LinkState) (start_at : L → LinkStart) (s : Origin)
-    (q : UpPast) (up : PeerSide L) → UpHolds state start_at up s q → (e : Error)
-    → Blames state start_at up s q e
-    → PeerBlames (start_at up.client.link) (state up.client.link) s.head s.asked q e
-own_blames state start_at s q up u e blames =
-    subst (λ (h : RequestHead).
-    PeerBlames (start_at up.client.link) (state up.client.link) h s.asked q e)
-    (same_head blames.0 u.peer.head (sym blames.1 ∙ u.peer.is_head) ∙ u.peer.own) blames.2
+    (q : UpPast) (up : Filtered (PeerSide L)) → UpHolds state start_at up s q → (e : Error)
+    → BlamesInside state start_at up.inner s q e
+    → PeerBlames (start_at up.inner.client.link) (state up.inner.client.link) s.head s.asked q e
+own_blames state start_at s q up h e blames =
+    let u = h.holds.peer in
+    subst (λ (a : RequestHead).
+    PeerBlames (start_at up.inner.client.link) (state up.inner.client.link) a s.asked q e)
+    (same_head blames.0 u.head (sym blames.1 ∙ u.is_head) ∙ u.own) blames.2
 
 module _ {L : Type 0} (state : L → LinkState) (start_at : L → LinkStart)
     (s : Origin) (p : DownPast) (q : UpPast) (link : LinkState) (ahead : List ℕ)
-    (down : ClientSide) (up : PeerSide L) (duplex : Duplex)
+    (down : ClientSide) (up : Filtered (PeerSide L)) (duplex : Duplex)
     (so_far : SoFar (DownHolds link ahead down s) (UpHolds state start_at up s)
     (Blames state start_at up s) (core_of state start_at duplex down up) p q)
   where
     -- the client's side answers for the error
     fails_client : (e : Error) → ClientBlames s p link e
-        → FailsFor s (passed_by p q) link (state up.client.link) (start_at up.client.link) e
+        → FailsFor s (passed_by p q) link (state up.inner.client.link)
+        (start_at up.inner.client.link) e
     fails_client e blames =
         order.FailsFor.by_client
         (order_so_far state start_at s p q link ahead down up duplex so_far) blames
 
     -- the peer's side answers for the error
     fails_peer : (e : Error) → Blames state start_at up s q e
-        → FailsFor s (passed_by p q) link (state up.client.link) (start_at up.client.link) e
-    fails_peer e blames =
+        → FailsFor s (passed_by p q) link (state up.inner.client.link)
+        (start_at up.inner.client.link) e
+    fails_peer e (filtered.BlamesOver.by_inner blames) =
         order.FailsFor.by_peer (order_so_far state start_at s p q link ahead down up duplex so_far)
         q.lost (own_blames state start_at s q up so_far.up e blames)
+    fails_peer e (filtered.BlamesOver.by_refusal is) =
+        order.FailsFor.by_refusal
+        (order_so_far state start_at s p q link ahead down up duplex so_far)
+        (refused_for s (start_at up.inner.client.link) (state up.inner.client.link) up q so_far.up e
+        is)
 
     -- what was written
     abbrev text : IsWritten down.session.writing (queued p) p.written
     text = text_written s p link ahead down.session so_far.down.client
 
-    -- the past of the peer's side
-    abbrev peer_holds : IsPeer s (start_at up.client.link) (state up.client.link) up.client
-        up.stopped up.lost q
-    peer_holds = so_far.up.peer
+    -- the past of the peer's side, over its link
+    abbrev peer_holds : IsPeer s (start_at up.inner.client.link) (state up.inner.client.link)
+        up.inner.client up.inner.lost (inside_of q (so_far.up.given ++ so_far.up.withheld))
+    peer_holds = so_far.up.holds.peer
 
     -- what passed is in order
-    abbrev in_order : IsInOrder s (passed_by p q) (state up.client.link).ended
+    abbrev in_order : IsInOrder s (passed_by p q) (state up.inner.client.link).ended
     in_order = order_so_far state start_at s p q link ahead down up duplex so_far
 
     -- the tasks that came
-    abbrev tasks_are : AreTasks s.head.method s.asked (state up.client.link).ended q.got
-        (peer_holds.given ++ peer_holds.withheld) up.client.response
-    tasks_are = tasks_own s (start_at up.client.link) (state up.client.link) up.client up.stopped
-        up.lost q peer_holds
+    abbrev tasks_are : AreTasks s.head.method s.asked (state up.inner.client.link).ended q.got
+        (so_far.up.given ++ so_far.up.withheld) up.inner.client.response
+    tasks_are = tasks_own s (start_at up.inner.client.link) (state up.inner.client.link) up q
+        so_far.up
+
+    -- those that were withheld are heads
+    heads_here : AreHeads so_far.up.withheld
+    heads_here =
+        heads_withheld s (start_at up.inner.client.link) (state up.inner.client.link) up q so_far.up
 
     -- the tasks that were queued are a front of those that were handed on
     abbrev front : IsFrontOf p.batched q.read
@@ -133,34 +152,32 @@ module _ {L : Type 0} (state : L → LinkState) (start_at : L → LinkStart)
 
     -- an end among the batched tasks is one among all that were handed on
     given_ends : list_any is_end p.batched ≡ true
-        → IsEndGiven s.head.method peer_holds.given p.batched
+        → IsEndGiven s.head.method so_far.up.given p.batched
     given_ends ends =
-        let u = peer_holds in
-        end_given s.head.method u.given p.batched front.rest
-        (front.joined
-        ∙ subst (λ (h : RequestHead). q.read ≡ map (handed h.method) u.given) u.own u.is_read)
-        (given_ends_last s.head.method s.asked (state up.client.link).ended q.got u.given u.withheld
-        up.client.response tasks_are)
+        let u = so_far.up in
+        end_given s.head.method u.given p.batched front.rest (front.joined ∙ u.is_read)
+        (given_ends_last s.head.method s.asked (state up.inner.client.link).ended q.got u.given
+        u.withheld up.inner.client.response tasks_are)
         ends
 
     -- with an end among the tasks, or where the response is done, the response is over behind them
     over_behind : (list_any is_end p.batched ≡ true) ⊎ (down.done ≡ true)
         → is_over (wire (request_of s.head) place.NoHead p.batched).place ≡ true
     over_behind (inl ends) =
-        over_by_end s (state up.client.link).ended q.got q.read in_order.are_of
-        (headed s (start_at up.client.link) (state up.client.link) up.client up.stopped up.lost q
-        peer_holds) p.batched front ends
+        over_by_end s (state up.inner.client.link).ended q.got q.read in_order.are_of
+        (headed s (start_at up.inner.client.link) (state up.inner.client.link) up q so_far.up)
+        p.batched front ends
     over_behind (inr done) =
         subst (λ (r : Request). is_over (wire r place.NoHead p.batched).place ≡ true)
         (answers_own s p link ahead down.session so_far.down.client) (so_far.down.over done)
 
     -- the response has come whole, with an end among the tasks or where it is done
     whole_by : (list_any is_end p.batched ≡ true) ⊎ (down.done ≡ true)
-        → (n : ℕ) × Tasks s.head.method s.asked q.got (state up.client.link).ended
+        → (n : ℕ) × Tasks s.head.method s.asked q.got (state up.inner.client.link).ended
         (says (told_of in_order.are_of.given) (ended n))
     whole_by (inl ends) = in_order.are_of.whole (given_ends ends).found
     whole_by (inr done) =
-        over_is_whole s.head s.asked (state up.client.link).ended q.got q.read in_order.are_of
+        over_is_whole s.head s.asked (state up.inner.client.link).ended q.got q.read in_order.are_of
         p.batched
         front.rest (sym front.joined) (over_behind (inr done))
 
@@ -200,15 +217,15 @@ module _ {L : Type 0} (state : L → LinkState) (start_at : L → LinkStart)
     sent_all none finishes =
         sym (append-nil q.sent)
         ∙ ap (λ (l : List ℕ). q.sent ++ l)
-        (sym (none_waits up.client.request.unsent (finishes.sent none)))
-        ∙ so_far.up.peer.so_far.text
-        ∙ ap sent_wire (so_far.up.peer.queued.unlost (finishes.unlost none))
-        ∙ ap (λ (h : RequestHead). sent_wire (sent_as h q.taken)) so_far.up.peer.own
+        (sym (none_waits up.inner.client.request.unsent (finishes.sent none)))
+        ∙ so_far.up.holds.peer.so_far.text
+        ∙ ap sent_wire (so_far.up.holds.peer.queued.unlost (finishes.unlost none))
+        ∙ ap (λ (h : RequestHead). sent_wire (sent_as h q.taken)) so_far.up.holds.peer.own
         ∙ ap (λ (l : List HttpTask). sent_wire (sent_as s.head l)) (finishes.taken none)
 
     -- and so did its body
     sends_whole : duplex.send_error ≡ None → Finishes (core_of state start_at duplex down up) p q
-        → SendsWhole s (passed_by p q) (state up.client.link).ended
+        → SendsWhole s (passed_by p q) (state up.inner.client.link).ended
         (order_so_far state start_at s p q link ahead down up duplex so_far)
     sends_whole none finishes =
         let c = so_far.down.client in
@@ -234,52 +251,73 @@ module _ {L : Type 0} (state : L → LinkState) (start_at : L → LinkStart)
     read_ends (inr done) =
         ap (list_any is_end) in_order.are_of.are
         ∙ handed_any s.head.method in_order.are_of.given
-        ∙ over_has_end s.head s.asked (state up.client.link).ended q.got q.read in_order.are_of
-        peer_holds.withheld up.client.response tasks_are peer_holds.heads p.batched front.rest
-        (sym front.joined) (over_behind (inr done))
+        ∙ over_has_end s.head s.asked (state up.inner.client.link).ended q.got q.read
+        in_order.are_of so_far.up.withheld up.inner.client.response tasks_are heads_here p.batched
+        front.rest (sym front.joined) (over_behind (inr done))
 
     -- so no read of the peer failed
-    unread : Finishes (core_of state start_at duplex down up) p q → up.read_failed ≡ false
-    unread finishes = so_far.marks.reads (inr (read_ends finishes.ended))
+    unread : Finishes (core_of state start_at duplex down up) p q → up.inner.read_failed ≡ false
+    unread finishes =
+        or_left up.inner.read_failed (stops_for_error up.stopped)
+        (so_far.marks.reads (inr (read_ends finishes.ended)))
 
     -- and where no send error is kept no call of the peer's client did
     calm : duplex.send_error ≡ None → Finishes (core_of state start_at duplex down up) p q
-        → up.client.failed ≡ false
-    calm none finishes = so_far.up.marked.calm (unread finishes) (sym so_far.marks.sends ∙ none)
+        → up.inner.client.failed ≡ false
+    calm none finishes =
+        so_far.up.holds.marked.calm (unread finishes) (sym so_far.marks.sends ∙ none)
+
+    -- the peer's side answers for no request that ends short
+    never_kept : (e : Error) → Blames state start_at up s q e → e ≡ short_request → ⊥
+    never_kept e (filtered.BlamesOver.by_inner blames) short =
+        never_short s (passed_by p q) (state up.inner.client.link).ended
+        (state up.inner.client.link) (start_at up.inner.client.link) in_order q.lost e
+        (own_blames state start_at s q up so_far.up e blames) short
+    never_kept e (filtered.BlamesOver.by_refusal is) short =
+        never_refused_short s.head.method s.asked q.got e
+        (refused_for s (start_at up.inner.client.link) (state up.inner.client.link) up q so_far.up e
+        is) short
 
     -- a send error that is kept is that of a write, since no request ends short
     write_error : (e : Error) → duplex.send_error ≡ Some e
-        → IsWriteError (start_at up.client.link) (state up.client.link) e
-    write_error e some = elim (so_far.up.marked.named e (sym so_far.marks.sends ∙ some)) [
+        → IsWriteError (start_at up.inner.client.link) (state up.inner.client.link) e
+    write_error e some = elim (so_far.up.holds.marked.named e (sym so_far.marks.sends ∙ some)) [
       | inl written ↦ written
-      | inr short ↦ absurd (never_short s (passed_by p q) (state up.client.link).ended
-          (state up.client.link) (start_at up.client.link) in_order q.lost e
-          (own_blames state start_at s q up so_far.up e (so_far.send_error e some)) short)
+      | inr short ↦ absurd (never_kept e (so_far.send_error e some) short)
     ]
+
+    -- the peer's side answers for it
+    write_blamed : (e : Error)
+        → IsWriteError (start_at up.inner.client.link) (state up.inner.client.link) e
+        → PeerBlames (start_at up.inner.client.link) (state up.inner.client.link) s.head s.asked
+        (order.up_past in_order q.lost) e
+    write_blamed e w =
+        peer.PeerBlames.link_failed w.fault w.is w.rose
+        (faults.HasAnswered.on_write w.kind w.before w.behind w.told)
 
     -- or the peer's side answers for the error that is kept
     request_by : (error : Option Error) → duplex.send_error ≡ error
         → Finishes (core_of state start_at duplex down up) p q
-        → (SendsWhole s (passed_by p q) (state up.client.link).ended
+        → (SendsWhole s (passed_by p q) (state up.inner.client.link).ended
         (order_so_far state start_at s p q link ahead down up duplex so_far)
-        × ((state up.client.link).faults ≡ (start_at up.client.link).faults))
+        × ((state up.inner.client.link).faults ≡ (start_at up.inner.client.link).faults))
         ⊎ ((e : Error) × (lost : Bool)
-        × PeerBlames (start_at up.client.link) (state up.client.link) s.head s.asked
+        × PeerBlames (start_at up.inner.client.link) (state up.inner.client.link) s.head s.asked
         (order.up_past (order_so_far state start_at s p q link ahead down up duplex so_far) lost) e
-        × IsWriteError (start_at up.client.link) (state up.client.link) e)
+        × IsWriteError (start_at up.inner.client.link) (state up.inner.client.link) e)
     request_by None none finishes =
         inl (sends_whole none finishes, peer_holds.calm (calm none finishes))
     request_by (Some e) some finishes =
         inr (
           e,
           q.lost,
-          own_blames state start_at s q up so_far.up e (so_far.send_error e some),
+          write_blamed e (write_error e some),
           write_error e some,
         )
 
     -- both directions were relayed
     abbrev relayed_of : Finishes (core_of state start_at duplex down up) p q
-        → IsRelayed s (passed_by p q) (state up.client.link) (start_at up.client.link)
+        → IsRelayed s (passed_by p q) (state up.inner.client.link) (start_at up.inner.client.link)
     relayed_of finishes =
         let all = whole_by finishes.ended in
         record {
@@ -289,53 +327,55 @@ module _ {L : Type 0} (state : L → LinkState) (start_at : L → LinkStart)
           over = over_by finishes.ended;
           written = written_all finishes.written;
           request = request_by duplex.send_error refl finishes;
-          reads = so_far.up.marked.reads (unread finishes);
+          reads = so_far.up.holds.marked.reads (unread finishes);
         }
 
     -- without a fault no send error is kept
     unsent : (error : Option Error) → duplex.send_error ≡ error
-        → ¬ (Rose (start_at up.client.link).faults (state up.client.link).faults)
+        → ¬ (Rose (start_at up.inner.client.link).faults (state up.inner.client.link).faults)
         → duplex.send_error ≡ None
     unsent None is faultless = is
     unsent (Some e) is faultless = absurd (faultless (write_error e is).rose)
 
     -- a link that may serve another request is kept
     pub keeps_of : Finishes (core_of state start_at duplex down up) p q
-        → MayServe s (passed_by p q) (state up.client.link).ended in_order
-        → ¬ (Rose (start_at up.client.link).faults (state up.client.link).faults)
-        → core.may_keep duplex.kind duplex && may_keep_client up.client ≡ true
+        → MayServe s (passed_by p q) (state up.inner.client.link).ended in_order
+        → ¬ (Rose (start_at up.inner.client.link).faults (state up.inner.client.link).faults)
+        → core.may_keep duplex.kind duplex && may_keep_client up.inner.client ≡ true
     keeps_of finishes serves faultless =
         let none = unsent duplex.send_error refl faultless in
         let c = so_far.down.client in
         let u = peer_holds in
         let ends = read_ends finishes.ended in
-        let stands = subst (λ (x : Sent). Stands x up.client.request.request)
+        let stands = subst (λ (x : Sent). Stands x up.inner.client.request.request)
         (u.queued.unlost (finishes.unlost none)
         ∙ ap (λ (h : RequestHead). sent_as h q.taken) u.own
         ∙ ap (λ (ts : List HttpTask). sent_as s.head ts) (finishes.taken none)) u.so_far.stands in
-        let whole = ended_stands s.head p.put up.client.request.request c.framing
+        let whole = ended_stands s.head p.put up.inner.client.request.request c.framing
         (framing_is s.head c.framing
         (own_request s p link ahead down.session c).let_in.framed) stands
         (c.whole (finishes.request_ended none)) in
-        let over : reading.is_over up.client.response.place ≡ true =
+        let over : reading.is_over up.inner.client.response.place ≡ true =
         sym tasks_are.ended
-        ∙ any_left is_end u.given u.withheld
-        (sym (handed_any s.head.method u.given) ∙ ap (list_any is_end) (sym in_order.are_of.are)
+        ∙ any_left is_end so_far.up.given so_far.up.withheld
+        (sym (handed_any s.head.method so_far.up.given)
+        ∙ ap (list_any is_end) (sym in_order.are_of.are)
         ∙ ends) in
         and_both (core.may_keep duplex.kind duplex) _
         (ap (λ (k : UpKind). core.may_keep k duplex) so_far.marks.kind
         ∙ all_keep (core.is_failed duplex.word) (is_none duplex.send_error)
         duplex.upstream_request_done duplex.upstream_response_done finishes.unfailed
         (ap (λ (e : Option Error). is_none e) none) (finishes.done none) (response_done ends))
-        (and_both (may_keep_writing up.client.request) _
-        (kept_writing s.head up.client.request
+        (and_both (may_keep_writing up.inner.client.request) _
+        (kept_writing s.head up.inner.client.request
         (u.is_head ∙ ap (λ (h : RequestHead). Some h) u.own) serves.asks whole
-        (none_waits up.client.request.unsent (finishes.sent none)))
-        (and_both (may_keep_reading up.client.response) _
-        (kept_reading s.head.method s.asked (state up.client.link).ended q.got
-        (told_of in_order.are_of.given) (told_of (u.given ++ u.withheld)) up.client.response.place
-        up.client.response.ahead tasks_are.so_far.at over serves.response)
-        (not_false up.client.failed (calm none finishes))))
+        (none_waits up.inner.client.request.unsent (finishes.sent none)))
+        (and_both (may_keep_reading up.inner.client.response) _
+        (kept_reading s.head.method s.asked (state up.inner.client.link).ended q.got
+        (told_of in_order.are_of.given) (told_of (so_far.up.given ++ so_far.up.withheld))
+        up.inner.client.response.place up.inner.client.response.ahead tasks_are.so_far.at over
+        serves.response)
+        (not_false up.inner.client.failed (calm none finishes))))
       where
         response_done : list_any is_end q.read ≡ true → duplex.upstream_response_done ≡ true
         response_done ends = elim (decide duplex.upstream_response_done) [
@@ -345,10 +385,10 @@ module _ {L : Type 0} (state : L → LinkState) (start_at : L → LinkStart)
 
     -- what the client's side leaves of its request, and the peer's side of its response
     pub leaves_of : (keeps : Bool) (n : ℕ)
-        → Tasks s.head.method s.asked q.got (state up.client.link).ended
+        → Tasks s.head.method s.asked q.got (state up.inner.client.link).ended
         (says (told_of in_order.are_of.given) (ended n))
-        → (keeps ≡ true → may_keep_client up.client ≡ true)
-        → Leaves s (passed_by p q) (state up.client.link).ended in_order ahead
+        → (keeps ≡ true → may_keep_client up.inner.client ≡ true)
+        → Leaves s (passed_by p q) (state up.inner.client.link).ended in_order ahead
         (is_body_done down.session.reading) up.closes keeps
     leaves_of keeps n whole serves =
         let c = so_far.down.client in
@@ -369,32 +409,34 @@ module _ {L : Type 0} (state : L → LinkState) (start_at : L → LinkStart)
           serves = λ kept. may_serve (serves kept);
         }
       where
-        may_serve : may_keep_client up.client ≡ true
-            → MayServe s (passed_by p q) (state up.client.link).ended in_order
+        may_serve : may_keep_client up.inner.client ≡ true
+            → MayServe s (passed_by p q) (state up.inner.client.link).ended in_order
         may_serve kept =
             let u = peer_holds in
-            let parts = kept_parts up.client kept in
-            let sent = sent_whole u.sending q.sent up.client.request s.head
+            let parts = kept_parts up.inner.client kept in
+            let sent = sent_whole u.sending q.sent up.inner.client.request s.head
             (u.is_head ∙ ap (λ (h : RequestHead). Some h) u.own) u.so_far parts.0 in
             record {
               pieces = sent.pieces;
               request = sent.request;
               complete = sent.complete;
               asks = sent.asks;
-              response = read_whole s.head.method s.asked (state up.client.link).ended q.got
-                  (told_of u.given) (told_of (u.given ++ u.withheld)) up.client.response n
-                  tasks_are.so_far parts.1 whole;
+              response = read_whole s.head.method s.asked (state up.inner.client.link).ended q.got
+                  (told_of so_far.up.given) (told_of (so_far.up.given ++ so_far.up.withheld))
+                  up.inner.client.response n tasks_are.so_far parts.1 whole;
             }
 
     -- the client's side refuses tasks that the peer gave: only where its link failed, since no task
     -- of a response is refused, and no end was asked for
     fails_tasks : (e : Error)
         → Refused (λ r left e. ClientRefuses s r link left e) false p q e
-        → FailsFor s (passed_by p q) link (state up.client.link) (start_at up.client.link) e
+        → FailsFor s (passed_by p q) link (state up.inner.client.link)
+        (start_at up.inner.client.link) e
     fails_tasks e r = on r.refused
       where
         on : ClientRefuses s p link r.left e
-            → FailsFor s (passed_by p q) link (state up.client.link) (start_at up.client.link) e
+            → FailsFor s (passed_by p q) link (state up.inner.client.link)
+            (start_at up.inner.client.link) e
         on (client.ClientRefuses.link_failed fault is rose) =
             order.FailsFor.by_client in_order
             (client.ClientBlames.link_failed fault is rose.0 (inl rose.1))
@@ -402,7 +444,7 @@ module _ {L : Type 0} (state : L → LinkState) (start_at : L → LinkStart)
             let c = so_far.down.client in
             let own = (HasRequest-unique (given_to s p) head s.head framing c.framing len c.len has
             (own_request s p link ahead down.session c)).0 in
-            absurd (never_refused s.head s.asked (state up.client.link).ended q.got q.read
+            absurd (never_refused s.head s.asked (state up.inner.client.link).ended q.got q.read
             in_order.are_of
             first (behind ++ r.rest) at
             (r.came ∙ sym (append_assoc p.batched r.left r.rest)
@@ -420,7 +462,8 @@ module _ {L : Type 0} (state : L → LinkState) (start_at : L → LinkStart)
     -- since an end is asked for behind one among its tasks, or where the response is over
     fails_ending : (e : Error)
         → Unended (λ r e. ClientBlames s r link e ⊎ CannotEnd s r e) (down_state down) p e
-        → FailsFor s (passed_by p q) link (state up.client.link) (start_at up.client.link) e
+        → FailsFor s (passed_by p q) link (state up.inner.client.link)
+        (start_at up.inner.client.link) e
     fails_ending e u = elim u.why [
       | inl blames ↦ order.FailsFor.by_client in_order blames
       | inr cannot ↦ absurd (never_short cannot)
@@ -442,7 +485,8 @@ module _ {L : Type 0} (state : L → LinkState) (start_at : L → LinkStart)
         → HasReason (λ r e. ClientBlames s r link e) (λ r left e. ClientRefuses s r link left e)
         (λ r e. ClientBlames s r link e ⊎ CannotEnd s r e) (Blames state start_at up s)
         (down_state down) p q e
-        → FailsFor s (passed_by p q) link (state up.client.link) (start_at up.client.link) e
+        → FailsFor s (passed_by p q) link (state up.inner.client.link)
+        (start_at up.inner.client.link) e
     fails_for e (inl blames) = fails_client e blames
     fails_for e (inr (inl blames)) = fails_peer e blames
     fails_for e (inr (inr (inl refused))) = fails_tasks e refused
@@ -463,16 +507,17 @@ module _ {L : Type 0} (state : L → LinkState) (start_at : L → LinkStart) whe
       let duplex = x.exchange.duplex in
       let relayed = relayed_of state start_at s p q link ahead down up duplex f finishes in
       let c = f.down.client in
-      let client_keeps : may_keep x ≡ true → may_keep_client up.client ≡ true =
+      let client_keeps : may_keep x ≡ true → may_keep_client up.inner.client ≡ true =
       λ kept. and_right (may_keep_at x.exchange.stage duplex) _ kept in
       record {
         relayed = relayed;
         is_head = c.is_head ∙ ap (λ (h : RequestHead). Some h) c.own;
         leaves = leaves_of state start_at s p q link ahead down up duplex f (may_keep x) relayed.n
             relayed.whole client_keeps;
-        faultless = λ kept. f.up.peer.calm (kept_unfailed up.client (client_keeps kept));
+        faultless = λ kept.
+            f.up.holds.peer.calm (kept_unfailed up.inner.client (client_keeps kept));
         keeps = λ serves faultless.
-            subst (λ (at : Stage). may_keep_at at duplex && may_keep_client up.client ≡ true)
+            subst (λ (at : Stage). may_keep_at at duplex && may_keep_client up.inner.client ≡ true)
             (sym is)
             (keeps_of state start_at s p q link ahead down up duplex f finishes serves faultless);
       }

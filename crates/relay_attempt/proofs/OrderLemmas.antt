@@ -7,9 +7,10 @@
 --   told_of_attempt  the same for AreTold
 --   attempt_so_far   from SoFar: that attempt
 --   order_so_far     so its order
-use Rattle.std.proofs.Common.{All, ◌≡◌, ℕ, ◌-◌, Bool, true, false, ◌⊎◌, List, [], ◌∷◌, ◌++◌, length, drop, map, refl, sym, ap, subst, ◌∙◌, append-nil, inl, inr, Option, Some, None}
+use Rattle.std.proofs.Common.{◌≡◌, ℕ, ◌-◌, Bool, true, false, ◌⊎◌, List, [], ◌∷◌, ◌++◌, length, drop, map, refl, sym, ap, subst, ◌∙◌, append-nil, inl, inr, Option, Some, None}
 use Rattle.std.specs.List.{list_any}
-use Rattle.relay_tasks.specs.declared.error.Fail.{Fail}
+use Rattle.relay_tasks.specs.declared.error.Error.{Error}
+use Rattle.relay_tasks.specs.declared.error.Fail.TheVariants as fail
 use Rattle.relay_tasks.specs.declared.fault.Fault.{Fault}
 use Rattle.relay_tasks.specs.declared.task.HttpTask.{HttpTask}
 use Rattle.relay_tasks.specs.declared.task.HttpTask.TheVariants as task
@@ -26,7 +27,6 @@ use Rattle.relay_h1.specs.Verdict.{HasRequest}
 use Rattle.relay_h1.proofs.BodyLemmas.{Body-unique, Chunked-total}
 use Rattle.relay_h1.proofs.BodyReaderLemmas.{SoFar-reads}
 use Rattle.relay_h1.proofs.VerdictLemmas.{HasRequest-unique}
-use Rattle.relay_peer.specs.declared.h1_client.H1Client.{H1Client}
 use Rattle.relay_peer.specs.RequestWriting.{sent_wire}
 use Rattle.relay_peer.specs.ResponseReading.{says}
 use Rattle.relay_session.specs.Asked.{request_of}
@@ -45,10 +45,14 @@ use Rattle.relay_core.specs.Pipe.{is_failure}
 use Rattle.relay_core.specs.declared.duplex.Duplex.{Duplex}
 use Rattle.relay_sides.specs.Body.{IsFrontOf, body_of, sent_as}
 use Rattle.relay_sides.specs.Client.{HasPassed, IsClient, given_to, queued}
-use Rattle.relay_sides.specs.Peer.{IsPeer, AreTasks, HasRoom, handed, told_of}
+use Rattle.relay_sides.specs.Filtered.{AreHeads, IsFiltered, RefusesHead, handed}
+use Rattle.relay_sides.specs.Peer.{IsPeer, IsPeerSide, AreTasks, told_of}
 use Rattle.relay_sides.specs.declared.client_side.ClientSide.{ClientSide}
+use Rattle.relay_sides.specs.declared.filtered.Filtered.{Filtered}
 use Rattle.relay_sides.specs.declared.peer_side.PeerSide.{PeerSide}
 use Rattle.relay_sides.proofs.FrontLemmas.{front_then}
+use Rattle.relay_sides.proofs.FilterLemmas.{inside_of}
+use Rattle.relay_sides.proofs.RefusalLemmas.{stopped_for, withheld_heads}
 use Rattle.relay_sides.proofs.TaskLemmas.{ended_whole}
 use Rattle.relay_attempt.specs.Attempt.{DownHalf, IsAttempt, UpHalf}
 use Rattle.relay_attempt.specs.Exchange.{DownHolds, UpHolds, Blames, down_state, core_of, AreTold}
@@ -171,68 +175,86 @@ module _
 -- ---- the response
 
 module _
-    {L : Type 0} (s : Origin) (start : LinkStart) (link : LinkState) (client : H1Client L)
-    (stopped lost : Option Fail) (q : UpPast) (u : IsPeer s start link client stopped lost q)
+    {L : Type 0} (s : Origin) (start : LinkStart) (link : LinkState) (side : Filtered (PeerSide L))
+    (q : UpPast)
+    (h : IsFiltered (λ r. IsPeerSide s start link side.inner r) s.head.method side.of_head
+    side.closes side.stopped side.told side.inner.told q)
   where
+    -- the past of the side over the link: what it gave was handed on, or withheld
+    abbrev pub peer_inside : IsPeer s start link side.inner.client side.inner.lost
+        (inside_of q (h.given ++ h.withheld))
+    peer_inside = h.holds.peer
+
     -- what was sent is the front of what the pieces are sent as
     pub sent_front : IsFrontOf q.sent (sent_wire (sent_as s.head q.taken))
     sent_front =
+        let u = peer_inside in
         subst (λ (h : RequestHead). IsFrontOf q.sent (sent_wire (sent_as h q.taken))) u.own
         (front_then q.sent (sent_wire u.sending) (sent_wire (sent_as u.head q.taken))
-        (record { rest = client.request.unsent; joined = u.so_far.text })
+        (record { rest = side.inner.client.request.unsent; joined = u.so_far.text })
         u.queued.front)
 
     -- the tasks that came, handed on and withheld, for the method of the client
-    pub tasks_own : AreTasks s.head.method s.asked link.ended q.got (u.given ++ u.withheld)
-        client.response
+    pub tasks_own : AreTasks s.head.method s.asked link.ended q.got (h.given ++ h.withheld)
+        side.inner.client.response
     tasks_own =
-        subst (λ (h : RequestHead).
-        AreTasks h.method s.asked link.ended q.got (u.given ++ u.withheld) client.response) u.own
-        u.tasks
+        subst (λ (a : RequestHead).
+        AreTasks a.method s.asked link.ended q.got (h.given ++ h.withheld)
+        side.inner.client.response) peer_inside.own peer_inside.tasks
+
+    -- what is withheld are heads
+    pub heads_withheld : AreHeads h.withheld
+    heads_withheld =
+        withheld_heads s.head.method s.asked link.ended q.got h.given h.withheld
+        side.inner.client.response side.stopped tasks_own h.is_withheld
+
+    -- the error for which the side stopped is that of a head that is refused
+    pub refused_for : (e : Error) → side.stopped ≡ Some (fail.Error e)
+        → RefusesHead s.head.method s.asked q.got e
+    refused_for e is =
+        stopped_for s.head.method s.asked link.ended q.got h.given h.withheld
+        side.inner.client.response side.stopped e tasks_own h.is_withheld is
 
     -- the tasks are those of the response
     abbrev pub tasks_of : AreOf s.head.method s.asked link.ended q.got q.read
     tasks_of =
         let method = s.head.method in
+        let client = side.inner.client in
         record {
-          given = u.given;
-          are = subst (λ (h : RequestHead). q.read ≡ map (handed h.method) u.given) u.own u.is_read;
-          follow = given_follow method s.asked link.ended q.got u.given u.withheld client.response
+          given = h.given;
+          are = h.is_read;
+          follow = given_follow method s.asked link.ended q.got h.given h.withheld client.response
               tasks_own;
-          stays = u.none_switches;
-          have_room = subst (λ (h : RequestHead). All (HasRoom h.method) u.given) u.own
-              u.have_room;
-          informed = given_informed method s.asked link.ended q.got u.given u.withheld
-              client.response
-              tasks_own;
+          stays = h.none_switches;
+          have_room = h.have_room;
+          informed = given_informed method s.asked link.ended q.got h.given h.withheld
+              client.response tasks_own;
           final = λ head is.
-              let there = given_final method s.asked link.ended q.got u.given u.withheld
-              client.response
-              tasks_own head is in
+              let there = given_final method s.asked link.ended q.got h.given h.withheld
+              client.response tasks_own head is in
               (there.framing, there.len, there.has);
-          body = given_body method s.asked link.ended q.got u.given u.withheld client.response
+          body = given_body method s.asked link.ended q.got h.given h.withheld client.response
               tasks_own;
-          ends_last = given_ends_last method s.asked link.ended q.got u.given u.withheld
-              client.response
-              tasks_own;
+          ends_last = given_ends_last method s.asked link.ended q.got h.given h.withheld
+              client.response tasks_own;
           whole = λ ends.
-              let all = ended_whole method s.asked q.got link.ended u.given client.response
-              (given_all method s.asked link.ended q.got u.given u.withheld client.response
-              tasks_own ends)
-              ends in
+              let all = ended_whole method s.asked q.got link.ended h.given client.response
+              (given_all method s.asked link.ended q.got h.given h.withheld client.response
+              tasks_own ends) ends in
               (all.place, all.whole);
-          framed = given_framed method s.asked link.ended q.got u.given u.withheld client.response
+          framed = given_framed method s.asked link.ended q.got h.given h.withheld client.response
               tasks_own;
         }
 
     -- an end among them stands behind a final head
-    pub headed : list_any is_end u.given ≡ true
-        → (head : ResponseHead) × ((told_of u.given).final ≡ Some head)
+    pub headed : list_any is_end h.given ≡ true
+        → (head : ResponseHead) × ((told_of h.given).final ≡ Some head)
     headed ends =
         let method = s.head.method in
-        let said = ended_whole method s.asked q.got link.ended u.given client.response
-        (given_all method s.asked link.ended q.got u.given u.withheld client.response
-        tasks_own ends) ends in
+        let client = side.inner.client in
+        let said = ended_whole method s.asked q.got link.ended h.given client.response
+        (given_all method s.asked link.ended q.got h.given h.withheld client.response tasks_own
+        ends) ends in
         (said.head, said.final)
 
 -- ---- the order
@@ -377,16 +399,17 @@ down_half s p link ahead session done finished broken h = record {
 
 -- what the peer's side holds is its half
 abbrev pub up_half : {L : Type 0} (s : Origin) (start : LinkStart) (link : LinkState)
-    (client : H1Client L) (stopped lost : Option Fail) (q : UpPast)
-    → IsPeer s start link client stopped lost q → start.reused ≡ s.reused → UpHalf s start link q
-up_half s start link client stopped lost q u reused = record {
-  got = u.got;
-  sent = u.sent;
-  faults = u.faults;
-  reused = reused;
-  are_of = tasks_of s start link client stopped lost q u;
-  headed = headed s start link client stopped lost q u;
-  is_sent = sent_front s start link client stopped lost q u;
+    (side : Filtered (PeerSide L)) (q : UpPast)
+    → IsFiltered (λ r. IsPeerSide s start link side.inner r) s.head.method side.of_head side.closes
+    side.stopped side.told side.inner.told q → UpHalf s start link q
+up_half s start link side q h = record {
+  got = h.holds.peer.got;
+  sent = h.holds.peer.sent;
+  faults = h.holds.peer.faults;
+  reused = h.holds.reused;
+  are_of = tasks_of s start link side q h;
+  headed = headed s start link side q h;
+  is_sent = sent_front s start link side q h;
 }
 
 -- ---- the order
@@ -454,25 +477,24 @@ module _ {L : Type 0} (state : L → LinkState) (start_at : L → LinkStart) whe
 
 module _ {L : Type 0} (state : L → LinkState) (start_at : L → LinkStart)
     (s : Origin) (p : DownPast) (q : UpPast) (link : LinkState) (ahead : List ℕ)
-    (down : ClientSide) (up : PeerSide L) (duplex : Duplex)
+    (down : ClientSide) (up : Filtered (PeerSide L)) (duplex : Duplex)
     (so_far : SoFar (DownHolds link ahead down s) (UpHolds state start_at up s)
     (Blames state start_at up s) (core_of state start_at duplex down up) p q)
   where
     -- what passed between a client and a peer is an attempt
     abbrev pub attempt_so_far : IsAttempt (DownHalf s link down.done)
-        (UpHalf s (start_at up.client.link) (state up.client.link)) (down_state down)
+        (UpHalf s (start_at up.inner.client.link) (state up.inner.client.link)) (down_state down)
     attempt_so_far =
         with_halves (DownHolds link ahead down s) (DownHalf s link down.done)
         (UpHolds state start_at up s)
-        (UpHalf s (start_at up.client.link) (state up.client.link)) (down_state down)
+        (UpHalf s (start_at up.inner.client.link) (state up.inner.client.link)) (down_state down)
         (λ r h. down_half s r link ahead down.session down.done down.finished down.broken h)
-        (λ r u. up_half s (start_at up.client.link) (state up.client.link) up.client up.stopped
-        up.lost r u.peer u.reused)
+        (λ r u. up_half s (start_at up.inner.client.link) (state up.inner.client.link) up r u)
         (attempt_of (DownHolds link ahead down s) (UpHolds state start_at up s)
         (Blames state start_at up s) (core_of state start_at duplex down up) p q so_far)
 
     -- so it is in order
-    abbrev pub order_so_far : IsInOrder s (passed_by p q) (state up.client.link).ended
+    abbrev pub order_so_far : IsInOrder s (passed_by p q) (state up.inner.client.link).ended
     order_so_far =
-        order_of s link (state up.client.link) (start_at up.client.link) (down_state down) refl
-        attempt_so_far
+        order_of s link (state up.inner.client.link) (start_at up.inner.client.link)
+        (down_state down) refl attempt_so_far

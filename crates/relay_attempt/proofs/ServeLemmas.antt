@@ -32,6 +32,8 @@ use Rattle.relay_peer.proofs.ExactLemmas.{Tasks-unique}
 use Rattle.relay_session.specs.Front.{ends_with_head}
 use Rattle.relay_core.specs.Past.{Origin}
 use Rattle.relay_sides.specs.Body.{bytes_of, sent_as, sent_behind, sent_with}
+use Rattle.relay_sides.specs.Filtered.{RefusesHead}
+use Rattle.relay_sides.specs.Filtered as filtered
 use Rattle.relay_sides.specs.Peer.{PeerBlames}
 use Rattle.relay_sides.specs.Peer as peer
 use Rattle.relay_attempt.specs.Order.{IsInOrder, up_past}
@@ -54,14 +56,18 @@ never_short s p closed link start order lost e
     (peer.PeerBlames.is_broken why closed_then came told is front reads for) same =
     let wrong = ap (λ (x : Error). x.etype) (sym is ∙ same) in cc
 never_short s p closed link start order lost e
-    (peer.PeerBlames.switches informed final given len has status is) same =
-    let wrong = ap (λ (x : Error). x.etype) (sym is ∙ same) in cc
-never_short s p closed link start order lost e
-    (peer.PeerBlames.is_full informed final given len has lacks full is) same =
-    let wrong = ap (λ (x : Error). x.etype) (sym is ∙ same) in cc
-never_short s p closed link start order lost e
     (peer.PeerBlames.is_short_request front pieces first found joined short is) same =
     clash _ short (request_unshort s p closed order front pieces first found joined)
+
+-- a head is refused for another error
+pub never_refused_short : (method : List ℕ) (upgrade : Bool) (got : List ℕ) (e : Error)
+    → RefusesHead method upgrade got e → e ≡ short_request → ⊥
+never_refused_short method upgrade got e
+    (filtered.RefusesHead.switches informed final given len has status is) same =
+    let wrong = ap (λ (x : Error). x.etype) (sym is ∙ same) in cc
+never_refused_short method upgrade got e
+    (filtered.RefusesHead.is_full informed final given len has lacks full is) same =
+    let wrong = ap (λ (x : Error). x.etype) (sym is ∙ same) in cc
 
 -- ---- the request
 

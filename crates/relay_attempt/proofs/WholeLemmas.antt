@@ -23,7 +23,8 @@ use Rattle.relay_peer.specs.declared.response_reading.ResponsePlace.{ResponsePla
 use Rattle.relay_peer.specs.declared.response_reading.ResponsePlace.TheVariants as place
 use Rattle.relay_peer.specs.declared.response_reading.ResponseReading.{ResponseReading}
 use Rattle.relay_core.proofs.BoolLemmas.{clash}
-use Rattle.relay_sides.specs.Peer.{AreHeads, AreTasks, Follow, told_behind, told_of}
+use Rattle.relay_sides.specs.Filtered.{AreHeads}
+use Rattle.relay_sides.specs.Peer.{AreTasks, Follow, told_behind, told_of}
 
 -- the body takes no more bytes, of those that were told
 abbrev pub IsFull : Framing → List ℕ → Type 0

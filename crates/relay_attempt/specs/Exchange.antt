@@ -22,6 +22,8 @@ use Rattle.relay_sides.specs.Faults.{TellsSince}
 use Rattle.relay_sides.specs.Peer.{IsPeerSide, PeerBlames}
 use Rattle.relay_sides.specs.Peer as peer
 use Rattle.relay_sides.specs.declared.client_side.ClientSide.{ClientSide}
+use Rattle.relay_sides.specs.Filtered.{BlamesOver, IsFiltered, state_over}
+use Rattle.relay_sides.specs.declared.filtered.Filtered.{Filtered}
 use Rattle.relay_sides.specs.declared.peer_side.PeerSide.{PeerSide}
 use Rattle.relay_exchange.specs.Exchange.{IsSilentLink}
 use Rattle.relay_exchange.specs.Exchange as over
@@ -40,20 +42,28 @@ abbrev pub down_state : ClientSide → DownState
 down_state side = client.state_of side.session side.told side.done side.finished side.broken
 
 module _ {L : Type 0} (state : L → LinkState) (start_at : L → LinkStart) where
-  -- the past of the peer's side holds
-  abbrev pub UpHolds : PeerSide L → Origin → UpPast → Type 0
+  -- the past of the peer's side holds: that of the side over its link, and what was handed on
+  abbrev pub UpHolds : Filtered (PeerSide L) → Origin → UpPast → Type 0
   UpHolds side s q =
-      IsPeerSide s (start_at side.client.link) (state side.client.link) side q
+      IsFiltered
+      (λ r. IsPeerSide s (start_at side.inner.client.link) (state side.inner.client.link)
+      side.inner r) s.head.method side.of_head side.closes side.stopped side.told side.inner.told q
 
-  -- the peer's side answers for the error
-  abbrev pub Blames : PeerSide L → Origin → UpPast → Error → Type 0
-  Blames side s q e =
+  -- the side over the link answers for the error
+  abbrev pub BlamesInside : PeerSide L → Origin → UpPast → Error → Type 0
+  BlamesInside side s q e =
       (head : RequestHead) × (head_in side.client.request.request ≡ Some head)
       × PeerBlames (start_at side.client.link) (state side.client.link) head s.asked q e
 
+  -- the peer's side answers for the error
+  abbrev pub Blames : Filtered (PeerSide L) → Origin → UpPast → Error → Type 0
+  Blames side s q e = BlamesOver (λ r why. BlamesInside side.inner s r why) side.stopped q e
+
   -- the core of an exchange that moves bodies
-  abbrev pub core_of : Duplex → ClientSide → PeerSide L → State
-  core_of duplex down up = core duplex (down_state down) (peer.state_of up)
+  abbrev pub core_of : Duplex → ClientSide → Filtered (PeerSide L) → State
+  core_of duplex down up =
+      core duplex (down_state down)
+      (state_over (peer.state_of up.inner) up.upgraded up.stopped up.told)
 
   -- the exchange so far, over all that passed: what was sent and written is in order, and it is
   -- under way between both sides

@@ -8,7 +8,7 @@ use Rattle.relay_attempt.specs.declared.h1_exchange.Unbegun.{Unbegun}
 
 -- the link to the peer
 abbrev pub link_of : {L : Type 0} → H1Exchange L → L
-link_of x = x.exchange.up.client.link
+link_of x = x.exchange.up.inner.client.link
 
 -- the exchange was not begun, for that reason
 abbrev pub IsRefusedFor : {L : Type 0} → Result (H1Exchange L) (Unbegun L) → Fail → Type 0
@@ -18,4 +18,4 @@ IsRefusedFor {L} result why = (unbegun : Unbegun L) × (result ≡ Err unbegun) 
 -- client of the peer say so
 abbrev pub may_keep : {L : Type 0} → H1Exchange L → Bool
 may_keep x =
-    may_keep_at x.exchange.stage x.exchange.duplex && may_keep_client x.exchange.up.client
+    may_keep_at x.exchange.stage x.exchange.duplex && may_keep_client x.exchange.up.inner.client

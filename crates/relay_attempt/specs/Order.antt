@@ -27,7 +27,8 @@ use Rattle.relay_core.specs.Moves.{EndsLast}
 use Rattle.relay_core.specs.Past.{Origin, DownPast, UpPast}
 use Rattle.relay_sides.specs.Body.{IsFrontOf, body_of, sent_as}
 use Rattle.relay_sides.specs.Client.{ClientBlames}
-use Rattle.relay_sides.specs.Peer.{handed, told_of, EndFramed, Follow, PeerBlames, is_switch, HasRoom, asks_to_close, IsWriteError}
+use Rattle.relay_sides.specs.Filtered.{handed, is_switch, HasRoom, RefusesHead, asks_to_close}
+use Rattle.relay_sides.specs.Peer.{told_of, EndFramed, Follow, PeerBlames, IsWriteError}
 use Rattle.relay_attempt.specs.Passed.{Passed, asked}
 
 -- the client's bytes begin with the head of the request
@@ -128,9 +129,9 @@ up_past {p = p} order lost = record {
   lost = lost;
 }
 
--- why an exchange failed with that error: the client's side answers for it, or the peer's side
--- does. Tasks that the peer's side gave can always be sent to the client, and the response can
--- always end where its end is asked for
+-- why an exchange failed with that error: the client's side answers for it, the peer's side does,
+-- or a head of the response is refused. Tasks that the peer's side gave can always be sent to the
+-- client, and the response can always end where its end is asked for
 pub data FailsFor
     (s : Origin) (p : Passed) (client link : LinkState) (start : LinkStart) (e : Error)
     : Type 0 where
@@ -138,6 +139,8 @@ pub data FailsFor
       → ClientBlames s (down_past order) client e → FailsFor s p client link start e
   by_peer : (order : IsInOrder s p link.ended) (lost : Bool)
       → PeerBlames start link s.head s.asked (up_past order lost) e
+      → FailsFor s p client link start e
+  by_refusal : (order : IsInOrder s p link.ended) → RefusesHead s.head.method s.asked p.got e
       → FailsFor s p client link start e
 
 -- the request has ended: an end is among its pieces, or its head says that it has no body

@@ -18,14 +18,14 @@ use relay_core::Step;
 use relay_exchange::{Exchange, Turn};
 use relay_links::{ByteLink, Schedule};
 use relay_session::{Front, HttpSession};
-use relay_sides::{ClientSide, PeerSide};
+use relay_sides::{ClientSide, Filtered, PeerSide, is_head_request};
 use relay_tasks::{Context, ErrorSource, Fail, Pause, RequestHeader};
 use std::alloc::Global;
 
 /// A request whose head was read, and its response, over one link to a peer.
 #[derive(Drop)]
 pub struct H1Exchange<L> {
-    pub(crate) exchange: Exchange<ClientSide, PeerSide<L>>,
+    pub(crate) exchange: Exchange<ClientSide, Filtered<PeerSide<L>>>,
 }
 
 /// An exchange that was not begun: the link, and why.
@@ -62,12 +62,14 @@ impl<L: ByteLink> H1Exchange<L> {
         ensures causes { IfErr result (λ unbegun.
             IsMemoryOr (refused_from ErrorSource.Internal Context.BadFraming) unbegun.why) }
     {
+        let of_head = is_head_request(&head);
         let mut peer = PeerSide::new(alloc, link);
         match peer.write_request_header(head) {
             Ok(()) => {
                 let body_done = session.is_body_done();
                 let client = ClientSide::new(alloc, session);
-                let exchange = Exchange::begin(alloc, client, body_done, peer);
+                let upstream = Filtered::new(peer, of_head);
+                let exchange = Exchange::begin(alloc, client, body_done, upstream);
                 Ok(H1Exchange { exchange })
             }
             Err(why) => Err(Unbegun {
@@ -143,7 +145,7 @@ impl<L: ByteLink> H1Exchange<L> {
     pub fn may_keep(&self) -> bool
         ensures { result ≡ may_keep self.now }
     {
-        self.exchange.upstream_may_keep() && self.exchange.up().may_keep()
+        self.exchange.upstream_may_keep() && self.exchange.up().inner().may_keep()
     }
 }
 
@@ -160,6 +162,6 @@ impl<L> H1Exchange<L> {
         ensures { result ≡ link_of self }
     {
         let H1Exchange { exchange } = self;
-        exchange.into_up().into_link()
+        exchange.into_up().into_inner().into_link()
     }
 }

@@ -1,5 +1,5 @@
 //! The upstream's side of a duplex: what it means, and what each of its answers does.
-ghost use Rattle.std.specs.Prelude.{◌≡◌, ◌++◌, ◌∷◌, ◌||◌, ◌<◌, ℕ, [], IsTrue, true, false};
+ghost use Rattle.std.specs.Prelude.{◌≡◌, ◌++◌, ◌∷◌, ◌||◌, ◌<◌, ℕ, List, [], IsTrue, true, false};
 ghost use Rattle.std.specs.List.{list_any};
 ghost use Rattle.relay_tasks.specs.declared.error.Error.{Error};
 ghost use Rattle.relay_tasks.specs.declared.error.ErrorSource.TheVariants.{Upstream};
@@ -100,4 +100,8 @@ pub trait Up {
     /// What the side tells of its answers.
     fn told(&self) -> Told
         ensures { result ≡ (state self.now).told };
+
+    /// What the side answers for does not depend on which tasks it gave.
+    ghost unread: { (side : Self) (s : Origin) (q : UpPast) (read : List HttpTask) (e : Error)
+        → blames side s q e → blames side s (record q { read = read }) e };
 }

@@ -100,13 +100,13 @@ module _ {L : Type 0} (state : L → LinkState) (start_at : L → LinkStart) whe
   leased_under_way o p client ahead x lease reused peer under = record {
     tells = record {
       got = subst (λ (xs : List ℕ). Since [] (start_at (link_of x)).given
-          (state (link_of x)).given xs) under.got side.peer.got;
+          (state (link_of x)).given xs) under.got side.holds.peer.got;
       sent = subst (λ (xs : List ℕ). Since [] (start_at (link_of x)).taken
-          (state (link_of x)).taken xs) under.sent side.peer.sent;
-      faults = side.peer.faults;
+          (state (link_of x)).taken xs) under.sent side.holds.peer.sent;
+      faults = side.holds.peer.faults;
     };
     peer = peer;
-    reused = side.reused ∙ reused;
+    reused = side.holds.reused ∙ reused;
   }
     where
       side : UpHolds state start_at x.exchange.up o under.up

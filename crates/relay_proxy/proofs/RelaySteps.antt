@@ -178,6 +178,7 @@ order_of : (o : Origin) (p : Passed) (client link : LinkState) (start : LinkStar
     → FailsFor o p client link start e → exchange.IsInOrder o p link.ended
 order_of o p client link start e (FailsFor.by_client order blames) = order
 order_of o p client link start e (FailsFor.by_peer order lost blames) = order
+order_of o p client link start e (FailsFor.by_refusal order refused) = order
 
 module _ {L : Type 0} (state : L → LinkState) (start_at : L → LinkStart) where
   -- a finished exchange relayed its request whole

@@ -1,6 +1,6 @@
 -- The end of the response: it was asked for before, is queued, or refused.
 use Rattle.std.proofs.Common.{◌≡◌, ℕ, ◌<◌, Bool, true, false, List, [], ◌∷◌, ◌++◌, length, Option, Some, None, Err, refl, sym, ◌∙◌, ap, subst, append-nil, append_assoc, length-append, add-zero, inl, inr, arith}
-use Rattle.std.specs.Prelude.{◌⊎◌, not}
+use Rattle.std.specs.Prelude.{◌⊎◌}
 use Rattle.std.proofs.lemmas.Bool.{cases_Bool}
 use Rattle.relay_tasks.specs.declared.error.Error.{Error}
 use Rattle.relay_tasks.specs.declared.error.Fail.{Fail}

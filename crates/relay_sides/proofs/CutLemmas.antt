@@ -1,44 +1,43 @@
--- How a task that is handed on is cut.
-use Rattle.std.proofs.Common.{◌≡◌, ℕ, Bool, false, List, ◌++◌, sym, subst}
+-- How the task that a read gives is cut.
+use Rattle.std.proofs.Common.{◌≡◌, ℕ, Bool, false, List, ◌++◌, refl}
 use Rattle.relay_tasks.specs.declared.task.HttpTask.{HttpTask}
 use Rattle.relay_tasks.specs.declared.task.HttpTask.TheVariants as task
 use Rattle.relay_tasks.specs.declared.took.Took.{Took}
 use Rattle.relay_tasks.specs.declared.took.Took.TheVariants as took
 use Rattle.relay_links.specs.Link.{LinkState}
-use Rattle.std.specs.Prelude.{◌+◌}
 use Rattle.relay_peer.specs.declared.response_reading.ResponsePlace.{ResponsePlace}
 use Rattle.relay_peer.specs.declared.response_reading.ResponsePlace.TheVariants as place
 use Rattle.relay_peer.specs.declared.response_reading.ResponseReading.{ResponseReading}
 use Rattle.relay_peer.specs.ResponseReading.{ReadsTask, Cuts, AnswerCuts, is_item}
-use Rattle.relay_sides.specs.Peer.{CutsTask, handed}
+use Rattle.relay_core.specs.Pipe.{is_failure}
+use Rattle.relay_sides.specs.Peer.{CutsTask}
 
--- a task that is handed on is cut as it came
-handed_cut : (method : List ℕ) (at : ResponsePlace) (bytes rest : List ℕ) (item : HttpTask)
-    → Cuts at bytes item rest → Cuts at bytes (handed method item) rest
-handed_cut method place.NoHead bytes rest (task.Header head end) cuts = tt
-handed_cut method place.Informed bytes rest (task.Header head end) cuts = tt
-handed_cut method (place.InBody body) bytes rest (task.Header head end) cuts = absurd cuts
-handed_cut method (place.Ended keeps) bytes rest (task.Header head end) cuts = absurd cuts
-handed_cut method at bytes rest (task.Body piece end) cuts = cuts
-handed_cut method at bytes rest (task.UpgradedBody piece end) cuts = cuts
-handed_cut method at bytes rest (task.Trailer fields) cuts = cuts
-handed_cut method at bytes rest task.Done cuts = cuts
-handed_cut method at bytes rest (task.Failed error) cuts = cuts
-
--- a read whose task is handed on
-pub cuts_handed : (method : List ℕ) (upgrade : Bool) (other : List ℕ) (before after : LinkState)
-    (old new : ResponseReading)
-    (item given : HttpTask) → ReadsTask method upgrade before after old new (took.Item item)
-    → given ≡ handed other item → CutsTask before after old new (took.Item given)
-cuts_handed method upgrade other before after old new item given reads is = record {
+-- a task is cut as the client cut it
+pub cuts_item : (method : List ℕ) (upgrade : Bool) (before after : LinkState)
+    (old new : ResponseReading) (item : HttpTask)
+    → ReadsTask method upgrade before after old new (took.Item item)
+    → CutsTask before after old new (took.Item item)
+cuts_item method upgrade before after old new item reads = record {
   came = reads.came;
   asked = reads.asked;
   asks = reads.asks;
-  cuts = subst (λ (t : HttpTask). Cuts old.place (old.ahead ++ reads.came) t new.ahead) (sym is)
-      (handed_cut other old.place (old.ahead ++ reads.came) new.ahead item reads.cuts);
+  cuts = reads.cuts;
 }
 
--- a read of which no task is handed on
+-- and it is no failure
+pub cut_no_failure : (at : ResponsePlace) (bytes rest : List ℕ) (item : HttpTask)
+    → Cuts at bytes item rest → is_failure item ≡ false
+cut_no_failure at bytes rest (task.Header head end) cuts = refl
+cut_no_failure at bytes rest (task.Body piece end) cuts = refl
+cut_no_failure at bytes rest (task.UpgradedBody piece end) cuts = refl
+cut_no_failure at bytes rest (task.Trailer fields) cuts = refl
+cut_no_failure at bytes rest task.Done cuts = refl
+cut_no_failure place.NoHead bytes rest (task.Failed error) cuts = absurd cuts
+cut_no_failure place.Informed bytes rest (task.Failed error) cuts = absurd cuts
+cut_no_failure (place.InBody body) bytes rest (task.Failed error) cuts = absurd cuts
+cut_no_failure (place.Ended keeps) bytes rest (task.Failed error) cuts = absurd cuts
+
+-- a read that gave no task
 pub cuts_none : (method : List ℕ) (upgrade : Bool) (before after : LinkState)
     (old new : ResponseReading)
     (came given : Took HttpTask) → ReadsTask method upgrade before after old new came

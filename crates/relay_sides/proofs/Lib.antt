@@ -16,3 +16,5 @@ pub mod CutLemmas
 pub mod ClientBatch
 pub mod ClientEnds
 pub mod UseLemmas
+pub mod FilterLemmas
+pub mod RefusalLemmas

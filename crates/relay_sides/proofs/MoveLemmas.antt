@@ -13,8 +13,7 @@ use Rattle.relay_links.specs.declared.link.Put.{Put}
 use Rattle.relay_links.specs.declared.link.Put.TheVariants as put
 use Rattle.relay_links.proofs.SinceLemmas.{Since-kept, Since-grows}
 use Rattle.relay_h1.specs.Move.{taken}
-use Rattle.relay_h1.specs.Tasks.{HasFinal, Tasks, cut_off}
-use Rattle.relay_h1.proofs.TasksLemmas.{HasFinal-append}
+use Rattle.relay_h1.specs.Tasks.{Tasks, cut_off}
 use Rattle.relay_peer.specs.H1Client.{is_fault}
 use Rattle.relay_peer.specs.ResponseReading.{Asks, says, cut_off_error, fault_error}
 use Rattle.relay_core.specs.Past.{UpPast, error_of_put}
@@ -57,17 +56,6 @@ blames_keep start before after head upgrade q p e go
     peer.PeerBlames.is_broken why closed came told is
     (front_then came q.got p.got front (record { rest = go.more; joined = sym go.got })) said
     breaks
-blames_keep start before after head upgrade q p e go
-    (peer.PeerBlames.switches informed final framing len has status is) =
-    peer.PeerBlames.switches informed final framing len
-    (subst (λ (g : List ℕ). HasFinal head.method upgrade g informed final framing len) (sym go.got)
-    (HasFinal-append head.method upgrade q.got go.more informed final framing len has)) status is
-blames_keep start before after head upgrade q p e go
-    (peer.PeerBlames.is_full informed final framing len has lacks full is) =
-    peer.PeerBlames.is_full informed final framing len
-    (subst (λ (g : List ℕ). HasFinal head.method upgrade g informed final framing len) (sym go.got)
-    (HasFinal-append head.method upgrade q.got go.more informed final framing len has)) lacks full
-    is
 blames_keep start before after head upgrade q p e go
     (peer.PeerBlames.is_short_request front pieces within ends joined short is) =
     peer.PeerBlames.is_short_request front pieces

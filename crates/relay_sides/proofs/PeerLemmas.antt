@@ -1,13 +1,12 @@
 -- A call of the peer's side, and a read that hands nothing on, go on with what passed.
-use Rattle.std.proofs.Common.{◌≡◌, ◌||◌, ℕ, Bool, true, false, List, [], ◌∷◌, ◌++◌, map, refl, sym, ap, subst, ◌∙◌, append-nil, Option, Some, None}
-use Rattle.std.specs.List.{All, list_any}
+use Rattle.std.proofs.Common.{◌≡◌, ◌||◌, ℕ, Bool, true, false, List, [], ◌++◌, refl, sym, ap, subst, ◌∙◌, append-nil, Option, Some}
+use Rattle.std.specs.List.{list_any}
 use Rattle.relay_tasks.specs.Head.{RequestHead}
 use Rattle.relay_tasks.specs.declared.error.Error.{Error}
 use Rattle.relay_tasks.specs.declared.error.Fail.{Fail}
 use Rattle.relay_tasks.specs.declared.error.Fail.TheVariants as fail
 use Rattle.relay_tasks.specs.Task.{is_end}
 use Rattle.relay_tasks.specs.declared.task.HttpTask.{HttpTask}
-use Rattle.relay_tasks.specs.declared.task.HttpTask.TheVariants as task
 use Rattle.relay_tasks.specs.declared.took.Took.{Took}
 use Rattle.relay_tasks.specs.declared.took.Took.TheVariants as took
 use Rattle.relay_links.specs.Link.{LinkState, LinkStart}
@@ -15,7 +14,6 @@ use Rattle.relay_links.specs.declared.link.Got.{Got}
 use Rattle.relay_links.specs.declared.link.Got.TheVariants as got
 use Rattle.relay_tasks.specs.declared.fault.Fault.{Fault}
 use Rattle.relay_core.specs.Told.{failed}
-use Rattle.std.specs.Prelude.{◌+◌}
 use Rattle.relay_links.proofs.SinceLemmas.{Since-kept}
 use Rattle.relay_h1.specs.Move.{taken}
 use Rattle.relay_peer.specs.declared.h1_client.H1Client.{H1Client}
@@ -28,9 +26,9 @@ use Rattle.relay_peer.specs.RequestWriting.{SentSoFar, head_in, method_of}
 use Rattle.relay_peer.specs.ResponseReading.{ToldResponse, ReadSoFar, ReadsTask, Answers, Asks, Refuses, is_over, is_item, is_error, fault_error}
 use Rattle.relay_peer.specs.ResponseReading as reading
 use Rattle.relay_core.specs.Past.{Origin, UpPast, GaveBytes, UpGoes, error_of_fail, error_of_took}
-use Rattle.relay_sides.specs.Peer.{IsPeer, PeerBlames, AreTasks, HasRoom, is_switch, handed, told_of, AreHeads}
+use Rattle.relay_sides.specs.Peer.{IsPeer, PeerBlames, AreTasks, told_of}
 use Rattle.relay_sides.specs.Peer as peer
-use Rattle.relay_sides.proofs.FaultLemmas.{grew_same, tells_on}
+use Rattle.relay_sides.proofs.FaultLemmas.{tells_on}
 use Rattle.relay_sides.proofs.FrontLemmas.{own_front}
 use Rattle.relay_sides.proofs.TaskLemmas.{tasks_kept}
 use Rattle.relay_sides.proofs.MoveLemmas.{GoesOn, blames_keep, ReadMoves, read_moves, some_error}
@@ -38,8 +36,8 @@ use Rattle.relay_sides.proofs.MoveLemmas.{GoesOn, blames_keep, ReadMoves, read_m
 -- ---- a call
 
 -- what a side answers for, by the head of its request
-abbrev pub Blamed : {L : Type 0} → Bool → LinkStart → LinkState → H1Client L → UpPast → Error
-    → Type 0
+abbrev pub Blamed : {L : Type 0} → Bool → LinkStart → LinkState → H1Client L → UpPast → Error → Type
+    0
 Blamed upgrade start link client q e =
     (head : RequestHead) × (head_in client.request.request ≡ Some head)
     × PeerBlames start link head upgrade q e
@@ -50,19 +48,19 @@ same_head a b same = cc
 
 -- a call that went on to that past
 pub goes : {L : Type 0} (o : Origin) (start started : LinkStart) (before after : LinkState)
-    (old new : H1Client L) (stopped lost : Option Fail) (q p : UpPast) (head : RequestHead)
+    (old new : H1Client L) (lost : Option Fail) (q p : UpPast) (head : RequestHead)
     (read taken : List HttpTask) (gone : Bool) (error : Option Error)
     → started ≡ start → head_in old.request.request ≡ Some head
     → head_in new.request.request ≡ Some head → GoesOn start before after q p
-    → IsPeer o start after new stopped lost p → p.read ≡ read → p.taken ≡ taken → p.lost ≡ gone
+    → IsPeer o start after new lost p → p.read ≡ read → p.taken ≡ taken → p.lost ≡ gone
     → ((e : Error) → error ≡ Some e → PeerBlames start after head o.asked p e)
-    → UpGoes (λ r. IsPeer o started after new stopped lost r)
+    → UpGoes (λ r. IsPeer o started after new lost r)
     (λ r e. Blamed o.asked start before old r e)
     (λ r e. Blamed o.asked started after new r e) q read taken gone error
-goes {L} o start started before after old new stopped lost q p head read taken gone error same was
+goes {L} o start started before after old new lost q p head read taken gone error same was
     is on stands reads takes loses blamed =
     subst (λ (s : LinkStart).
-    UpGoes (λ r. IsPeer o s after new stopped lost r) (λ r e. Blamed o.asked start before old r e)
+    UpGoes (λ r. IsPeer o s after new lost r) (λ r e. Blamed o.asked start before old r e)
     (λ r e. Blamed o.asked s after new r e) q read taken gone error) (sym same)
     (record {
       past = p;
@@ -89,11 +87,11 @@ method_is (request.Sending sending) head is =
 
 -- a read, as one of the response to the request that was sent, by what both sides asked
 pub at_origin : {L : Type 0} (o : Origin) (start : LinkStart) (before after : LinkState)
-    (old : H1Client L) (stopped lost : Option Fail) (q : UpPast) (new : ResponseReading)
-    (answer : Took HttpTask) (stands : IsPeer o start before old stopped lost q)
+    (old : H1Client L) (lost : Option Fail) (q : UpPast) (new : ResponseReading)
+    (answer : Took HttpTask) (stands : IsPeer o start before old lost q)
     → ReadsTask (method_of old.request.request) old.asked before after old.response new answer
     → ReadsTask stands.head.method o.asked before after old.response new answer
-at_origin {L} o start before after old stopped lost q new answer stands reads =
+at_origin {L} o start before after old lost q new answer stands reads =
     subst (λ (b : Bool). ReadsTask stands.head.method b before after old.response new answer)
     stands.asks
     (subst (λ (m : List ℕ). ReadsTask m old.asked before after old.response new answer)
@@ -147,24 +145,17 @@ calm_read start before after had came asked was now answer moves fails is calm n
     apart : true ≡ false → ⊥
     apart same = cc
 
--- a side that read on: these tasks were handed on, and these withheld
+-- a side that read on: these tasks were read
 pub peer_read : {L : Type 0} (o : Origin) (start : LinkStart) (before after : LinkState)
-    (old new : H1Client L) (stopped_before stopped lost : Option Fail) (q : UpPast) (came : List ℕ)
-    (read given withheld : List HttpTask) (asked : Option Got)
-    (stands : IsPeer o start before old stopped_before lost q)
+    (old new : H1Client L) (lost : Option Fail) (q : UpPast) (came : List ℕ)
+    (read : List HttpTask) (asked : Option Got) (stands : IsPeer o start before old lost q)
     → new.request ≡ old.request → new.asked ≡ old.asked
     → ReadMoves start before after q.got came asked
-    → AreTasks stands.head.method o.asked after.ended (q.got ++ came) (given ++ withheld)
-    new.response
-    → read ≡ map (handed stands.head.method) given → list_any is_switch given ≡ false
-    → All (HasRoom stands.head.method) given
-    → (stopped ≡ None → withheld ≡ []) → AreHeads withheld
-    → ((e : Error) → stopped ≡ Some (fail.Error e)
-    → PeerBlames start after stands.head o.asked (after_read q came read) e)
+    → AreTasks stands.head.method o.asked after.ended (q.got ++ came) read new.response
     → (new.failed ≡ false → after.faults ≡ start.faults)
-    → IsPeer o start after new stopped lost (after_read q came read)
-peer_read {L} o start before after old new stopped_before stopped lost q came read given withheld
-    asked stands same unasked moves tasks is_read unswitched roomy goes_on heads why calm = record {
+    → IsPeer o start after new lost (after_read q came read)
+peer_read {L} o start before after old new lost q came read asked stands same unasked moves tasks
+    calm = record {
       got = moves.given;
       sent = Since-kept [] start.taken before.taken after.taken q.sent moves.taken stands.sent;
       faults = moves.faults;
@@ -179,15 +170,7 @@ peer_read {L} o start before after old new stopped_before stopped lost q came re
       so_far = subst (λ (w : RequestWriting). SentSoFar stands.sending q.sent w) (sym same)
           stands.so_far;
       queued = stands.queued;
-      given = given;
-      withheld = withheld;
       tasks = tasks;
-      is_read = is_read;
-      none_switches = unswitched;
-      have_room = roomy;
-      goes_on = goes_on;
-      heads = heads;
-      why = why;
       takes = stands.takes;
       why_lost = λ e is.
           blames_keep start before after stands.head o.asked q (after_read q came read) e
@@ -198,8 +181,8 @@ peer_read {L} o start before after old new stopped_before stopped lost q came re
 told_stays : (method : List ℕ) (upgrade closed : Bool) (had : List ℕ) (told : ToldResponse)
     (asked : Option Got)
     (old : ResponsePlace) (new : ResponseReading) (answer : Took HttpTask) → is_item answer ≡ false
-    → Answers method upgrade closed had told asked old new answer
-    → ReadSoFar method upgrade closed had told new
+    → Answers method upgrade closed had told asked old new answer → ReadSoFar method upgrade closed
+    had told new
 told_stays method upgrade closed had told asked old new (took.Item item) none answers = absurd (cc)
 told_stays method upgrade closed had told asked old new took.More none answers = answers.2
 told_stays method upgrade closed had told asked old new (took.Waited pause) none answers = answers.2
@@ -235,8 +218,8 @@ answer_blamed : (start : LinkStart) (before after : LinkState) (head : RequestHe
     (q : UpPast) (came : List ℕ) (read : List HttpTask) (told : ToldResponse) (asked : Option Got)
     (old : ResponsePlace) (new : ResponseReading) (answer : Took HttpTask)
     → ReadMoves start before after q.got came asked
-    → Answers head.method upgrade after.ended (q.got ++ came) told asked old new answer
-    → (e : Error)
+    → Answers head.method upgrade after.ended (q.got ++ came) told asked old new answer →
+    (e : Error)
     → error_of_took answer ≡ Some e → PeerBlames start after head upgrade (after_read q came read) e
 answer_blamed start before after head upgrade q came read told asked old new (took.Item item) moves
     answers e is = absurd (cc)
@@ -259,107 +242,58 @@ answer_blamed start before after head upgrade q came read told asked old new
 
 -- a read that gave no task
 pub read_none : {L : Type 0} (o : Origin) (start started : LinkStart) (before after : LinkState)
-    (old new : H1Client L) (stopped lost : Option Fail) (q : UpPast) (answer : Took HttpTask)
+    (old new : H1Client L) (lost : Option Fail) (q : UpPast) (answer : Took HttpTask)
     → started ≡ start → new.request ≡ old.request → new.asked ≡ old.asked
     → ReadsTask (method_of old.request.request) old.asked before after old.response new.response
     answer
     → is_item answer ≡ false → is_over new.response.place ≡ is_over old.response.place
     → new.failed ≡ old.failed || is_error answer
-    → IsPeer o start before old stopped lost q
-    → UpGoes (λ r. IsPeer o started after new stopped lost r)
+    → IsPeer o start before old lost q
+    → UpGoes (λ r. IsPeer o started after new lost r)
     (λ r e. Blamed o.asked start before old r e)
     (λ r e. Blamed o.asked started after new r e) q (q.read ++ []) q.taken q.lost
     (error_of_took answer)
-read_none {L} o start started before after old new stopped lost q answer same kept unasked reads
+read_none {L} o start started before after old new lost q answer same kept unasked reads
     none over failed stands =
-    let at = at_origin o start before after old stopped lost q new.response answer stands reads in
+    let at = at_origin o start before after old lost q new.response answer stands reads in
     let moves = read_moves start before after q.got at.came at.asked at.asks stands.got
     stands.faults stands.tells stands.sound in
-    let tasks = stands.given ++ stands.withheld in
-    let answers = at.answers q.got (told_of tasks) stands.tasks.so_far in
-    goes o start started before after old new stopped lost q (after_read q at.came q.read)
+    let answers = at.answers q.got (told_of q.read) stands.tasks.so_far in
+    goes o start started before after old new lost q (after_read q at.came q.read)
     stands.head (q.read ++ []) q.taken q.lost (error_of_took answer) same stands.is_head
     (ap (λ (w : RequestWriting). head_in w.request) kept ∙ stands.is_head)
     (read_on start before after q at.came q.read at.asked moves)
-    (peer_read o start before after old new stopped stopped lost q at.came q.read stands.given
-    stands.withheld at.asked stands kept unasked moves
-    (tasks_kept stands.head.method o.asked before after q.got at.came tasks old.response
-    new.response
-    stands.tasks over
-    (told_stays stands.head.method o.asked after.ended (q.got ++ at.came) (told_of tasks) at.asked
+    (peer_read o start before after old new lost q at.came q.read at.asked stands kept unasked moves
+    (tasks_kept stands.head.method o.asked before after q.got at.came q.read old.response
+    new.response stands.tasks over
+    (told_stays stands.head.method o.asked after.ended (q.got ++ at.came) (told_of q.read) at.asked
     old.response.place new.response answer none answers))
-    stands.is_read stands.none_switches stands.have_room stands.goes_on stands.heads
-    (λ e is. blames_keep start before after stands.head o.asked q (after_read q at.came q.read) e
-    (read_on start before after q at.came q.read at.asked moves) (stands.why e is))
     (calm_read start before after q.got at.came at.asked old.failed new.failed answer moves at.fails
     failed stands.calm))
     (sym (append-nil q.read)) refl refl
-    (answer_blamed start before after stands.head o.asked q at.came q.read (told_of tasks) at.asked
+    (answer_blamed start before after stands.head o.asked q at.came q.read (told_of q.read) at.asked
     old.response.place new.response answer moves answers)
-
--- a call that answers why the side stopped, and changes nothing
-pub stopped_still : {L : Type 0} (o : Origin) (start : LinkStart) (link : LinkState)
-    (client : H1Client L) (stopped lost : Option Fail) (why : Fail) (q : UpPast)
-    → stopped ≡ Some why
-    → IsPeer o start link client stopped lost q
-    → UpGoes (λ r. IsPeer o start link client stopped lost r)
-    (λ r e. Blamed o.asked start link client r e)
-    (λ r e. Blamed o.asked start link client r e) q (q.read ++ []) q.taken q.lost
-    (error_of_fail why)
-stopped_still {L} o start link client stopped lost why q is stands =
-    goes o start start link link client client stopped lost q q stands.head (q.read ++ []) q.taken
-    q.lost (error_of_fail why) refl stands.is_head stands.is_head
-    (record {
-      more = [];
-      got = sym (append-nil q.got);
-      still = λ over. (over, refl);
-      taken = own_front q.taken;
-      rises = λ rose. rose;
-      grew = grew_same link link refl;
-    })
-    stands (sym (append-nil q.read)) refl refl
-    (λ e told. stands.why e (is ∙ ap Some (fail_is why e told)))
 
 -- where the side has to be asked again the link gave bytes
 pub more_gave : {L : Type 0} (o : Origin) (start : LinkStart) (before after : LinkState)
-    (old new : H1Client L) (stopped lost : Option Fail) (q : UpPast)
+    (old new : H1Client L) (lost : Option Fail) (q : UpPast)
     → ReadsTask (method_of old.request.request) old.asked before after old.response new.response
     took.More
-    → IsPeer o start before old stopped lost q → GaveBytes before after
-more_gave {L} o start before after old new stopped lost q reads stands =
-    let at = at_origin o start before after old stopped lost q new.response took.More stands reads
+    → IsPeer o start before old lost q → GaveBytes before after
+more_gave {L} o start before after old new lost q reads stands =
+    let at = at_origin o start before after old lost q new.response took.More stands reads
     in
-    let gave = (at.answers q.got (told_of (stands.given ++ stands.withheld)) stands.tasks.so_far).0
-    in
+    let gave = (at.answers q.got (told_of q.read) stands.tasks.so_far).0 in
     let grew = subst (λ (asked : Option Got). Asks before after at.came asked) gave.1 at.asks in
     record { room = grew.room; n = gave.0; gives = grew.gives }
 
--- a task that is handed on ends the response where it did
-handed_end : (method : List ℕ) (one : HttpTask) → is_end (handed method one) ≡ is_end one
-handed_end method (task.Header head end) = refl
-handed_end method (task.Body piece end) = refl
-handed_end method (task.UpgradedBody piece end) = refl
-handed_end method (task.Trailer fields) = refl
-handed_end method task.Done = refl
-handed_end method (task.Failed error) = refl
-
--- tasks that are handed on end the response where they did
-handed_ends : (method : List ℕ) (tasks : List HttpTask)
-    → list_any is_end (map (handed method) tasks) ≡ list_any is_end tasks
-handed_ends method [] = refl
-handed_ends method (one ∷ tasks) = rw (handed_end method one, handed_ends method tasks) refl
-
--- where the response had ended, its end was handed on
+-- where the response had ended, its end was read
 pub end_read : {L : Type 0} (o : Origin) (start : LinkStart) (before after : LinkState)
-    (old new : H1Client L) (stopped lost : Option Fail) (q : UpPast) → stopped ≡ None
+    (old new : H1Client L) (lost : Option Fail) (q : UpPast)
     → ReadsTask (method_of old.request.request) old.asked before after old.response new.response
     took.End
-    → IsPeer o start before old stopped lost q → list_any is_end q.read ≡ true
-end_read {L} o start before after old new stopped lost q open_yet reads stands =
-    let at = at_origin o start before after old stopped lost q new.response took.End stands reads in
-    let tasks = stands.given ++ stands.withheld in
-    let over = (at.answers q.got (told_of tasks) stands.tasks.so_far).1 in
-    let all = ap (λ (w : List HttpTask). stands.given ++ w) (stands.goes_on open_yet)
-    ∙ append-nil stands.given in
-    ap (list_any is_end) stands.is_read ∙ handed_ends stands.head.method stands.given
-    ∙ ap (list_any is_end) (sym all) ∙ stands.tasks.ended ∙ over
+    → IsPeer o start before old lost q → list_any is_end q.read ≡ true
+end_read {L} o start before after old new lost q reads stands =
+    let at = at_origin o start before after old lost q new.response took.End stands reads in
+    let over = (at.answers q.got (told_of q.read) stands.tasks.so_far).1 in
+    stands.tasks.ended ∙ over

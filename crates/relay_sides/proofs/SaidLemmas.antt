@@ -1,5 +1,5 @@
 -- What tasks told is the front of what the bytes of the link say.
-use Rattle.std.proofs.Common.{◌≡◌, ℕ, ◌+◌, ◌-◌, Bool, false, List, [], length, drop, refl, sym, ap, subst, Some}
+use Rattle.std.proofs.Common.{◌≡◌, ℕ, ◌+◌, ◌-◌, Bool, List, [], length, drop, refl, sym, ap, subst, Some}
 use Rattle.relay_tasks.specs.declared.task.HttpTask.{HttpTask}
 use Rattle.relay_h1.specs.Body.{BodyText, behind}
 use Rattle.relay_h1.specs.Body as body

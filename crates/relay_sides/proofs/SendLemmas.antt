@@ -1,7 +1,6 @@
 -- How a piece that is taken, a write and the head of the request go on with what passed.
 use Rattle.std.proofs.Common.{◌≡◌, ℕ, Bool, true, false, ◌||◌, List, [], ◌∷◌, ◌++◌, take, refl, sym, ap, subst, ◌∙◌, append-nil, arith, Option, Some, None, Result, Ok, Err, OnOk, OnErr, IfErr, IsErrOf, IsTrue, ◌↔◌, if◌then◌else◌}
 use Rattle.std.specs.List.{list_any, concat}
-use Rattle.std.proofs.lemmas.List.Elements.{All-nil}
 use Rattle.std.proofs.lemmas.List.Folds.{list_any-append, concat-append}
 use Rattle.relay_tasks.specs.Error.{IsMemoryOr}
 use Rattle.relay_tasks.specs.Head.{RequestHead}
@@ -30,7 +29,7 @@ use Rattle.relay_peer.specs.RequestWriting as writing
 use Rattle.relay_core.specs.Past.{Origin, UpPast, UpGoes, error_of_fail, error_of_put}
 use Rattle.relay_sides.specs.Body.{IsFrontOf, bytes_of, body_of, sent_with, sent_as}
 use Rattle.relay_sides.specs.declared.peer_side.PeerSide.{PeerSide}
-use Rattle.relay_sides.specs.Peer.{IsPeer, IsPeerSide, AreMarked, IsQueued, PeerBlames, AreTasks, HasRoom, Queues, Loses, IsNew, none_passed}
+use Rattle.relay_sides.specs.Peer.{IsPeer, IsPeerSide, AreMarked, IsQueued, PeerBlames, AreTasks, Queues, Loses, IsNew, none_passed}
 use Rattle.relay_sides.specs.Peer as peer
 use Rattle.relay_sides.proofs.FaultLemmas.{grew_same, tells_on, tells_none}
 use Rattle.relay_sides.proofs.FrontLemmas.{own_front, same_front, front_more, front_then, bytes_front, task_front, sent_behind-push, head_of, stands_head, piece_head, task_head, begun_body, body_push}
@@ -67,16 +66,16 @@ wire_push head tasks piece xs front =
 
 -- a side that took a piece, with what is queued then
 peer_take : {L : Type 0} (o : Origin) (start : LinkStart) (link : LinkState) (old new : H1Client L)
-    (stopped lost_before lost : Option Fail) (q : UpPast) (piece : HttpTask) (gone : Bool)
-    (sending : Sent) (stands : IsPeer o start link old stopped lost_before q)
+    (lost_before lost : Option Fail) (q : UpPast) (piece : HttpTask) (gone : Bool)
+    (sending : Sent) (stands : IsPeer o start link old lost_before q)
     → new.response ≡ old.response → new.asked ≡ old.asked → new.failed ≡ old.failed → head_of
     sending ≡ Some stands.head
     → SentSoFar sending q.sent new.request
     → IsQueued stands.head (q.taken ++ piece ∷ []) gone sending → (lost ≡ None → gone ≡ false)
     → ((e : Error) → lost ≡ Some (fail.Error e)
     → PeerBlames start link stands.head o.asked (after_take q piece gone) e)
-    → IsPeer o start link new stopped lost (after_take q piece gone)
-peer_take {L} o start link old new stopped lost_before lost q piece gone sending stands same unasked
+    → IsPeer o start link new lost (after_take q piece gone)
+peer_take {L} o start link old new lost_before lost q piece gone sending stands same unasked
     calm headed so_far queued takes why = record {
       got = stands.got;
       sent = stands.sent;
@@ -91,75 +90,65 @@ peer_take {L} o start link old new stopped lost_before lost q piece gone sending
       sending = sending;
       so_far = so_far;
       queued = queued;
-      given = stands.given;
-      withheld = stands.withheld;
       tasks = subst (λ (r : ResponseReading).
-          AreTasks stands.head.method o.asked link.ended q.got (stands.given ++ stands.withheld) r)
+          AreTasks stands.head.method o.asked link.ended q.got q.read r)
           (sym same) stands.tasks;
-      is_read = stands.is_read;
-      none_switches = stands.none_switches;
-      have_room = stands.have_room;
-      goes_on = stands.goes_on;
-      heads = stands.heads;
-      why = λ e is.
-          blames_keep start link link stands.head o.asked q (after_take q piece gone) e
-          (take_on start link q piece gone) (stands.why e is);
       takes = takes;
       why_lost = why;
     }
 
 -- the head that was queued is the one that was given to be sent
 sending_head : {L : Type 0} (o : Origin) (start : LinkStart) (link : LinkState) (old : H1Client L)
-    (stopped lost : Option Fail) (q : UpPast) (stands : IsPeer o start link old stopped lost q)
+    (lost : Option Fail) (q : UpPast) (stands : IsPeer o start link old lost q)
     → head_of stands.sending ≡ Some stands.head
-sending_head {L} o start link old stopped lost q stands =
+sending_head {L} o start link old lost q stands =
     sym (stands_head stands.sending old.request.request stands.so_far.stands) ∙ stands.is_head
 
 -- a side at a link that did not change
 still_there : {L : Type 0} (o : Origin) (start started : LinkStart) (before after : LinkState)
-    (old new : H1Client L) (stopped lost : Option Fail) (q : UpPast) (read taken : List HttpTask)
+    (old new : H1Client L) (lost : Option Fail) (q : UpPast) (read taken : List HttpTask)
     (gone : Bool) (error : Option Error) → after ≡ before
-    → UpGoes (λ r. IsPeer o started before new stopped lost r)
+    → UpGoes (λ r. IsPeer o started before new lost r)
     (λ r e. Blamed o.asked start before old r e)
     (λ r e. Blamed o.asked started before new r e) q read taken gone error
-    → UpGoes (λ r. IsPeer o started after new stopped lost r)
+    → UpGoes (λ r. IsPeer o started after new lost r)
     (λ r e. Blamed o.asked start before old r e)
     (λ r e. Blamed o.asked started after new r e) q read taken gone error
-still_there {L} o start started before after old new stopped lost q read taken gone error same
+still_there {L} o start started before after old new lost q read taken gone error same
     goes_on =
-    subst (λ (l : LinkState). UpGoes (λ r. IsPeer o started l new stopped lost r)
+    subst (λ (l : LinkState). UpGoes (λ r. IsPeer o started l new lost r)
     (λ r e. Blamed o.asked start before old r e) (λ r e. Blamed o.asked started l new r e) q read
     taken gone error)
     (sym same) goes_on
 
 -- a piece that was queued
 pub take_queues : {L : Type 0} (o : Origin) (start started : LinkStart) (before after : LinkState)
-    (old new : H1Client L) (stopped lost : Option Fail) (q : UpPast) (piece : HttpTask)
+    (old new : H1Client L) (lost : Option Fail) (q : UpPast) (piece : HttpTask)
     → lost ≡ None → started ≡ start → after ≡ before → new.response ≡ old.response
     → new.asked ≡ old.asked → new.failed ≡ old.failed
     → ((sent : Sent) (had : List ℕ) → SentSoFar sent had old.request
     → SentSoFar (sent_with sent piece) had new.request)
-    → IsPeer o start before old stopped lost q
-    → UpGoes (λ r. IsPeer o started after new stopped lost r)
+    → IsPeer o start before old lost q
+    → UpGoes (λ r. IsPeer o started after new lost r)
     (λ r e. Blamed o.asked start before old r e)
     (λ r e. Blamed o.asked started after new r e) q q.read (q.taken ++ piece ∷ []) (q.lost || false)
     None
-take_queues {L} o start started before after old new stopped lost q piece open_yet same unmoved kept
+take_queues {L} o start started before after old new lost q piece open_yet same unmoved kept
     unasked calm queues stands =
     let so_far = queues stands.sending q.sent stands.so_far in
     let headed = task_head stands.sending piece
-    ∙ sending_head o start before old stopped lost q stands in
+    ∙ sending_head o start before old lost q stands in
     let is_sent = ap (λ (s : Sent). sent_with s piece)
     (stands.queued.unlost (stands.takes open_yet))
     ∙ sym (sent_behind-push (writing.Sent.begun stands.head []) q.taken piece) in
     let gone = q.lost || false in
-    still_there o start started before after old new stopped lost q q.read (q.taken ++ piece ∷ [])
+    still_there o start started before after old new lost q q.read (q.taken ++ piece ∷ [])
     gone None unmoved
-    (goes o start started before before old new stopped lost q (after_take q piece gone) stands.head
+    (goes o start started before before old new lost q (after_take q piece gone) stands.head
     q.read (q.taken ++ piece ∷ []) gone None same stands.is_head
     (stands_head (sent_with stands.sending piece) new.request.request so_far.stands ∙ headed)
     (take_on start before q piece gone)
-    (peer_take o start before old new stopped lost lost q piece gone
+    (peer_take o start before old new lost lost q piece gone
     (sent_with stands.sending piece) stands kept unasked calm headed so_far
     (record {
       unlost = λ none. is_sent;
@@ -176,8 +165,8 @@ take_queues {L} o start started before after old new stopped lost q piece open_y
 
 -- what was queued of a piece that was lost
 record Left {L : Type 0} (o : Origin) (start : LinkStart) (link : LinkState) (old new : H1Client L)
-    (stopped lost : Option Fail) (q : UpPast) (piece : HttpTask) (why : Fail)
-    (stands : IsPeer o start link old stopped lost q) : Type 0 where
+    (lost : Option Fail) (q : UpPast) (piece : HttpTask) (why : Fail)
+    (stands : IsPeer o start link old lost q) : Type 0 where
   pub sending : Sent
   pub so_far : SentSoFar sending q.sent new.request
   pub headed : head_of sending ≡ Some stands.head
@@ -232,17 +221,17 @@ short_here head tasks piece (writing.Sent.whole first pieces) had at is headed s
 
 -- what a piece that was lost leaves
 left_of : {L : Type 0} (o : Origin) (start : LinkStart) (link : LinkState) (old new : H1Client L)
-    (stopped lost : Option Fail) (q : UpPast) (piece : HttpTask) (why : Fail)
-    (stands : IsPeer o start link old stopped lost q) → lost ≡ None
+    (lost : Option Fail) (q : UpPast) (piece : HttpTask) (why : Fail)
+    (stands : IsPeer o start link old lost q) → lost ≡ None
     → Loses stands.sending q.sent piece new.request why
-    → Left o start link old new stopped lost q piece why stands
-left_of {L} o start link old new stopped lost q piece why stands open_yet loses = on why loses
+    → Left o start link old new lost q piece why stands
+left_of {L} o start link old new lost q piece why stands open_yet loses = on why loses
   where
     is_sent : stands.sending ≡ sent_as stands.head q.taken
     is_sent = stands.queued.unlost (stands.takes open_yet)
 
     headed : head_of stands.sending ≡ Some stands.head
-    headed = sending_head o start link old stopped lost q stands
+    headed = sending_head o start link old lost q stands
 
     from_sent : (xs : List ℕ) → IsFrontOf xs (sent_wire (sent_with stands.sending piece))
         → IsFrontOf xs (sent_wire (sent_as stands.head (q.taken ++ piece ∷ [])))
@@ -251,7 +240,7 @@ left_of {L} o start link old new stopped lost q piece why stands open_yet loses 
         (subst (λ (s : Sent). IsFrontOf xs (sent_wire (sent_with s piece))) is_sent front)
 
     on : (why : Fail) → Loses stands.sending q.sent piece new.request why
-        → Left o start link old new stopped lost q piece why stands
+        → Left o start link old new lost q piece why stands
     on _ (peer.Loses.unwritten so_far) = record {
       sending = stands.sending;
       so_far = so_far;
@@ -299,28 +288,28 @@ or_gone false = refl
 
 -- a piece that was lost
 pub take_loses : {L : Type 0} (o : Origin) (start started : LinkStart) (before after : LinkState)
-    (old new : H1Client L) (stopped lost : Option Fail) (q : UpPast) (piece : HttpTask) (why : Fail)
+    (old new : H1Client L) (lost : Option Fail) (q : UpPast) (piece : HttpTask) (why : Fail)
     → lost ≡ None → started ≡ start → after ≡ before → new.response ≡ old.response
     → new.asked ≡ old.asked → new.failed ≡ old.failed
     → ((sent : Sent) (had : List ℕ) → SentSoFar sent had old.request
     → Loses sent had piece new.request why)
-    → IsPeer o start before old stopped lost q
-    → UpGoes (λ r. IsPeer o started after new stopped (Some why) r)
+    → IsPeer o start before old lost q
+    → UpGoes (λ r. IsPeer o started after new (Some why) r)
     (λ r e. Blamed o.asked start before old r e) (λ r e. Blamed o.asked started after new r e) q
     q.read
     (q.taken ++ piece ∷ []) (q.lost || true) (error_of_fail why)
-take_loses {L} o start started before after old new stopped lost q piece why open_yet same unmoved
+take_loses {L} o start started before after old new lost q piece why open_yet same unmoved
     kept unasked calm queues stands =
-    let left = left_of o start before old new stopped lost q piece why stands open_yet
+    let left = left_of o start before old new lost q piece why stands open_yet
     (queues stands.sending q.sent stands.so_far) in
-    still_there o start started before after old new stopped (Some why) q q.read
+    still_there o start started before after old new (Some why) q q.read
     (q.taken ++ piece ∷ []) (q.lost || true) (error_of_fail why) unmoved
-    (goes o start started before before old new stopped (Some why) q (after_take q piece true)
+    (goes o start started before before old new (Some why) q (after_take q piece true)
     stands.head q.read (q.taken ++ piece ∷ []) (q.lost || true) (error_of_fail why) same
     stands.is_head
     (stands_head left.sending new.request.request left.so_far.stands ∙ left.headed)
     (take_on start before q piece true)
-    (peer_take o start before old new stopped lost (Some why) q piece true left.sending stands kept
+    (peer_take o start before old new lost (Some why) q piece true left.sending stands kept
     unasked calm left.headed left.so_far (record {
       unlost = λ none. absurd (cc);
       front = left.front;
@@ -330,22 +319,22 @@ take_loses {L} o start started before after old new stopped lost q piece why ope
 
 -- a piece behind one that was lost
 pub take_still : {L : Type 0} (o : Origin) (start : LinkStart) (link : LinkState)
-    (client : H1Client L) (stopped lost : Option Fail) (why : Fail) (q : UpPast)
+    (client : H1Client L) (lost : Option Fail) (why : Fail) (q : UpPast)
     (piece : HttpTask) → lost ≡ Some why
-    → IsPeer o start link client stopped lost q
-    → UpGoes (λ r. IsPeer o start link client stopped lost r)
+    → IsPeer o start link client lost q
+    → UpGoes (λ r. IsPeer o start link client lost r)
     (λ r e. Blamed o.asked start link client r e)
     (λ r e. Blamed o.asked start link client r e) q q.read (q.taken ++ piece ∷ []) (q.lost || true)
     (error_of_fail why)
-take_still {L} o start link client stopped lost why q piece is stands =
+take_still {L} o start link client lost why q piece is stands =
     let keeps = λ (e : Error) (told : lost ≡ Some (fail.Error e)).
     blames_keep start link link stands.head o.asked q (after_take q piece true) e
     (take_on start link q piece true) (stands.why_lost e told) in
-    goes o start start link link client client stopped lost q (after_take q piece true) stands.head
+    goes o start start link link client client lost q (after_take q piece true) stands.head
     q.read (q.taken ++ piece ∷ []) (q.lost || true) (error_of_fail why) refl stands.is_head
     stands.is_head (take_on start link q piece true)
-    (peer_take o start link client client stopped lost lost q piece true stands.sending stands refl
-    refl refl (sending_head o start link client stopped lost q stands) stands.so_far
+    (peer_take o start link client client lost lost q piece true stands.sending stands refl
+    refl refl (sending_head o start link client lost q stands) stands.so_far
     (record {
       unlost = λ none. absurd (cc);
       front = front_then (sent_wire stands.sending) (sent_wire (sent_as stands.head q.taken))
@@ -363,18 +352,18 @@ take_still {L} o start link client stopped lost why q piece is stands =
 
 -- a write of what is queued
 pub write_goes : {L : Type 0} (o : Origin) (start started : LinkStart) (before after : LinkState)
-    (old new : H1Client L) (stopped lost : Option Fail) (q : UpPast) (answer : Put)
+    (old new : H1Client L) (lost : Option Fail) (q : UpPast) (answer : Put)
     → started ≡ start → new.response ≡ old.response → new.asked ≡ old.asked → new.failed ≡
     old.failed || is_fault answer
     → WritesOut before after old.request.unsent new.request.unsent answer
     → ((sent : Sent) (gone : List ℕ) → SentSoFar sent gone old.request
     → SentSoFar sent (gone ++ take (taken answer) old.request.unsent) new.request)
-    → IsPeer o start before old stopped lost q
-    → UpGoes (λ r. IsPeer o started after new stopped lost r)
+    → IsPeer o start before old lost q
+    → UpGoes (λ r. IsPeer o started after new lost r)
     (λ r e. Blamed o.asked start before old r e)
     (λ r e. Blamed o.asked started after new r e) q q.read q.taken q.lost
     (error_of_put Upstream answer)
-write_goes {L} o start started before after old new stopped lost q answer same kept unasked failed
+write_goes {L} o start started before after old new lost q answer same kept unasked failed
     writes
     keeps stands =
     let moves = write_moves start before after q.sent old.request.unsent answer writes.writes
@@ -391,8 +380,8 @@ write_goes {L} o start started before after old new stopped lost q answer same k
       grew = moves.grew;
     } in
     let is_head = stands_head stands.sending new.request.request so_far.stands
-    ∙ sending_head o start before old stopped lost q stands in
-    goes o start started before after old new stopped lost q p stands.head q.read q.taken q.lost
+    ∙ sending_head o start before old lost q stands in
+    goes o start started before after old new lost q p stands.head q.read q.taken q.lost
     (error_of_put Upstream answer) same stands.is_head is_head on
     (record {
       got = Since-kept [] start.given before.given after.given q.got moves.given stands.got;
@@ -410,22 +399,14 @@ write_goes {L} o start started before after old new stopped lost q answer same k
       sending = stands.sending;
       so_far = so_far;
       queued = stands.queued;
-      given = stands.given;
-      withheld = stands.withheld;
       tasks = subst (λ (b : Bool).
-          AreTasks stands.head.method o.asked b q.got (stands.given ++ stands.withheld)
+          AreTasks stands.head.method o.asked b q.got q.read
           new.response)
           (sym moves.ended)
           (subst (λ (r : ResponseReading).
-          AreTasks stands.head.method o.asked before.ended q.got (stands.given ++ stands.withheld)
+          AreTasks stands.head.method o.asked before.ended q.got q.read
           r)
           (sym kept) stands.tasks);
-      is_read = stands.is_read;
-      none_switches = stands.none_switches;
-      have_room = stands.have_room;
-      goes_on = stands.goes_on;
-      heads = stands.heads;
-      why = λ e is. blames_keep start before after stands.head o.asked q p e on (stands.why e is);
       takes = stands.takes;
       why_lost = λ e is. blames_keep start before after stands.head o.asked q p e on
           (stands.why_lost e is);
@@ -442,7 +423,7 @@ begins : {L : Type 0} (o : Origin) (start : LinkStart) (link : LinkState) (reuse
     → new.asked ≡ o.asked → IsNew old
     → IsHandedOut link start reused → new.response ≡ old.client.response
     → SentSoFar (writing.Sent.begun head []) [] new.request
-    → IsPeer o start link new old.stopped old.lost none_passed
+    → IsPeer o start link new old.lost none_passed
 begins {L} o start link reused old new head own unasked fresh out same so_far = record {
   got = subst (λ (n : ℕ). Since [] n link.given []) (sym out.given) (Since-start [] link.given);
   sent = subst (λ (n : ℕ). Since [] n link.taken []) (sym out.taken) (Since-start [] link.taken);
@@ -460,18 +441,10 @@ begins {L} o start link reused old new head own unasked fresh out same so_far = 
     unlost = λ none. refl;
     front = own_front (sent_wire (writing.Sent.begun head []));
   };
-  given = [];
-  withheld = [];
   tasks = subst (λ (r : ResponseReading). AreTasks head.method o.asked link.ended [] [] r)
       (sym same)
       (no_tasks head.method o.asked link.ended old.client.response
       (fresh.read head.method o.asked link.ended));
-  is_read = refl;
-  none_switches = refl;
-  have_room = All-nil (HasRoom head.method);
-  goes_on = λ none. refl;
-  heads = tt;
-  why = λ e is. absurd (apart e (sym is ∙ fresh.goes_on));
   takes = λ none. refl;
   why_lost = λ e is. absurd (apart e (sym is ∙ fresh.takes));
 }
@@ -486,12 +459,12 @@ begins_peer : {L : Type 0} (o : Origin) (start started : LinkStart) (before afte
     → ((sent : Sent) (had : List ℕ) → SentSoFar sent had old.client.request
     → SentSoFar (writing.with_head sent head) had new.request)
     → IsNew old → IsHandedOut before start reused
-    → IsPeer o started after new old.stopped old.lost none_passed
+    → IsPeer o started after new old.lost none_passed
 begins_peer {L} o start started before after reused old new head own unasked same unmoved kept keeps
     fresh
     out =
-    subst (λ (s : LinkStart). IsPeer o s after new old.stopped old.lost none_passed) (sym same)
-    (subst (λ (l : LinkState). IsPeer o start l new old.stopped old.lost none_passed) (sym unmoved)
+    subst (λ (s : LinkStart). IsPeer o s after new old.lost none_passed) (sym same)
+    (subst (λ (l : LinkState). IsPeer o start l new old.lost none_passed) (sym unmoved)
     (begins o start before reused old new head own unasked fresh out kept
     (keeps writing.Sent.nothing [] fresh.sent)))
 
@@ -509,7 +482,6 @@ begins_side {L} o start started before after reused old new head own unasked sam
       peer = begins_peer o start started before after reused old new head own unasked same unmoved
           kept keeps fresh out;
       reused = ap (λ (s : LinkStart). s.reused) same ∙ out.marked ∙ sym used;
-      closes = fresh.stays;
       calm = λ none. calm ∙ fresh.calm;
       marked = subst (λ (s : LinkStart).
           AreMarked s after new.failed old.read_failed old.send_failed old.lost) (sym same)

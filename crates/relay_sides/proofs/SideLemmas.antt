@@ -1,7 +1,5 @@
 -- Each call of the peer's side goes on with what it keeps of the response and of faults.
-use Rattle.std.proofs.Common.{◌≡◌, ◌||◌, ℕ, Bool, true, false, List, [], ◌∷◌, ◌++◌, refl, sym, ap, subst, ◌∙◌, append-nil, Option, arith}
-use Rattle.std.specs.List.{list_any}
-use Rattle.std.proofs.lemmas.List.Folds.{list_any-append}
+use Rattle.std.proofs.Common.{◌≡◌, ◌||◌, ℕ, Bool, true, false, List, [], ◌++◌, refl, sym, ap, subst, ◌∙◌, Option, arith}
 use Rattle.relay_tasks.specs.declared.error.Error.{Error}
 use Rattle.relay_tasks.specs.declared.error.Fail.{Fail}
 use Rattle.relay_tasks.specs.declared.error.Fail.TheVariants as fail
@@ -25,33 +23,29 @@ use Rattle.relay_peer.specs.RequestWriting.{method_of}
 use Rattle.relay_peer.specs.ResponseReading.{ReadsTask, is_over, is_item, is_error}
 use Rattle.relay_core.specs.Past.{Origin, UpPast, UpGoes, error_of_took}
 use Rattle.relay_sides.specs.declared.peer_side.PeerSide.{PeerSide}
-use Rattle.relay_sides.specs.Peer.{IsPeer, IsPeerSide, asks_to_close, handed, AreMarked}
+use Rattle.relay_sides.specs.Peer.{IsPeer, IsPeerSide, AreMarked}
 use Rattle.relay_sides.proofs.MarkLemmas.{marked_task}
-use Rattle.relay_sides.proofs.PeerLemmas.{Blamed, goes, read_none}
+use Rattle.relay_sides.proofs.PeerLemmas.{Blamed, read_none}
 
--- a call goes on with the side too, which keeps whether its link was used before; and what it says
--- of the response that asks to close is told of the tasks
+-- a call goes on with the side too, which keeps whether its link was used before
 pub side_goes : {L : Type 0} (o : Origin) (start started : LinkStart) (before after : LinkState)
     (old : H1Client L) (new : PeerSide L) (q : UpPast) (read taken : List HttpTask) (gone : Bool)
     (error : Option Error) → started ≡ start → start.reused ≡ o.reused
-    → new.closes ≡ list_any asks_to_close read
     → (new.told.errors ≡ 0 → new.client.failed ≡ false)
     → AreMarked start after new.client.failed new.read_failed new.send_failed new.lost
-    → UpGoes (λ r. IsPeer o started after new.client new.stopped new.lost r)
+    → UpGoes (λ r. IsPeer o started after new.client new.lost r)
     (λ r e. Blamed o.asked start before old r e) (λ r e. Blamed o.asked started after new.client r
     e) q read taken
     gone error
     → UpGoes (λ r. IsPeerSide o started after new r) (λ r e. Blamed o.asked start before old r e)
     (λ r e. Blamed o.asked started after new.client r e) q read taken gone error
-side_goes {L} o start started before after old new q read taken gone error same reused closes calm
+side_goes {L} o start started before after old new q read taken gone error same reused calm
     marked went =
     record {
       past = went.past;
       stands = record {
         peer = went.stands;
         reused = ap (λ (s : LinkStart). s.reused) same ∙ reused;
-        closes = closes ∙ ap (λ (ts : List HttpTask). list_any asks_to_close ts)
-            (sym went.is_read);
         calm = calm;
         marked = subst (λ (s : LinkStart).
             AreMarked s after new.client.failed new.read_failed new.send_failed new.lost)
@@ -64,28 +58,25 @@ side_goes {L} o start started before after old new q read taken gone error same 
       blamed = went.blamed;
     }
 
--- a call that handed no task on
-pub side_stays : {L : Type 0} (o : Origin) (start started : LinkStart) (before after : LinkState)
+-- the same, by what the side told before
+pub side_on : {L : Type 0} (o : Origin) (start started : LinkStart) (before after : LinkState)
     (old new : PeerSide L) (q : UpPast) (read taken : List HttpTask) (gone : Bool)
-    (error : Option Error) → started ≡ start → new.closes ≡ old.closes → read ≡ q.read
+    (error : Option Error) → started ≡ start
     → ((old.told.errors ≡ 0 → old.client.failed ≡ false)
     → new.told.errors ≡ 0 → new.client.failed ≡ false)
     → AreMarked start after new.client.failed new.read_failed new.send_failed new.lost
     → IsPeerSide o start before old q
-    → UpGoes (λ r. IsPeer o started after new.client new.stopped new.lost r)
-    (λ r e. Blamed o.asked start before old.client r e) (λ r e. Blamed o.asked started after
-    new.client r e) q read
-    taken gone error
-    → UpGoes (λ r. IsPeerSide o started after new r) (λ r e. Blamed o.asked start before old.client
-    r e)
+    → UpGoes (λ r. IsPeer o started after new.client new.lost r)
+    (λ r e. Blamed o.asked start before old.client r e)
     (λ r e. Blamed o.asked started after new.client r e) q read taken gone error
-side_stays {L} o start started before after old new q read taken gone error same stays none calm
-    marked stands =
+    → UpGoes (λ r. IsPeerSide o started after new r)
+    (λ r e. Blamed o.asked start before old.client r e)
+    (λ r e. Blamed o.asked started after new.client r e) q read taken gone error
+side_on {L} o start started before after old new q read taken gone error same calm marked stands =
     side_goes o start started before after old.client new q read taken gone error same stands.reused
-    (stays ∙ stands.closes ∙ ap (λ (ts : List HttpTask). list_any asks_to_close ts) (sym none))
     (calm stands.calm) marked
 
--- a read of a side that had not stopped, of which no task is handed on
+-- a read that gave no task
 pub side_reads : {L : Type 0} (o : Origin) (start started : LinkStart) (before after : LinkState)
     (old : PeerSide L) (client : H1Client L) (told : Told) (failed : Bool) (q : UpPast)
     (answer : Took HttpTask) → started ≡ start → client.request ≡ old.client.request
@@ -110,45 +101,15 @@ side_reads {L} o start started before after old client told failed q answer same
     none
     over fails marks calm stands =
     let new : PeerSide L = record old { client = client; told = told; read_failed = failed } in
-    side_stays o start started before after old new q (q.read ++ []) q.taken q.lost
-    (error_of_took answer) same refl (append-nil q.read) calm
+    side_on o start started before after old new q (q.read ++ []) q.taken q.lost
+    (error_of_took answer) same calm
     (marked_task (method_of old.client.request.request) old.client.asked start before after
     old.client.response
     client.response answer old.client.failed client.failed old.read_failed failed old.send_failed
     old.lost reads fails marks stands.peer.faults stands.marked)
     stands
-    (read_none o start started before after old.client client old.stopped old.lost q answer same
+    (read_none o start started before after old.client client old.lost q answer same
     kept unasked reads none over fails stands.peer)
-
--- a call that handed one on
-pub side_hands : {L : Type 0} (o : Origin) (start started : LinkStart) (before after : LinkState)
-    (old new : PeerSide L) (q : UpPast) (given : HttpTask) (taken : List HttpTask) (gone : Bool)
-    (error : Option Error) → started ≡ start
-    → new.closes ≡ old.closes || asks_to_close given
-    → ((old.told.errors ≡ 0 → old.client.failed ≡ false)
-    → new.told.errors ≡ 0 → new.client.failed ≡ false)
-    → AreMarked start after new.client.failed new.read_failed new.send_failed new.lost
-    → IsPeerSide o start before old q
-    → UpGoes (λ r. IsPeer o started after new.client new.stopped new.lost r)
-    (λ r e. Blamed o.asked start before old.client r e) (λ r e. Blamed o.asked started after
-    new.client r e) q
-    (q.read ++ given ∷ []) taken gone error
-    → UpGoes (λ r. IsPeerSide o started after new r) (λ r e. Blamed o.asked start before old.client
-    r e)
-    (λ r e. Blamed o.asked started after new.client r e) q (q.read ++ given ∷ []) taken gone error
-side_hands {L} o start started before after old new q given taken gone error same one_more calm
-    marked stands =
-    side_goes o start started before after old.client new q (q.read ++ given ∷ []) taken gone error
-    same stands.reused
-    (one_more ∙ ap (λ (b : Bool). b || asks_to_close given) stands.closes
-    ∙ ap (λ (b : Bool). list_any asks_to_close q.read || b) (sym (or_none (asks_to_close given)))
-    ∙ sym (list_any-append asks_to_close q.read (given ∷ [])))
-    (calm stands.calm) marked
-  where
-    -- a test or one that fails is that test
-    or_none : (b : Bool) → (b || false) ≡ b
-    or_none true = refl
-    or_none false = refl
 
 -- a count that was raised is not 0
 never_none : (n : ℕ) → min (n + 1) last_count ≡ 0 → ⊥

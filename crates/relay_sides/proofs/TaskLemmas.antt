@@ -3,14 +3,7 @@ use Rattle.std.proofs.Common.{◌≡◌, ℕ, ◌+◌, ◌<◌, Bool, true, fals
 use Rattle.std.specs.List.{All, list_any}
 use Rattle.std.proofs.lemmas.List.Elements.{All-nil, All-cons, All-push}
 use Rattle.std.proofs.lemmas.List.Folds.{list_any-append}
-use Rattle.http_header.specs.HeaderMap.{RefusesInsert}
-use Rattle.relay_tasks.specs.Error.{IsMemoryOr, refused}
 use Rattle.relay_tasks.specs.Head.{ResponseHead}
-use Rattle.relay_tasks.specs.declared.context.Context.TheVariants.{HeadTooLong, Mismatch101}
-use Rattle.relay_tasks.specs.declared.error.Error.{Error}
-use Rattle.relay_tasks.specs.declared.error.ErrorSource.TheVariants.{Upstream, Internal}
-use Rattle.relay_tasks.specs.declared.error.Fail.{Fail}
-use Rattle.relay_tasks.specs.declared.error.Fail.TheVariants as fail
 use Rattle.relay_tasks.specs.declared.task.HttpTask.{HttpTask}
 use Rattle.relay_tasks.specs.declared.task.HttpTask.TheVariants as task
 use Rattle.relay_tasks.specs.Task.{is_end}
@@ -30,13 +23,12 @@ use Rattle.relay_peer.specs.declared.response_reading.ResponsePlace.TheVariants 
 use Rattle.relay_peer.specs.declared.response_reading.ResponseReading.{ResponseReading}
 use Rattle.relay_peer.specs.ResponseReading.{ToldResponse, ReadSoFar, ReadAt, IsResponseTask, Cuts, CutsBody, is_in_length, untold, with_task, with_head, says, is_over}
 use Rattle.relay_core.specs.Moves.{EndsLast}
-use Rattle.relay_sides.specs.Peer.{AreTasks, EndsAs, EndFramed, Follow, HasRoom, StandsBehind, Withholds, inside, told_behind, told_of}
-use Rattle.relay_sides.specs.Peer as peer
+use Rattle.relay_sides.specs.Peer.{AreTasks, EndsAs, EndFramed, Follow, StandsBehind, told_behind, told_of}
 
 -- ---- one task more
 
 -- what is told with one task more
-told_push : (told : ToldResponse) (tasks : List HttpTask) (last : HttpTask)
+pub told_push : (told : ToldResponse) (tasks : List HttpTask) (last : HttpTask)
     → told_behind told (tasks ++ last ∷ []) ≡ with_task (told_behind told tasks) last
 told_push told [] last = refl
 told_push told (first ∷ tasks) last = told_push (with_task told first) tasks last
@@ -584,32 +576,6 @@ lacking_final method end head lacks =
           (or_right (bytes_eq method (codes "HEAD")) (is_bodiless head.status) parts.0),
       parts.1,
     )
-
--- ---- what a head becomes
-
--- a head that has no room for the field that makes it chunked, or wants memory for it
-pub full_withholds : (method : List ℕ) (head : ResponseHead) (end : Bool) (why out : Fail)
-    → lacks_framing method end head ≡ true → IsMemoryOr (refused HeadTooLong) why
-    → (why ≡ fail.Error (refused HeadTooLong)
-    → RefusesInsert head.fields (codes "transfer-encoding"))
-    → out ≡ inside why → Withholds method (task.Header head end) out
-full_withholds method head end fail.OutOfMemory out lacks causes full is =
-    subst (λ (f : Fail). Withholds method (task.Header head end) f) (sym is)
-    (peer.Withholds.wants_memory head end refl lacks)
-full_withholds method head end (fail.Error error) out lacks causes full is =
-    subst (λ (f : Fail). Withholds method (task.Header head end) f)
-    (sym (is ∙ ap (λ (e : Error). fail.Error (record e { esource = Internal })) causes))
-    (peer.Withholds.is_full head end refl lacks (full (ap fail.Error causes)))
-
--- a head that switches protocols
-pub switch_withholds : (method : List ℕ) (head : ResponseHead) (end : Bool) (status : ℕ)
-    (inner outer : Error) → status ≡ head.status → status ≡ 101
-    → inner ≡ refused Mismatch101 → outer ≡ record inner { esource = Upstream }
-    → Withholds method (task.Header head end) (fail.Error outer)
-switch_withholds method head end status inner outer of is cause out =
-    subst (λ (e : Error). Withholds method (task.Header head end) (fail.Error e))
-    (sym (out ∙ ap (λ (e : Error). record e { esource = Upstream }) cause))
-    (peer.Withholds.switches head end refl (sym of ∙ is))
 
 -- ---- what tasks with an end say
 

@@ -1,4 +1,5 @@
 pub mod Body
 pub mod Client
 pub mod Faults
+pub mod Filtered
 pub mod Peer

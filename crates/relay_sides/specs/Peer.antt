@@ -1,12 +1,10 @@
 -- The upstream's side: what passed between a peer and its client since the link was handed out, and
 -- why the side answers with an error (RFC 9110, section 15.2; RFC 9112, sections 3 to 8).
-use Rattle.std.specs.Prelude.{◌≡◌, ℕ, All, ◌≤◌, Bool, true, false, not, ◌&&◌, ◌==◌, ◌⊎◌, List, [], ◌∷◌, ◌++◌, length, map, Option, Some, None, is_some, Result, Ok, Err, if◌then◌else◌, codes}
+use Rattle.std.specs.Prelude.{◌≡◌, ℕ, All, ◌≤◌, Bool, true, false, not, ◌==◌, ◌⊎◌, List, [], ◌∷◌, ◌++◌, length, Option, Some, None, is_some, Result, Ok, Err}
 use Rattle.std.specs.List.{list_any, concat}
-use Rattle.http_header.specs.HeaderMap.{RefusesInsert}
 use Rattle.relay_tasks.specs.declared.context.Context.{Context}
-use Rattle.relay_tasks.specs.declared.context.Context.TheVariants.{Mismatch101, HeadTooLong}
 use Rattle.relay_tasks.specs.declared.error.Error.{Error}
-use Rattle.relay_tasks.specs.declared.error.ErrorSource.TheVariants.{Upstream, Internal}
+use Rattle.relay_tasks.specs.declared.error.ErrorSource.TheVariants.{Upstream}
 use Rattle.relay_tasks.specs.declared.error.Fail.{Fail}
 use Rattle.relay_tasks.specs.declared.error.Fail.TheVariants as fail
 use Rattle.relay_tasks.specs.declared.fault.Fault.{Fault}
@@ -25,8 +23,6 @@ use Rattle.relay_h1.specs.declared.framing.Framing.{Framing}
 use Rattle.relay_h1.specs.BodyReader.{has_length}
 use Rattle.relay_h1.specs.BodyWire.{after_pieces}
 use Rattle.relay_h1.specs.BodyWire as wire
-use Rattle.relay_h1.specs.ClientHead.{is_informational, lacks_framing, chunked_head}
-use Rattle.relay_h1.specs.Options.{closes}
 use Rattle.relay_h1.specs.Tasks.{HasFinal, Tasks, broken, cut_off}
 use Rattle.relay_h1.specs.Verdict.{refused_from}
 use Rattle.relay_peer.specs.declared.h1_client.H1Client.{H1Client}
@@ -37,7 +33,6 @@ use Rattle.relay_peer.specs.ResponseReading.{ReadSoFar, Asks, AnswerCuts, Breaks
 use Rattle.relay_peer.specs.ResponseReading as reading
 use Rattle.relay_core.specs.Moves.{EndsLast}
 use Rattle.relay_core.specs.Past.{Origin, UpPast}
-use Rattle.relay_core.specs.Pipe.{is_failure}
 use Rattle.relay_core.specs.Told.{fault_of}
 use Rattle.relay_core.specs.Up.{UpState}
 use Rattle.relay_core.specs.declared.step.UpKind.TheVariants.{H1}
@@ -45,17 +40,7 @@ use Rattle.relay_sides.specs.declared.peer_side.PeerSide.{PeerSide}
 use Rattle.relay_sides.specs.Faults.{HasAnswered, TellsFaults}
 use Rattle.relay_sides.specs.Body.{IsFrontOf, bytes_of, body_of, sent_with, sent_as}
 
--- ---- the response as it is handed on
-
--- a task as it is handed on: a final head whose body would last until the link ends is chunked
-abbrev pub handed : List ℕ → HttpTask → HttpTask
-handed method (task.Header head end) =
-    task.Header (if lacks_framing method end head then chunked_head head else head) end
-handed method (task.Body piece end) = task.Body piece end
-handed method (task.UpgradedBody piece end) = task.UpgradedBody piece end
-handed method (task.Trailer fields) = task.Trailer fields
-handed method task.Done = task.Done
-handed method (task.Failed error) = task.Failed error
+-- ---- the response
 
 -- what tasks tell behind what was told
 abbrev pub told_behind : reading.ToldResponse → List HttpTask → reading.ToldResponse
@@ -80,53 +65,6 @@ abbrev pub Follow : reading.ToldResponse → List HttpTask → Type 0
 Follow told [] = Unit {0}
 Follow told (task ∷ tasks) =
     IsResponseTask told task × StandsBehind told task × Follow (with_task told task) tasks
-
--- why a task is not handed on: it is a final head that switches protocols, or one that is to be
--- chunked and has no room for that, or wants memory for it; or it tells of an error
-pub data Withholds (method : List ℕ) (came : HttpTask) : Fail → Type 0 where
-  switches : (final : ResponseHead) (end : Bool) → came ≡ task.Header final end
-      → final.status ≡ 101
-      → Withholds method came (fail.Error (refused_from Upstream Mismatch101))
-  is_full : (final : ResponseHead) (end : Bool) → came ≡ task.Header final end
-      → lacks_framing method end final ≡ true
-      → RefusesInsert final.fields (codes "transfer-encoding")
-      → Withholds method came (fail.Error (refused_from Internal HeadTooLong))
-  wants_memory : (final : ResponseHead) (end : Bool) → came ≡ task.Header final end
-      → lacks_framing method end final ≡ true → Withholds method came fail.OutOfMemory
-  tells_error : (error : Error) → came ≡ task.Failed error
-      → Withholds method came (fail.Error error)
-
--- a head that switches protocols
-abbrev pub is_switch : HttpTask → Bool
-is_switch (task.Header head end) = head.status == 101
-is_switch (task.Body piece end) = false
-is_switch (task.UpgradedBody piece end) = false
-is_switch (task.Trailer fields) = false
-is_switch task.Done = false
-is_switch (task.Failed error) = false
-
--- a head that is to be chunked has room for the field that says so
-abbrev pub HasRoom : List ℕ → HttpTask → Type 0
-HasRoom method (task.Header head end) =
-    lacks_framing method end head ≡ true
-    → ¬ (RefusesInsert head.fields (codes "transfer-encoding"))
-HasRoom method (task.Body piece end) = Unit {0}
-HasRoom method (task.UpgradedBody piece end) = Unit {0}
-HasRoom method (task.Trailer fields) = Unit {0}
-HasRoom method task.Done = Unit {0}
-HasRoom method (task.Failed error) = Unit {0}
-
--- what becomes of a task of the response
-abbrev pub HandsOn : List ℕ → HttpTask → Result HttpTask Fail → Type 0
-HandsOn method came (Ok given) =
-    (given ≡ handed method came) × (is_failure given ≡ false) × (is_switch came ≡ false)
-    × HasRoom method came
-HandsOn method came (Err why) = Withholds method came why
-
--- a failure as one of the relay's own
-abbrev pub inside : Fail → Fail
-inside fail.OutOfMemory = fail.OutOfMemory
-inside (fail.Error error) = fail.Error (record error { esource = Internal })
 
 -- how a body with that framing ends: one of a length with a piece, and each other by the end alone
 abbrev pub EndsAs : Framing → HttpTask → Type 0
@@ -201,44 +139,30 @@ abbrev pub Queues : Sent → List ℕ → HttpTask → RequestWriting → Result
 Queues sent taken task writing (Ok done) = SentSoFar (sent_with sent task) taken writing
 Queues sent taken task writing (Err why) = Loses sent taken task writing why
 
--- why the side answers with that error: the link failed, the response is cut off or broken,
--- switches protocols or has no room for the field that frames it, or the request ended short
+-- why the side answers with that error: the link failed, the response is cut off or broken, or the
+-- request ended short
 pub data PeerBlames (start : LinkStart) (link : LinkState) (head : RequestHead) (upgrade : Bool)
     (q : UpPast) (e : Error) : Type 0 where
   link_failed : (fault : Fault) → e ≡ fault_error fault → Rose start.faults link.faults
       → HasAnswered start link fault → PeerBlames start link head upgrade q e
   is_cut_off : (told : reading.ToldResponse) → link.ended ≡ true → e ≡ cut_off_error q.got
-      → Tasks head.method upgrade q.got true (says told cut_off)
-      → PeerBlames start link head upgrade q e
+      → Tasks head.method upgrade q.got true (says told cut_off) → PeerBlames start link head
+      upgrade q e
   is_broken : (why : Context) (closed : Bool) (came : List ℕ) (told : reading.ToldResponse)
       → e ≡ refused_from Upstream why → IsFrontOf came q.got
       → Tasks head.method upgrade came closed (says told broken)
       → BreaksFor head.method upgrade came told why → PeerBlames start link head upgrade q e
-  switches : (informed : List ResponseHead) (final : ResponseHead) (framing : Framing) (len : ℕ)
-      → HasFinal head.method upgrade q.got informed final framing len → final.status ≡ 101
-      → e ≡ refused_from Upstream Mismatch101 → PeerBlames start link head upgrade q e
-  is_full : (informed : List ResponseHead) (final : ResponseHead) (framing : Framing) (len : ℕ)
-      → HasFinal head.method upgrade q.got informed final framing len
-      → lacks_framing head.method false final ≡ true
-      → RefusesInsert final.fields (codes "transfer-encoding")
-      → e ≡ refused_from Internal HeadTooLong → PeerBlames start link head upgrade q e
   is_short_request : (front : List HttpTask) (pieces : List (List ℕ)) → IsFrontOf front q.taken
       → list_any is_end front ≡ true → concat pieces ≡ body_of front
       → wire.is_short (after_pieces (body_framing head) pieces) ≡ true → e ≡ short_request
       → PeerBlames start link head upgrade q e
 
--- the tasks are heads
-abbrev pub AreHeads : List HttpTask → Type 0
-AreHeads [] = Unit {0}
-AreHeads (task ∷ tasks) = reading.IsHead task × AreHeads tasks
-
 -- what passed since the link was handed out, which the link tells: the request as far as it was
--- queued, and the response as far as it was handed on. Once the side stopped, for a final head that
--- it does not hand on, that head is withheld; once a piece was lost, no more of the request is
+-- queued, and the response as far as it was read. Once a piece was lost, no more of the request is
 -- queued
 pub record IsPeer {L : Type 0}
     (o : Origin) (start : LinkStart) (link : LinkState) (client : H1Client L)
-    (stopped lost : Option Fail) (q : UpPast) : Type 0 where
+    (lost : Option Fail) (q : UpPast) : Type 0 where
   pub got : Since [] start.given link.given q.got
   pub sent : Since [] start.taken link.taken q.sent
   pub faults : start.faults ≤ link.faults
@@ -253,15 +177,7 @@ pub record IsPeer {L : Type 0}
   pub sending : Sent
   pub so_far : SentSoFar sending q.sent client.request
   pub queued : IsQueued head q.taken q.lost sending
-  pub given : List HttpTask
-  pub withheld : List HttpTask
-  pub tasks : AreTasks head.method o.asked link.ended q.got (given ++ withheld) client.response
-  pub is_read : q.read ≡ map (handed head.method) given
-  pub none_switches : list_any is_switch given ≡ false
-  pub have_room : All (HasRoom head.method) given
-  pub goes_on : stopped ≡ None → withheld ≡ []
-  pub heads : AreHeads withheld
-  pub why : (e : Error) → stopped ≡ Some (fail.Error e) → PeerBlames start link head o.asked q e
+  pub tasks : AreTasks head.method o.asked link.ended q.got q.read client.response
   pub takes : lost ≡ None → q.lost ≡ false
   pub why_lost : (e : Error) → lost ≡ Some (fail.Error e) → PeerBlames start link head o.asked q e
 
@@ -291,24 +207,12 @@ pub record AreMarked
   pub named : (e : Error) → send_failed ≡ Some e → CannotSend start link e
   pub short : (e : Error) → lost ≡ Some (fail.Error e) → e ≡ short_request
 
--- a final head that asks for the connection to be closed (RFC 9112, section 9.6)
-abbrev pub asks_to_close : HttpTask → Bool
-asks_to_close (task.Header head end) =
-    not (is_informational head.status) && closes head.fields
-asks_to_close (task.Body piece end) = false
-asks_to_close (task.UpgradedBody piece end) = false
-asks_to_close (task.Trailer fields) = false
-asks_to_close task.Done = false
-asks_to_close (task.Failed error) = false
-
--- what passed over a link that had been used before or not, and whether a final head that was
--- handed on asks to close
+-- what passed over a link that had been used before or not
 pub record IsPeerSide {L : Type 0}
     (o : Origin) (start : LinkStart) (link : LinkState) (side : PeerSide L) (q : UpPast)
     : Type 0 where
-  pub peer : IsPeer o start link side.client side.stopped side.lost q
+  pub peer : IsPeer o start link side.client side.lost q
   pub reused : start.reused ≡ o.reused
-  pub closes : side.closes ≡ list_any asks_to_close q.read
   -- each fault was told
   pub calm : side.told.errors ≡ 0 → side.client.failed ≡ false
   pub marked : AreMarked start link side.client.failed side.read_failed side.send_failed side.lost
@@ -318,9 +222,7 @@ pub record IsNew {L : Type 0} (side : PeerSide L) : Type 0 where
   pub sent : SentSoFar nothing [] side.client.request
   pub read : (method : List ℕ) (upgrade closed : Bool)
       → ReadSoFar method upgrade closed [] untold side.client.response
-  pub goes_on : side.stopped ≡ None
   pub takes : side.lost ≡ None
-  pub stays : side.closes ≡ false
   pub calm : side.client.failed ≡ false
   pub unasked : side.client.asked ≡ false
   pub unread : side.read_failed ≡ false
@@ -340,3 +242,18 @@ pub record CutsTask
 -- nothing passed yet
 abbrev pub none_passed : UpPast
 none_passed = record { got = []; sent = []; read = []; taken = []; lost = false }
+
+-- what the side answers for is the same, whatever it read
+pub peer_unread : (start : LinkStart) (link : LinkState) (head : RequestHead) (upgrade : Bool)
+    (q : UpPast) (read : List HttpTask) (e : Error) → PeerBlames start link head upgrade q e
+    → PeerBlames start link head upgrade (record q { read = read }) e
+peer_unread start link head upgrade q read e (PeerBlames.link_failed fault is rose answered) =
+    PeerBlames.link_failed fault is rose answered
+peer_unread start link head upgrade q read e (PeerBlames.is_cut_off told ended is says) =
+    PeerBlames.is_cut_off told ended is says
+peer_unread start link head upgrade q read e
+    (PeerBlames.is_broken why closed came told is front says breaks) =
+    PeerBlames.is_broken why closed came told is front says breaks
+peer_unread start link head upgrade q read e
+    (PeerBlames.is_short_request front pieces within ends joined short is) =
+    PeerBlames.is_short_request front pieces within ends joined short is

@@ -3,9 +3,11 @@
 #![tactic(auto)]
 
 mod client_side;
+mod filtered;
 mod peer_side;
 #[cfg(test)]
 mod tests;
 
 pub use client_side::ClientSide;
+pub use filtered::{Filtered, is_head_request};
 pub use peer_side::PeerSide;

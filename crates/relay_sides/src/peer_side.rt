@@ -4,30 +4,24 @@ ghost use Rattle.std.specs.Prelude.{◌≡◌, ◌↔◌, ℕ, List, [], Bool, t
 ghost use Rattle.relay_tasks.specs.Error.{IsMemoryOr};
 ghost use Rattle.relay_tasks.specs.Head.{RequestHead};
 ghost use Rattle.relay_links.specs.Link.{IsHandedOut};
-ghost use Rattle.relay_h1.specs.ClientHead.{lacks_framing};
 ghost use Rattle.relay_h1.specs.Framing.{request_framing};
 ghost use Rattle.relay_h1.specs.Verdict.{refused_from};
 ghost use Rattle.relay_peer.specs.H1Client.{may_keep_client};
-ghost use Rattle.relay_peer.specs.RequestWriting.{Sent, SentSoFar, head_in, method_of, IsSentWhole};
+ghost use Rattle.relay_peer.specs.RequestWriting.{Sent, SentSoFar, head_in, IsSentWhole};
 ghost use Rattle.relay_peer.specs.ResponseReading.{ReadSoFar, IsReadWhole};
 ghost use Rattle.relay_peer.specs.ResponseReading as reading;
 ghost use Rattle.relay_core.specs.declared.told.TheConstants.Told.{NOTHING};
 ghost use Rattle.relay_core.specs.Past.{Origin};
 ghost use Rattle.relay_core.specs.Up.{is_error, error_or};
 ghost use Rattle.relay_sides.specs.Body.{bytes_of};
-ghost use Rattle.relay_sides.specs.Peer.{IsPeerSide, PeerBlames, CutsTask, asks_to_close, IsNew, HandsOn, Queues, inside, none_passed, state_of, put_error};
+ghost use Rattle.relay_sides.specs.Peer.{IsPeerSide, PeerBlames, CutsTask, IsNew, Queues, none_passed, peer_unread, state_of, put_error};
 
 use crate::client_side::either;
 use bytes::Bytes;
-use http::{Method, Version};
 use relay_core::{Told, Up, UpKind};
-use relay_h1::{add_chunked, closes, is_sent_to, lacks_framing};
 use relay_links::{ByteLink, Put};
 use relay_peer::H1Client;
-use relay_tasks::{
-    Context, Error, ErrorSource, ErrorType, Fail, HttpTask, RequestHeader, ResponseHeader, Result,
-    Took,
-};
+use relay_tasks::{Context, Error, ErrorSource, Fail, HttpTask, RequestHeader, Result, Took};
 use std::alloc::Global;
 
 /// The upstream's side over the client of a peer, whose request's head was queued.
@@ -36,12 +30,8 @@ pub struct PeerSide<L> {
     alloc: Global,
     client: H1Client<L>,
     told: Told,
-    // Why no more of the response is handed on, once a final head was not.
-    stopped: Option<Fail>,
     // Why no more of the request is queued, once a piece was lost.
     lost: Option<Fail>,
-    // Whether a final head that was handed on asks to close.
-    closes: bool,
     // Whether a read answered an error, and the last error with which nothing could be sent.
     read_failed: bool,
     send_failed: Option<Error>,
@@ -58,20 +48,10 @@ impl<L> PeerSide<L> {
             alloc,
             client: H1Client::new(alloc, link),
             told: Told::NOTHING,
-            stopped: None,
             lost: None,
-            closes: false,
             read_failed: false,
             send_failed: None,
         }
-    }
-
-    /// Whether a final head of the response that was handed on asks for the connection to be closed
-    /// (RFC 9112, section 9.6).
-    pub fn asks_to_close(&self) -> bool
-        ensures { result ≡ self.now.closes }
-    {
-        self.closes
     }
 
     /// Whether the link may be kept for a next request, as in `H1Client::may_keep`.
@@ -86,53 +66,6 @@ impl<L> PeerSide<L> {
             → result ≡ true → IsReadWhole method upgrade closed given told }
     {
         self.client.may_keep()
-    }
-
-    /// A task of the response as it is handed on, or why no more is: a head that switches protocols
-    /// is refused, and one whose body would last until the link ends is chunked.
-    fn hand_on(&self, task: HttpTask) -> std::result::Result<HttpTask, Fail>
-        ensures { HandsOn (method_of self.now.client.request.request) task result }
-    {
-        match task {
-            HttpTask::Header(head, end) => self.hand_head_on(head, end),
-            HttpTask::Failed(error) => Err(Fail::Error(error)),
-            HttpTask::Body(piece, end) => Ok(HttpTask::Body(piece, end)),
-            HttpTask::UpgradedBody(piece, end) => Ok(HttpTask::UpgradedBody(piece, end)),
-            HttpTask::Trailer(fields) => Ok(HttpTask::Trailer(fields)),
-            HttpTask::Done => Ok(HttpTask::Done),
-        }
-    }
-
-    /// The same for a head.
-    fn hand_head_on(
-        &self,
-        mut head: ResponseHeader,
-        end: bool,
-    ) -> std::result::Result<HttpTask, Fail>
-        ensures { HandsOn (method_of self.now.client.request.request) (HttpTask.Header head end)
-            result }
-    {
-        if head.status() == 101 {
-            let error = Error::explain(ErrorType::InvalidHTTPHeader, Context::Mismatch101);
-            return Err(Fail::Error(error.into_up()));
-        }
-        if !self.lacks_framing(end, &head) {
-            return Ok(HttpTask::Header(head, end));
-        }
-        match add_chunked(&mut head) {
-            Ok(()) => Ok(HttpTask::Header(head, end)),
-            Err(fail) => Err(inside(fail)),
-        }
-    }
-
-    /// Whether nothing says where the body behind that head ends.
-    fn lacks_framing(&self, end: bool, head: &ResponseHeader) -> bool
-        ensures { result ≡ lacks_framing (method_of self.now.client.request.request) end head.now }
-    {
-        match self.client.request_header() {
-            Some(request) => lacks_framing(request.method(), end, head),
-            None => lacks_framing(&Method::GET, end, head),
-        }
     }
 }
 
@@ -152,9 +85,7 @@ impl<L> PeerSide<L> {
             alloc: _,
             client,
             told: _,
-            stopped: _,
             lost: _,
-            closes: _,
             read_failed: _,
             send_failed: _,
         } = self;
@@ -190,16 +121,6 @@ impl<L: ByteLink> PeerSide<L> {
     }
 }
 
-/// A failure as one of the relay's own.
-fn inside(fail: Fail) -> Fail
-    ensures { result ≡ inside fail }
-{
-    match fail {
-        Fail::OutOfMemory => Fail::OutOfMemory,
-        Fail::Error(error) => Fail::Error(error.into_in()),
-    }
-}
-
 /// Whether the failure is an error; out of memory is none.
 fn is_error(fail: Fail) -> bool
     ensures { result ≡ is_error fail }
@@ -227,23 +148,6 @@ fn put_error(put: Put, before: Option<Error>) -> Option<Error>
     match put {
         Put::Failed(fault) => Some(Error::of_fault(fault).into_up()),
         Put::Took(_) | Put::NotReady | Put::Silent | Put::OutOfMemory => before,
-    }
-}
-
-/// Whether a task is a final head that asks for the connection to be closed.
-fn asks_to_close(task: &HttpTask) -> bool
-    ensures { result ≡ asks_to_close task.now }
-{
-    match task {
-        // HTTP/1.0 is sent final heads alone.
-        HttpTask::Header(head, _) => {
-            is_sent_to(Version::HTTP_10, head) && closes(head.headers())
-        }
-        HttpTask::Body(_, _)
-        | HttpTask::UpgradedBody(_, _)
-        | HttpTask::Trailer(_)
-        | HttpTask::Done
-        | HttpTask::Failed(_) => false,
     }
 }
 
@@ -296,6 +200,13 @@ impl<L: ByteLink> Up for PeerSide<L> {
     ghost cuts = { λ old new answer. CutsTask (L.state old.client.link) (L.state new.client.link)
         old.client.response new.client.response answer };
 
+    ghost unread = { λ side s q read e blamed. (
+      blamed.0,
+      blamed.1,
+      peer_unread (L.start side.client.link) (L.state side.client.link) blamed.0 s.asked q read e
+          blamed.2,
+    ) };
+
     fn kind(&self) -> UpKind {
         UpKind::H1
     }
@@ -305,37 +216,19 @@ impl<L: ByteLink> Up for PeerSide<L> {
     }
 
     fn read_task(&mut self) -> Took<HttpTask> {
-        match self.stopped {
-            Some(why) => {
+        match self.client.read_response_task(self.alloc) {
+            Took::Item(task) => Took::Item(task),
+            Took::More => Took::More,
+            Took::End => Took::More,
+            Took::Waited(pause) => {
+                self.told = self.told.paused(pause);
+                Took::Waited(pause)
+            }
+            Took::Failed(why) => {
                 self.told = self.told.failed(why);
                 self.read_failed = either(self.read_failed, is_error(why));
                 Took::Failed(why)
             }
-            None => match self.client.read_response_task(self.alloc) {
-                Took::Item(task) => match self.hand_on(task) {
-                    Ok(task) => {
-                        self.closes = either(self.closes, asks_to_close(&task));
-                        Took::Item(task)
-                    }
-                    Err(why) => {
-                        self.stopped = Some(why);
-                        self.told = self.told.failed(why);
-                        self.read_failed = either(self.read_failed, is_error(why));
-                        Took::Failed(why)
-                    }
-                },
-                Took::More => Took::More,
-                Took::End => Took::More,
-                Took::Waited(pause) => {
-                    self.told = self.told.paused(pause);
-                    Took::Waited(pause)
-                }
-                Took::Failed(why) => {
-                    self.told = self.told.failed(why);
-                    self.read_failed = either(self.read_failed, is_error(why));
-                    Took::Failed(why)
-                }
-            },
         }
     }
 

@@ -1,4 +1,5 @@
 //! The sides over links that answer by scripts.
 
 mod client_side;
+mod filtered;
 mod peer_side;

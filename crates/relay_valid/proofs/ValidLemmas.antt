@@ -29,6 +29,8 @@ use Rattle.relay_core.specs.Past.{Origin, DownPast}
 use Rattle.relay_sides.specs.Body.{IsFrontOf}
 use Rattle.relay_sides.specs.Client.{ClientBlames, given_to}
 use Rattle.relay_sides.specs.Client as client_side
+use Rattle.relay_sides.specs.Filtered.{RefusesHead}
+use Rattle.relay_sides.specs.Filtered as filtered
 use Rattle.relay_sides.specs.Peer.{PeerBlames}
 use Rattle.relay_sides.specs.Peer as peer_side
 use Rattle.relay_sides.proofs.FrontLemmas.{front_then}
@@ -291,16 +293,20 @@ peer_blameless s p client link start valid order lost e
     valid.answers.is_response
     (front_then came p.got valid.answers.response front valid.answers.gives) reads
 peer_blameless s p client link start valid order lost e
-    (peer_side.PeerBlames.switches informed final given len has is_switch is) =
-    (head_relayed s.head.method s.asked p.got valid.answers.response informed final given len
-    valid.answers.is_response valid.answers.gives has).stays is_switch
-peer_blameless s p client link start valid order lost e
-    (peer_side.PeerBlames.is_full informed final given len has lacks refuses is) =
-    (head_relayed s.head.method s.asked p.got valid.answers.response informed final given len
-    valid.answers.is_response valid.answers.gives has).room lacks refuses
-peer_blameless s p client link start valid order lost e
     (peer_side.PeerBlames.is_short_request front pieces first found joined short is) =
     never_both short (request_unshort s p link.ended order front pieces first found joined)
+
+-- no head of its response is refused
+pub head_blameless : (s : Origin) (p : Passed) (client link : LinkState) (start : LinkStart)
+    → IsValid s p client link start → (e : Error) → RefusesHead s.head.method s.asked p.got e → ⊥
+head_blameless s p client link start valid e
+    (filtered.RefusesHead.switches informed final given len has is_switch is) =
+    (head_relayed s.head.method s.asked p.got valid.answers.response informed final given len
+    valid.answers.is_response valid.answers.gives has).stays is_switch
+head_blameless s p client link start valid e
+    (filtered.RefusesHead.is_full informed final given len has lacks refuses is) =
+    (head_relayed s.head.method s.asked p.got valid.answers.response informed final given len
+    valid.answers.is_response valid.answers.gives has).room lacks refuses
 
 -- no valid exchange fails
 pub never_fails : (s : Origin) (p : Passed) (client link : LinkState) (start : LinkStart)
@@ -309,3 +315,5 @@ never_fails s p client link start e (order.FailsFor.by_client o blames) valid =
     client_blameless s p client link start valid (order.down_past o) refl e blames
 never_fails s p client link start e (order.FailsFor.by_peer o lost blames) valid =
     peer_blameless s p client link start valid o lost e blames
+never_fails s p client link start e (order.FailsFor.by_refusal o refused) valid =
+    head_blameless s p client link start valid e refused

@@ -52,6 +52,8 @@ impl Up for Upstream {
     // A read leaves what was given.
     ghost cuts = { λ old new answer. new.got ≡ old.got };
 
+    ghost unread = { λ u s q read e blamed. blamed };
+
     fn kind(&self) -> UpKind {
         UpKind::H1
     }

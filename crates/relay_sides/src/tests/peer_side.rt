@@ -8,7 +8,7 @@ use relay_tasks::{Context, ErrorSource, ErrorType, Fail, HttpTask, RequestHeader
 use std::alloc::{AllocError, Global};
 use std::test::Fail as Failed;
 
-type Checked = std::result::Result<(), Failed>;
+pub(super) type Checked = std::result::Result<(), Failed>;
 
 /// A side whose link gives that text and then ends, and takes everything.
 fn side(
@@ -20,7 +20,10 @@ fn side(
 }
 
 /// The same, whose request is a GET that was queued.
-fn asking_side(alloc: Global, text: &'static [u8]) -> relay_tasks::Result<PeerSide<ScriptLink>> {
+pub(super) fn asking_side(
+    alloc: Global,
+    text: &'static [u8],
+) -> relay_tasks::Result<PeerSide<ScriptLink>> {
     let mut side = side(alloc, text)?;
     side.write_request_header(RequestHeader::build(alloc, &Method::GET, b"/")?)?;
     Ok(side)
@@ -84,7 +87,7 @@ fn fail_in_words(fail: Fail) -> &'static str {
 }
 
 /// The next answer in words; none for `More`.
-fn next(side: &mut PeerSide<ScriptLink>) -> &'static str {
+fn next<U: Up>(side: &mut U) -> &'static str {
     match side.read_task() {
         Took::Item(task) => task_in_words(&task),
         Took::More => "",
@@ -95,9 +98,9 @@ fn next(side: &mut PeerSide<ScriptLink>) -> &'static str {
 }
 
 /// So many answers in words.
-fn answers(
+pub(super) fn answers<U: Up>(
     alloc: Global,
-    side: &mut PeerSide<ScriptLink>,
+    side: &mut U,
     calls: u8,
 ) -> std::result::Result<String, AllocError> {
     let mut told = String::new(alloc);
@@ -134,7 +137,7 @@ fn writes_a_request_in_chunks(rt: HostRuntime) -> Checked {
 }
 
 #[test]
-fn hands_on_a_response_by_its_length(rt: HostRuntime) -> Checked {
+fn reads_a_response_by_its_length(rt: HostRuntime) -> Checked {
     let text = b"HTTP/1.1 100 Continue\r\n\r\nHTTP/1.1 200 OK\r\ncontent-length: 2\r\n\r\nab";
     let mut side = asking_side(rt.alloc(), text)?;
     side.take_piece(HttpTask::Done)?;
@@ -145,40 +148,6 @@ fn hands_on_a_response_by_its_length(rt: HostRuntime) -> Checked {
         side.write_pending();
     }
     assert!(rt; side.may_keep());
-    Ok(())
-}
-
-#[test]
-fn chunks_a_response_that_lasts_until_the_link_ends(rt: HostRuntime) -> Checked {
-    let mut side = asking_side(rt.alloc(), b"HTTP/1.1 200 OK\r\n\r\nab")?;
-    let told = answers(rt.alloc(), &mut side, 4)?;
-    assert_eq!(rt; told.as_str(), " chunked head piece done");
-    Ok(())
-}
-
-/// Whether a response asks to close, by its side, which was asked so often.
-fn closes(alloc: Global, text: &'static [u8], calls: u8) -> relay_tasks::Result<bool> {
-    let mut side = asking_side(alloc, text)?;
-    let _told = answers(alloc, &mut side, calls)?;
-    Ok(side.asks_to_close())
-}
-
-#[test]
-fn tells_that_a_final_head_asks_to_close(rt: HostRuntime) -> Checked {
-    let text = b"HTTP/1.1 200 OK\r\nconnection: close\r\ncontent-length: 0\r\n\r\n";
-    assert!(rt; !closes(rt.alloc(), text, 0)?);
-    assert!(rt; closes(rt.alloc(), text, 2)?);
-    let text = b"HTTP/1.1 103 Early Hints\r\nconnection: close\r\n\r\nHTTP/1.1 200 OK\r\n\r\n";
-    assert!(rt; !closes(rt.alloc(), text, 3)?);
-    Ok(())
-}
-
-#[test]
-fn hands_no_switch_of_protocols_on(rt: HostRuntime) -> Checked {
-    let mut side = asking_side(rt.alloc(), b"HTTP/1.1 101 Switching Protocols\r\n\r\n")?;
-    let told = answers(rt.alloc(), &mut side, 2)?;
-    assert_eq!(rt; told.as_str(), " switches switches");
-    assert_eq!(rt; side.told().errors, 2);
     Ok(())
 }
 
@@ -207,5 +176,13 @@ fn tells_that_a_request_ends_short(rt: HostRuntime) -> Checked {
     }
     assert!(rt; side.take_piece(HttpTask::Done).is_err());
     assert_eq!(rt; side.told().errors, 2);
+    Ok(())
+}
+
+#[test]
+fn reads_a_response_that_lasts_until_the_link_ends(rt: HostRuntime) -> Checked {
+    let mut side = asking_side(rt.alloc(), b"HTTP/1.1 200 OK\r\n\r\nab")?;
+    let told = answers(rt.alloc(), &mut side, 4)?;
+    assert_eq!(rt; told.as_str(), " head piece done");
     Ok(())
 }

@@ -1,5 +1,7 @@
 -- An exchange begins once its head was queued; it is not begun where the head is refused.
-use Rattle.std.proofs.Common.{[], refl, sym, ap, subst, ◌∙◌}
+use Rattle.std.proofs.Common.{Bool, false, ◌||◌, [], refl, sym, ap, subst, ◌∙◌}
+use Rattle.std.proofs.lemmas.List.Elements.{All-nil}
+use Rattle.relay_tasks.specs.Head.{RequestHead}
 use Rattle.relay_links.specs.Link.{IsHandedOut}
 use Rattle.relay_session.specs.Reading.{is_body_done}
 use Rattle.relay_session.specs.declared.session.HttpSession.{HttpSession}
@@ -8,6 +10,8 @@ use Rattle.relay_sides.specs.Client.{begun_past}
 use Rattle.relay_sides.specs.Peer as peer
 use Rattle.relay_sides.specs.Peer.{none_passed}
 use Rattle.relay_sides.specs.declared.client_side.ClientSide.{ClientSide}
+use Rattle.relay_sides.specs.Filtered.{HasRoom, is_head_request, state_over, stops_for_error}
+use Rattle.relay_sides.specs.declared.filtered.Filtered.{Filtered}
 use Rattle.relay_sides.specs.declared.peer_side.PeerSide.{PeerSide}
 use Rattle.relay_exchange.specs.declared.exchange.Exchange.{Exchange}
 use Rattle.relay_exchange.specs.declared.exchange.Stage.TheVariants as stage
@@ -22,11 +26,11 @@ returns-in-Ok-clause-begins g c =
     let state = g.L.ByteLink.state in
     let start_at = g.L.ByteLink.start in
     let down = c.new-client.result in
-    let up = c.write_request_header.new.self in
+    let up = c.new-upstream.result in
     let done = ap (λ (x : HttpSession). is_body_done x.reading) c.new-client.ensures.session
     ∙ sym c.is_body_done-body_done.ensures.value in
     λ s came link ahead reused own none behind out used.
-    let Begun : Exchange ClientSide (PeerSide g.row.L.Denot) → Type 0 = λ x.
+    let Begun : Exchange ClientSide (Filtered (PeerSide g.row.L.Denot)) → Type 0 = λ x.
     IsUnderWay state start_at s (record { came = came; written = []; got = []; sent = [] }) link
     ahead (record { exchange = x }) in
     subst Begun (sym c.begin-exchange.ensures.exact)
@@ -41,13 +45,29 @@ returns-in-Ok-clause-begins g c =
     })
     (begun (DownHolds link ahead down s) (UpHolds state start_at up s) (Blames state start_at up s)
     c.is_body_done-body_done.result
-    (client.state_of down.session down.told down.done down.finished down.broken) (peer.state_of up)
+    (client.state_of down.session down.told down.done down.finished down.broken)
+    (state_over (peer.state_of up.inner) up.upgraded up.stopped up.told)
     (begun_past came) none_passed
     (record {
       down_holds = c.new-client.ensures.begins s came link ahead behind;
-      up_holds = c.in-Ok.ensures.begins s own none c.new-peer.ensures.fresh reused
-          (subst (λ l. IsHandedOut (state l) (start_at l) reused) (sym c.new-peer.ensures.link) out)
-          used;
+      up_holds = subst
+          (λ (u : Filtered (PeerSide g.row.L.Denot)). UpHolds state start_at u s none_passed)
+          (sym c.new-upstream.ensures)
+          (record {
+            own = c.is_head_request-of_head.ensures
+                ∙ ap (λ (h : RequestHead). is_head_request h.method) own;
+            given = [];
+            withheld = [];
+            holds = c.in-Ok.ensures.begins s own none c.new-peer.ensures.fresh reused
+                (subst (λ l. IsHandedOut (state l) (start_at l) reused)
+                (sym c.new-peer.ensures.link) out) used;
+            is_read = refl;
+            none_switches = refl;
+            have_room = All-nil (HasRoom s.head.method);
+            is_withheld = refl;
+            closes = refl;
+            quiet = λ still. still;
+          });
       none_put = refl;
       none_batched = refl;
       none_closing = refl;
@@ -56,10 +76,18 @@ returns-in-Ok-clause-begins g c =
       none_lost = refl;
       body_done = done;
       request_ended = done;
-      unread = ap (λ (k : PeerSide g.row.L.Denot). k.read_failed)
-          c.write_request_header.ensures.same ∙ c.new-peer.ensures.fresh.unread;
-      unsent = ap (λ (k : PeerSide g.row.L.Denot). k.send_failed)
-          c.write_request_header.ensures.same ∙ c.new-peer.ensures.fresh.unsent;
+      unread =
+          ap
+          (λ (u : Filtered (PeerSide g.row.L.Denot)).
+          u.inner.read_failed || stops_for_error u.stopped) c.new-upstream.ensures
+          ∙ ap (λ (b : Bool). b || false)
+          (ap (λ (k : PeerSide g.row.L.Denot). k.read_failed) c.write_request_header.ensures.same
+          ∙ c.new-peer.ensures.fresh.unread);
+      unsent =
+          ap (λ (u : Filtered (PeerSide g.row.L.Denot)). u.inner.send_failed)
+          c.new-upstream.ensures
+          ∙ ap (λ (k : PeerSide g.row.L.Denot). k.send_failed) c.write_request_header.ensures.same
+          ∙ c.new-peer.ensures.fresh.unsent;
     })
     c.begin-exchange.result.duplex c.begin-exchange.ensures.fresh
     (c.begin-exchange.ensures.sound

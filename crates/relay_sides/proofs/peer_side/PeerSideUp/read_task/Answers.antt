@@ -1,36 +1,29 @@
 -- Each answer of a read: the side goes on with the bytes that came, and with its task.
-use Rattle.std.proofs.Common.{Bool, ◌||◌, [], None, refl, sym, ap, ◌∙◌, append-nil}
+use Rattle.std.proofs.Common.{Bool, ◌||◌, refl, sym, ap, ◌∙◌}
 use Rattle.relay_peer.specs.declared.h1_client.H1Client.{H1Client}
 use Rattle.relay_tasks.specs.declared.took.Took.TheVariants as took
-use Rattle.relay_sides.proofs.CutLemmas.{cuts_handed, cuts_none}
-use Rattle.relay_sides.proofs.PeerLemmas.{more_gave, end_read, stopped_still}
-use Rattle.relay_sides.proofs.PeerTasks.{read_hands, read_stops}
-use Rattle.relay_sides.proofs.SideLemmas.{side_reads, side_stays, side_hands, calm_same, calm_failed, calm_withheld, calm_paused, or_none}
-use Rattle.relay_sides.proofs.MarkLemmas.{marked_more, marked_task, same_error}
+use Rattle.relay_sides.specs.Peer.{state_of}
+use Rattle.relay_sides.proofs.CutLemmas.{cuts_item, cuts_none, cut_no_failure}
+use Rattle.relay_sides.proofs.PeerLemmas.{more_gave, end_read}
+use Rattle.relay_sides.proofs.PeerTasks.{read_gives}
+use Rattle.relay_sides.proofs.SideLemmas.{side_on, side_reads, calm_same, calm_failed, calm_paused, or_none}
+use Rattle.relay_sides.proofs.MarkLemmas.{marked_task, same_error}
 use Rattle.relay_sides.proofs.UseLemmas.{peer_may, peer_waits}
 use Rattle.relay_sides.proofs.peer_side.PeerSideUp.read_task.Goals as goal
 
--- the side had stopped, and answers why
-pub returns-in-Some-clause-goes : goal.returns-in-Some-clause-goes
-returns-in-Some-clause-goes g c = λ s q stands.
-    side_stays s _ _ _ _ c.args.self.now _ q _ _ _ _ refl refl (append-nil q.read)
-    (λ calm still. calm_withheld c.args.self.now.told _ _ c.in-Some.why refl calm
-    (sym (ap (λ t. t.errors) c.failed-self.ensures) ∙ still))
-    (marked_more (g.L.ByteLink.start c.args.self.now.client.link)
-    (g.L.ByteLink.state c.args.self.now.client.link) c.args.self.now.client.failed
-    c.args.self.now.client.failed c.args.self.now.read_failed
-    c.is_error.result c.either-self.result c.args.self.now.send_failed c.args.self.now.lost
-    c.either-self.ensures (λ calm none. calm) stands.marked) stands
-    (stopped_still s (g.L.ByteLink.start c.args.self.now.client.link)
-    (g.L.ByteLink.state c.args.self.now.client.link) c.args.self.now.client
-    c.args.self.now.stopped c.args.self.now.lost c.in-Some.why q c.in-Some.is stands.peer)
+-- a task came
+pub returns-in-Item-clause-reads : goal.returns-in-Item-clause-reads
+returns-in-Item-clause-reads g c = record {
+  exact = ap (λ (k : H1Client _). state_of (record c.args.self.now { client = k }))
+      c.read_response_task.ensures.same;
+  upgraded_stays = λ before. before;
+  no_failure = cut_no_failure _ _ _ c.in-Item.task c.in-Item.ensures.reads.cuts;
+}
 
--- a task is handed on
-pub returns-in-Ok-clause-goes : goal.returns-in-Ok-clause-goes
-returns-in-Ok-clause-goes g c = λ s q stands.
-    side_hands s _ _ _ _ c.args.self.now _ q c.in-Ok.task _ _ _ c.read_response_task.ensures.start
-    (c.either-self-in-Ok.ensures
-    ∙ ap (λ (b : Bool). c.args.self.now.closes || b) c.asks_to_close.ensures)
+-- and is told
+pub returns-in-Item-clause-goes : goal.returns-in-Item-clause-goes
+returns-in-Item-clause-goes g c = λ s q stands.
+    side_on s _ _ _ _ c.args.self.now _ q _ _ _ _ c.read_response_task.ensures.start
     (λ calm still. calm_same c.args.self.now.told _ _ _ (took.Item c.in-Item.task)
     c.in-Item.ensures.failed refl refl calm still)
     (marked_task _ _ (g.L.ByteLink.start c.args.self.now.client.link)
@@ -42,48 +35,21 @@ returns-in-Ok-clause-goes g c = λ s q stands.
     c.args.self.now.lost c.in-Item.ensures.reads c.in-Item.ensures.failed
     (sym (or_none c.args.self.now.read_failed)) stands.peer.faults stands.marked)
     stands
-    (read_hands s (g.L.ByteLink.start c.args.self.now.client.link)
+    (read_gives s (g.L.ByteLink.start c.args.self.now.client.link)
     (g.L.ByteLink.start c.read_response_task.new.self.link)
     (g.L.ByteLink.state c.args.self.now.client.link)
     (g.L.ByteLink.state c.read_response_task.new.self.link) c.args.self.now.client
-    c.read_response_task.new.self c.args.self.now.stopped c.args.self.now.lost q c.in-Item.task
-    c.in-Ok.task c.in-None.is c.read_response_task.ensures.start
+    c.read_response_task.new.self c.args.self.now.lost q c.in-Item.task
+    c.read_response_task.ensures.start
     (ap (λ (k : H1Client _). k.request) c.read_response_task.ensures.same)
     (ap (λ (k : H1Client _). k.asked) c.read_response_task.ensures.same)
-    c.in-Item.ensures.reads c.in-Ok.ensures.0 c.in-Ok.ensures.2 c.in-Ok.ensures.3
-    c.in-Item.ensures.failed stands.peer)
+    c.in-Item.ensures.reads c.in-Item.ensures.failed stands.peer)
 
--- a task is not handed on, and the side stops
-pub returns-in-Err-clause-goes : goal.returns-in-Err-clause-goes
-returns-in-Err-clause-goes g c = λ s q stands.
-    side_stays s _ _ _ _ c.args.self.now _ q _ _ _ _ c.read_response_task.ensures.start refl
-    (append-nil q.read)
-    (λ calm still. calm_withheld c.args.self.now.told _ _ c.in-Err.why
-    (c.in-Item.ensures.failed ∙ or_none _) calm
-    (sym (ap (λ t. t.errors) c.failed-self-in-Err.ensures) ∙ still))
-    (marked_more (g.L.ByteLink.start c.args.self.now.client.link)
-    (g.L.ByteLink.state c.read_response_task.new.self.link) c.read_response_task.new.self.failed
-    c.read_response_task.new.self.failed c.args.self.now.read_failed c.is_error-in-Err.result
-    c.either-self-in-Err.result c.args.self.now.send_failed c.args.self.now.lost
-    c.either-self-in-Err.ensures (λ calm none. calm)
-    (marked_task _ _ (g.L.ByteLink.start c.args.self.now.client.link)
-    (g.L.ByteLink.state c.args.self.now.client.link)
-    (g.L.ByteLink.state c.read_response_task.new.self.link)
-    c.args.self.now.client.response c.read_response_task.new.self.response
-    (took.Item c.in-Item.task) c.args.self.now.client.failed c.read_response_task.new.self.failed
-    c.args.self.now.read_failed c.args.self.now.read_failed c.args.self.now.send_failed
-    c.args.self.now.lost c.in-Item.ensures.reads c.in-Item.ensures.failed
-    (sym (or_none c.args.self.now.read_failed)) stands.peer.faults stands.marked))
-    stands
-    (read_stops s (g.L.ByteLink.start c.args.self.now.client.link)
-    (g.L.ByteLink.start c.read_response_task.new.self.link)
-    (g.L.ByteLink.state c.args.self.now.client.link)
-    (g.L.ByteLink.state c.read_response_task.new.self.link) c.args.self.now.client
-    c.read_response_task.new.self c.args.self.now.stopped c.args.self.now.lost q c.in-Item.task
-    c.in-Err.why c.in-None.is c.read_response_task.ensures.start
-    (ap (λ (k : H1Client _). k.request) c.read_response_task.ensures.same)
-    (ap (λ (k : H1Client _). k.asked) c.read_response_task.ensures.same)
-    c.in-Item.ensures.reads c.in-Err.ensures c.in-Item.ensures.failed stands.peer)
+-- it is cut as it came
+pub returns-in-Item-clause-cuts : goal.returns-in-Item-clause-cuts
+returns-in-Item-clause-cuts g c =
+    cuts_item _ _ _ _ c.args.self.now.client.response c.read_response_task.new.self.response
+    c.in-Item.task c.in-Item.ensures.reads
 
 -- the link gave bytes
 pub returns-in-More-clause-goes : goal.returns-in-More-clause-goes
@@ -104,7 +70,7 @@ returns-in-More-clause-gives g c = λ s q stands unended is.
     more_gave s (g.L.ByteLink.start c.args.self.now.client.link)
     (g.L.ByteLink.state c.args.self.now.client.link)
     (g.L.ByteLink.state c.read_response_task.new.self.link) c.args.self.now.client
-    c.read_response_task.new.self c.args.self.now.stopped c.args.self.now.lost q
+    c.read_response_task.new.self c.args.self.now.lost q
     c.in-More.ensures.reads stands.peer
 
 -- before the end was handed on the response has not ended
@@ -113,7 +79,7 @@ returns-in-End-clause-gives g c = λ s q stands unended is.
     let ends = end_read s (g.L.ByteLink.start c.args.self.now.client.link)
     (g.L.ByteLink.state c.args.self.now.client.link)
     (g.L.ByteLink.state c.read_response_task.new.self.link) c.args.self.now.client
-    c.read_response_task.new.self c.args.self.now.stopped c.args.self.now.lost q c.in-None.is
+    c.read_response_task.new.self c.args.self.now.lost q
     c.in-End.ensures.reads stands.peer in
     let wrong = sym unended ∙ ends in
     absurd (cc)
@@ -152,29 +118,12 @@ returns-in-Failed-clause-goes g c = λ s q stands.
     (ap (λ (k : H1Client _). k.request) c.read_response_task.ensures.same)
     (ap (λ (k : H1Client _). k.asked) c.read_response_task.ensures.same)
     c.in-Failed.ensures.reads refl (c.in-Failed.ensures.ends refl) c.in-Failed.ensures.failed
-    (c.either-self-in-Failed.ensures
+    (c.either-self.ensures
     ∙ ap (λ (b : Bool). c.args.self.now.read_failed || b)
-    (c.is_error-in-Failed.ensures ∙ sym (same_error c.in-Failed.why)))
+    (c.is_error.ensures ∙ sym (same_error c.in-Failed.why)))
     (λ calm still. calm_failed c.args.self.now.told _ _ c.in-Failed.why
-    c.in-Failed.ensures.failed calm (sym (ap (λ t. t.errors) c.failed-self-in-Failed.ensures)
+    c.in-Failed.ensures.failed calm (sym (ap (λ t. t.errors) c.failed-self.ensures)
     ∙ still)) stands
-
--- a side that had stopped cuts nothing
-pub returns-in-Some-clause-cuts : goal.returns-in-Some-clause-cuts
-returns-in-Some-clause-cuts g c =
-    record { came = []; asked = None; asks = (refl, refl); cuts = tt }
-
--- a task that is handed on is cut as it came
-pub returns-in-Ok-clause-cuts : goal.returns-in-Ok-clause-cuts
-returns-in-Ok-clause-cuts g c =
-    cuts_handed _ _ _ _ _ c.args.self.now.client.response c.read_response_task.new.self.response
-    c.in-Item.task c.in-Ok.task c.in-Item.ensures.reads c.in-Ok.ensures.0
-
--- no task is handed on
-pub returns-in-Err-clause-cuts : goal.returns-in-Err-clause-cuts
-returns-in-Err-clause-cuts g c =
-    cuts_none _ _ _ _ c.args.self.now.client.response c.read_response_task.new.self.response
-    (took.Item c.in-Item.task) (took.Failed c.in-Err.why) c.in-Item.ensures.reads refl
 
 -- the link gave bytes, and no task
 pub returns-in-More-clause-cuts : goal.returns-in-More-clause-cuts
@@ -200,16 +149,9 @@ returns-in-Failed-clause-cuts g c =
     cuts_none _ _ _ _ c.args.self.now.client.response c.read_response_task.new.self.response
     (took.Failed c.in-Failed.why) (took.Failed c.in-Failed.why) c.in-Failed.ensures.reads refl
 
--- a task that is handed on asked the link once at most
-pub returns-in-Ok-clause-asks : goal.returns-in-Ok-clause-asks
-returns-in-Ok-clause-asks g c =
-    peer_may (g.L.ByteLink.state c.args.self.now.client.link)
-    (g.L.ByteLink.state c.read_response_task.new.self.link) _ _ c.args.self.now.client.response
-    c.read_response_task.new.self.response (took.Item c.in-Item.task) c.in-Item.ensures.reads
-
--- so did one that is not
-pub returns-in-Err-clause-asks : goal.returns-in-Err-clause-asks
-returns-in-Err-clause-asks g c =
+-- a task that came asked the link once at most
+pub returns-in-Item-clause-asks : goal.returns-in-Item-clause-asks
+returns-in-Item-clause-asks g c =
     peer_may (g.L.ByteLink.state c.args.self.now.client.link)
     (g.L.ByteLink.state c.read_response_task.new.self.link) _ _ c.args.self.now.client.response
     c.read_response_task.new.self.response (took.Item c.in-Item.task) c.in-Item.ensures.reads

@@ -4,14 +4,14 @@ use Rattle.relay_tasks.specs.declared.error.Error.{Error}
 use Rattle.relay_peer.specs.declared.h1_client.H1Client.{H1Client}
 use Rattle.relay_sides.specs.Peer.{AreMarked}
 use Rattle.relay_sides.proofs.MarkLemmas.{marked_same, marked_still, marked_loses, loses_short}
-use Rattle.relay_sides.proofs.SideLemmas.{side_stays, calm_withheld}
+use Rattle.relay_sides.proofs.SideLemmas.{side_on, calm_withheld}
 use Rattle.relay_sides.proofs.SendLemmas.{take_queues, take_loses, take_still}
 use Rattle.relay_sides.proofs.peer_side.PeerSideUp.take_piece.Goals as goal
 
 -- a piece was lost before, and this one is refused
 pub returns-in-Some-clause-goes : goal.returns-in-Some-clause-goes
 returns-in-Some-clause-goes g c = λ s q stands.
-    side_stays s _ _ _ _ c.args.self.now _ q _ _ _ _ refl refl refl
+    side_on s _ _ _ _ c.args.self.now _ q _ _ _ _ refl
     (λ calm still. calm_withheld c.args.self.now.told _ _ c.in-Some.why refl calm
     (sym (ap (λ t. t.errors) c.failed-self.ensures) ∙ still))
     (subst (λ (e : Option Error). AreMarked (g.L.ByteLink.start c.args.self.now.client.link)
@@ -24,14 +24,14 @@ returns-in-Some-clause-goes g c = λ s q stands.
     stands
     (take_still s (g.L.ByteLink.start c.args.self.now.client.link)
     (g.L.ByteLink.state c.args.self.now.client.link) c.args.self.now.client
-    c.args.self.now.stopped c.args.self.now.lost c.in-Some.why q c.args.task c.in-Some.is
+    c.args.self.now.lost c.in-Some.why q c.args.task c.in-Some.is
     stands.peer)
 
 -- the piece was queued
 pub returns-in-Ok-clause-goes : goal.returns-in-Ok-clause-goes
 returns-in-Ok-clause-goes g c = λ s q stands.
-    side_stays s _ _ _ _ c.args.self.now _ q _ _ _ _
-    (ap (λ (k : H1Client _). g.L.ByteLink.start k.link) c.queue_piece.ensures.same) refl refl
+    side_on s _ _ _ _ c.args.self.now _ q _ _ _ _
+    (ap (λ (k : H1Client _). g.L.ByteLink.start k.link) c.queue_piece.ensures.same)
     (λ calm still. ap (λ (k : H1Client _). k.failed) c.queue_piece.ensures.same ∙ calm still)
     (marked_same (g.L.ByteLink.start c.args.self.now.client.link)
     (g.L.ByteLink.state c.args.self.now.client.link)
@@ -45,7 +45,7 @@ returns-in-Ok-clause-goes g c = λ s q stands.
     (g.L.ByteLink.start c.queue_piece.new.client.link)
     (g.L.ByteLink.state c.args.self.now.client.link)
     (g.L.ByteLink.state c.queue_piece.new.client.link) c.args.self.now.client
-    c.queue_piece.new.client c.args.self.now.stopped c.args.self.now.lost q c.args.task c.in-None.is
+    c.queue_piece.new.client c.args.self.now.lost q c.args.task c.in-None.is
     (ap (λ (k : H1Client _). g.L.ByteLink.start k.link) c.queue_piece.ensures.same)
     (ap (λ (k : H1Client _). g.L.ByteLink.state k.link) c.queue_piece.ensures.same)
     (ap (λ (k : H1Client _). k.response) c.queue_piece.ensures.same)
@@ -56,8 +56,8 @@ returns-in-Ok-clause-goes g c = λ s q stands.
 -- the piece was lost
 pub returns-in-Err-clause-goes : goal.returns-in-Err-clause-goes
 returns-in-Err-clause-goes g c = λ s q stands.
-    side_stays s _ _ _ _ c.args.self.now _ q _ _ _ _
-    (ap (λ (k : H1Client _). g.L.ByteLink.start k.link) c.queue_piece.ensures.same) refl refl
+    side_on s _ _ _ _ c.args.self.now _ q _ _ _ _
+    (ap (λ (k : H1Client _). g.L.ByteLink.start k.link) c.queue_piece.ensures.same)
     (λ calm still. calm_withheld c.args.self.now.told _ _ c.in-Err.why
     (ap (λ (k : H1Client _). k.failed) c.queue_piece.ensures.same) calm
     (sym (ap (λ t. t.errors) c.failed-self-in-Err.ensures) ∙ still))
@@ -82,7 +82,7 @@ returns-in-Err-clause-goes g c = λ s q stands.
     (g.L.ByteLink.start c.queue_piece.new.client.link)
     (g.L.ByteLink.state c.args.self.now.client.link)
     (g.L.ByteLink.state c.queue_piece.new.client.link) c.args.self.now.client
-    c.queue_piece.new.client c.args.self.now.stopped c.args.self.now.lost q c.args.task
+    c.queue_piece.new.client c.args.self.now.lost q c.args.task
     c.in-Err.why c.in-None.is
     (ap (λ (k : H1Client _). g.L.ByteLink.start k.link) c.queue_piece.ensures.same)
     (ap (λ (k : H1Client _). g.L.ByteLink.state k.link) c.queue_piece.ensures.same)

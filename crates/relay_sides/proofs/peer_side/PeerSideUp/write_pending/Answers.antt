@@ -1,10 +1,10 @@
 -- What the link took leaves the queue, and a fault is blamed.
-use Rattle.std.proofs.Common.{Option, refl, ap, sym, subst, ◌∙◌}
+use Rattle.std.proofs.Common.{Option, ap, sym, subst, ◌∙◌}
 use Rattle.relay_tasks.specs.declared.error.Error.{Error}
 use Rattle.relay_peer.specs.declared.h1_client.H1Client.{H1Client}
 use Rattle.relay_sides.specs.Peer.{AreMarked}
 use Rattle.relay_sides.proofs.MarkLemmas.{marked_write}
-use Rattle.relay_sides.proofs.SideLemmas.{side_stays, calm_put}
+use Rattle.relay_sides.proofs.SideLemmas.{side_on, calm_put}
 use Rattle.relay_sides.proofs.SendLemmas.{write_goes}
 use Rattle.relay_sides.proofs.UseLemmas.{put_uses, put_asked}
 use Rattle.relay_sides.proofs.peer_side.PeerSideUp.write_pending.Goals as goal
@@ -12,7 +12,7 @@ use Rattle.relay_sides.proofs.peer_side.PeerSideUp.write_pending.Goals as goal
 -- what passed goes on with what the link took
 pub returns-clause-goes : goal.returns-clause-goes
 returns-clause-goes g c = λ s q stands.
-    side_stays s _ _ _ _ c.args.self.now _ q _ _ _ _ c.write_pending-put.ensures.start refl refl
+    side_on s _ _ _ _ c.args.self.now _ q _ _ _ _ c.write_pending-put.ensures.start
     (λ calm still. calm_put c.args.self.now.told _ _ c.write_pending-put.result
     c.write_pending-put.ensures.failed calm
     (sym (ap (λ t. t.errors) c.written-self.ensures) ∙ still))
@@ -31,7 +31,7 @@ returns-clause-goes g c = λ s q stands.
     (g.L.ByteLink.start c.write_pending-put.new.self.link)
     (g.L.ByteLink.state c.args.self.now.client.link)
     (g.L.ByteLink.state c.write_pending-put.new.self.link) c.args.self.now.client
-    c.write_pending-put.new.self c.args.self.now.stopped c.args.self.now.lost q
+    c.write_pending-put.new.self c.args.self.now.lost q
     c.write_pending-put.result c.write_pending-put.ensures.start
     (ap (λ (k : H1Client _). k.response) c.write_pending-put.ensures.same)
     (ap (λ (k : H1Client _). k.asked) c.write_pending-put.ensures.same)
