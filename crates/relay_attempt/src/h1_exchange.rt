@@ -154,7 +154,7 @@ impl<L> H1Exchange<L> {
     pub fn link(&self) -> &L
         ensures { result.now ≡ link_of self.now }
     {
-        self.exchange.up().link()
+        self.exchange.up().inner().link()
     }
 
     /// The link alone.
