@@ -19,7 +19,7 @@ use Rattle.relay_peer.specs.ResponseReading as reading
 use Rattle.relay_peer.specs.ResponseReading.{untold, with_head, with_task}
 use Rattle.relay_peer.proofs.ExactLemmas.{Tasks-unique}
 use Rattle.relay_sides.specs.Filtered.{is_switch}
-use Rattle.relay_sides.specs.Peer.{told_behind}
+use Rattle.relay_peer.specs.Peer.{told_behind}
 use Rattle.relay_attempt.specs.Order.{FailsFor, IsRelayed}
 use Rattle.relay_attempt.specs.Order as order
 use Rattle.relay_attempt.specs.Passed.{Passed}
