@@ -14,7 +14,7 @@ use Rattle.relay_core.specs.Moves.{SoFar, failure_task}
 use Rattle.relay_core.specs.Past.{DownPast, UpPast}
 use Rattle.relay_core.specs.Pipe.{is_failure}
 use Rattle.relay_core.specs.Table.{State}
-use Rattle.relay_sides.specs.Body.{IsFrontOf}
+use Rattle.relay_peer.specs.Body.{IsFrontOf}
 use Rattle.relay_attempt.specs.Attempt.{IsAttempt}
 
 -- what passed through any two sides is an attempt

@@ -35,17 +35,17 @@ use Rattle.relay_core.proofs.BoolLemmas.{and_right, and_both, or_left, clash, de
 use Rattle.relay_core.proofs.TaskLemmas.{any_left}
 use Rattle.relay_core.specs.Past.{Origin, DownPast, UpPast}
 use Rattle.relay_core.specs.declared.duplex.Duplex.{Duplex}
-use Rattle.relay_sides.specs.Body.{IsFrontOf, sent_as}
+use Rattle.relay_peer.specs.Body.{IsFrontOf, sent_as}
 use Rattle.relay_sides.specs.Client as client
 use Rattle.relay_sides.specs.Client.{ClientBlames, ClientRefuses, CannotEnd, given_to, queued}
-use Rattle.relay_sides.specs.Faults as faults
+use Rattle.relay_peer.specs.Faults as faults
 use Rattle.relay_sides.specs.Filtered.{AreHeads, stops_for_error}
 use Rattle.relay_sides.specs.Filtered as filtered
-use Rattle.relay_sides.specs.Peer.{IsPeer, AreTasks, PeerBlames, IsWriteError, told_of}
-use Rattle.relay_sides.specs.Peer as peer
+use Rattle.relay_peer.specs.Peer.{IsPeer, AreTasks, PeerBlames, IsWriteError, told_of}
+use Rattle.relay_peer.specs.Peer as peer
 use Rattle.relay_sides.specs.declared.client_side.ClientSide.{ClientSide}
 use Rattle.relay_sides.specs.declared.filtered.Filtered.{Filtered}
-use Rattle.relay_sides.specs.declared.peer_side.PeerSide.{PeerSide}
+use Rattle.relay_peer.specs.declared.peer_side.PeerSide.{PeerSide}
 use Rattle.relay_sides.proofs.ClientPast.{open_is_whole}
 use Rattle.relay_sides.proofs.FilterLemmas.{inside_of}
 use Rattle.relay_attempt.specs.Exchange.{DownHolds, UpHolds, Blames, BlamesInside, down_state, core_of, IsFinished}

@@ -38,11 +38,11 @@ use Rattle.relay_session.specs.declared.task_text.Place.TheVariants as place
 use Rattle.relay_session.specs.declared.task_text.Request.{Request}
 use Rattle.relay_session.proofs.AskedLemmas.{same_framing}
 use Rattle.relay_core.specs.Moves.{EndsLast}
-use Rattle.relay_sides.specs.Body.{IsFrontOf}
+use Rattle.relay_peer.specs.Body.{IsFrontOf}
 use Rattle.relay_peer.specs.declared.response_reading.ResponseReading.{ResponseReading}
 use Rattle.relay_sides.specs.Filtered.{AreHeads, handed, is_switch}
-use Rattle.relay_sides.specs.Peer.{told_behind, told_of}
-use Rattle.relay_sides.specs.Peer.{Follow, AreTasks}
+use Rattle.relay_peer.specs.Peer.{told_behind, told_of}
+use Rattle.relay_peer.specs.Peer.{Follow, AreTasks}
 use Rattle.relay_attempt.specs.Order.{AreOf}
 use Rattle.relay_attempt.proofs.WholeLemmas.{IsFull, full_has_end}
 

@@ -43,17 +43,17 @@ use Rattle.relay_core.specs.Down.{DownState}
 use Rattle.relay_core.specs.Past.{Origin, DownPast, UpPast}
 use Rattle.relay_core.specs.Pipe.{is_failure}
 use Rattle.relay_core.specs.declared.duplex.Duplex.{Duplex}
-use Rattle.relay_sides.specs.Body.{IsFrontOf, body_of, sent_as}
+use Rattle.relay_peer.specs.Body.{IsFrontOf, body_of, sent_as}
 use Rattle.relay_sides.specs.Client.{HasPassed, IsClient, given_to, queued}
 use Rattle.relay_sides.specs.Filtered.{AreHeads, IsFiltered, RefusesHead, handed}
-use Rattle.relay_sides.specs.Peer.{IsPeer, IsPeerSide, AreTasks, told_of}
+use Rattle.relay_peer.specs.Peer.{IsPeer, IsPeerSide, AreTasks, told_of}
 use Rattle.relay_sides.specs.declared.client_side.ClientSide.{ClientSide}
 use Rattle.relay_sides.specs.declared.filtered.Filtered.{Filtered}
-use Rattle.relay_sides.specs.declared.peer_side.PeerSide.{PeerSide}
-use Rattle.relay_sides.proofs.FrontLemmas.{front_then}
+use Rattle.relay_peer.specs.declared.peer_side.PeerSide.{PeerSide}
+use Rattle.relay_peer.proofs.FrontLemmas.{front_then}
 use Rattle.relay_sides.proofs.FilterLemmas.{inside_of}
 use Rattle.relay_sides.proofs.RefusalLemmas.{stopped_for, withheld_heads}
-use Rattle.relay_sides.proofs.TaskLemmas.{ended_whole}
+use Rattle.relay_peer.proofs.TaskLemmas.{ended_whole}
 use Rattle.relay_attempt.specs.Attempt.{DownHalf, IsAttempt, UpHalf}
 use Rattle.relay_attempt.specs.Exchange.{DownHolds, UpHolds, Blames, down_state, core_of, AreTold}
 use Rattle.relay_attempt.specs.Order.{ArePieces, AreOf, IsInOrder}

@@ -26,9 +26,9 @@ use Rattle.relay_session.specs.declared.writing.Writing.{Writing}
 use Rattle.relay_tasks.specs.declared.fault.Fault.{Fault}
 use Rattle.relay_core.specs.Moves.{EndsLast}
 use Rattle.relay_core.specs.Pipe.{is_failure}
-use Rattle.relay_sides.specs.Body.{IsFrontOf}
+use Rattle.relay_peer.specs.Body.{IsFrontOf}
 use Rattle.relay_sides.specs.Filtered.{handed}
-use Rattle.relay_sides.specs.Peer.{told_behind, told_of}
+use Rattle.relay_peer.specs.Peer.{told_behind, told_of}
 
 -- two refusals that are none
 either_none : (a b : Option Error) → a ≡ None → b ≡ None → or_later a b ≡ None

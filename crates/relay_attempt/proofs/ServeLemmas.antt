@@ -31,11 +31,11 @@ use Rattle.relay_peer.specs.declared.response_reading.ResponsePlace.TheVariants 
 use Rattle.relay_peer.proofs.ExactLemmas.{Tasks-unique}
 use Rattle.relay_session.specs.Front.{ends_with_head}
 use Rattle.relay_core.specs.Past.{Origin}
-use Rattle.relay_sides.specs.Body.{bytes_of, sent_as, sent_behind, sent_with}
+use Rattle.relay_peer.specs.Body.{bytes_of, sent_as, sent_behind, sent_with}
 use Rattle.relay_sides.specs.Filtered.{RefusesHead}
 use Rattle.relay_sides.specs.Filtered as filtered
-use Rattle.relay_sides.specs.Peer.{PeerBlames}
-use Rattle.relay_sides.specs.Peer as peer
+use Rattle.relay_peer.specs.Peer.{PeerBlames}
+use Rattle.relay_peer.specs.Peer as peer
 use Rattle.relay_attempt.specs.Order.{IsInOrder, up_past}
 use Rattle.relay_attempt.specs.Passed.{Passed}
 use Rattle.relay_attempt.proofs.UnshortLemmas.{request_unshort}

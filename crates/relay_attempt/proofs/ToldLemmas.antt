@@ -16,10 +16,10 @@ use Rattle.relay_peer.specs.declared.response_reading.ResponsePlace.TheVariants 
 use Rattle.relay_peer.specs.declared.response_reading.ResponseReading.{ResponseReading}
 use Rattle.relay_peer.specs.ResponseReading.{ToldResponse, ReadAt, IsResponseTask, untold, with_task, with_head, with_piece}
 use Rattle.relay_core.specs.Moves.{EndsLast}
-use Rattle.relay_sides.specs.Body.{IsFrontOf}
-use Rattle.relay_sides.specs.Peer.{AreTasks, EndsAs, EndFramed, Follow, told_behind, told_of}
-use Rattle.relay_sides.proofs.FrontLemmas.{own_front, front_more, front_then}
-use Rattle.relay_sides.proofs.SaidLemmas.{told_front}
+use Rattle.relay_peer.specs.Body.{IsFrontOf}
+use Rattle.relay_peer.specs.Peer.{AreTasks, EndsAs, EndFramed, Follow, told_behind, told_of}
+use Rattle.relay_peer.proofs.FrontLemmas.{own_front, front_more, front_then}
+use Rattle.relay_peer.proofs.SaidLemmas.{told_front}
 
 -- ---- more is told
 

@@ -18,8 +18,8 @@ use Rattle.relay_h1.specs.BodyWire.{after_piece, after_pieces, is_short}
 use Rattle.relay_h1.specs.Framing.{request_framing}
 use Rattle.relay_peer.specs.RequestWriting.{body_framing}
 use Rattle.relay_core.specs.Past.{Origin}
-use Rattle.relay_sides.specs.Body.{IsFrontOf, body_of}
-use Rattle.relay_sides.proofs.FrontLemmas.{front_then}
+use Rattle.relay_peer.specs.Body.{IsFrontOf, body_of}
+use Rattle.relay_peer.proofs.FrontLemmas.{front_then}
 use Rattle.relay_attempt.specs.Order.{IsInOrder}
 use Rattle.relay_attempt.specs.Passed.{Passed, asked}
 

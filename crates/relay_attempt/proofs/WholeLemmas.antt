@@ -24,7 +24,7 @@ use Rattle.relay_peer.specs.declared.response_reading.ResponsePlace.TheVariants 
 use Rattle.relay_peer.specs.declared.response_reading.ResponseReading.{ResponseReading}
 use Rattle.relay_core.proofs.BoolLemmas.{clash}
 use Rattle.relay_sides.specs.Filtered.{AreHeads}
-use Rattle.relay_sides.specs.Peer.{AreTasks, Follow, told_behind, told_of}
+use Rattle.relay_peer.specs.Peer.{AreTasks, Follow, told_behind, told_of}
 
 -- the body takes no more bytes, of those that were told
 abbrev pub IsFull : Framing → List ℕ → Type 0

@@ -19,10 +19,10 @@ use Rattle.relay_core.specs.Down.{DownState}
 use Rattle.relay_core.specs.Moves.{EndsLast, failure_task}
 use Rattle.relay_core.specs.Past.{Origin, DownPast, UpPast}
 use Rattle.relay_core.specs.Pipe.{is_failure}
-use Rattle.relay_sides.specs.Body.{IsFrontOf, sent_as}
+use Rattle.relay_peer.specs.Body.{IsFrontOf, sent_as}
 use Rattle.relay_sides.specs.Client.{queued}
-use Rattle.relay_sides.specs.Faults.{TellsSince}
-use Rattle.relay_sides.specs.Peer.{told_of}
+use Rattle.relay_peer.specs.Faults.{TellsSince}
+use Rattle.relay_peer.specs.Peer.{told_of}
 use Rattle.relay_attempt.specs.Order.{ArePieces, AreOf}
 
 -- what passed through both sides, whatever they are: the upstream was given the front of the pieces

@@ -18,13 +18,13 @@ use Rattle.relay_core.specs.declared.step.Step.{Step}
 use Rattle.relay_core.specs.declared.step.Step.TheVariants as step
 use Rattle.relay_sides.specs.Client.{HasPassed}
 use Rattle.relay_sides.specs.Client as client
-use Rattle.relay_sides.specs.Faults.{TellsSince}
-use Rattle.relay_sides.specs.Peer.{IsPeerSide, PeerBlames}
-use Rattle.relay_sides.specs.Peer as peer
+use Rattle.relay_peer.specs.Faults.{TellsSince}
+use Rattle.relay_peer.specs.Peer.{IsPeerSide, PeerBlames}
+use Rattle.relay_peer.specs.Peer as peer
 use Rattle.relay_sides.specs.declared.client_side.ClientSide.{ClientSide}
 use Rattle.relay_sides.specs.Filtered.{BlamesOver, IsFiltered, state_over}
 use Rattle.relay_sides.specs.declared.filtered.Filtered.{Filtered}
-use Rattle.relay_sides.specs.declared.peer_side.PeerSide.{PeerSide}
+use Rattle.relay_peer.specs.declared.peer_side.PeerSide.{PeerSide}
 use Rattle.relay_exchange.specs.Exchange.{IsSilentLink}
 use Rattle.relay_exchange.specs.Exchange as over
 use Rattle.relay_attempt.specs.declared.h1_exchange.H1Exchange.{H1Exchange}

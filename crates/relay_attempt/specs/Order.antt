@@ -25,10 +25,10 @@ use Rattle.relay_session.specs.Response.{is_over}
 use Rattle.relay_session.specs.declared.task_text.Place.TheVariants as place
 use Rattle.relay_core.specs.Moves.{EndsLast}
 use Rattle.relay_core.specs.Past.{Origin, DownPast, UpPast}
-use Rattle.relay_sides.specs.Body.{IsFrontOf, body_of, sent_as}
+use Rattle.relay_peer.specs.Body.{IsFrontOf, body_of, sent_as}
 use Rattle.relay_sides.specs.Client.{ClientBlames}
 use Rattle.relay_sides.specs.Filtered.{handed, is_switch, HasRoom, RefusesHead, asks_to_close}
-use Rattle.relay_sides.specs.Peer.{told_of, EndFramed, Follow, PeerBlames, IsWriteError}
+use Rattle.relay_peer.specs.Peer.{told_of, EndFramed, Follow, PeerBlames, IsWriteError}
 use Rattle.relay_attempt.specs.Passed.{Passed, asked}
 
 -- the client's bytes begin with the head of the request

@@ -17,8 +17,9 @@ ghost use Rattle.relay_attempt.specs.Exchange.{IsUnderWay, Turns, MeetsSilence, 
 use relay_core::Step;
 use relay_exchange::{Exchange, Turn};
 use relay_links::{ByteLink, Schedule};
+use relay_peer::PeerSide;
 use relay_session::{Front, HttpSession};
-use relay_sides::{ClientSide, Filtered, PeerSide, is_head_request};
+use relay_sides::{ClientSide, Filtered, is_head_request};
 use relay_tasks::{Context, ErrorSource, Fail, Pause, RequestHeader};
 use std::alloc::Global;
 

@@ -38,7 +38,7 @@ use Rattle.relay_proxy.specs.declared.machine.Phase.TheVariants.{Connect, Relay,
 use Rattle.relay_proxy.specs.declared.outcome.Outcome.{Outcome}
 use Rattle.relay_proxy.specs.declared.outcome.Outcome.TheVariants as outcome
 use Rattle.relay_proxy.proofs.OpenHead.{exchange_open}
-use Rattle.relay_sides.proofs.FaultLemmas.{grew_same}
+use Rattle.relay_peer.proofs.FaultLemmas.{grew_same}
 use Rattle.relay_proxy.proofs.Tells.{Rose-le, client_still}
 
 -- a link that was just handed out gave and took nothing since

@@ -33,7 +33,7 @@ use Rattle.relay_proxy.specs.declared.pending.Pending.{Pending}
 use Rattle.relay_proxy.specs.declared.record.AttemptRecord.{AttemptRecord}
 use Rattle.relay_h1.proofs.VerdictLemmas.{HasRequest-IsOpen}
 use Rattle.relay_proxy.proofs.OpenHead.{turns_down_open}
-use Rattle.relay_sides.proofs.FaultLemmas.{Grew, grew_same, grew_none, more_none, added_last, since_none}
+use Rattle.relay_peer.proofs.FaultLemmas.{Grew, grew_same, grew_none, more_none, added_last, since_none}
 use Rattle.relay_proxy.proofs.Tells.{Rose-le, came_more, written_more, client_gave, client_took, client_still, take_whole, take_rest}
 
 -- a request whose body ends with its head is one whose body is done from the first on

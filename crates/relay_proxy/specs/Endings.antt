@@ -24,8 +24,8 @@ use Rattle.relay_h1.specs.Wire.{generated}
 use Rattle.relay_h1.specs.declared.framing.Framing.{Framing}
 use Rattle.relay_session.specs.Reading.{IsWhole}
 use Rattle.relay_core.specs.Past.{Origin}
-use Rattle.relay_sides.specs.Body.{IsFrontOf, body_of}
-use Rattle.relay_sides.specs.Faults.{IsLast}
+use Rattle.relay_peer.specs.Body.{IsFrontOf, body_of}
+use Rattle.relay_peer.specs.Faults.{IsLast}
 use Rattle.relay_sides.specs.Filtered.{asks_to_close}
 use Rattle.relay_attempt.specs.Order as exchange
 use Rattle.relay_attempt.specs.Order.{FailsFor, IsRelayed, HasEnded, MayServe}

@@ -5,7 +5,7 @@ use Rattle.relay_links.specs.Link.{LinkState, LinkStart}
 use Rattle.relay_links.specs.Told.{Since, told_length}
 use Rattle.relay_h1.specs.Verdict.{IsOpen}
 use Rattle.relay_core.specs.Past.{Origin}
-use Rattle.relay_sides.specs.Faults.{TellsSince}
+use Rattle.relay_peer.specs.Faults.{TellsSince}
 use Rattle.relay_attempt.specs.Passed.{Passed}
 
 -- the outside as one request sees it: the client's link, the bytes that were read ahead from it,

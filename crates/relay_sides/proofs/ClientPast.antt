@@ -17,9 +17,9 @@ use Rattle.relay_session.specs.declared.writing.Outgoing.TheVariants as outgoing
 use Rattle.relay_session.proofs.ReadingLemmas.{body_whole}
 use Rattle.relay_tasks.specs.declared.fault.Fault.{Fault}
 use Rattle.relay_core.specs.Past.{Origin, DownPast}
-use Rattle.relay_sides.specs.Body.{bytes_of, body_of}
+use Rattle.relay_peer.specs.Body.{bytes_of, body_of}
 use Rattle.relay_sides.specs.Client.{HasPassed, FailsWrite, BeginsBehind, begun_past}
-use Rattle.relay_sides.proofs.FaultLemmas.{Grew, among_still}
+use Rattle.relay_peer.proofs.FaultLemmas.{Grew, among_still}
 
 -- an output that is open has no fault
 pub open_is_whole : (output : Outgoing) (queue : List ℕ) (fault : Fault)

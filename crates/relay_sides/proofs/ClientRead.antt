@@ -33,12 +33,13 @@ use Rattle.relay_core.specs.declared.told.Told.{Told}
 use Rattle.relay_core.specs.Down.{ReadsPiece}
 use Rattle.relay_core.specs.Past.{Origin, DownPast, GaveBytes, DownGoes, put_in, error_of_took}
 use Rattle.relay_core.specs.Piece.{put_of}
-use Rattle.relay_sides.specs.Body.{body_of}
+use Rattle.relay_peer.specs.Body.{body_of}
 use Rattle.relay_sides.specs.Client.{IsClient, HasPassed, IsUnanswered, ClientBlames, state_of, piece_answer, told_read, given_to}
 use Rattle.relay_sides.specs.Client as client
-use Rattle.relay_sides.specs.Faults.{TellsSince}
+use Rattle.relay_peer.specs.Faults.{TellsSince}
 use Rattle.relay_sides.proofs.ClientPast.{stands_at, reading_whole, body_of-append, rose_from, failed_still}
-use Rattle.relay_sides.proofs.FaultLemmas.{body_grew, since_on, added_last}
+use Rattle.relay_peer.proofs.FaultLemmas.{since_on, added_last}
+use Rattle.relay_sides.proofs.ClientFaults.{body_grew}
 
 -- what a read of the session left, by its answer; `still` says that the body had ended, so that the
 -- client was only watched

@@ -23,10 +23,10 @@ use Rattle.relay_core.specs.Down.{Writes}
 use Rattle.relay_core.specs.Past.{Origin, DownPast, DownGoes, error_of_put}
 use Rattle.relay_core.specs.Told.{written, fault_of}
 use Rattle.relay_sides.specs.Client.{IsClient, HasPassed, FailsWrite, ClientBlames, fault_in, state_of}
-use Rattle.relay_sides.specs.Faults.{TellsSince}
+use Rattle.relay_peer.specs.Faults.{TellsSince}
 use Rattle.relay_sides.specs.Client as client
 use Rattle.relay_sides.proofs.ClientPast.{rose_from, open_is_whole}
-use Rattle.relay_sides.proofs.FaultLemmas.{Grew, grew_none, grew_same, more_none, since_on, added_among}
+use Rattle.relay_peer.proofs.FaultLemmas.{Grew, grew_none, grew_same, more_none, since_on, added_among}
 
 -- a write is due where something waits
 pub may_write : (output : Outgoing) → not (length (pending output) == 0) ≡ true → MayWrite output

@@ -8,10 +8,10 @@ use Rattle.relay_h1.specs.ClientHead.{is_informational}
 use Rattle.relay_peer.specs.declared.response_reading.ResponseReading.{ResponseReading}
 use Rattle.relay_peer.specs.ResponseReading.{ToldResponse, ReadSoFar, IsResponseTask, untold, with_task}
 use Rattle.relay_peer.specs.ResponseReading as reading
-use Rattle.relay_sides.specs.Peer.{AreTasks, Follow, told_behind, told_of}
+use Rattle.relay_peer.specs.Peer.{AreTasks, Follow, told_behind, told_of}
 use Rattle.relay_sides.specs.Filtered.{AreHeads, IsWithheld, RefusesHead, Withholds}
 use Rattle.relay_sides.specs.Filtered as filtered
-use Rattle.relay_sides.proofs.TaskLemmas.{told_push, final_in, lacking_final}
+use Rattle.relay_peer.proofs.TaskLemmas.{told_push, final_in, lacking_final}
 
 -- the last of tasks that follow what was told is one of the response
 follow_last : (told : ToldResponse) (tasks : List HttpTask) (last : HttpTask)

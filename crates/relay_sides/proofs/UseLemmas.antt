@@ -1,8 +1,7 @@
 -- Which link a call of a side asked: once, or not at all.
 --
---   peer_may, peer_waits, put_uses, put_asked    the peer's link, by what its client says
---   client_reads, client_writes                  the client's link, by what its session says
---   client_puts                                  a piece of the session puts a task
+--   client_reads, client_writes    the client's link, by what its session says
+--   client_puts                    a piece of the session puts a task
 use Rattle.std.proofs.Common.{◌≡◌, ℕ, ◌<◌, Bool, true, false, ◌&&◌, not, List, [], ◌∷◌, ◌==◌, length, Option, Some, None, refl, sym, ap, ◌∙◌, subst, inl, inr, arith, length-append}
 use Rattle.std.specs.Prelude.{◌⊎◌, if◌then◌else◌, is_some}
 use Rattle.std.proofs.lemmas.Bool.{cases_Bool}
@@ -28,52 +27,11 @@ use Rattle.relay_session.specs.declared.writing.Outgoing.TheVariants as outgoing
 use Rattle.relay_core.specs.Past.{Origin, DownPast}
 use Rattle.relay_core.specs.Uses.{IsUsed, MayUse, ReadUses, WriteUses, PutsTask}
 use Rattle.relay_core.specs.declared.piece.Piece.{Piece}
+use Rattle.relay_peer.proofs.UseLemmas.{put_uses}
 use Rattle.relay_sides.specs.Client.{IsClient, piece_answer, given_to}
 use Rattle.relay_sides.proofs.ClientRead.{Left}
 
 module _ (before after : LinkState) where
-  -- the peer's link was asked once at most
-  asked_may : (came : List ℕ) (asked : Option Got) → Asks before after came asked
-      → MayUse before after
-  asked_may came None asks = inr asks.0
-  asked_may came (Some (got.Bytes n)) asks = inl asks.gives.used
-  asked_may came (Some got.NotReady) asks = inl asks.0.used
-  asked_may came (Some got.Silent) asks = inr asks.0.same
-  asked_may came (Some got.End) asks = inl asks.0.used
-  asked_may came (Some (got.Failed fault)) asks = inl asks.0.used
-
-  -- a read of the peer asks it once at most
-  pub peer_may : (method : List ℕ) (upgrade : Bool) (old new : ResponseReading)
-      (answer : Took HttpTask)
-      → ReadsTask method upgrade before after old new answer → MayUse before after
-  peer_may method upgrade old new answer reads = asked_may reads.came reads.asked reads.asks
-
-  -- a read of the peer that waits asked it, or the peer is silent
-  pub peer_waits : (pause : Pause) (answer : Took HttpTask) → answer ≡ took.Waited pause
-      → (answer ≡ took.Waited NotReady → after.used ≡ up before.used)
-      → (answer ≡ took.Waited Silent → (after ≡ before) × (after.silent_on_read ≡ true))
-      → ReadUses {T = HttpTask} before after (took.Waited pause)
-  peer_waits NotReady answer is used silent = used is
-  peer_waits Silent answer is used silent = (silent is).0
-
-  -- a write to the peer asks it, unless it is silent
-  pub put_uses : (part : List ℕ) (answer : Put) → Writes before part after answer
-      → WriteUses before after answer
-  put_uses part (put.Took n) writes = writes.used
-  put_uses part put.NotReady writes = writes.used
-  put_uses part put.Silent writes = writes.same
-  put_uses part (put.Failed fault) writes = inl writes.used
-  put_uses part put.OutOfMemory writes = inl (ap (λ (l : LinkState). l.used) writes.same)
-
-  -- one that failed asked it
-  pub put_asked : (part : List ℕ) (answer : Put) → Writes before part after answer
-      → (fault : Fault) → answer ≡ put.Failed fault → IsUsed before after
-  put_asked part (put.Took n) writes fault is = writes.used
-  put_asked part put.NotReady writes fault is = writes.used
-  put_asked part put.Silent writes fault is = absurd (cc)
-  put_asked part (put.Failed told) writes fault is = writes.used
-  put_asked part put.OutOfMemory writes fault is = absurd (cc)
-
   -- a read of the client asks it once at most
   pub client_reads : (answer : Took (List ℕ)) (done : Bool) → ReadsLink before after answer
       → ReadUses before after (piece_answer answer done)
@@ -96,7 +54,7 @@ module _ (before after : LinkState) where
   client_writes (outgoing.Broken fault) left answer some writes =
       absurd (nothing_waits fault some)
   client_writes (outgoing.Open queue) left answer some writes =
-      put_uses queue answer writes.writes.writes
+      put_uses before after queue answer writes.writes.writes
 
 -- a list with some bytes is not empty
 some_bytes : (bytes : List ℕ) → 0 < length bytes → (length bytes == 0) ≡ false

@@ -35,8 +35,8 @@ use Rattle.relay_core.specs.Pipe.{is_failure}
 use Rattle.relay_core.specs.declared.piece.Piece.{Piece}
 use Rattle.relay_core.specs.declared.told.Told.{Told}
 use Rattle.relay_core.specs.Told.{paused, failed}
-use Rattle.relay_sides.specs.Body.{body_of}
-use Rattle.relay_sides.specs.Faults.{TellsSince, IsAmong, IsLast}
+use Rattle.relay_peer.specs.Body.{body_of}
+use Rattle.relay_peer.specs.Faults.{TellsSince, IsAmong, IsLast}
 
 -- the bytes of the client since its request began, those that were ahead then first
 abbrev pub given_to : Origin → DownPast → List ℕ

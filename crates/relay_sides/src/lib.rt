@@ -1,13 +1,10 @@
-//! The two sides of a duplex over HTTP/1 links: the client's over its session, and the upstream's
-//! over the client of a peer.
+//! The sides of a duplex: the client's over its session, and one over another side of the upstream.
 #![tactic(auto)]
 
 mod client_side;
 mod filtered;
-mod peer_side;
 #[cfg(test)]
 mod tests;
 
 pub use client_side::ClientSide;
 pub use filtered::{Filtered, is_head_request};
-pub use peer_side::PeerSide;

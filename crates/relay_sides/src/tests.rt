@@ -2,4 +2,3 @@
 
 mod client_side;
 mod filtered;
-mod peer_side;

@@ -16,7 +16,7 @@ use Rattle.relay_peer.specs.ResponseReading.{untold, with_head, with_task}
 use Rattle.relay_peer.proofs.ExactLemmas.{Tasks-unique}
 use Rattle.relay_core.specs.Past.{Origin}
 use Rattle.relay_sides.specs.Filtered.{is_switch}
-use Rattle.relay_sides.specs.Peer.{told_behind}
+use Rattle.relay_peer.specs.Peer.{told_behind}
 use Rattle.relay_attempt.specs.Order.{IsRelayed}
 use Rattle.relay_attempt.specs.Passed.{Passed}
 use Rattle.relay_valid.specs.Unfit as unfit

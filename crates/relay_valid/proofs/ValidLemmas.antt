@@ -26,14 +26,14 @@ use Rattle.relay_peer.specs.ResponseReading.{ToldResponse, says}
 use Rattle.relay_peer.proofs.ExactLemmas.{Tasks-unique}
 use Rattle.relay_session.specs.Reading.{SaysBody, IsWhole}
 use Rattle.relay_core.specs.Past.{Origin, DownPast}
-use Rattle.relay_sides.specs.Body.{IsFrontOf}
+use Rattle.relay_peer.specs.Body.{IsFrontOf}
 use Rattle.relay_sides.specs.Client.{ClientBlames, given_to}
 use Rattle.relay_sides.specs.Client as client_side
 use Rattle.relay_sides.specs.Filtered.{RefusesHead}
 use Rattle.relay_sides.specs.Filtered as filtered
-use Rattle.relay_sides.specs.Peer.{PeerBlames}
-use Rattle.relay_sides.specs.Peer as peer_side
-use Rattle.relay_sides.proofs.FrontLemmas.{front_then}
+use Rattle.relay_peer.specs.Peer.{PeerBlames}
+use Rattle.relay_peer.specs.Peer as peer_side
+use Rattle.relay_peer.proofs.FrontLemmas.{front_then}
 use Rattle.relay_attempt.specs.Order as order
 use Rattle.relay_attempt.specs.Order.{IsInOrder, FailsFor, up_past}
 use Rattle.relay_attempt.specs.Passed.{Passed}

@@ -11,7 +11,7 @@ use Rattle.relay_h1.specs.Tasks.{Tasks, ResponseText, ended}
 use Rattle.relay_h1.specs.Verdict.{HasRequest}
 use Rattle.relay_h1.specs.declared.framing.Framing.{Framing}
 use Rattle.relay_core.specs.Past.{Origin}
-use Rattle.relay_sides.specs.Body.{IsFrontOf}
+use Rattle.relay_peer.specs.Body.{IsFrontOf}
 use Rattle.relay_attempt.specs.Passed.{Passed, asked}
 
 -- the text is a request with that head: its head, its body, and nothing behind them

@@ -1,17 +1,85 @@
-use super::peer_side::{Checked, answers, asking_side};
-use crate::{Filtered, PeerSide, is_head_request};
+use crate::{Filtered, is_head_request};
+use bytes::Bytes;
 use http::Method;
+use http_header::TRANSFER_ENCODING;
 use relay_core::Up;
-use relay_links::ScriptLink;
-use relay_tasks::RequestHeader;
-use std::alloc::Global;
+use relay_links::{ReadItem, ScriptLink};
+use relay_peer::PeerSide;
+use relay_tasks::{Context, ErrorType, Fail, HttpTask, RequestHeader, Took};
+use std::alloc::{AllocError, Global};
+use std::test::Fail as Failed;
 
-/// A side over one whose request is a GET that was queued, and whose link gives that text.
+type Checked = std::result::Result<(), Failed>;
+
+/// A side over one whose request is a GET that was queued, and whose link gives that text and then
+/// ends.
 fn filtered(
     alloc: Global,
     text: &'static [u8],
 ) -> relay_tasks::Result<Filtered<PeerSide<ScriptLink>>> {
-    Ok(Filtered::new(asking_side(alloc, text)?, false))
+    let read = vec![in alloc; ReadItem::Bytes(Bytes::from_static(text)), ReadItem::End]?;
+    let mut side = PeerSide::new(alloc, ScriptLink::new(alloc, read, Vec::new(alloc)));
+    side.write_request_header(RequestHeader::build(alloc, &Method::GET, b"/")?)?;
+    Ok(Filtered::new(side, false))
+}
+
+fn task_in_words(task: &HttpTask) -> &'static str {
+    match task {
+        HttpTask::Header(head, end) => {
+            if head.is_informational() {
+                " informs"
+            } else if *end {
+                " head and end"
+            } else if head.headers().get(&TRANSFER_ENCODING).is_some() {
+                " chunked head"
+            } else {
+                " head"
+            }
+        }
+        HttpTask::Body(_, false) => " piece",
+        HttpTask::Body(_, true) => " piece and end",
+        HttpTask::Done => " done",
+        HttpTask::UpgradedBody(_, _) | HttpTask::Trailer(_) | HttpTask::Failed(_) => " other",
+    }
+}
+
+fn fail_in_words(fail: Fail) -> &'static str {
+    match fail {
+        Fail::OutOfMemory => " no memory",
+        Fail::Error(error) => {
+            if error.context == Context::Mismatch101 {
+                " switches"
+            } else if error.etype == ErrorType::ConnectionClosed {
+                " cut off"
+            } else {
+                " refused"
+            }
+        }
+    }
+}
+
+/// The next answer in words; none for `More`.
+fn next(side: &mut Filtered<PeerSide<ScriptLink>>) -> &'static str {
+    match side.read_task() {
+        Took::Item(task) => task_in_words(&task),
+        Took::More => "",
+        Took::Waited(_) => " waited",
+        Took::End => " end",
+        Took::Failed(fail) => fail_in_words(fail),
+    }
+}
+
+/// So many answers in words.
+fn answers(
+    alloc: Global,
+    side: &mut Filtered<PeerSide<ScriptLink>>,
+    calls: u8,
+) -> std::result::Result<String, AllocError> {
+    let mut told = String::new(alloc);
+    for _ in 0..calls {
+        told.push_str(next(side))?;
+    }
+    Ok(told)
 }
 
 #[test]

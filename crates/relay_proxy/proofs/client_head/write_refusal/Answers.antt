@@ -1,7 +1,7 @@
 -- Each answer of the one write is a turn of the refusal.
 use Rattle.std.proofs.Common.{refl, ap, ◌∙◌, inl}
 use Rattle.relay_links.specs.Link.{LinkState}
-use Rattle.relay_sides.proofs.FaultLemmas.{grew_none, grew_same}
+use Rattle.relay_peer.proofs.FaultLemmas.{grew_none, grew_same}
 use Rattle.relay_proxy.proofs.Tells.{sided}
 use Rattle.relay_proxy.proofs.HeadSteps.{refusal_whole, refusal_part, refusal_waits, refusal_fails, refusal_memory}
 use Rattle.relay_proxy.proofs.client_head.write_refusal.Goals as goal

@@ -7,12 +7,12 @@ use Rattle.relay_session.specs.Reading.{is_body_done}
 use Rattle.relay_session.specs.declared.session.HttpSession.{HttpSession}
 use Rattle.relay_sides.specs.Client as client
 use Rattle.relay_sides.specs.Client.{begun_past}
-use Rattle.relay_sides.specs.Peer as peer
-use Rattle.relay_sides.specs.Peer.{none_passed}
+use Rattle.relay_peer.specs.Peer as peer
+use Rattle.relay_peer.specs.Peer.{none_passed}
 use Rattle.relay_sides.specs.declared.client_side.ClientSide.{ClientSide}
 use Rattle.relay_sides.specs.Filtered.{HasRoom, is_head_request, state_over, stops_for_error}
 use Rattle.relay_sides.specs.declared.filtered.Filtered.{Filtered}
-use Rattle.relay_sides.specs.declared.peer_side.PeerSide.{PeerSide}
+use Rattle.relay_peer.specs.declared.peer_side.PeerSide.{PeerSide}
 use Rattle.relay_exchange.specs.declared.exchange.Exchange.{Exchange}
 use Rattle.relay_exchange.specs.declared.exchange.Stage.TheVariants as stage
 use Rattle.relay_exchange.proofs.TurnLemmas.{begun}

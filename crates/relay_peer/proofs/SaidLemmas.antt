@@ -15,9 +15,9 @@ use Rattle.relay_peer.specs.declared.response_reading.ResponsePlace.TheVariants 
 use Rattle.relay_peer.specs.declared.response_reading.ResponseReading.{ResponseReading}
 use Rattle.relay_peer.specs.ResponseReading.{ToldResponse, ReadAt, says}
 use Rattle.relay_peer.proofs.ExactLemmas.{Tasks-unique}
-use Rattle.relay_sides.specs.Body.{IsFrontOf}
-use Rattle.relay_sides.specs.Peer.{AreTasks, told_of}
-use Rattle.relay_sides.proofs.FrontLemmas.{own_front}
+use Rattle.relay_peer.specs.Body.{IsFrontOf}
+use Rattle.relay_peer.specs.Peer.{AreTasks, told_of}
+use Rattle.relay_peer.proofs.FrontLemmas.{own_front}
 
 -- any bytes say something of a body
 some_text : (at : State) (bytes : List ℕ) → (text : BodyText) × Reads at bytes text

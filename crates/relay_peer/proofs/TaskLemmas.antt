@@ -23,7 +23,7 @@ use Rattle.relay_peer.specs.declared.response_reading.ResponsePlace.TheVariants 
 use Rattle.relay_peer.specs.declared.response_reading.ResponseReading.{ResponseReading}
 use Rattle.relay_peer.specs.ResponseReading.{ToldResponse, ReadSoFar, ReadAt, IsResponseTask, Cuts, CutsBody, is_in_length, untold, with_task, with_head, says, is_over}
 use Rattle.relay_core.specs.Moves.{EndsLast}
-use Rattle.relay_sides.specs.Peer.{AreTasks, EndsAs, EndFramed, Follow, StandsBehind, told_behind, told_of}
+use Rattle.relay_peer.specs.Peer.{AreTasks, EndsAs, EndFramed, Follow, StandsBehind, told_behind, told_of}
 
 -- ---- one task more
 

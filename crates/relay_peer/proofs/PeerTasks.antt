@@ -9,10 +9,10 @@ use Rattle.relay_peer.specs.declared.request_writing.RequestWriting.{RequestWrit
 use Rattle.relay_peer.specs.RequestWriting.{head_in, method_of}
 use Rattle.relay_peer.specs.ResponseReading.{ReadsTask, is_over, is_error}
 use Rattle.relay_core.specs.Past.{Origin, UpPast, UpGoes}
-use Rattle.relay_sides.specs.Peer.{IsPeer, told_of}
-use Rattle.relay_sides.proofs.TaskLemmas.{tasks_push}
-use Rattle.relay_sides.proofs.MoveLemmas.{read_moves}
-use Rattle.relay_sides.proofs.PeerLemmas.{Blamed, at_origin, goes, after_read, read_on, calm_read, peer_read}
+use Rattle.relay_peer.specs.Peer.{IsPeer, told_of}
+use Rattle.relay_peer.proofs.TaskLemmas.{tasks_push}
+use Rattle.relay_peer.proofs.MoveLemmas.{read_moves}
+use Rattle.relay_peer.proofs.PeerLemmas.{Blamed, at_origin, goes, after_read, read_on, calm_read, peer_read}
 
 -- a response that has ended gives no task
 never_item : (over : Bool) (item : HttpTask) → (over ≡ true → took.Item item ≡ took.End)

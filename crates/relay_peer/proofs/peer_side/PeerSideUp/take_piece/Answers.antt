@@ -2,11 +2,11 @@
 use Rattle.std.proofs.Common.{Option, Some, refl, ap, sym, subst, ◌∙◌}
 use Rattle.relay_tasks.specs.declared.error.Error.{Error}
 use Rattle.relay_peer.specs.declared.h1_client.H1Client.{H1Client}
-use Rattle.relay_sides.specs.Peer.{AreMarked}
-use Rattle.relay_sides.proofs.MarkLemmas.{marked_same, marked_still, marked_loses, loses_short}
-use Rattle.relay_sides.proofs.SideLemmas.{side_on, calm_withheld}
-use Rattle.relay_sides.proofs.SendLemmas.{take_queues, take_loses, take_still}
-use Rattle.relay_sides.proofs.peer_side.PeerSideUp.take_piece.Goals as goal
+use Rattle.relay_peer.specs.Peer.{AreMarked}
+use Rattle.relay_peer.proofs.MarkLemmas.{marked_same, marked_still, marked_loses, loses_short}
+use Rattle.relay_peer.proofs.SideLemmas.{side_on, calm_withheld}
+use Rattle.relay_peer.proofs.SendLemmas.{take_queues, take_loses, take_still}
+use Rattle.relay_peer.proofs.peer_side.PeerSideUp.take_piece.Goals as goal
 
 -- a piece was lost before, and this one is refused
 pub returns-in-Some-clause-goes : goal.returns-in-Some-clause-goes

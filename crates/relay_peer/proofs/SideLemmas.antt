@@ -22,10 +22,10 @@ use Rattle.relay_peer.specs.declared.h1_client.H1Client.{H1Client}
 use Rattle.relay_peer.specs.RequestWriting.{method_of}
 use Rattle.relay_peer.specs.ResponseReading.{ReadsTask, is_over, is_item, is_error}
 use Rattle.relay_core.specs.Past.{Origin, UpPast, UpGoes, error_of_took}
-use Rattle.relay_sides.specs.declared.peer_side.PeerSide.{PeerSide}
-use Rattle.relay_sides.specs.Peer.{IsPeer, IsPeerSide, AreMarked}
-use Rattle.relay_sides.proofs.MarkLemmas.{marked_task}
-use Rattle.relay_sides.proofs.PeerLemmas.{Blamed, read_none}
+use Rattle.relay_peer.specs.declared.peer_side.PeerSide.{PeerSide}
+use Rattle.relay_peer.specs.Peer.{IsPeer, IsPeerSide, AreMarked}
+use Rattle.relay_peer.proofs.MarkLemmas.{marked_task}
+use Rattle.relay_peer.proofs.PeerLemmas.{Blamed, read_none}
 
 -- a call goes on with the side too, which keeps whether its link was used before
 pub side_goes : {L : Type 0} (o : Origin) (start started : LinkStart) (before after : LinkState)

@@ -12,7 +12,7 @@ use Rattle.relay_peer.specs.declared.request_writing.RequestPlace.{RequestPlace}
 use Rattle.relay_peer.specs.declared.request_writing.RequestPlace.TheVariants as request
 use Rattle.relay_peer.specs.RequestWriting.{Sent, Stands, sent_wire, with_piece, with_end, head_in, body_framing}
 use Rattle.relay_peer.specs.RequestWriting as writing
-use Rattle.relay_sides.specs.Body.{IsFrontOf, bytes_of, body_of, sent_with, sent_behind}
+use Rattle.relay_peer.specs.Body.{IsFrontOf, bytes_of, body_of, sent_with, sent_behind}
 
 -- ---- fronts
 

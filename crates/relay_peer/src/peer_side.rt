@@ -1,6 +1,6 @@
 //! The upstream's side of a duplex over the client of a peer: pieces of the request are queued for
 //! its link, and the tasks of the response are read from it (RFC 9112, sections 6, 7 and 9).
-ghost use Rattle.std.specs.Prelude.{◌≡◌, ◌↔◌, ℕ, List, [], Bool, true, false, None, Some, OnOk, OnErr, IfErr, IsErrOf};
+ghost use Rattle.std.specs.Prelude.{◌≡◌, ◌↔◌, ◌||◌, ℕ, List, [], Bool, true, false, None, Some, OnOk, OnErr, IfErr, IsErrOf};
 ghost use Rattle.relay_tasks.specs.Error.{IsMemoryOr};
 ghost use Rattle.relay_tasks.specs.Head.{RequestHead};
 ghost use Rattle.relay_links.specs.Link.{IsHandedOut};
@@ -13,14 +13,13 @@ ghost use Rattle.relay_peer.specs.ResponseReading as reading;
 ghost use Rattle.relay_core.specs.declared.told.TheConstants.Told.{NOTHING};
 ghost use Rattle.relay_core.specs.Past.{Origin};
 ghost use Rattle.relay_core.specs.Up.{is_error, error_or};
-ghost use Rattle.relay_sides.specs.Body.{bytes_of};
-ghost use Rattle.relay_sides.specs.Peer.{IsPeerSide, PeerBlames, CutsTask, IsNew, Queues, none_passed, peer_unread, state_of, put_error};
+ghost use Rattle.relay_peer.specs.Body.{bytes_of};
+ghost use Rattle.relay_peer.specs.Peer.{IsPeerSide, PeerBlames, CutsTask, IsNew, Queues, none_passed, peer_unread, state_of, put_error};
 
-use crate::client_side::either;
+use crate::h1_client::H1Client;
 use bytes::Bytes;
 use relay_core::{Told, Up, UpKind};
 use relay_links::{ByteLink, Put};
-use relay_peer::H1Client;
 use relay_tasks::{Context, Error, ErrorSource, Fail, HttpTask, RequestHeader, Result, Took};
 use std::alloc::Global;
 
@@ -119,6 +118,13 @@ impl<L: ByteLink> PeerSide<L> {
     {
         self.client.write_request_header(head)
     }
+}
+
+/// One of two flags stands.
+fn either(first: bool, second: bool) -> bool
+    ensures { result ≡ first || second }
+{
+    first || second
 }
 
 /// Whether the failure is an error; out of memory is none.

@@ -4,11 +4,11 @@ use http::Method;
 use http_header::{CONTENT_LENGTH, HeaderName, HeaderValue, TRANSFER_ENCODING};
 use relay_core::Up;
 use relay_links::{ReadItem, ScriptLink};
-use relay_tasks::{Context, ErrorSource, ErrorType, Fail, HttpTask, RequestHeader, Took};
+use relay_tasks::{ErrorSource, ErrorType, Fail, HttpTask, RequestHeader, Took};
 use std::alloc::{AllocError, Global};
 use std::test::Fail as Failed;
 
-pub(super) type Checked = std::result::Result<(), Failed>;
+type Checked = std::result::Result<(), Failed>;
 
 /// A side whose link gives that text and then ends, and takes everything.
 fn side(
@@ -20,10 +20,7 @@ fn side(
 }
 
 /// The same, whose request is a GET that was queued.
-pub(super) fn asking_side(
-    alloc: Global,
-    text: &'static [u8],
-) -> relay_tasks::Result<PeerSide<ScriptLink>> {
+fn asking_side(alloc: Global, text: &'static [u8]) -> relay_tasks::Result<PeerSide<ScriptLink>> {
     let mut side = side(alloc, text)?;
     side.write_request_header(RequestHeader::build(alloc, &Method::GET, b"/")?)?;
     Ok(side)
@@ -58,8 +55,6 @@ fn task_in_words(task: &HttpTask) -> &'static str {
                 " informs"
             } else if *end {
                 " head and end"
-            } else if head.headers().get(&TRANSFER_ENCODING).is_some() {
-                " chunked head"
             } else {
                 " head"
             }
@@ -75,9 +70,7 @@ fn fail_in_words(fail: Fail) -> &'static str {
     match fail {
         Fail::OutOfMemory => " no memory",
         Fail::Error(error) => {
-            if error.context == Context::Mismatch101 {
-                " switches"
-            } else if error.etype == ErrorType::ConnectionClosed {
+            if error.etype == ErrorType::ConnectionClosed {
                 " cut off"
             } else {
                 " refused"
@@ -87,7 +80,7 @@ fn fail_in_words(fail: Fail) -> &'static str {
 }
 
 /// The next answer in words; none for `More`.
-fn next<U: Up>(side: &mut U) -> &'static str {
+fn next(side: &mut PeerSide<ScriptLink>) -> &'static str {
     match side.read_task() {
         Took::Item(task) => task_in_words(&task),
         Took::More => "",
@@ -98,9 +91,9 @@ fn next<U: Up>(side: &mut U) -> &'static str {
 }
 
 /// So many answers in words.
-pub(super) fn answers<U: Up>(
+fn answers(
     alloc: Global,
-    side: &mut U,
+    side: &mut PeerSide<ScriptLink>,
     calls: u8,
 ) -> std::result::Result<String, AllocError> {
     let mut told = String::new(alloc);

@@ -27,16 +27,16 @@ use Rattle.relay_peer.specs.declared.response_reading.ResponseReading.{ResponseR
 use Rattle.relay_peer.specs.RequestWriting.{Sent, SentSoFar, Stands, head_in, rest_of, with_piece, with_end, sent_wire, body_framing, short_request}
 use Rattle.relay_peer.specs.RequestWriting as writing
 use Rattle.relay_core.specs.Past.{Origin, UpPast, UpGoes, error_of_fail, error_of_put}
-use Rattle.relay_sides.specs.Body.{IsFrontOf, bytes_of, body_of, sent_with, sent_as}
-use Rattle.relay_sides.specs.declared.peer_side.PeerSide.{PeerSide}
-use Rattle.relay_sides.specs.Peer.{IsPeer, IsPeerSide, AreMarked, IsQueued, PeerBlames, AreTasks, Queues, Loses, IsNew, none_passed}
-use Rattle.relay_sides.specs.Peer as peer
-use Rattle.relay_sides.proofs.FaultLemmas.{grew_same, tells_on, tells_none}
-use Rattle.relay_sides.proofs.FrontLemmas.{own_front, same_front, front_more, front_then, bytes_front, task_front, sent_behind-push, head_of, stands_head, piece_head, task_head, begun_body, body_push}
-use Rattle.relay_sides.proofs.MarkLemmas.{marked_same, marked_new}
-use Rattle.relay_sides.proofs.TaskLemmas.{no_tasks}
-use Rattle.relay_sides.proofs.MoveLemmas.{GoesOn, blames_keep, write_moves}
-use Rattle.relay_sides.proofs.PeerLemmas.{Blamed, goes, fail_is, some_fail, neither_failed}
+use Rattle.relay_peer.specs.Body.{IsFrontOf, bytes_of, body_of, sent_with, sent_as}
+use Rattle.relay_peer.specs.declared.peer_side.PeerSide.{PeerSide}
+use Rattle.relay_peer.specs.Peer.{IsPeer, IsPeerSide, AreMarked, IsQueued, PeerBlames, AreTasks, Queues, Loses, IsNew, none_passed}
+use Rattle.relay_peer.specs.Peer as peer
+use Rattle.relay_peer.proofs.FaultLemmas.{grew_same, tells_on, tells_none}
+use Rattle.relay_peer.proofs.FrontLemmas.{own_front, same_front, front_more, front_then, bytes_front, task_front, sent_behind-push, head_of, stands_head, piece_head, task_head, begun_body, body_push}
+use Rattle.relay_peer.proofs.MarkLemmas.{marked_same, marked_new}
+use Rattle.relay_peer.proofs.TaskLemmas.{no_tasks}
+use Rattle.relay_peer.proofs.MoveLemmas.{GoesOn, blames_keep, write_moves}
+use Rattle.relay_peer.proofs.PeerLemmas.{Blamed, goes, fail_is, some_fail, neither_failed}
 
 -- ---- pieces
 

@@ -1,7 +1,7 @@
 -- The bytes are queued first, then the end where the task carries it.
 use Rattle.std.proofs.Common.{sym, ◌∙◌}
-use Rattle.relay_sides.proofs.SendLemmas.{nothing_queued, piece_queued, ended_piece}
-use Rattle.relay_sides.proofs.peer_side.queue_piece.Goals as goal
+use Rattle.relay_peer.proofs.SendLemmas.{nothing_queued, piece_queued, ended_piece}
+use Rattle.relay_peer.proofs.peer_side.queue_piece.Goals as goal
 
 -- the bytes were not queued
 pub returns-in-Err-clause-queues : goal.returns-in-Err-clause-queues

@@ -22,11 +22,11 @@ use Rattle.relay_peer.specs.declared.request_writing.RequestWriting.{RequestWrit
 use Rattle.relay_peer.specs.declared.response_reading.ResponseReading.{ResponseReading}
 use Rattle.relay_core.specs.Up as up
 use Rattle.relay_core.proofs.BoolLemmas.{clash, or_left, or_right, or_false}
-use Rattle.relay_sides.specs.Faults.{TellsFaults}
-use Rattle.relay_sides.specs.Peer.{AreMarked, CannotSend, Loses, put_error}
-use Rattle.relay_sides.specs.Peer as peer
-use Rattle.relay_sides.proofs.FaultLemmas.{more_none, among_on}
-use Rattle.relay_sides.proofs.MoveLemmas.{rose_from, some_error}
+use Rattle.relay_peer.specs.Faults.{TellsFaults}
+use Rattle.relay_peer.specs.Peer.{AreMarked, CannotSend, Loses, put_error}
+use Rattle.relay_peer.specs.Peer as peer
+use Rattle.relay_peer.proofs.FaultLemmas.{more_none, among_on}
+use Rattle.relay_peer.proofs.MoveLemmas.{rose_from, some_error}
 
 -- ---- a call that meets no fault
 

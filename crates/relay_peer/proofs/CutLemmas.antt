@@ -10,7 +10,7 @@ use Rattle.relay_peer.specs.declared.response_reading.ResponsePlace.TheVariants 
 use Rattle.relay_peer.specs.declared.response_reading.ResponseReading.{ResponseReading}
 use Rattle.relay_peer.specs.ResponseReading.{ReadsTask, Cuts, AnswerCuts, is_item}
 use Rattle.relay_core.specs.Pipe.{is_failure}
-use Rattle.relay_sides.specs.Peer.{CutsTask}
+use Rattle.relay_peer.specs.Peer.{CutsTask}
 
 -- a task is cut as the client cut it
 pub cuts_item : (method : List ℕ) (upgrade : Bool) (before after : LinkState)

@@ -26,12 +26,12 @@ use Rattle.relay_peer.specs.RequestWriting.{SentSoFar, head_in, method_of}
 use Rattle.relay_peer.specs.ResponseReading.{ToldResponse, ReadSoFar, ReadsTask, Answers, Asks, Refuses, is_over, is_item, is_error, fault_error}
 use Rattle.relay_peer.specs.ResponseReading as reading
 use Rattle.relay_core.specs.Past.{Origin, UpPast, GaveBytes, UpGoes, error_of_fail, error_of_took}
-use Rattle.relay_sides.specs.Peer.{IsPeer, PeerBlames, AreTasks, told_of}
-use Rattle.relay_sides.specs.Peer as peer
-use Rattle.relay_sides.proofs.FaultLemmas.{tells_on}
-use Rattle.relay_sides.proofs.FrontLemmas.{own_front}
-use Rattle.relay_sides.proofs.TaskLemmas.{tasks_kept}
-use Rattle.relay_sides.proofs.MoveLemmas.{GoesOn, blames_keep, ReadMoves, read_moves, some_error}
+use Rattle.relay_peer.specs.Peer.{IsPeer, PeerBlames, AreTasks, told_of}
+use Rattle.relay_peer.specs.Peer as peer
+use Rattle.relay_peer.proofs.FaultLemmas.{tells_on}
+use Rattle.relay_peer.proofs.FrontLemmas.{own_front}
+use Rattle.relay_peer.proofs.TaskLemmas.{tasks_kept}
+use Rattle.relay_peer.proofs.MoveLemmas.{GoesOn, blames_keep, ReadMoves, read_moves, some_error}
 
 -- ---- a call
 

@@ -2,12 +2,12 @@
 use Rattle.std.proofs.Common.{Option, ap, sym, subst, ◌∙◌}
 use Rattle.relay_tasks.specs.declared.error.Error.{Error}
 use Rattle.relay_peer.specs.declared.h1_client.H1Client.{H1Client}
-use Rattle.relay_sides.specs.Peer.{AreMarked}
-use Rattle.relay_sides.proofs.MarkLemmas.{marked_write}
-use Rattle.relay_sides.proofs.SideLemmas.{side_on, calm_put}
-use Rattle.relay_sides.proofs.SendLemmas.{write_goes}
-use Rattle.relay_sides.proofs.UseLemmas.{put_uses, put_asked}
-use Rattle.relay_sides.proofs.peer_side.PeerSideUp.write_pending.Goals as goal
+use Rattle.relay_peer.specs.Peer.{AreMarked}
+use Rattle.relay_peer.proofs.MarkLemmas.{marked_write}
+use Rattle.relay_peer.proofs.SideLemmas.{side_on, calm_put}
+use Rattle.relay_peer.proofs.SendLemmas.{write_goes}
+use Rattle.relay_peer.proofs.UseLemmas.{put_uses, put_asked}
+use Rattle.relay_peer.proofs.peer_side.PeerSideUp.write_pending.Goals as goal
 
 -- what passed goes on with what the link took
 pub returns-clause-goes : goal.returns-clause-goes

@@ -4,11 +4,8 @@ use Rattle.relay_tasks.specs.declared.fault.Fault.{Fault}
 use Rattle.relay_links.specs.Link.{LinkState, LinkStart, IsReadFault, IsWriteFault, IsHandedOut}
 use Rattle.relay_links.specs.Told.{more, told_length, Since}
 use Rattle.relay_links.proofs.SinceLemmas.{Since-start, Since-grows}
-use Rattle.relay_tasks.specs.declared.took.Took.{Took}
-use Rattle.relay_session.specs.Reading.{ReadsLink, AddsFault}
-use Rattle.relay_session.specs.Reading as says
-use Rattle.relay_sides.specs.Faults.{HasAnswered, TellsFaults, TellsSince, IsAmong, IsLast}
-use Rattle.relay_sides.specs.Faults as faults
+use Rattle.relay_peer.specs.Faults.{HasAnswered, TellsFaults, TellsSince, IsAmong, IsLast}
+use Rattle.relay_peer.specs.Faults as faults
 
 -- these faults were added to the lists that a link tells
 pub record Grew (before after : LinkState) : Type 0 where
@@ -146,17 +143,3 @@ pub added_among : (place : ℕ) (told now : Option (List Fault)) (earlier : List
     → now ≡ more told (fault ∷ []) → Since [] place told earlier → IsAmong place now fault
 added_among place told now earlier fault added since =
     (earlier, [], Since-grows [] place told now earlier (fault ∷ []) added since)
-
--- the faults that a read of a body added
-pub body_grew : (before after : LinkState) (answer : Took (List ℕ))
-    → ReadsLink before after answer → Grew before after
-body_grew before after answer link = by_read link.read_faults
-  where
-    by_read : AddsFault before after answer → Grew before after
-    by_read (says.AddsFault.none_came same) = grew_none before after same link.write_faults
-    by_read (says.AddsFault.one_came fault added is) = record {
-      reads = fault ∷ [];
-      read = added;
-      writes = [];
-      written = link.write_faults ∙ more_none before.write_faults;
-    }

@@ -1,8 +1,8 @@
 -- On a link that was handed out, a new side begins with the head that was queued.
 use Rattle.std.proofs.Common.{ap, sym, ◌∙◌}
 use Rattle.relay_peer.specs.declared.h1_client.H1Client.{H1Client}
-use Rattle.relay_sides.proofs.SendLemmas.{begins_side, begins_head, on_ok}
-use Rattle.relay_sides.proofs.peer_side.PeerSide.write_request_header.Goals as goal
+use Rattle.relay_peer.proofs.SendLemmas.{begins_side, begins_head, on_ok}
+use Rattle.relay_peer.proofs.peer_side.PeerSide.write_request_header.Goals as goal
 
 -- nothing has passed the side
 pub returns-clause-begins : goal.returns-clause-begins

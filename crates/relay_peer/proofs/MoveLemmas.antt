@@ -17,12 +17,12 @@ use Rattle.relay_h1.specs.Tasks.{Tasks, cut_off}
 use Rattle.relay_peer.specs.H1Client.{is_fault}
 use Rattle.relay_peer.specs.ResponseReading.{Asks, says, cut_off_error, fault_error}
 use Rattle.relay_core.specs.Past.{UpPast, error_of_put}
-use Rattle.relay_sides.specs.Body.{IsFrontOf}
-use Rattle.relay_sides.specs.Peer.{PeerBlames}
-use Rattle.relay_sides.specs.Peer as peer
-use Rattle.relay_sides.specs.Faults.{HasAnswered, TellsFaults}
-use Rattle.relay_sides.proofs.FaultLemmas.{Grew, more_none, grew_none, grew_same, answered_on, answered_read, answered_write}
-use Rattle.relay_sides.proofs.FrontLemmas.{front_then}
+use Rattle.relay_peer.specs.Body.{IsFrontOf}
+use Rattle.relay_peer.specs.Peer.{PeerBlames}
+use Rattle.relay_peer.specs.Peer as peer
+use Rattle.relay_peer.specs.Faults.{HasAnswered, TellsFaults}
+use Rattle.relay_peer.proofs.FaultLemmas.{Grew, more_none, grew_none, grew_same, answered_on, answered_read, answered_write}
+use Rattle.relay_peer.proofs.FrontLemmas.{front_then}
 
 -- ---- what stays blamed
 

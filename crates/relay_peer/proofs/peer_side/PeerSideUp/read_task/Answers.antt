@@ -2,14 +2,14 @@
 use Rattle.std.proofs.Common.{Bool, ◌||◌, refl, sym, ap, ◌∙◌}
 use Rattle.relay_peer.specs.declared.h1_client.H1Client.{H1Client}
 use Rattle.relay_tasks.specs.declared.took.Took.TheVariants as took
-use Rattle.relay_sides.specs.Peer.{state_of}
-use Rattle.relay_sides.proofs.CutLemmas.{cuts_item, cuts_none, cut_no_failure}
-use Rattle.relay_sides.proofs.PeerLemmas.{more_gave, end_read}
-use Rattle.relay_sides.proofs.PeerTasks.{read_gives}
-use Rattle.relay_sides.proofs.SideLemmas.{side_on, side_reads, calm_same, calm_failed, calm_paused, or_none}
-use Rattle.relay_sides.proofs.MarkLemmas.{marked_task, same_error}
-use Rattle.relay_sides.proofs.UseLemmas.{peer_may, peer_waits}
-use Rattle.relay_sides.proofs.peer_side.PeerSideUp.read_task.Goals as goal
+use Rattle.relay_peer.specs.Peer.{state_of}
+use Rattle.relay_peer.proofs.CutLemmas.{cuts_item, cuts_none, cut_no_failure}
+use Rattle.relay_peer.proofs.PeerLemmas.{more_gave, end_read}
+use Rattle.relay_peer.proofs.PeerTasks.{read_gives}
+use Rattle.relay_peer.proofs.SideLemmas.{side_on, side_reads, calm_same, calm_failed, calm_paused, or_none}
+use Rattle.relay_peer.proofs.MarkLemmas.{marked_task, same_error}
+use Rattle.relay_peer.proofs.UseLemmas.{peer_may, peer_waits}
+use Rattle.relay_peer.proofs.peer_side.PeerSideUp.read_task.Goals as goal
 
 -- a task came
 pub returns-in-Item-clause-reads : goal.returns-in-Item-clause-reads
