@@ -11,14 +11,21 @@ use std::test::Fail as Failed;
 
 type Checked = std::result::Result<(), Failed>;
 
-/// A side over one whose request is a GET that was queued, and whose link gives that text and then
-/// ends.
+/// A side over a link that gives that text and then ends.
+fn inner(
+    alloc: Global,
+    text: &'static [u8],
+) -> std::result::Result<PeerSide<ScriptLink>, AllocError> {
+    let read = vec![in alloc; ReadItem::Bytes(Bytes::from_static(text)), ReadItem::End]?;
+    Ok(PeerSide::new(alloc, ScriptLink::new(alloc, read, Vec::new(alloc))))
+}
+
+/// A side over that one, whose request is a GET that was queued.
 fn filtered(
     alloc: Global,
     text: &'static [u8],
 ) -> relay_tasks::Result<Filtered<PeerSide<ScriptLink>>> {
-    let read = vec![in alloc; ReadItem::Bytes(Bytes::from_static(text)), ReadItem::End]?;
-    let mut side = PeerSide::new(alloc, ScriptLink::new(alloc, read, Vec::new(alloc)));
+    let mut side = inner(alloc, text)?;
     side.write_request_header(RequestHeader::build(alloc, &Method::GET, b"/")?)?;
     Ok(Filtered::new(side, false))
 }
