@@ -373,8 +373,8 @@ impl Duplex {
             (U.link up.new) }
 
         // A step asks one link once, or none. One that moved asked the link of its branch, or it
-        // put a task into a pipe, took some out of one, or brought an end; and one that waits leaves
-        // the duplex as it was.
+        // put a task into a pipe, took some out of one, or brought an end; and one that waits
+        // leaves the duplex as it was.
         ensures asks { Asks result (D.link client.old) (D.link client.new) (U.link up.old)
             (U.link up.new) }
         ensures moves { (s : Origin) (p : DownPast) (q : UpPast)

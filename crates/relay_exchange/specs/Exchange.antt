@@ -103,8 +103,8 @@ pub record MeetsSilence (at : Stage) (s : State) (client client' upstream upstre
   pub client_same : client' ≡ client
   pub upstream_same : upstream' ≡ upstream
 
--- what a turn moved, by its branch: while the head is being sent, which is none, the upstream's link
--- was asked once for it
+-- what a turn moved, by its branch: while the head is being sent, which is none, the upstream's
+-- link was asked once for it
 abbrev pub HasMoved : Option Branch → State → State → LinkState → LinkState → LinkState → LinkState
     → Type 0
 HasMoved None old new client client' upstream upstream' =

@@ -463,7 +463,8 @@ pub tasks_push : (method : List ℕ) (upgrade : Bool) (before after : LinkState)
     → AreTasks method upgrade after.ended (got ++ came) (tasks ++ last ∷ []) new
 tasks_push method upgrade before after got came tasks last old new are going is ends read cuts =
     record {
-      so_far = subst (λ (t : ToldResponse). ReadSoFar method upgrade after.ended (got ++ came) t new)
+      so_far = subst
+          (λ (t : ToldResponse). ReadSoFar method upgrade after.ended (got ++ came) t new)
           (sym (told_push untold tasks last)) read;
       follow = follow_push untold tasks last are.follow is
           (stands_behind method upgrade after.ended (got ++ came) (told_of tasks) last new is read);
@@ -475,8 +476,8 @@ tasks_push method upgrade before after got came tasks last old new are going is 
           (λ (t : ToldResponse). (head : ResponseHead) → t.final ≡ Some head
           → EndFramed method upgrade (got ++ came) t.informed head (tasks ++ last ∷ []))
           (sym (told_push untold tasks last))
-          (framed_push method upgrade before.ended after.ended got came tasks last old new are going is
-          read
+          (framed_push method upgrade before.ended after.ended got came tasks last old new are going
+          is read
           cuts);
     }
 

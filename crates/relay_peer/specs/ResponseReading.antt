@@ -517,7 +517,8 @@ pub record AnswersExactly
 -- ---- a call
 
 -- a call on a reading: it asks the link only where the bytes ahead hold no task, no end and nothing
--- to refuse, goes on with what was told, and cuts a piece out of the bytes ahead and those that came
+-- to refuse, goes on with what was told, and cuts a piece out of the bytes ahead and those that
+-- came
 pub record ReadsTask
     (method : List ℕ) (upgrade : Bool) (before after : LinkState) (old new : ResponseReading)
     (answer : Took HttpTask) : Type 0 where

@@ -216,8 +216,8 @@ impl<L: ByteLink> H1Client<L> {
     /// in chunks, and one that lasts until the link ends.
     ///
     /// `More`: the link gave bytes in this call, and no task, no end and no refusal stands.
-    /// `Waited`: the link answered so in this call; one that is silent stays so. `End`: the response
-    /// had ended; the link is not asked. Errors are of the source `Upstream`:
+    /// `Waited`: the link answered so in this call; one that is silent stays so. `End`: the
+    /// response had ended; the link is not asked. Errors are of the source `Upstream`:
     /// - `InvalidHTTPHeader`, about `HeadTooLong`, `HeadGrammar` or `BadFraming`: a head or the
     ///   body is broken at the next place.
     /// - The error of the link's fault.

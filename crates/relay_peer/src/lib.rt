@@ -1,5 +1,5 @@
-//! The client of a peer on an HTTP/1 link: a request is queued and written, and the response is read
-//! as tasks (RFC 9112, sections 2 to 9). And the upstream's side of a duplex over it.
+//! The client of a peer on an HTTP/1 link: a request is queued and written, and the response is
+//! read as tasks (RFC 9112, sections 2 to 9). And the upstream's side of a duplex over it.
 #![tactic(auto)]
 
 mod h1_client;

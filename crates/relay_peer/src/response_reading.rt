@@ -109,7 +109,8 @@ impl ResponseReading {
             → is_over self.new.place ≡ is_over self.old.place }
         ensures rests { is_over self.old.place ≡ true
             → (result ≡ Found.End) × (self.new ≡ self.old) }
-        ensures cuts { FoundCuts self.old.place self.new.place self.old.ahead self.new.ahead result }
+        ensures cuts { FoundCuts self.old.place self.new.place self.old.ahead self.new.ahead
+            result }
         ensures finds { (closed : Bool) (given : List ℕ) (told : ToldResponse)
             → ReadAt method.now upgrade closed given told self.old.place self.old.ahead
             → Finds method.now upgrade closed given told self.old.place self.new.place
@@ -289,7 +290,8 @@ fn step_over(head: ResponseHeader, framing: Framing) -> ReadingStep
 /// The piece of a body, or its end, that stands ahead.
 fn find_piece(alloc: Global, mut body: OpenBody, ahead: &mut Ahead) -> ReadingStep
     ensures ends { is_task result.found ≡ false → is_over result.place ≡ false }
-    ensures cuts { FoundCuts (ResponsePlace.InBody body) result.place ahead.old ahead.new result.found }
+    ensures cuts { FoundCuts (ResponsePlace.InBody body) result.place ahead.old ahead.new
+        result.found }
     ensures finds { (method : List ℕ) (upgrade closed : Bool) (given : List ℕ) (told : ToldResponse)
         → ReadAt method upgrade closed given told (ResponsePlace.InBody body) ahead.old
         → Finds method upgrade closed given told

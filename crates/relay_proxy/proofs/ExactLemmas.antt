@@ -258,7 +258,8 @@ exact_unfit s p w link start keep (Served None reuse) ends head accepted unfit =
     let own : IsAccepted s p ends.head =
     record { framing = asks.framing; len = asks.len; has = asks.has; relayable = ends.relayable } in
     absurd (relayed_fit (origin_of s ends.head start.reused) p link start ends.relayed
-    (subst (λ (h : RequestHead). IsUnfit h.method false p.got link.ended) (one_head accepted own) unfit))
+    (subst (λ (h : RequestHead). IsUnfit h.method false p.got link.ended) (one_head accepted own)
+    unfit))
 exact_unfit s p w link start keep (Served (Some e) reuse) ends head accepted unfit =
     inr (e, ap (λ (b : Bool). Served (Some e) b) ends.stays)
 exact_unfit s p w link start keep TurnLimit ends head accepted unfit = inl (inl refl)

@@ -572,7 +572,8 @@ module _ {L C : Type 0} (state : L → LinkState) (start_at : L → LinkStart)
         (asked_so (step.Failed why) is))
 
     -- a turn that waited waits because a link answered so
-    pub waited_cause : did.step ≡ step.Waited NotReady → HasWaited {C = C} state start_at w x phase next
+    pub waited_cause : did.step ≡ step.Waited NotReady
+        → HasWaited {C = C} state start_at w x phase next
     waited_cause is =
         of_both (λ (k n : Phase L C). HasWaited {C = C} state start_at w x k n)
         (by (within.turns.waits is))

@@ -299,8 +299,8 @@ module _ {L C : Type 0} (state : L → LinkState) (start_at : L → LinkStart) w
   step_on s p (r ∷ own) w x (Relay a) next settled did before mid after t u h k
       turn rests kept does told takes carries run =
       absurd run.holds
-  step_on s p (r ∷ own) w x (Close link lease keep outcome) next settled did before mid after t u h k
-      turn rests kept does told takes carries run =
+  step_on s p (r ∷ own) w x (Close link lease keep outcome) next settled did before mid after t u
+      h k turn rests kept does told takes carries run =
       absurd run.holds
   step_on s p (r ∷ own) w x (Ended outcome attempts) next settled did before mid after t u h k
       turn rests kept does told takes carries run =

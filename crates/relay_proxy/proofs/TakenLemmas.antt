@@ -37,8 +37,8 @@ next_append (Err fault ∷ xs) ys (offer ∷ offers) mid left first then =
 pub takes_twice : (before mid after : Option (List Offer)) (xs ys : List Offer)
     → Takes before xs mid → Takes mid ys after → Takes before (xs ++ ys) after
 takes_twice None mid after xs ys first then =
-    let from : Takes None ys after = subst (λ (m : Option (List Offer)). Takes m ys after) first then
-    in from
+    let from : Takes None ys after =
+    subst (λ (m : Option (List Offer)). Takes m ys after) first then in from
 takes_twice (Some offers) None after xs ys first then = absurd first
 takes_twice (Some offers) (Some mid) None xs ys first then = absurd then
 takes_twice (Some offers) (Some mid) (Some left) xs ys first then =

@@ -135,11 +135,11 @@ module _ {L C : Type 0} (state : L → LinkState) (start_at : L → LinkStart) w
             ∙ more-more before under.own ends.handed;
         ended = ends.ended;
         refused = subst (λ (fs : List Fault). Gains t fs v) (sym ends.refused)
-            (subst (λ (o : Option (List Fault)). Gains t (faults_before under.own m.phase) o) (sym told)
-            under.refused);
+            (subst (λ (o : Option (List Fault)). Gains t (faults_before under.own m.phase) o)
+            (sym told) under.refused);
         offered = subst (λ (os : List Offer). Takes h os l) (sym ends.offered)
-            (subst (λ (o : Option (List Offer)). Takes h (offers_before start_at under.own m.phase) o)
-            (sym kept) under.offered);
+            (subst (λ (o : Option (List Offer)).
+            Takes h (offers_before start_at under.own m.phase) o) (sym kept) under.offered);
         exact = exact_of state start_at s under.passed x (under.own ++ ends.handed)
             processed.history.attempts processed.outcome ends.ended;
         limit = λ is. inl (taken ∙ under.counted ∙ sym all);

@@ -68,4 +68,5 @@ module _ {L C : Type 0} (state : L → LinkState) (start_at : L → LinkStart) w
     pub was : phase ≡ Relay attempt
     pub exchange : H1Exchange L
     pub stands : next ≡ Relay (turned attempt exchange)
-    pub turns : TurnsOver state start_at before after ahead left attempt.value.exchange exchange did asked
+    pub turns : TurnsOver state start_at before after ahead left attempt.value.exchange exchange
+        did asked

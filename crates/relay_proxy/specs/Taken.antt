@@ -1,5 +1,5 @@
--- What a request took of all that its connector has for it: its link, or the fault with which it was
--- refused one.
+-- What a request took of all that its connector has for it: its link, or the fault with which it
+-- was refused one.
 use Rattle.std.specs.Prelude.{◌≡◌, List, [], ◌∷◌, ◌++◌, map, Option, None, Some, Ok, Err}
 use Rattle.relay_links.specs.Connector.{Offer}
 use Rattle.relay_links.specs.Link.{LinkStart}

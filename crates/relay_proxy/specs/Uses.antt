@@ -72,9 +72,9 @@ one_task = record { used = 0; moved = 1; ended = 0 }
 abbrev pub one_end : Work
 one_end = record { used = 0; moved = 0; ended = 1 }
 
--- the work of a turn of an exchange that moved, by its branch: a use of a link, a task that moved or
--- an end. A read is a use where it asked its link, and else the task that it put; a turn without a
--- branch writes the request's head
+-- the work of a turn of an exchange that moved, by its branch: a use of a link, a task that moved
+-- or an end. A read is a use where it asked its link, and else the task that it put; a turn without
+-- a branch writes the request's head
 abbrev pub work_by : Option Branch → Bool → Work
 work_by None asked = one_use
 work_by (Some branch.UpWrite) asked = one_use

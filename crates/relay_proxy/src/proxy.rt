@@ -170,7 +170,7 @@ impl<SV: ProxyHttp, K: Connector, P: Purger> HttpProxy<SV, K, P> {
             (StandsBehind K.Byte.state (K.returned self.old.connector)
             (K.returned self.new.connector)
             (held_state K.Byte.state machine.new.machine.phase)) }
-        // In an exchange that moved, a use, a task or an end was counted by the branch that it took.
+        // In an exchange that moved, a use, a task or an end was counted, by the branch it took.
         ensures moves { (a : Box _) → machine.old.machine.phase ≡ Phase.Relay a
             → result ≡ RunStep.Moved → MovesOn K.Byte.state K.Byte.start
             (world_of D.state client.old (K.fault_count self.old.connector))

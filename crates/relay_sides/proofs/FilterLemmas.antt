@@ -215,8 +215,10 @@ module _
         → stopped ≡ None → (blames here e → blames' past e) → BlamesOver blames stopped q e
         → BlamesOver blames' now (inside_of past read) e
     still past now e read open_yet keeps (filtered.BlamesOver.by_inner b) =
-        filtered.BlamesOver.by_inner (unread' past read e (keeps (unread q (h.given ++ h.withheld) e b)))
-    still past now e read open_yet keeps (filtered.BlamesOver.by_refusal is) = absurd (apart (sym open_yet ∙ is))
+        filtered.BlamesOver.by_inner
+        (unread' past read e (keeps (unread q (h.given ++ h.withheld) e b)))
+    still past now e read open_yet keeps (filtered.BlamesOver.by_refusal is) =
+        absurd (apart (sym open_yet ∙ is))
       where
         apart : None ≡ Some (fail.Error e) → ⊥
         apart same = cc

@@ -41,7 +41,8 @@ pub returns-in-Err-clause-offers : goal.returns-in-Err-clause-offers
 returns-in-Err-clause-offers g c =
     rw c.refused_link.ensures.phase
     (subst (λ (f : Fault).
-    Takes (g.K.Connector.stock c.args.connector.now) (Err f ∷ []) (g.K.Connector.stock c.get.new.self))
+    Takes (g.K.Connector.stock c.args.connector.now) (Err f ∷ [])
+    (g.K.Connector.stock c.get.new.self))
     (sym (is_its_fault c.in-Err.fault c.in-Err.ensures.fault))
     (takes_fault c.in-Err.fault _ _ c.in-Err.ensures.foretold))
 

@@ -64,7 +64,8 @@ returns-in-Finished-clause-run g c = λ s p faults run.
     finished_within g.L.ByteLink.state g.L.ByteLink.start
     (world_of g.D.ByteLink.state c.args.client.now faults)
     (world_of g.D.ByteLink.state c.turn_within-asked.new.client faults) _ _ _ _
-    c.turn_within-asked.ensures.turns c.in-Finished.is refl _ c.close_finished.ensures.closes s p run
+    c.turn_within-asked.ensures.turns c.in-Finished.is refl _ c.close_finished.ensures.closes s p
+    run
 
 -- the exchange failed
 pub returns-in-Failed-clause-run : goal.returns-in-Failed-clause-run

@@ -1,4 +1,4 @@
--- Whether a head lacks a framing rests on whether the request is a HEAD, and not on its method else.
+-- Whether a head lacks a framing rests on whether the request is a HEAD, not on its method else.
 use Rattle.std.proofs.Common.{codes, sym, ◌∙◌}
 use Rattle.relay_sides.proofs.FilterLemmas.{one_test}
 use Rattle.relay_sides.proofs.filtered.has_no_end.Goals as goal

@@ -96,6 +96,6 @@ returns-clause-processes g c =
     let ends = c.close-2.ensures.ends s under.passed under.own under.run in
     let all : c.args.turns ≡ c.loop-turn._turn =
     omega (arith, c.loop-turn-test.false, c.loop-turn.auto._turn-end) in
-    all_taken state start s _ _ _ _ _ _ _ _ _ _ _ c.loop-turn.machine.machine _ _ c.close-2.result under
-    all ends c.close-2.ensures.refusals c.close-2.ensures.offers
+    all_taken state start s _ _ _ _ _ _ _ _ _ _ _ c.loop-turn.machine.machine _ _ c.close-2.result
+    under all ends c.close-2.ensures.refusals c.close-2.ensures.offers
     c.close-2.ensures.turns
