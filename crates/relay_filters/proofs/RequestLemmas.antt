@@ -1,0 +1,200 @@
+-- The request by its calls, with one call more behind.
+use Rattle.std.proofs.Common.{◌≡◌, ℕ, Bool, true, false, not, ◌&&◌, ◌||◌, ◌==◌, if◌then◌else◌, List, [], ◌∷◌, ◌++◌, Option, Some, None, is_some, is_none, unwrap_or, option_to_list, length, arith, eqb-true, add-one, refl, sym, ap, subst, ◌∙◌, append-nil, append_assoc, inl, inr, ◌⊎◌, IsTrue}
+use Rattle.relay_tasks.specs.declared.error.Error.{Error}
+use Rattle.relay_tasks.specs.declared.log.Item.{Item}
+use Rattle.relay_tasks.specs.declared.log.Item.TheVariants as item
+use Rattle.relay_tasks.specs.declared.log.LogEntry.{LogEntry}
+use Rattle.relay_tasks.specs.declared.task.HttpTask.{HttpTask}
+use Rattle.relay_tasks.specs.declared.task.HttpTask.TheVariants as task
+use Rattle.relay_core.specs.Piece.{is_empty, put_of}
+use Rattle.relay_core.specs.declared.piece.Piece.{Piece}
+use Rattle.relay_filters.specs.Request.{PassesRequest, body_of, bytes_in, bytes_of, ended_by, given_to, is_end_by, is_end_in, passed, passes, piece_of, put_in_item}
+
+-- ---- lists
+
+-- the bytes that tasks bring, of two lists
+body_append : (xs ys : List HttpTask) → body_of (xs ++ ys) ≡ body_of xs ++ body_of ys
+body_append [] ys = refl
+body_append (x ∷ xs) ys =
+    ap (λ (b : List ℕ). bytes_of x ++ b) (body_append xs ys)
+    ∙ sym (append_assoc (bytes_of x) (body_of xs) (body_of ys))
+
+-- what the calls were given, with one more
+given_push : (es : List LogEntry) (e : LogEntry)
+    → given_to (es ++ e ∷ []) ≡ given_to es ++ bytes_in e.input
+given_push [] e = append-nil (bytes_in e.input)
+given_push (x ∷ es) e =
+    ap (λ (b : List ℕ). bytes_in x.input ++ b) (given_push es e)
+    ∙ sym (append_assoc (bytes_in x.input) (given_to es) (bytes_in e.input))
+
+-- what passes by the calls, with one more
+passed_push : (ended : Bool) (es : List LogEntry) (e : LogEntry)
+    → passed ended (es ++ e ∷ []) ≡ passed ended es ++ passes (ended_by ended es) e
+passed_push ended [] e = append-nil (passes ended e)
+passed_push ended (x ∷ es) e =
+    ap (λ (xs : List HttpTask). passes ended x ++ xs) (passed_push (ended || is_end_by x) es e)
+    ∙ sym (append_assoc (passes ended x) (passed (ended || is_end_by x) es)
+    (passes (ended_by (ended || is_end_by x) es) e))
+
+-- whether the request has ended behind the calls, with one more
+ended_push : (ended : Bool) (es : List LogEntry) (e : LogEntry)
+    → ended_by ended (es ++ e ∷ []) ≡ (ended_by ended es || is_end_by e)
+ended_push ended [] e = refl
+ended_push ended (x ∷ es) e = ended_push (ended || is_end_by x) es e
+
+-- ---- a piece
+
+and_left : (a b : Bool) → (a && b) ≡ true → a ≡ true
+and_left true b h = refl
+and_left false b h = cc
+
+-- an optional task brings the bytes, or there are none
+bytes_if : (b : Bool) (t : HttpTask) (bytes : List ℕ) → bytes_of t ≡ bytes → (b ≡ true → bytes ≡ [])
+    → body_of (option_to_list (if b then None else Some t)) ≡ bytes
+bytes_if true t bytes is none = sym (none refl)
+bytes_if false t bytes is none = append-nil (bytes_of t) ∙ is
+
+-- an empty piece has no bytes
+none_there : (bytes : Option (List ℕ)) (end : Bool) → (is_empty bytes && not end) ≡ true
+    → unwrap_or bytes [] ≡ []
+none_there None end isnt = refl
+none_there (Some []) end isnt = refl
+none_there (Some (b ∷ bytes)) end isnt = absurd (some_bytes b bytes end isnt)
+  where
+    some_bytes : (b : ℕ) (bytes : List ℕ) (end : Bool)
+        → ((length (b ∷ bytes) == 0) && not end) ≡ true → ⊥
+    some_bytes b bytes end isnt =
+        let e : length (b ∷ bytes) ≡ 0 = eqb-true (length (b ∷ bytes)) 0
+        (and_left (length (b ∷ bytes) == 0) (not end) isnt) in omega arith
+
+-- the bytes that a piece puts are its own
+bytes_put : (u : Bool) (piece : Piece) → body_of (put_of u piece) ≡ unwrap_or piece.bytes []
+bytes_put true piece =
+    bytes_if (is_empty piece.bytes && not piece.upstream_end)
+    (task.UpgradedBody piece.bytes piece.upstream_end) (unwrap_or piece.bytes []) refl
+    (none_there piece.bytes piece.upstream_end)
+bytes_put false piece =
+    bytes_if (is_empty piece.bytes && not piece.upstream_end)
+    (task.Body piece.bytes piece.upstream_end) (unwrap_or piece.bytes []) refl
+    (none_there piece.bytes piece.upstream_end)
+
+-- ---- the request
+
+-- what came of the request is the same
+pub same_request : (a ended : Bool) (es : List LogEntry) (on : Type 0)
+    (came came' put put' : List HttpTask) → came' ≡ came → put' ≡ put
+    → PassesRequest a ended es on came put → PassesRequest a ended es on came' put'
+same_request a ended es on came came' put put' is is' r =
+    record {
+      rest = r.rest;
+      read = ap body_of is ∙ r.read;
+      all = r.all;
+      left = is' ∙ r.left;
+      is_ended = r.is_ended;
+    }
+
+-- what a call was given, joined with what the calls before it were
+module _ (u : Bool) (piece : Piece) (end : Bool) (came came' : List HttpTask) (es : List LogEntry)
+    (e : LogEntry) (rest : List ℕ) (read : body_of came ≡ given_to es ++ rest) (none : rest ≡ [])
+    (is : came' ≡ came ++ put_of u piece) (was : e.input ≡ item.Piece piece.bytes end)
+  where
+    read_on : body_of came' ≡ given_to (es ++ e ∷ []) ++ []
+    read_on =
+        ap body_of is ∙ body_append came (put_of u piece)
+        ∙ ap (λ (b : List ℕ). b ++ body_of (put_of u piece))
+        (read ∙ ap (λ (b : List ℕ). given_to es ++ b) none ∙ append-nil (given_to es))
+        ∙ ap (λ (b : List ℕ). given_to es ++ b)
+        (bytes_put u piece ∙ sym (ap bytes_in was))
+        ∙ sym (append-nil (given_to (es ++ e ∷ [])) ∙ given_push es e)
+
+-- what was left of a piece ends the request by the call that left it
+ends_of : (error : Option Error) (output : Item) (left : Option (List ℕ)) (end : Bool)
+    → error ≡ None → output ≡ item.Piece left end
+    → (is_none error && is_end_in output) ≡ (end || is_none left)
+ends_of error output left end ok became =
+    ap (λ (x : Option Error). is_none x && is_end_in output) ok ∙ ap is_end_in became
+
+-- a call that failed ends nothing
+fails_no_end : (e : LogEntry) → is_some e.error ≡ true → is_end_by e ≡ false
+fails_no_end e bad = by_error e.error (is_end_in e.output) bad
+  where
+    by_error : (error : Option Error) (b : Bool) → is_some error ≡ true
+        → (is_none error && b) ≡ false
+    by_error None b bad = cc
+    by_error (Some x) b bad = refl
+
+-- a piece was filtered
+pub one_piece : (a ended end client_end u : Bool) (es : List LogEntry) (on : Type 0)
+    (came came' put put' : List HttpTask) (piece : Piece) (left : Option (List ℕ)) (e : LogEntry)
+    → on → PassesRequest a ended es on came put → came' ≡ came ++ put_of u piece
+    → put' ≡ put ++ put_of false (piece_of ended end client_end left)
+    → e.input ≡ item.Piece piece.bytes end → e.output ≡ item.Piece left end → e.error ≡ None
+    → PassesRequest a (ended || (piece_of ended end client_end left).upstream_end) (es ++ e ∷ []) on
+    came' put'
+one_piece a ended end client_end u es on came came' put put' piece left e is_on r is is' was became ok =
+    record {
+      rest = [];
+      read = read_on u piece end came came' es e r.rest r.read (r.all is_on) is was;
+      all = λ yes. refl;
+      left = is' ∙ ap (λ (xs : List HttpTask). xs ++ put_of false (piece_of ended end client_end left))
+          r.left
+          ∙ ap (λ (xs : List HttpTask). passed a es ++ xs)
+          (puts_left ended ∙ ap (λ (b : Bool). passes b e) r.is_ended)
+          ∙ sym (passed_push a es e);
+      is_ended = ends_left ended ∙ ap (λ (b : Bool). b || is_end_by e) r.is_ended
+          ∙ sym (ended_push a es e);
+    }
+  where
+    plain : (b : Bool) → is_some e.error ≡ false
+        → (if b || is_some e.error then [] else put_in_item e.output)
+        ≡ (if b then [] else put_in_item e.output)
+    plain true no = refl
+    plain false no = ap (λ (x : Bool). if x then [] else put_in_item e.output) no
+
+    puts_left : (b : Bool) → put_of false (piece_of b end client_end left) ≡ passes b e
+    puts_left true = refl
+    puts_left false =
+        sym (plain false (ap is_some ok) ∙ ap put_in_item became)
+
+    ends_left : (b : Bool) → (b || (piece_of b end client_end left).upstream_end) ≡ (b || is_end_by e)
+    ends_left true = refl
+    ends_left false = sym (ends_of e.error e.output left end ok became)
+
+-- the filter refused a piece
+pub one_refused : (a ended end u : Bool) (es : List LogEntry) (on on' : Type 0)
+    (came came' put put' : List HttpTask) (piece : Piece) (e : LogEntry)
+    → on → PassesRequest a ended es on came put → came' ≡ came ++ put_of u piece → put' ≡ put
+    → e.input ≡ item.Piece piece.bytes end → is_some e.error ≡ true
+    → PassesRequest a ended (es ++ e ∷ []) on' came' put'
+one_refused a ended end u es on on' came came' put put' piece e is_on r is is' was bad = record {
+  rest = [];
+  read = read_on u piece end came came' es e r.rest r.read (r.all is_on) is was;
+  all = λ yes. refl;
+  left = is' ∙ r.left ∙ sym (append-nil (passed a es))
+      ∙ ap (λ (xs : List HttpTask). passed a es ++ xs) (sym (none_passes (ended_by a es)))
+      ∙ sym (passed_push a es e);
+  is_ended = r.is_ended ∙ sym (ended_push a es e ∙ no_end (ended_by a es));
+}
+  where
+    none_passes : (b : Bool) → passes b e ≡ []
+    none_passes true = refl
+    none_passes false = ap (λ (x : Bool). if x then [] else put_in_item e.output) bad
+
+    no_end : (b : Bool) → (b || is_end_by e) ≡ b
+    no_end true = refl
+    no_end false = fails_no_end e bad
+
+-- memory was wanted for a piece
+pub one_lost : (a ended u : Bool) (es : List LogEntry) (on on' : Type 0)
+    (came came' put put' : List HttpTask) (piece : Piece) → (on' → ⊥)
+    → PassesRequest a ended es on came put → came' ≡ came ++ put_of u piece → put' ≡ put
+    → PassesRequest a ended es on' came' put'
+one_lost a ended u es on on' came came' put put' piece off r is is' = record {
+  rest = r.rest ++ body_of (put_of u piece);
+  read = ap body_of is ∙ body_append came (put_of u piece)
+      ∙ ap (λ (b : List ℕ). b ++ body_of (put_of u piece)) r.read
+      ∙ append_assoc (given_to es) r.rest (body_of (put_of u piece));
+  all = λ yes. absurd (off yes);
+  left = is' ∙ r.left;
+  is_ended = r.is_ended;
+}

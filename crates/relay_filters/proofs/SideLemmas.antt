@@ -1,0 +1,562 @@
+-- A side behind filters: how each answer of the inner side goes on, with the call that it led to.
+use Rattle.std.proofs.Common.{◌≡◌, ℕ, Bool, true, false, not, ◌&&◌, ◌||◌, if◌then◌else◌, List, [], ◌∷◌, ◌++◌, length, Option, Some, None, is_some, is_none, option_to_list, Result, Ok, Err, refl, sym, ap, subst, ◌∙◌, append-nil, append_assoc, inl, inr, ◌⊎◌, IsTrue, IsSome}
+use Rattle.relay_tasks.specs.declared.error.Error.{Error}
+use Rattle.relay_tasks.specs.declared.error.ErrorSource.TheVariants.{Downstream}
+use Rattle.relay_tasks.specs.declared.error.Fail.{Fail}
+use Rattle.relay_tasks.specs.declared.error.Fail.TheVariants as fail
+use Rattle.relay_tasks.specs.declared.hook.Hook.TheVariants as hook
+use Rattle.relay_tasks.specs.declared.log.Item.{Item}
+use Rattle.relay_tasks.specs.declared.log.Item.TheVariants as item
+use Rattle.relay_tasks.specs.declared.log.LogEntry.{LogEntry}
+use Rattle.relay_tasks.specs.declared.task.HttpTask.{HttpTask}
+use Rattle.relay_links.specs.declared.link.Put.{Put}
+use Rattle.relay_links.specs.declared.link.Put.TheVariants as put
+use Rattle.relay_session.specs.Reading.{head_of}
+use Rattle.relay_core.specs.Down.{DownState, GivesPiece, Writes}
+use Rattle.relay_core.specs.Past.{BatchRefused, DownGoes, DownPast, error_of_fail}
+use Rattle.relay_core.specs.Piece.{is_empty, put_of, task_of, task_put_of}
+use Rattle.relay_core.specs.Uses.{PutsTask}
+use Rattle.relay_core.specs.declared.piece.Piece.{Piece}
+use Rattle.relay_modules.specs.declared.seen.Seen.{Seen}
+use Rattle.relay_hooks.specs.Call.{Left, entry, failed, only}
+use Rattle.relay_hooks.specs.Session.{moment}
+use Rattle.relay_hooks.specs.Standing.{Standing, standing}
+use Rattle.relay_calls.specs.Calls.{Calls}
+use Rattle.relay_calls.specs.Entry.{cleared}
+use Rattle.relay_calls.specs.Log.{IsAllowed, Walk, requests_in}
+use Rattle.relay_calls.proofs.CallLemmas.{CallsOf-walks}
+use Rattle.relay_calls.proofs.LogLemmas.{Views-same, Walk-append, requests_in-append}
+use Rattle.relay_filters.specs.Request.{Filtered, Filters, KeepsPiece, KeepsPieces, PassesRequest, Refused, is_last, piece_of}
+use Rattle.relay_filters.specs.Hooked.{BlamesOver, IsHooked, IsLogged, LastTells, NoModule, RefusesOver, opened}
+use Rattle.relay_filters.proofs.RequestLemmas.{one_lost, one_piece, one_refused, same_request}
+
+-- ---- answers
+
+some_none : {A : Type 0} (why : Fail) → Some why ≡ None → A
+some_none why is = cc
+
+-- the error of a failure is its own
+fail_is : (why : Fail) (e : Error) → error_of_fail why ≡ Some e → why ≡ fail.Error e
+fail_is fail.OutOfMemory e told = cc
+fail_is (fail.Error error) e told = ap fail.Error (some_error error e told)
+  where
+    some_error : (a b : Error) → Some a ≡ Some b → a ≡ b
+    some_error a b same = cc
+
+-- a side that reads on has not stopped
+stopped_never : {A : Type 0} (st : Option Fail) (e : Error) → st ≡ None → st ≡ Some (fail.Error e)
+    → A
+stopped_never st e on is = some_none (fail.Error e) (sym is ∙ on)
+
+-- ---- the inner side alone
+
+-- what passed goes on where the inner side does, and no filter was called
+stands_on : (inner inner' : DownPast → Type 0) (allows : Standing → LogEntry → Type 0)
+    (seen : Seen) (mark first : ℕ) (a ended ended' u u' r r' : Bool) (st : Option Fail)
+    (p p' : DownPast) (came' : List HttpTask)
+    (h : IsHooked inner allows seen mark first a ended u r st p)
+    → (u' ≡ false → (u ≡ false) × (ended' ≡ ended)) → (ended' ≡ true → r' ≡ true)
+    → came' ≡ h.came → p'.put ≡ p.put → inner' (record p' { put = came' })
+    → IsHooked inner' allows seen mark first a ended' u' r' st p'
+stands_on inner inner' allows seen mark first a ended ended' u u' r r' st p p' came' h plain ends is same
+    holds = record {
+      keeps = h.keeps;
+      came = came';
+      holds = holds;
+      before = h.before;
+      own = h.own;
+      parts = h.parts;
+      began = h.began;
+      logged = h.logged;
+      request = λ not_up.
+          let both = plain not_up in
+          subst (λ (b : Bool). PassesRequest a b (requests_in h.own) (st ≡ None) came' p'.put)
+          (sym both.1)
+          (same_request a ended (requests_in h.own) (st ≡ None) h.came came' p.put p'.put is same
+          (h.request both.0));
+      ends_inside = ends;
+      head = h.head;
+      told = h.told;
+    }
+
+-- the inner side went on
+pub goes_on : (inner inner' : DownPast → Type 0) (blames' : DownPast → Error → Type 0)
+    (allows : Standing → LogEntry → Type 0) (seen : Seen) (mark first : ℕ)
+    (a ended ended' u u' r r' : Bool) (st : Option Fail) (p : DownPast)
+    (put_in put batched closing : List HttpTask) (error : Option Error)
+    (h : IsHooked inner allows seen mark first a ended u r st p)
+    → (u' ≡ false → (u ≡ false) × (ended' ≡ ended)) → (ended' ≡ true → r' ≡ true)
+    → put_in ≡ h.came → put ≡ p.put → DownGoes inner' blames' put_in batched closing error
+    → DownGoes (IsHooked inner' allows seen mark first a ended' u' r' st)
+    (λ past e. BlamesOver inner' blames' st past e) put batched closing error
+goes_on inner inner' blames' allows seen mark first a ended ended' u u' r r' st p put_in put batched
+    closing error h plain ends is same g = record {
+      past = record g.past { put = put };
+      stands =
+          stands_on inner inner' allows seen mark first a ended ended' u u' r r' st p
+          (record g.past { put = put }) g.past.put h plain ends (g.is_put ∙ is) same g.stands;
+      is_put = refl;
+      is_batched = g.is_batched;
+      is_closing = g.is_closing;
+      blamed = λ e told. inl (g.past.put, g.stands, g.blamed e told);
+    }
+
+-- the inner side refused a batch
+pub refuses_on : (inner inner' : DownPast → Type 0)
+    (refuses' : DownPast → List HttpTask → Error → Type 0)
+    (allows : Standing → LogEntry → Type 0) (seen : Seen) (mark first : ℕ)
+    (a ended u u' r r' : Bool) (st : Option Fail) (p : DownPast) (tasks : List HttpTask)
+    (why : Fail) (h : IsHooked inner allows seen mark first a ended u r st p)
+    → (u' ≡ false → u ≡ false) → (r ≡ true → r' ≡ true)
+    → BatchRefused inner' refuses' (record p { put = h.came }) tasks why
+    → BatchRefused (IsHooked inner' allows seen mark first a ended u' r' st)
+    (λ past left e. RefusesOver inner' refuses' past left e) p tasks why
+refuses_on inner inner' refuses' allows seen mark first a ended u u' r r' st p tasks why h plain ends b =
+    record {
+      filtered = b.filtered;
+      left = b.left;
+      parts = b.parts;
+      past = record b.past { put = p.put };
+      stands =
+          stands_on inner inner' allows seen mark first a ended ended u u' r r' st p
+          (record b.past { put = p.put }) b.past.put h (λ not_up. (plain not_up, refl))
+          (λ yes. ends (h.ends_inside yes)) b.is_put refl b.stands;
+      is_put = refl;
+      is_batched = b.is_batched;
+      is_closing = b.is_closing;
+      refused = λ e no_failure is. (b.past.put, b.stands, b.refused e no_failure is);
+    }
+
+-- a side that has stopped answers why
+pub stays_stopped : (holds : DownPast → Type 0) (inner : DownPast → Type 0)
+    (blames : DownPast → Error → Type 0) (st : Option Fail) (why : Fail) (p : DownPast)
+    (put : List HttpTask) → st ≡ Some why → put ≡ p.put → holds p
+    → DownGoes holds (λ past e. BlamesOver inner blames st past e) put p.batched p.closing
+    (error_of_fail why)
+stays_stopped holds inner blames st why p put is same h = record {
+  past = p;
+  stands = h;
+  is_put = sym same;
+  is_batched = refl;
+  is_closing = refl;
+  blamed = λ e told. inr (is ∙ ap Some (fail_is why e told));
+}
+
+-- a side whose session has no head is none of which something passed
+pub no_head : {A : Type 0} (inner : DownPast → Type 0) (allows : Standing → LogEntry → Type 0)
+    (seen : Seen) (mark first : ℕ) (a ended u r : Bool) (st : Option Fail) (p : DownPast)
+    → st ≡ None → (IsSome (head_of seen.downstream.reading) → ⊥)
+    → IsHooked inner allows seen mark first a ended u r st p → A
+no_head inner allows seen mark first a ended u r st p on none h = absurd (none (h.head on))
+
+-- ---- a batch
+
+-- a client that is not upgraded was not before
+pub not_before : (u u' : Bool) → (IsTrue u → u' ≡ true) → u' ≡ false → u ≡ false
+not_before true u' stays plain = absurd (apart (sym (stays refl) ∙ plain))
+  where
+    apart : true ≡ false → ⊥
+    apart is = cc
+not_before false u' stays plain = refl
+
+-- and its request is as open as before
+pub not_opened : (ended u u' : Bool) → (IsTrue u → u' ≡ true) → u' ≡ false
+    → (u ≡ false) × (opened ended u u' ≡ ended)
+not_opened ended true u' stays plain = (not_before true u' stays plain, refl)
+not_opened ended false true stays plain = cc
+not_opened ended false false stays plain = (refl, refl)
+
+-- it is open again for both, or for none
+pub opens_both : (ended r u u' : Bool) → (ended ≡ true → r ≡ true)
+    → opened ended u u' ≡ true → (if not u && u' then false else r) ≡ true
+opens_both ended r true u' ends yes = ends yes
+opens_both ended r false true ends yes = yes
+opens_both ended r false false ends yes = ends yes
+
+-- ---- a piece
+
+-- what no call of a piece fails to say: the log, the walk and the head behind it
+module _ (inner : DownPast → Type 0) (allows : Standing → LogEntry → Type 0) (seen : Seen)
+    (mark first : ℕ) (a ended u r : Bool) (p : DownPast)
+    (h : IsHooked inner allows seen mark first a ended u r None p) (bytes : Option (List ℕ))
+    (end : Bool) (seen' : Seen) (mark' : ℕ) (left : Left)
+    (call : Calls allows hook.RequestBodyFilter (item.Piece bytes end) seen mark seen' mark' left)
+  where
+    -- its entry
+    abbrev pub entered : LogEntry
+    entered = entry hook.RequestBodyFilter (item.Piece bytes end) (moment (cleared seen) mark) left
+        (moment call.returned mark')
+
+    pub parts_on : seen'.log ≡ h.before ++ (h.own ++ entered ∷ [])
+    parts_on =
+        call.log ∙ ap (λ (l : List LogEntry). l ++ entered ∷ []) h.parts
+        ∙ append_assoc h.before h.own (entered ∷ [])
+
+    pub walks_on : (on : Type 0) → IsLogged allows (h.own ++ entered ∷ []) seen' mark' on
+    walks_on on = record {
+      from = h.logged.from;
+      to = standing None false (moment seen' mark');
+      walk =
+          Walk-append (IsAllowed allows NoModule) h.own (entered ∷ []) h.logged.from
+          (standing None false (moment seen mark)) (standing None false (moment seen' mark'))
+          (subst (λ (s : Standing). Walk (IsAllowed allows NoModule) h.logged.from h.own s)
+          (h.logged.at refl) h.logged.walk)
+          (CallsOf-walks allows NoModule None false hook.RequestBodyFilter (item.Piece bytes end)
+          seen mark seen' mark' left call refl);
+      at = λ yes. refl;
+    }
+
+    pub head_on : IsSome (head_of seen'.downstream.reading)
+    head_on =
+        subst (λ (s : Seen). IsSome (head_of s.downstream.reading)) (sym call.rest)
+        (call.lawful.request.head (h.head refl))
+
+    pub requests_on : requests_in (h.own ++ entered ∷ []) ≡ requests_in h.own ++ entered ∷ []
+    requests_on = requests_in-append h.own (entered ∷ [])
+
+-- before the end the filter keeps a piece
+keeps_here : (inner : DownPast → Type 0) (allows : Standing → LogEntry → Type 0) (seen : Seen)
+    (mark first : ℕ) (a ended u r : Bool) (p : DownPast) (piece made : Piece) (seen' : Seen)
+    (mark' : ℕ) (h : IsHooked inner allows seen mark first a ended u r None p)
+    (f : Filtered allows ended piece made seen mark seen' mark') → is_last piece ≡ false
+    → KeepsPiece piece.bytes f.left
+keeps_here inner allows seen mark first a ended u r p piece made seen' mark' h f no =
+    h.keeps _ _ piece.bytes f.left f.call.allowed refl
+    (ap (λ (b : Bool). item.Piece piece.bytes b) no) (ap (λ (b : Bool). item.Piece f.left b) no)
+    refl
+
+-- the request ends for the upstream where it ended for the inner side
+ends_too : (ended r up client none : Bool) (r' : Bool) → r' ≡ (r || up) → (ended ≡ true → r ≡ true)
+    → (client ≡ true → r' ≡ true) → ((up || client) ≡ false → none ≡ false)
+    → (ended || ((up || client) || none)) ≡ true → r' ≡ true
+ends_too true r up client none r' is before behind keeps yes =
+    is ∙ ap (λ (b : Bool). b || up) (before refl)
+ends_too false r true client none r' is before behind keeps yes = is ∙ either_way r
+  where
+    either_way : (b : Bool) → (b || true) ≡ true
+    either_way true = refl
+    either_way false = refl
+ends_too false r false true none r' is before behind keeps yes = behind refl
+ends_too false r false false none r' is before behind keeps yes =
+    absurd (apart (sym (keeps refl) ∙ yes))
+  where
+    apart : false ≡ true → ⊥
+    apart same = cc
+
+-- the end of what passes
+made_end : (ended end client_end : Bool) (left : Option (List ℕ))
+    → (ended || (piece_of ended end client_end left).upstream_end)
+    ≡ (ended || (end || is_none left))
+made_end true end client_end left = refl
+made_end false end client_end left = refl
+
+-- a piece was read and filtered
+reads_open : (inner inner' : DownPast → Type 0) (blames' : DownPast → Error → Type 0)
+    (allows : Standing → LogEntry → Type 0) (seen : Seen) (mark first : ℕ)
+    (a ended u u' r r' : Bool) (p : DownPast) (piece made : Piece) (seen' : Seen) (mark' : ℕ)
+    (h : IsHooked inner allows seen mark first a ended u r None p) → u' ≡ u
+    → r' ≡ (r || piece.upstream_end) → (piece.client_end ≡ true → r' ≡ true)
+    → Filtered allows ended piece made seen mark seen' mark'
+    → DownGoes inner' blames' (h.came ++ put_of u piece) p.batched p.closing None
+    → DownGoes (IsHooked inner' allows seen' mark' first a (ended || made.upstream_end) u' r' None)
+    (λ past e. BlamesOver inner' blames' None past e) (p.put ++ put_of u made) p.batched p.closing
+    None
+reads_open inner inner' blames' allows seen mark first a ended u u' r r' p piece made seen' mark' h up
+    inside client f g =
+    let end = is_last piece in
+    let left = f.left in
+    let e = entered inner allows seen mark first a ended u r p h piece.bytes end seen' mark'
+    (only (item.Piece left end)) f.call in
+    let one = piece_of ended end piece.client_end left in
+    subst (λ (m : Piece). DownGoes
+    (IsHooked inner' allows seen' mark' first a (ended || m.upstream_end) u' r' None)
+    (λ past e. BlamesOver inner' blames' None past e) (p.put ++ put_of u m) p.batched p.closing
+    None) (sym f.is_made)
+    (record {
+      past = record g.past { put = p.put ++ put_of u one };
+      stands = record {
+        keeps = h.keeps;
+        came = g.past.put;
+        holds = g.stands;
+        before = h.before;
+        own = h.own ++ e ∷ [];
+        parts = parts_on inner allows seen mark first a ended u r p h piece.bytes end seen' mark'
+            (only (item.Piece left end)) f.call;
+        began = h.began;
+        logged = walks_on inner allows seen mark first a ended u r p h piece.bytes end seen' mark'
+            (only (item.Piece left end)) f.call (None ≡ None);
+        request = λ plain.
+            let low = sym up ∙ plain in
+            subst (λ (l : List LogEntry). PassesRequest a (ended || one.upstream_end) l
+            (None ≡ None) g.past.put (p.put ++ put_of u one))
+            (sym (requests_on inner allows seen mark first a ended u r p h piece.bytes end seen'
+            mark' (only (item.Piece left end)) f.call))
+            (one_piece a ended end piece.client_end u (requests_in h.own) (None ≡ None) h.came
+            g.past.put p.put (p.put ++ put_of u one) piece left e refl (h.request low) g.is_put
+            (ap (λ (b : Bool). p.put ++ put_of b one) low) refl refl refl);
+        ends_inside = λ yes.
+            ends_too ended r piece.upstream_end piece.client_end (is_none left) r' inside
+            h.ends_inside client
+            (λ no.
+            (keeps_here inner allows seen mark first a ended u r p piece made seen' mark' h f
+            no).no_end)
+            (sym (made_end ended end piece.client_end left) ∙ yes);
+        head = λ on.
+            head_on inner allows seen mark first a ended u r p h piece.bytes end seen' mark'
+            (only (item.Piece left end)) f.call;
+        told = λ e is. cc;
+      };
+      is_put = refl;
+      is_batched = g.is_batched;
+      is_closing = g.is_closing;
+      blamed = λ e isnt. cc;
+    })
+
+-- the filter refused a piece, or memory was wanted
+stops_open : (inner inner' : DownPast → Type 0) (blames' : DownPast → Error → Type 0)
+    (allows : Standing → LogEntry → Type 0) (seen : Seen) (mark first : ℕ)
+    (a ended u u' r r' : Bool) (p : DownPast) (piece : Piece) (why : Fail) (put : List HttpTask)
+    (seen' : Seen) (mark' : ℕ) (h : IsHooked inner allows seen mark first a ended u r None p)
+    → u' ≡ u → (r ≡ true → r' ≡ true) → put ≡ p.put
+    → Filters allows ended piece (Err why) seen mark seen' mark'
+    → DownGoes inner' blames' (h.came ++ put_of u piece) p.batched p.closing None
+    → DownGoes (IsHooked inner' allows seen' mark' first a ended u' r' (Some why))
+    (λ past e. BlamesOver inner' blames' (Some why) past e) put p.batched p.closing
+    (error_of_fail why)
+stops_open inner inner' blames' allows seen mark first a ended u u' r r' p piece fail.OutOfMemory put
+    seen' mark' h up stays same f g = record {
+      past = record g.past { put = put };
+      stands = record {
+        keeps = h.keeps;
+        came = g.past.put;
+        holds = g.stands;
+        before = h.before;
+        own = h.own;
+        parts = f ∙ h.parts;
+        began = h.began;
+        logged = record {
+          from = h.logged.from;
+          to = h.logged.to;
+          walk = h.logged.walk;
+          at = λ yes. some_none fail.OutOfMemory yes;
+        };
+        request = λ plain.
+            one_lost a ended u (requests_in h.own) (None ≡ None) (Some fail.OutOfMemory ≡ None)
+            h.came g.past.put p.put put piece (λ yes. some_none fail.OutOfMemory yes)
+            (h.request (sym up ∙ plain)) g.is_put same;
+        ends_inside = λ yes. stays (h.ends_inside yes);
+        head = λ yes. some_none fail.OutOfMemory yes;
+        told = λ e is. cc;
+      };
+      is_put = refl;
+      is_batched = g.is_batched;
+      is_closing = g.is_closing;
+      blamed = λ e isnt. cc;
+    }
+stops_open inner inner' blames' allows seen mark first a ended u u' r r' p piece (fail.Error error) put
+    seen' mark' h up stays same f g =
+    let end = is_last piece in
+    let left = failed (item.Piece f.left end) error in
+    let e = entered inner allows seen mark first a ended u r p h piece.bytes end seen' mark' left
+    f.call in
+    record {
+      past = record g.past { put = put };
+      stands = record {
+        keeps = h.keeps;
+        came = g.past.put;
+        holds = g.stands;
+        before = h.before;
+        own = h.own ++ e ∷ [];
+        parts = parts_on inner allows seen mark first a ended u r p h piece.bytes end seen' mark' left
+            f.call;
+        began = h.began;
+        logged = walks_on inner allows seen mark first a ended u r p h piece.bytes end seen' mark'
+            left f.call (Some (fail.Error error) ≡ None);
+        request = λ plain.
+            subst (λ (l : List LogEntry). PassesRequest a ended l (Some (fail.Error error) ≡ None)
+            g.past.put put)
+            (sym (requests_on inner allows seen mark first a ended u r p h piece.bytes end seen'
+            mark' left f.call))
+            (one_refused a ended end u (requests_in h.own) (None ≡ None)
+            (Some (fail.Error error) ≡ None) h.came g.past.put p.put put piece e refl
+            (h.request (sym up ∙ plain)) g.is_put same refl refl);
+        ends_inside = λ yes. stays (h.ends_inside yes);
+        head = λ yes. some_none (fail.Error error) yes;
+        told = λ x is. record {
+          front = h.own;
+          last = e;
+          parts = refl;
+          says = error_in is;
+        };
+      };
+      is_put = refl;
+      is_batched = g.is_batched;
+      is_closing = g.is_closing;
+      blamed = λ x told. inr (ap Some (fail_is (fail.Error error) x told));
+    }
+  where
+    error_in : {x : Error} → Some (fail.Error error) ≡ Some (fail.Error x) → Some error ≡ Some x
+    error_in is = cc
+
+-- ---- a piece that puts a task
+
+-- a test of a piece, and what it puts
+puts_by : (b : Bool) (t : HttpTask) → b ≡ false → is_some (if b then None else Some t) ≡ true
+puts_by true t no = cc
+puts_by false t no = refl
+
+by_put : (b : Bool) (t : HttpTask) → is_some (if b then None else Some t) ≡ true → b ≡ false
+by_put true t yes = cc
+by_put false t yes = refl
+
+-- a piece that puts a task puts no empty list
+puts_none : {A : Type 0} (o : Option HttpTask) → option_to_list o ≡ [] → is_some o ≡ true → A
+puts_none None none yes = cc
+puts_none (Some t) none yes = cc
+
+-- a piece that is neither empty nor the end stays so
+fills_too : (up client empty empty' none : Bool) → (empty && not up) ≡ false
+    → ((up || client) ≡ false → empty ≡ false → empty' ≡ false)
+    → (empty' && not ((up || client) || none)) ≡ false
+fills_too true client empty empty' none some keeps = and_false empty'
+  where
+    and_false : (b : Bool) → (b && false) ≡ false
+    and_false true = refl
+    and_false false = refl
+fills_too false true empty empty' none some keeps = and_false empty'
+  where
+    and_false : (b : Bool) → (b && false) ≡ false
+    and_false true = refl
+    and_false false = refl
+fills_too false false true empty' none some keeps = cc
+fills_too false false false empty' none some keeps =
+    ap (λ (b : Bool). b && not none) (keeps refl refl)
+
+-- what the filter makes of a piece that puts a task puts one
+puts_open : {A : Type 0} (inner : DownPast → Type 0) (allows : Standing → LogEntry → Type 0)
+    (seen : Seen) (mark first : ℕ) (a ended u r : Bool) (p : DownPast) (piece made : Piece)
+    (seen' : Seen) (mark' : ℕ) (h : IsHooked inner allows seen mark first a ended u r None p)
+    → (IsTrue r → put_of u piece ≡ []) → Filtered allows ended piece made seen mark seen' mark'
+    → A ⊎ PutsTask u piece → A ⊎ PutsTask u made
+puts_open inner allows seen mark first a ended u r p piece made seen' mark' h behind f (inl used) =
+    inl used
+puts_open inner allows seen mark first a true u r p piece made seen' mark' h behind f (inr puts) =
+    puts_none (task_put_of u piece) (behind (h.ends_inside refl)) puts
+puts_open inner allows seen mark first a false u r p piece made seen' mark' h behind f (inr puts) =
+    let end = is_last piece in
+    inr (subst (λ (m : Piece). PutsTask u m) (sym f.is_made)
+    (puts_by (is_empty f.left && not (end || is_none f.left))
+    (task_of u (piece_of false end piece.client_end f.left))
+    (fills_too piece.upstream_end piece.client_end (is_empty piece.bytes) (is_empty f.left)
+    (is_none f.left)
+    (by_put (is_empty piece.bytes && not piece.upstream_end) (task_of u piece) puts)
+    (λ no some.
+    (keeps_here inner allows seen mark first a false u r p piece made seen' mark' h f no).fills
+    some))))
+
+-- ---- a side that has not stopped
+
+-- a piece was read and filtered
+pub reads_piece : (inner inner' : DownPast → Type 0) (blames' : DownPast → Error → Type 0)
+    (allows : Standing → LogEntry → Type 0) (seen : Seen) (mark first : ℕ)
+    (a ended u u' r r' : Bool) (st : Option Fail) (p : DownPast) (piece made : Piece)
+    (seen' : Seen) (mark' : ℕ) → st ≡ None
+    → (h : IsHooked inner allows seen mark first a ended u r st p) → u' ≡ u
+    → r' ≡ (r || piece.upstream_end) → (piece.client_end ≡ true → r' ≡ true)
+    → Filtered allows ended piece made seen mark seen' mark'
+    → DownGoes inner' blames' (h.came ++ put_of u piece) p.batched p.closing None
+    → DownGoes (IsHooked inner' allows seen' mark' first a (ended || made.upstream_end) u' r' st)
+    (λ past e. BlamesOver inner' blames' st past e) (p.put ++ put_of u made) p.batched p.closing
+    None
+reads_piece inner inner' blames' allows seen mark first a ended u u' r r' (Some why) p piece made
+    seen' mark' on h = some_none why on
+reads_piece inner inner' blames' allows seen mark first a ended u u' r r' None p piece made seen'
+    mark' on h =
+    reads_open inner inner' blames' allows seen mark first a ended u u' r r' p piece made seen'
+    mark' h
+
+-- the filter refused a piece, or memory was wanted
+pub stops_at : (inner inner' : DownPast → Type 0) (blames' : DownPast → Error → Type 0)
+    (allows : Standing → LogEntry → Type 0) (seen : Seen) (mark first : ℕ)
+    (a ended u u' r r' : Bool) (st : Option Fail) (p : DownPast) (piece : Piece) (why : Fail)
+    (put : List HttpTask) (seen' : Seen) (mark' : ℕ) → st ≡ None
+    → (h : IsHooked inner allows seen mark first a ended u r st p) → u' ≡ u
+    → (r ≡ true → r' ≡ true) → put ≡ p.put
+    → Filters allows ended piece (Err why) seen mark seen' mark'
+    → DownGoes inner' blames' (h.came ++ put_of u piece) p.batched p.closing None
+    → DownGoes (IsHooked inner' allows seen' mark' first a ended u' r' (Some why))
+    (λ past e. BlamesOver inner' blames' (Some why) past e) put p.batched p.closing
+    (error_of_fail why)
+stops_at inner inner' blames' allows seen mark first a ended u u' r r' (Some before) p piece why put
+    seen' mark' on h = some_none before on
+stops_at inner inner' blames' allows seen mark first a ended u u' r r' None p piece why put seen'
+    mark' on h =
+    stops_open inner inner' blames' allows seen mark first a ended u u' r r' p piece why put seen'
+    mark' h
+
+-- what the filter makes of a piece that puts a task puts one
+pub puts_too : {A : Type 0} (inner : DownPast → Type 0) (allows : Standing → LogEntry → Type 0)
+    (seen : Seen) (mark first : ℕ) (a ended u r : Bool) (st : Option Fail) (p : DownPast)
+    (piece made : Piece) (seen' : Seen) (mark' : ℕ) → st ≡ None
+    → IsHooked inner allows seen mark first a ended u r st p → (IsTrue r → put_of u piece ≡ [])
+    → Filtered allows ended piece made seen mark seen' mark' → A ⊎ PutsTask u piece
+    → A ⊎ PutsTask u made
+puts_too inner allows seen mark first a ended u r (Some why) p piece made seen' mark' on h behind =
+    some_none why on
+puts_too inner allows seen mark first a ended u r None p piece made seen' mark' on h behind =
+    puts_open inner allows seen mark first a ended u r p piece made seen' mark' h behind
+
+-- ---- the beginning
+
+-- before the first piece nothing passed
+pub begins : (holds : DownPast → Type 0) (allows : Standing → LogEntry → Type 0) (seen : Seen)
+    (mark first : ℕ) (ended u r : Bool) (p : DownPast) → first ≡ length seen.log
+    → KeepsPieces allows → IsSome (head_of seen.downstream.reading) → (ended ≡ true → r ≡ true)
+    → p.put ≡ [] → holds p → IsHooked holds allows seen mark first ended ended u r None p
+begins holds allows seen mark first ended u r p len keeps head inside none h = record {
+  keeps = keeps;
+  came = [];
+  holds = subst (λ (l : List HttpTask). holds (record p { put = l })) none h;
+  before = seen.log;
+  own = [];
+  parts = sym (append-nil seen.log);
+  began = sym len;
+  logged = record {
+    from = standing None false (moment seen mark);
+    to = standing None false (moment seen mark);
+    walk = Views-same _;
+    at = λ yes. refl;
+  };
+  request = λ plain. record {
+    rest = [];
+    read = refl;
+    all = λ yes. refl;
+    left = none;
+    is_ended = refl;
+  };
+  ends_inside = inside;
+  head = λ on. head;
+  told = λ e is. cc;
+}
+
+-- ---- the states
+
+-- a write leaves whether the client was upgraded, and whether the request has ended
+pub writes_leave : (old new : DownState) (answer : Put) → Writes old new answer
+    → (new.upgraded ≡ old.upgraded) × (new.request_ended ≡ old.request_ended)
+writes_leave old new (put.Took n) w =
+    (ap (λ (s : DownState). s.upgraded) w, ap (λ (s : DownState). s.request_ended) w)
+writes_leave old new put.NotReady w =
+    (ap (λ (s : DownState). s.upgraded) w, ap (λ (s : DownState). s.request_ended) w)
+writes_leave old new put.Silent w =
+    (ap (λ (s : DownState). s.upgraded) w, ap (λ (s : DownState). s.request_ended) w)
+writes_leave old new (put.Failed fault) w =
+    (ap (λ (s : DownState). s.upgraded) w, ap (λ (s : DownState). s.request_ended) w)
+writes_leave old new put.OutOfMemory w =
+    (ap (λ (s : DownState). s.upgraded) w, ap (λ (s : DownState). s.request_ended) w)
+
+-- a body whose last piece did not pass has not ended
+pub still_open : (done client : Bool)
+    → (if not done then false else (done || client)) ≡ done
+still_open true client = refl
+still_open false client = refl

@@ -1,0 +1,135 @@
+-- The request as its filter lets it pass, read off the log: what each call was given, and what went
+-- on of it.
+use Rattle.std.specs.Prelude.{◌≡◌, ℕ, Bool, true, false, ◌&&◌, ◌||◌, if◌then◌else◌, List, [], ◌∷◌, ◌++◌, Option, Some, None, is_some, is_none, unwrap_or, Result, Ok, Err}
+use Rattle.relay_tasks.specs.declared.error.Error.{Error}
+use Rattle.relay_tasks.specs.declared.error.Fail.{Fail}
+use Rattle.relay_tasks.specs.declared.error.Fail.TheVariants as fail
+use Rattle.relay_tasks.specs.declared.hook.Hook.TheVariants as hook
+use Rattle.relay_tasks.specs.declared.log.Item.{Item}
+use Rattle.relay_tasks.specs.declared.log.Item.TheVariants as item
+use Rattle.relay_tasks.specs.declared.log.LogEntry.{LogEntry}
+use Rattle.relay_tasks.specs.declared.task.HttpTask.{HttpTask}
+use Rattle.relay_tasks.specs.declared.task.HttpTask.TheVariants as task
+use Rattle.relay_core.specs.Piece.{is_empty, put_of}
+use Rattle.relay_core.specs.declared.piece.Piece.{Piece}
+use Rattle.relay_modules.specs.declared.seen.Seen.{Seen}
+use Rattle.relay_hooks.specs.Call.{only, failed}
+use Rattle.relay_hooks.specs.Standing.{Standing}
+use Rattle.relay_calls.specs.Calls.{Calls}
+
+-- ---- a piece
+
+-- the request ends with a piece: so says the inner side, or the client's own request ends
+abbrev pub is_last : Piece → Bool
+is_last piece = piece.upstream_end || piece.client_end
+
+-- the piece that passes, of what the filter left: nothing once the request has ended. Where the
+-- filter left none the request ends
+abbrev pub piece_of : Bool → Bool → Bool → Option (List ℕ) → Piece
+piece_of ended end client_end left =
+    if ended then record { bytes = None; upstream_end = false; client_end = client_end }
+    else record { bytes = left; upstream_end = end || is_none left; client_end = client_end }
+
+-- ---- the calls
+
+-- the bytes of a piece
+abbrev pub bytes_in : Item → List ℕ
+bytes_in (item.Piece bytes end) = unwrap_or bytes []
+bytes_in other = []
+
+-- what was left of a piece ends the request: it was the end, or none was left
+abbrev pub is_end_in : Item → Bool
+is_end_in (item.Piece bytes end) = end || is_none bytes
+is_end_in other = false
+
+-- the tasks that what was left of a piece puts
+abbrev pub put_in_item : Item → List HttpTask
+put_in_item (item.Piece bytes end) = put_of false (piece_of false end end bytes)
+put_in_item other = []
+
+-- the bytes that the calls were given, joined
+abbrev pub given_to : List LogEntry → List ℕ
+given_to [] = []
+given_to (e ∷ es) = bytes_in e.input ++ given_to es
+
+-- the call ended the request
+abbrev pub is_end_by : LogEntry → Bool
+is_end_by e = is_none e.error && is_end_in e.output
+
+-- the request has ended behind these calls
+abbrev pub ended_by : Bool → List LogEntry → Bool
+ended_by ended [] = ended
+ended_by ended (e ∷ es) = ended_by (ended || is_end_by e) es
+
+-- what one call lets pass: nothing where the request had ended, or where it failed
+abbrev pub passes : Bool → LogEntry → List HttpTask
+passes ended e = if ended || is_some e.error then [] else put_in_item e.output
+
+-- the tasks that pass: what the calls left, up to the first that ends the request
+abbrev pub passed : Bool → List LogEntry → List HttpTask
+passed ended [] = []
+passed ended (e ∷ es) = passes ended e ++ passed (ended || is_end_by e) es
+
+-- the bytes of the body that a task brings
+abbrev pub bytes_of : HttpTask → List ℕ
+bytes_of (task.Header head end) = []
+bytes_of (task.Body bytes end) = unwrap_or bytes []
+bytes_of (task.UpgradedBody bytes end) = unwrap_or bytes []
+bytes_of (task.Trailer fields) = []
+bytes_of task.Done = []
+bytes_of (task.Failed error) = []
+
+-- the bytes of the body that tasks bring
+abbrev pub body_of : List HttpTask → List ℕ
+body_of [] = []
+body_of (task ∷ tasks) = bytes_of task ++ body_of tasks
+
+-- the request as it came and as it passed by these calls: they were given what came, from its first
+-- byte, and all of it while the side goes on; what is put is what they left, up to the first end
+pub record PassesRequest (at_first ended : Bool) (es : List LogEntry) (goes_on : Type 0)
+    (came put : List HttpTask) : Type 0 where
+  pub rest : List ℕ
+  pub read : body_of came ≡ given_to es ++ rest
+  pub all : goes_on → rest ≡ []
+  pub left : put ≡ passed at_first es
+  pub is_ended : ended ≡ ended_by at_first es
+
+-- ---- one call
+
+-- the filter was called with a piece, once, and entered: it left this of the piece
+pub record Filtered (allows : Standing → LogEntry → Type 0) (ended : Bool) (piece made : Piece)
+    (old : Seen) (mark : ℕ) (new : Seen) (mark' : ℕ) : Type 0 where
+  pub left : Option (List ℕ)
+  pub call : Calls allows hook.RequestBodyFilter (item.Piece piece.bytes (is_last piece)) old mark
+      new mark' (only (item.Piece left (is_last piece)))
+  pub is_made : made ≡ piece_of ended (is_last piece) piece.client_end left
+
+-- the same, and it failed
+pub record Refused (allows : Standing → LogEntry → Type 0) (e : Error) (piece : Piece)
+    (old : Seen) (mark : ℕ) (new : Seen) (mark' : ℕ) : Type 0 where
+  pub left : Option (List ℕ)
+  pub call : Calls allows hook.RequestBodyFilter (item.Piece piece.bytes (is_last piece)) old mark
+      new mark' (failed (item.Piece left (is_last piece)) e)
+
+-- what becomes of a piece; where memory was wanted no entry is new
+abbrev pub Filters : (Standing → LogEntry → Type 0) → Bool → Piece → Result Piece Fail → Seen → ℕ
+    → Seen → ℕ → Type 0
+Filters allows ended piece (Ok made) old mark new mark' =
+    Filtered allows ended piece made old mark new mark'
+Filters allows ended piece (Err (fail.Error e)) old mark new mark' =
+    Refused allows e piece old mark new mark'
+Filters allows ended piece (Err fail.OutOfMemory) old mark new mark' = new.log ≡ old.log
+
+-- ---- the application
+
+-- of a piece with bytes bytes are left, and the request is not ended before its end
+pub record KeepsPiece (bytes left : Option (List ℕ)) : Type 0 where
+  pub fills : is_empty bytes ≡ false → is_empty left ≡ false
+  pub no_end : is_none left ≡ false
+
+-- the application keeps each piece before the end
+abbrev pub KeepsPieces : (Standing → LogEntry → Type 0) → Type 0
+KeepsPieces allows =
+    (st : Standing) (e : LogEntry) (bytes left : Option (List ℕ)) → allows st e
+    → e.hook ≡ hook.RequestBodyFilter → e.input ≡ item.Piece bytes false
+    → e.output ≡ item.Piece left false → e.error ≡ None → KeepsPiece bytes left
