@@ -1,5 +1,5 @@
 -- The request by its calls, with one call more behind.
-use Rattle.std.proofs.Common.{◌≡◌, ℕ, Bool, true, false, not, ◌&&◌, ◌||◌, ◌==◌, if◌then◌else◌, List, [], ◌∷◌, ◌++◌, Option, Some, None, is_some, is_none, unwrap_or, option_to_list, length, arith, eqb-true, add-one, refl, sym, ap, subst, ◌∙◌, append-nil, append_assoc, inl, inr, ◌⊎◌, IsTrue}
+use Rattle.std.proofs.Common.{◌≡◌, ℕ, Bool, true, false, not, ◌&&◌, ◌||◌, ◌==◌, if◌then◌else◌, List, [], ◌∷◌, ◌++◌, Option, Some, None, is_some, is_none, unwrap_or, option_to_list, length, arith, eqb-true, refl, sym, ap, ◌∙◌, append-nil, append_assoc}
 use Rattle.relay_tasks.specs.declared.error.Error.{Error}
 use Rattle.relay_tasks.specs.declared.log.Item.{Item}
 use Rattle.relay_tasks.specs.declared.log.Item.TheVariants as item
@@ -135,7 +135,7 @@ one_piece a ended end client_end u es on came came' put put' piece left e is_on 
     record {
       rest = [];
       read = read_on u piece end came came' es e r.rest r.read (r.all is_on) is was;
-      all = λ yes. refl;
+      all = λ so. refl;
       left = is' ∙ ap (λ (xs : List HttpTask). xs ++ put_of false (piece_of ended end client_end left))
           r.left
           ∙ ap (λ (xs : List HttpTask). passed a es ++ xs)
@@ -148,8 +148,8 @@ one_piece a ended end client_end u es on came came' put put' piece left e is_on 
     plain : (b : Bool) → is_some e.error ≡ false
         → (if b || is_some e.error then [] else put_in_item e.output)
         ≡ (if b then [] else put_in_item e.output)
-    plain true no = refl
-    plain false no = ap (λ (x : Bool). if x then [] else put_in_item e.output) no
+    plain true isnt = refl
+    plain false isnt = ap (λ (x : Bool). if x then [] else put_in_item e.output) isnt
 
     puts_left : (b : Bool) → put_of false (piece_of b end client_end left) ≡ passes b e
     puts_left true = refl
@@ -169,7 +169,7 @@ pub one_refused : (a ended end u : Bool) (es : List LogEntry) (on on' : Type 0)
 one_refused a ended end u es on on' came came' put put' piece e is_on r is is' was bad = record {
   rest = [];
   read = read_on u piece end came came' es e r.rest r.read (r.all is_on) is was;
-  all = λ yes. refl;
+  all = λ so. refl;
   left = is' ∙ r.left ∙ sym (append-nil (passed a es))
       ∙ ap (λ (xs : List HttpTask). passed a es ++ xs) (sym (none_passes (ended_by a es)))
       ∙ sym (passed_push a es e);
@@ -194,7 +194,7 @@ one_lost a ended u es on on' came came' put put' piece off r is is' = record {
   read = ap body_of is ∙ body_append came (put_of u piece)
       ∙ ap (λ (b : List ℕ). b ++ body_of (put_of u piece)) r.read
       ∙ append_assoc (given_to es) r.rest (body_of (put_of u piece));
-  all = λ yes. absurd (off yes);
+  all = λ so. absurd (off so);
   left = is' ∙ r.left;
   is_ended = r.is_ended;
 }

@@ -1,18 +1,18 @@
 -- A side behind filters: how each answer of the inner side goes on, with the call that it led to.
-use Rattle.std.proofs.Common.{◌≡◌, ℕ, Bool, true, false, not, ◌&&◌, ◌||◌, if◌then◌else◌, List, [], ◌∷◌, ◌++◌, length, Option, Some, None, is_some, is_none, option_to_list, Result, Ok, Err, refl, sym, ap, subst, ◌∙◌, append-nil, append_assoc, inl, inr, ◌⊎◌, IsTrue, IsSome}
+use Rattle.std.proofs.Common.{◌≡◌, ℕ, Bool, true, false, not, ◌&&◌, ◌||◌, if◌then◌else◌, List, [], ◌∷◌, ◌++◌, length, Option, Some, None, is_some, is_none, option_to_list, Err, refl, sym, ap, subst, ◌∙◌, append-nil, append_assoc, inl, inr, ◌⊎◌, IsTrue, IsSome}
 use Rattle.relay_tasks.specs.declared.error.Error.{Error}
-use Rattle.relay_tasks.specs.declared.error.ErrorSource.TheVariants.{Downstream}
 use Rattle.relay_tasks.specs.declared.error.Fail.{Fail}
 use Rattle.relay_tasks.specs.declared.error.Fail.TheVariants as fail
 use Rattle.relay_tasks.specs.declared.hook.Hook.TheVariants as hook
-use Rattle.relay_tasks.specs.declared.log.Item.{Item}
 use Rattle.relay_tasks.specs.declared.log.Item.TheVariants as item
 use Rattle.relay_tasks.specs.declared.log.LogEntry.{LogEntry}
 use Rattle.relay_tasks.specs.declared.task.HttpTask.{HttpTask}
+use Rattle.relay_tasks.specs.declared.took.Took.{Took}
+use Rattle.relay_tasks.specs.declared.took.Took.TheVariants as took
 use Rattle.relay_links.specs.declared.link.Put.{Put}
 use Rattle.relay_links.specs.declared.link.Put.TheVariants as put
 use Rattle.relay_session.specs.Reading.{head_of}
-use Rattle.relay_core.specs.Down.{DownState, GivesPiece, Writes}
+use Rattle.relay_core.specs.Down.{DownState, Writes}
 use Rattle.relay_core.specs.Past.{BatchRefused, DownGoes, DownPast, error_of_fail}
 use Rattle.relay_core.specs.Piece.{is_empty, put_of, task_of, task_put_of}
 use Rattle.relay_core.specs.Uses.{PutsTask}
@@ -26,8 +26,8 @@ use Rattle.relay_calls.specs.Entry.{cleared}
 use Rattle.relay_calls.specs.Log.{IsAllowed, Walk, requests_in}
 use Rattle.relay_calls.proofs.CallLemmas.{CallsOf-walks}
 use Rattle.relay_calls.proofs.LogLemmas.{Views-same, Walk-append, requests_in-append}
-use Rattle.relay_filters.specs.Request.{Filtered, Filters, KeepsPiece, KeepsPieces, PassesRequest, Refused, is_last, piece_of}
-use Rattle.relay_filters.specs.Hooked.{BlamesOver, IsHooked, IsLogged, LastTells, NoModule, RefusesOver, opened}
+use Rattle.relay_filters.specs.Request.{Filtered, Filters, KeepsPiece, KeepsPieces, PassesRequest, is_last, piece_of}
+use Rattle.relay_filters.specs.Hooked.{BlamesOver, IsHooked, IsLogged, NoModule, RefusesOver, opened}
 use Rattle.relay_filters.proofs.RequestLemmas.{one_lost, one_piece, one_refused, same_request}
 
 -- ---- answers
@@ -42,6 +42,10 @@ fail_is (fail.Error error) e told = ap fail.Error (some_error error e told)
   where
     some_error : (a b : Error) → Some a ≡ Some b → a ≡ b
     some_error a b same = cc
+
+-- a side has not stopped
+abbrev Going : Type 0
+Going = ◌≡◌ {A = Option Fail} None None
 
 -- a side that reads on has not stopped
 stopped_never : {A : Type 0} (st : Option Fail) (e : Error) → st ≡ None → st ≡ Some (fail.Error e)
@@ -120,7 +124,7 @@ refuses_on inner inner' refuses' allows seen mark first a ended u u' r r' st p t
       stands =
           stands_on inner inner' allows seen mark first a ended ended u u' r r' st p
           (record b.past { put = p.put }) b.past.put h (λ not_up. (plain not_up, refl))
-          (λ yes. ends (h.ends_inside yes)) b.is_put refl b.stands;
+          (λ so. ends (h.ends_inside so)) b.is_put refl b.stands;
       is_put = refl;
       is_batched = b.is_batched;
       is_closing = b.is_closing;
@@ -169,9 +173,9 @@ not_opened ended false false stays plain = (refl, refl)
 -- it is open again for both, or for none
 pub opens_both : (ended r u u' : Bool) → (ended ≡ true → r ≡ true)
     → opened ended u u' ≡ true → (if not u && u' then false else r) ≡ true
-opens_both ended r true u' ends yes = ends yes
-opens_both ended r false true ends yes = yes
-opens_both ended r false false ends yes = ends yes
+opens_both ended r true u' ends so = ends so
+opens_both ended r false true ends so = so
+opens_both ended r false false ends so = ends so
 
 -- ---- a piece
 
@@ -203,7 +207,7 @@ module _ (inner : DownPast → Type 0) (allows : Standing → LogEntry → Type 
           (h.logged.at refl) h.logged.walk)
           (CallsOf-walks allows NoModule None false hook.RequestBodyFilter (item.Piece bytes end)
           seen mark seen' mark' left call refl);
-      at = λ yes. refl;
+      at = λ so. refl;
     }
 
     pub head_on : IsSome (head_of seen'.downstream.reading)
@@ -220,25 +224,25 @@ keeps_here : (inner : DownPast → Type 0) (allows : Standing → LogEntry → T
     (mark' : ℕ) (h : IsHooked inner allows seen mark first a ended u r None p)
     (f : Filtered allows ended piece made seen mark seen' mark') → is_last piece ≡ false
     → KeepsPiece piece.bytes f.left
-keeps_here inner allows seen mark first a ended u r p piece made seen' mark' h f no =
+keeps_here inner allows seen mark first a ended u r p piece made seen' mark' h f isnt =
     h.keeps _ _ piece.bytes f.left f.call.allowed refl
-    (ap (λ (b : Bool). item.Piece piece.bytes b) no) (ap (λ (b : Bool). item.Piece f.left b) no)
+    (ap (λ (b : Bool). item.Piece piece.bytes b) isnt) (ap (λ (b : Bool). item.Piece f.left b) isnt)
     refl
 
 -- the request ends for the upstream where it ended for the inner side
 ends_too : (ended r up client none : Bool) (r' : Bool) → r' ≡ (r || up) → (ended ≡ true → r ≡ true)
     → (client ≡ true → r' ≡ true) → ((up || client) ≡ false → none ≡ false)
     → (ended || ((up || client) || none)) ≡ true → r' ≡ true
-ends_too true r up client none r' is before behind keeps yes =
+ends_too true r up client none r' is before behind keeps so =
     is ∙ ap (λ (b : Bool). b || up) (before refl)
-ends_too false r true client none r' is before behind keeps yes = is ∙ either_way r
+ends_too false r true client none r' is before behind keeps so = is ∙ either_way r
   where
     either_way : (b : Bool) → (b || true) ≡ true
     either_way true = refl
     either_way false = refl
-ends_too false r false true none r' is before behind keeps yes = behind refl
-ends_too false r false false none r' is before behind keeps yes =
-    absurd (apart (sym (keeps refl) ∙ yes))
+ends_too false r false true none r' is before behind keeps so = behind refl
+ends_too false r false false none r' is before behind keeps so =
+    absurd (apart (sym (keeps refl) ∙ so))
   where
     apart : false ≡ true → ⊥
     apart same = cc
@@ -284,23 +288,23 @@ reads_open inner inner' blames' allows seen mark first a ended u u' r r' p piece
             (only (item.Piece left end)) f.call;
         began = h.began;
         logged = walks_on inner allows seen mark first a ended u r p h piece.bytes end seen' mark'
-            (only (item.Piece left end)) f.call (None ≡ None);
+            (only (item.Piece left end)) f.call Going;
         request = λ plain.
             let low = sym up ∙ plain in
             subst (λ (l : List LogEntry). PassesRequest a (ended || one.upstream_end) l
-            (None ≡ None) g.past.put (p.put ++ put_of u one))
+            Going g.past.put (p.put ++ put_of u one))
             (sym (requests_on inner allows seen mark first a ended u r p h piece.bytes end seen'
             mark' (only (item.Piece left end)) f.call))
-            (one_piece a ended end piece.client_end u (requests_in h.own) (None ≡ None) h.came
+            (one_piece a ended end piece.client_end u (requests_in h.own) Going h.came
             g.past.put p.put (p.put ++ put_of u one) piece left e refl (h.request low) g.is_put
             (ap (λ (b : Bool). p.put ++ put_of b one) low) refl refl refl);
-        ends_inside = λ yes.
+        ends_inside = λ so.
             ends_too ended r piece.upstream_end piece.client_end (is_none left) r' inside
             h.ends_inside client
-            (λ no.
+            (λ isnt.
             (keeps_here inner allows seen mark first a ended u r p piece made seen' mark' h f
-            no).no_end)
-            (sym (made_end ended end piece.client_end left) ∙ yes);
+            isnt).no_end)
+            (sym (made_end ended end piece.client_end left) ∙ so);
         head = λ on.
             head_on inner allows seen mark first a ended u r p h piece.bytes end seen' mark'
             (only (item.Piece left end)) f.call;
@@ -338,14 +342,14 @@ stops_open inner inner' blames' allows seen mark first a ended u u' r r' p piece
           from = h.logged.from;
           to = h.logged.to;
           walk = h.logged.walk;
-          at = λ yes. some_none fail.OutOfMemory yes;
+          at = λ so. some_none fail.OutOfMemory so;
         };
         request = λ plain.
-            one_lost a ended u (requests_in h.own) (None ≡ None) (Some fail.OutOfMemory ≡ None)
-            h.came g.past.put p.put put piece (λ yes. some_none fail.OutOfMemory yes)
+            one_lost a ended u (requests_in h.own) Going (Some fail.OutOfMemory ≡ None)
+            h.came g.past.put p.put put piece (λ so. some_none fail.OutOfMemory so)
             (h.request (sym up ∙ plain)) g.is_put same;
-        ends_inside = λ yes. stays (h.ends_inside yes);
-        head = λ yes. some_none fail.OutOfMemory yes;
+        ends_inside = λ so. stays (h.ends_inside so);
+        head = λ so. some_none fail.OutOfMemory so;
         told = λ e is. cc;
       };
       is_put = refl;
@@ -377,11 +381,11 @@ stops_open inner inner' blames' allows seen mark first a ended u u' r r' p piece
             g.past.put put)
             (sym (requests_on inner allows seen mark first a ended u r p h piece.bytes end seen'
             mark' left f.call))
-            (one_refused a ended end u (requests_in h.own) (None ≡ None)
+            (one_refused a ended end u (requests_in h.own) Going
             (Some (fail.Error error) ≡ None) h.came g.past.put p.put put piece e refl
             (h.request (sym up ∙ plain)) g.is_put same refl refl);
-        ends_inside = λ yes. stays (h.ends_inside yes);
-        head = λ yes. some_none (fail.Error error) yes;
+        ends_inside = λ so. stays (h.ends_inside so);
+        head = λ so. some_none (fail.Error error) so;
         told = λ x is. record {
           front = h.own;
           last = e;
@@ -402,17 +406,17 @@ stops_open inner inner' blames' allows seen mark first a ended u u' r r' p piece
 
 -- a test of a piece, and what it puts
 puts_by : (b : Bool) (t : HttpTask) → b ≡ false → is_some (if b then None else Some t) ≡ true
-puts_by true t no = cc
-puts_by false t no = refl
+puts_by true t isnt = cc
+puts_by false t isnt = refl
 
 by_put : (b : Bool) (t : HttpTask) → is_some (if b then None else Some t) ≡ true → b ≡ false
-by_put true t yes = cc
-by_put false t yes = refl
+by_put true t so = cc
+by_put false t so = refl
 
 -- a piece that puts a task puts no empty list
 puts_none : {A : Type 0} (o : Option HttpTask) → option_to_list o ≡ [] → is_some o ≡ true → A
-puts_none None none yes = cc
-puts_none (Some t) none yes = cc
+puts_none None none so = cc
+puts_none (Some t) none so = cc
 
 -- a piece that is neither empty nor the end stays so
 fills_too : (up client empty empty' none : Bool) → (empty && not up) ≡ false
@@ -450,8 +454,8 @@ puts_open inner allows seen mark first a false u r p piece made seen' mark' h be
     (fills_too piece.upstream_end piece.client_end (is_empty piece.bytes) (is_empty f.left)
     (is_none f.left)
     (by_put (is_empty piece.bytes && not piece.upstream_end) (task_of u piece) puts)
-    (λ no some.
-    (keeps_here inner allows seen mark first a false u r p piece made seen' mark' h f no).fills
+    (λ isnt some.
+    (keeps_here inner allows seen mark first a false u r p piece made seen' mark' h f isnt).fills
     some))))
 
 -- ---- a side that has not stopped
@@ -506,6 +510,20 @@ puts_too inner allows seen mark first a ended u r (Some why) p piece made seen' 
 puts_too inner allows seen mark first a ended u r None p piece made seen' mark' on h behind =
     puts_open inner allows seen mark first a ended u r p piece made seen' mark' h behind
 
+-- what is said of a piece is said of the one that was answered
+pub of_item : (A : Type 0) (u : Bool) (made piece : Piece)
+    → ◌≡◌ {A = Took Piece} (took.Item made) (took.Item piece) → A ⊎ PutsTask u made
+    → A ⊎ PutsTask u piece
+of_item A u made piece is puts =
+    subst (λ (m : Piece). A ⊎ PutsTask u m) (ap (λ (t : Took Piece). item_or made t) is) puts
+  where
+    item_or : Piece → Took Piece → Piece
+    item_or other (took.Item it) = it
+    item_or other took.More = other
+    item_or other (took.Waited pause) = other
+    item_or other took.End = other
+    item_or other (took.Failed why) = other
+
 -- ---- the beginning
 
 -- before the first piece nothing passed
@@ -525,12 +543,12 @@ begins holds allows seen mark first ended u r p len keeps head inside none h = r
     from = standing None false (moment seen mark);
     to = standing None false (moment seen mark);
     walk = Views-same _;
-    at = λ yes. refl;
+    at = λ so. refl;
   };
   request = λ plain. record {
     rest = [];
     read = refl;
-    all = λ yes. refl;
+    all = λ so. refl;
     left = none;
     is_ended = refl;
   };

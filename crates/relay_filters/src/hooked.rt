@@ -97,32 +97,37 @@ fn filter_piece<SV: ProxyHttp>(
 
 impl<'a, SV: ProxyHttp, D> Hooked<'a, SV, D> {
     /// The side over that one, with the calls of the application in the log of that session and
-    /// with that context; `ended` says that the request ended with its head. It has told nothing.
+    /// with that context; `ended` says that the request ended with its head. It tells what the inner one
+    /// has told.
     ///
     /// What passed is as inside, where nothing was put yet, the session's head was read, and the
     /// application keeps pieces.
-    pub fn new(
+    pub fn new<C>(
         app: &'a SV,
         session: Session<SV::Modules>,
         ctx: SV::CTX,
         inner: D,
         ended: bool,
     ) -> Hooked<'a, SV, D>
-        ensures inner { result.inner ≡ inner }
-        ensures begins { (holds : DownPast → Type 0) (upgraded ended_inside : Bool) (p : DownPast)
+    where
+        D: Down<C>,
+        ensures state { D.state result.inner ≡ D.state inner }
+        ensures begins { (client : C) (s : Origin) (p : DownPast)
             → KeepsPieces (SV.allows app.now) → IsSome (head_of session.seen.downstream.reading)
-            → (ended ≡ true → ended_inside ≡ true) → p.put ≡ [] → holds p
-            → IsHooked holds (SV.allows result.app.now) result.session.seen
-            (SV.mark_of result.app.now result.ctx) result.first result.at_first result.ended
-            upgraded ended_inside result.stopped p }
+            → ended ≡ (D.state inner).request_ended → p.put ≡ [] → D.past inner client s p
+            → IsHooked (D.past result.inner client s) (SV.allows result.app.now)
+            result.session.seen (SV.mark_of result.app.now result.ctx) result.first
+            result.at_first result.ended (D.state result.inner).upgraded
+            (D.state result.inner).request_ended result.stopped p }
     {
         let first = session.phase_log().len();
+        let told = inner.told();
         Hooked {
             app,
             session,
             ctx,
             inner,
-            told: Told::NOTHING,
+            told,
             first,
             at_first: ended,
             ended,
@@ -133,9 +138,9 @@ impl<'a, SV: ProxyHttp, D> Hooked<'a, SV, D> {
 
     /// The inner side, the session and the context alone.
     pub fn into_parts(self) -> (D, Session<SV::Modules>, SV::CTX)
-        ensures inner { result.0 ≡ self.inner }
-        ensures session { result.1 ≡ self.session }
-        ensures ctx { result.2 ≡ self.ctx }
+        ensures inner { result.0 ≡ self.entry.inner }
+        ensures session { result.1 ≡ self.entry.session }
+        ensures ctx { result.2 ≡ self.entry.ctx }
     {
         let Hooked {
             app: _,
