@@ -26,7 +26,7 @@ use Rattle.relay_calls.specs.Entry.{cleared}
 use Rattle.relay_calls.specs.Log.{IsAllowed, Walk, requests_in}
 use Rattle.relay_calls.proofs.CallLemmas.{CallsOf-walks}
 use Rattle.relay_calls.proofs.LogLemmas.{Views-same, Walk-append, requests_in-append}
-use Rattle.relay_filters.specs.Request.{Filtered, Filters, KeepsPiece, KeepsPieces, PassesRequest, is_last, piece_of}
+use Rattle.relay_filters.specs.Request.{Filtered, Filters, KeepsPiece, KeepsPieces, PassesRequest, is_last, piece_of, takes_away}
 use Rattle.relay_filters.specs.Hooked.{BlamesOver, IsHooked, IsLogged, NoModule, RefusesOver, opened}
 use Rattle.relay_filters.proofs.RequestLemmas.{one_lost, one_piece, one_refused, same_request}
 
@@ -248,11 +248,11 @@ ends_too false r false false none r' is before behind keeps so =
     apart same = cc
 
 -- the end of what passes
-made_end : (ended end client_end : Bool) (left : Option (List ℕ))
-    → (ended || (piece_of ended end client_end left).upstream_end)
-    ≡ (ended || (end || is_none left))
-made_end true end client_end left = refl
-made_end false end client_end left = refl
+made_end : (ended end client_end given : Bool) (left : Option (List ℕ))
+    → (ended || (piece_of ended end client_end given left).upstream_end)
+    ≡ (ended || (end || takes_away given left))
+made_end true end client_end given left = refl
+made_end false end client_end given left = refl
 
 -- a piece was read and filtered
 reads_open : (inner inner' : DownPast → Type 0) (blames' : DownPast → Error → Type 0)
@@ -271,7 +271,7 @@ reads_open inner inner' blames' allows seen mark first a ended u u' r r' p piece
     let left = f.left in
     let e = entered inner allows seen mark first a ended u r p h piece.bytes end seen' mark'
     (only (item.Piece left end)) f.call in
-    let one = piece_of ended end piece.client_end left in
+    let one = piece_of ended end piece.client_end (is_some piece.bytes) left in
     subst (λ (m : Piece). DownGoes
     (IsHooked inner' allows seen' mark' first a (ended || m.upstream_end) u' r' None)
     (λ past e. BlamesOver inner' blames' None past e) (p.put ++ put_of u m) p.batched p.closing
@@ -299,12 +299,12 @@ reads_open inner inner' blames' allows seen mark first a ended u u' r r' p piece
             g.past.put p.put (p.put ++ put_of u one) piece left e refl (h.request low) g.is_put
             (ap (λ (b : Bool). p.put ++ put_of b one) low) refl refl refl);
         ends_inside = λ so.
-            ends_too ended r piece.upstream_end piece.client_end (is_none left) r' inside
+            ends_too ended r piece.upstream_end piece.client_end (takes_away (is_some piece.bytes) left) r' inside
             h.ends_inside client
             (λ isnt.
             (keeps_here inner allows seen mark first a ended u r p piece made seen' mark' h f
             isnt).no_end)
-            (sym (made_end ended end piece.client_end left) ∙ so);
+            (sym (made_end ended end piece.client_end (is_some piece.bytes) left) ∙ so);
         head = λ on.
             head_on inner allows seen mark first a ended u r p h piece.bytes end seen' mark'
             (only (item.Piece left end)) f.call;
@@ -449,10 +449,10 @@ puts_open inner allows seen mark first a true u r p piece made seen' mark' h beh
 puts_open inner allows seen mark first a false u r p piece made seen' mark' h behind f (inr puts) =
     let end = is_last piece in
     inr (subst (λ (m : Piece). PutsTask u m) (sym f.is_made)
-    (puts_by (is_empty f.left && not (end || is_none f.left))
-    (task_of u (piece_of false end piece.client_end f.left))
+    (puts_by (is_empty f.left && not (end || takes_away (is_some piece.bytes) f.left))
+    (task_of u (piece_of false end piece.client_end (is_some piece.bytes) f.left))
     (fills_too piece.upstream_end piece.client_end (is_empty piece.bytes) (is_empty f.left)
-    (is_none f.left)
+    (takes_away (is_some piece.bytes) f.left)
     (by_put (is_empty piece.bytes && not piece.upstream_end) (task_of u piece) puts)
     (λ isnt some.
     (keeps_here inner allows seen mark first a false u r p piece made seen' mark' h f isnt).fills

@@ -23,12 +23,20 @@ use Rattle.relay_calls.specs.Calls.{Calls}
 abbrev pub is_last : Piece → Bool
 is_last piece = piece.upstream_end || piece.client_end
 
--- the piece that passes, of what the filter left: nothing once the request has ended. Where the
--- filter left none the request ends
-abbrev pub piece_of : Bool → Bool → Bool → Option (List ℕ) → Piece
-piece_of ended end client_end left =
+-- the filter took the piece away: it was given one, and left none
+abbrev pub takes_away : Bool → Option (List ℕ) → Bool
+takes_away given left = given && is_none left
+
+-- the piece that passes, of what the filter left, where it was given one or none: nothing once the request
+-- has ended. Where the filter took the piece away the request ends
+abbrev pub piece_of : Bool → Bool → Bool → Bool → Option (List ℕ) → Piece
+piece_of ended end client_end given left =
     if ended then record { bytes = None; upstream_end = false; client_end = client_end }
-    else record { bytes = left; upstream_end = end || is_none left; client_end = client_end }
+    else record {
+      bytes = left;
+      upstream_end = end || takes_away given left;
+      client_end = client_end;
+    }
 
 -- ---- the calls
 
@@ -37,15 +45,20 @@ abbrev pub bytes_in : Item → List ℕ
 bytes_in (item.Piece bytes end) = unwrap_or bytes []
 bytes_in other = []
 
--- what was left of a piece ends the request: it was the end, or none was left
-abbrev pub is_end_in : Item → Bool
-is_end_in (item.Piece bytes end) = end || is_none bytes
-is_end_in other = false
+-- a call was given a piece
+abbrev pub has_piece : Item → Bool
+has_piece (item.Piece bytes end) = is_some bytes
+has_piece other = false
 
--- the tasks that what was left of a piece puts
-abbrev pub put_in_item : Item → List HttpTask
-put_in_item (item.Piece bytes end) = put_of false (piece_of false end end bytes)
-put_in_item other = []
+-- what was left ends the request: it was the end, or the piece was taken away
+abbrev pub is_end_in : Bool → Item → Bool
+is_end_in given (item.Piece left end) = end || takes_away given left
+is_end_in given other = false
+
+-- the tasks that what was left puts
+abbrev pub put_in_item : Bool → Item → List HttpTask
+put_in_item given (item.Piece left end) = put_of false (piece_of false end end given left)
+put_in_item given other = []
 
 -- the bytes that the calls were given, joined
 abbrev pub given_to : List LogEntry → List ℕ
@@ -54,7 +67,7 @@ given_to (e ∷ es) = bytes_in e.input ++ given_to es
 
 -- the call ended the request
 abbrev pub is_end_by : LogEntry → Bool
-is_end_by e = is_none e.error && is_end_in e.output
+is_end_by e = is_none e.error && is_end_in (has_piece e.input) e.output
 
 -- the request has ended behind these calls
 abbrev pub ended_by : Bool → List LogEntry → Bool
@@ -63,7 +76,7 @@ ended_by ended (e ∷ es) = ended_by (ended || is_end_by e) es
 
 -- what one call lets pass: nothing where the request had ended, or where it failed
 abbrev pub passes : Bool → LogEntry → List HttpTask
-passes ended e = if ended || is_some e.error then [] else put_in_item e.output
+passes ended e = if ended || is_some e.error then [] else put_in_item (has_piece e.input) e.output
 
 -- the tasks that pass: what the calls left, up to the first that ends the request
 abbrev pub passed : Bool → List LogEntry → List HttpTask
@@ -102,7 +115,7 @@ pub record Filtered (allows : Standing → LogEntry → Type 0) (ended : Bool) (
   pub left : Option (List ℕ)
   pub call : Calls allows hook.RequestBodyFilter (item.Piece piece.bytes (is_last piece)) old mark
       new mark' (only (item.Piece left (is_last piece)))
-  pub is_made : made ≡ piece_of ended (is_last piece) piece.client_end left
+  pub is_made : made ≡ piece_of ended (is_last piece) piece.client_end (is_some piece.bytes) left
 
 -- the same, and it failed
 pub record Refused (allows : Standing → LogEntry → Type 0) (e : Error) (piece : Piece)
@@ -122,10 +135,10 @@ Filters allows ended piece (Err fail.OutOfMemory) old mark new mark' = new.log �
 
 -- ---- the application
 
--- of a piece with bytes bytes are left, and the request is not ended before its end
+-- of a piece with bytes bytes are left, and no piece is taken away
 pub record KeepsPiece (bytes left : Option (List ℕ)) : Type 0 where
   pub fills : is_empty bytes ≡ false → is_empty left ≡ false
-  pub no_end : is_none left ≡ false
+  pub no_end : takes_away (is_some bytes) left ≡ false
 
 -- the application keeps each piece before the end
 abbrev pub KeepsPieces : (Standing → LogEntry → Type 0) → Type 0

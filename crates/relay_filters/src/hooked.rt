@@ -15,7 +15,7 @@ use relay_tasks::{ErrorSource, Fail, HttpTask, Result, TaskList, Took};
 
 /// The client's side over another, whose pieces pass the filter of request bodies of an
 /// application: one call for each piece, which stands in the log of the session. What the filter
-/// leaves empty puts nothing, and where it leaves none the request ends. Behind an error of the
+/// leaves empty puts nothing, and where it takes a piece away the request ends. Behind an error of the
 /// filter nothing is read.
 pub struct Hooked<'a, SV: ProxyHttp, D> {
     app: &'a SV,
@@ -49,9 +49,10 @@ fn opened(ended: bool, before: bool, after: bool) -> bool
     if !before && after { false } else { ended }
 }
 
-/// The piece that passes, of what the filter left: nothing once the request has ended.
-fn piece_of(ended: bool, end: bool, client_end: bool, left: Option<Bytes>) -> Piece
-    ensures { result ≡ piece_of ended end client_end left }
+/// The piece that passes, of what the filter left: nothing once the request has ended. `given`
+/// says that the filter was given one: where it left none then, the request ends.
+fn piece_of(ended: bool, end: bool, client_end: bool, given: bool, left: Option<Bytes>) -> Piece
+    ensures { result ≡ piece_of ended end client_end given left }
 {
     if ended {
         return Piece {
@@ -60,7 +61,7 @@ fn piece_of(ended: bool, end: bool, client_end: bool, left: Option<Bytes>) -> Pi
             client_end,
         };
     }
-    let upstream_end = end || left.is_none();
+    let upstream_end = end || (given && left.is_none());
     Piece {
         bytes: left,
         upstream_end,
@@ -89,8 +90,9 @@ fn filter_piece<SV: ProxyHttp>(
         client_end,
     } = piece;
     let end = either(upstream_end, client_end);
+    let given = body.is_some();
     match call_request_body_filter(app, session, ctx, &mut body, end) {
-        Ok(()) => Ok(piece_of(ended, end, client_end, body)),
+        Ok(()) => Ok(piece_of(ended, end, client_end, given, body)),
         Err(why) => Err(why),
     }
 }
