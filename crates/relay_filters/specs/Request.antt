@@ -27,8 +27,8 @@ is_last piece = piece.upstream_end || piece.client_end
 abbrev pub takes_away : Bool → Option (List ℕ) → Bool
 takes_away given left = given && is_none left
 
--- the piece that passes, of what the filter left, where it was given one or none: nothing once the request
--- has ended. Where the filter took the piece away the request ends
+-- the piece that passes, of what the filter left, where it was given one or none: nothing once the
+-- request has ended. Where the filter took the piece away the request ends
 abbrev pub piece_of : Bool → Bool → Bool → Bool → Option (List ℕ) → Piece
 piece_of ended end client_end given left =
     if ended then record { bytes = None; upstream_end = false; client_end = client_end }

@@ -15,8 +15,8 @@ use relay_tasks::{ErrorSource, Fail, HttpTask, Result, TaskList, Took};
 
 /// The client's side over another, whose pieces pass the filter of request bodies of an
 /// application: one call for each piece, which stands in the log of the session. What the filter
-/// leaves empty puts nothing, and where it takes a piece away the request ends. Behind an error of the
-/// filter nothing is read.
+/// leaves empty puts nothing, and where it takes a piece away the request ends. Behind an error of
+/// the filter nothing is read.
 pub struct Hooked<'a, SV: ProxyHttp, D> {
     app: &'a SV,
     session: Session<SV::Modules>,
@@ -99,8 +99,8 @@ fn filter_piece<SV: ProxyHttp>(
 
 impl<'a, SV: ProxyHttp, D> Hooked<'a, SV, D> {
     /// The side over that one, with the calls of the application in the log of that session and
-    /// with that context; `ended` says that the request ended with its head. It tells what the inner one
-    /// has told.
+    /// with that context; `ended` says that the request ended with its head. It tells what the inner
+    /// one has told.
     ///
     /// What passed is as inside, where nothing was put yet, the session's head was read, and the
     /// application keeps pieces.

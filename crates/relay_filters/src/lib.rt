@@ -3,7 +3,5 @@
 #![tactic(auto)]
 
 mod hooked;
-#[cfg(test)]
-mod tests;
 
 pub use hooked::Hooked;
