@@ -421,7 +421,7 @@ module _ {L C : Type 0} (state : L → LinkState) (start_at : L → LinkStart) w
       → faults_before [] phase ≡ [] → offers_before start_at [] phase ≡ []
       → ((n : ℕ) → PhaseUses state start_at n [] phase → OwnUses state start_at n [])
       → Ends state start_at s p w [] before after phase ending
-  unlinked_end s p w phase before after ending gives run unsent stalled none bare unlinked = record {
+  unlinked_end s p w phase before after ending gives run unsent stalled none bare asked = record {
     handed = [];
     gained = gives.same ∙ more-nil before;
     ended = record {
@@ -433,7 +433,7 @@ module _ {L C : Type 0} (state : L → LinkState) (start_at : L → LinkStart) w
     };
     refused = ap (λ (o : Outcome). faults_for {L = L} [] o) gives.limit ∙ sym none;
     offered = ap (λ (o : Outcome). offers_for start_at [] o) gives.limit ∙ sym bare;
-    uses = unlinked;
+    uses = asked;
     quiet = λ limit still. stalled still;
   }
 
@@ -476,7 +476,8 @@ module _ {L C : Type 0} (state : L → LinkState) (start_at : L → LinkStart) w
       → Ends state start_at s p w own before after phase ending
   end_of s p [] w ReadHead before after ending does run =
       unlinked_end s p w ReadHead before after ending does run run.holds.unsent
-      (λ h. inl (subst (λ (xs : List ℕ). IsOpen xs) run.holds.whole h.0, h.1)) refl refl (λ n asked. asked)
+      (λ h. inl (subst (λ (xs : List ℕ). IsOpen xs) run.holds.whole h.0, h.1)) refl refl
+      (λ n asked. asked)
   end_of s p [] w (Refuse answer e) before after ending does run =
       unlinked_end s p w (Refuse answer e) before after ending does run run.holds.unsent
       (λ h. inr (half_answered s p answer e run.holds, h)) refl refl (λ n asked. asked)

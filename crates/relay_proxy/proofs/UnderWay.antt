@@ -169,7 +169,8 @@ module _ {L C : Type 0} (state : L → LinkState) (start_at : L → LinkStart) w
         (takes_twice h k l (offers_before start_at under.own m.phase) steps.offered.taken
         under.offered steps.offered.takes);
     uses = used_on first w.client x.client under.own (under.own ++ steps.handed) m.phase n.phase
-        m.work.used n.work.used under.uses (steps.uses under.uses.upstream under.uses.upstream_rose);
+        m.work.used n.work.used under.uses
+        (steps.uses under.uses.upstream under.uses.upstream_rose);
     counted = omega (arith, one, under.counted);
   }
 
