@@ -3,7 +3,7 @@
 --   ups_twice                    a count that went up, and went up again
 --   client_counts, both_counts   the uses of one turn, as their counts went up
 --   min_twice                    what was counted of both, up to its last value
-use Rattle.std.proofs.Common.{◌≡◌, ℕ, zero, suc, ◌+◌, min, inl, inr, refl, sym, ap, ◌∙◌, arith}
+use Rattle.std.proofs.Common.{◌≡◌, ℕ, zero, suc, ◌+◌, min, inl, inr, sym, ap, ◌∙◌, arith}
 use Rattle.relay_links.specs.Count.{last_count, up}
 use Rattle.relay_links.specs.Link.{LinkState}
 use Rattle.relay_proxy.specs.Uses.{BothUse, ClientUses, ups}

@@ -676,6 +676,31 @@ module _ {L C : Type 0} (state : L → LinkState) (start_at : L → LinkStart)
         counts_at (if asked then 1 else 0) end (end_asked end _ _ _
         (closes (turned within.attempt within.exchange) within.stands)) (failed_both why is)
 
+    -- a turn that waited waits because a link answered so
+    pub waited_cause : did.step ≡ step.Waited NotReady
+        → HasWaited {C = C} state start_at w x phase next
+    waited_cause is =
+        of_both (λ (k n : Phase L C). HasWaited {C = C} state start_at w x k n)
+        (by (within.turns.waits is))
+      where
+        by : WaitRose w.client x.client (state (link_of within.attempt.value.exchange))
+            (state (link_of within.exchange))
+            → HasWaited {C = C} state start_at w x (Relay within.attempt)
+            (Relay (turned within.attempt within.exchange))
+        by (inl rose) = inl rose
+        by (inr rose) = inr rose
+
+    -- in silence all that can be done asks a silent link
+    pub silent_cause : did.step ≡ step.Waited Silent
+        → MeetsSilence {C = C} state start_at w x phase next
+    silent_cause is =
+        let meets = within.turns.quiet is in
+        of_both (λ (k n : Phase L C). MeetsSilence {C = C} state start_at w x k n) (record {
+          stalled = meets.silent;
+          client_same = meets.client_same;
+          held_same = ap Some meets.peer_same;
+        })
+
 module _ {L C : Type 0} (state : L → LinkState) (start_at : L → LinkStart) where
   -- a turn of the exchange, as the pointer of its attempt lends it, is one of the phase
   pub lent_turn : (before after : LinkState) (ahead left : List ℕ) (a : Box (Attempt L C))

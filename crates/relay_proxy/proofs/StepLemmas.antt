@@ -322,48 +322,48 @@ module _ {L C : Type 0} (state : L → LinkState) (start_at : L → LinkStart) w
       → StepsOn state start_at s p x own before after told_before told_after had has client counted
       counts phase settled
   step_on s p [] w x ReadHead next settled did before mid after t u h k
-      turn rests kept does told takes carries run c i j u adds uses =
+      turn rests kept does told takes carries run c i j o adds uses =
       live_on s p x ReadHead next settled before mid after t u h k refl (turn run)
-      kept does told takes (carries refl) c i j u adds uses
+      kept does told takes (carries refl) c i j o adds uses
   step_on s p [] w x (Refuse answer e) next settled did before mid after t u h k
-      turn rests kept does told takes carries run c i j u adds uses =
+      turn rests kept does told takes carries run c i j o adds uses =
       live_on s p x (Refuse answer e) next settled before mid after t u h k refl (turn run)
-      kept does told takes (carries refl) c i j u adds uses
+      kept does told takes (carries refl) c i j o adds uses
   step_on s p [] w x (Connect context session) next settled did before mid after t u h k
-      turn rests kept does told takes carries run c i j u adds uses =
+      turn rests kept does told takes carries run c i j o adds uses =
       live_on s p x (Connect context session) next settled before mid after t u h k refl (turn run)
-      kept does told takes (carries refl) c i j u adds uses
+      kept does told takes (carries refl) c i j o adds uses
   step_on s p [] w x (Relay a) next settled did before mid after t u h k
-      turn rests kept does told takes carries run c i j u adds uses =
+      turn rests kept does told takes carries run c i j o adds uses =
       live_on s p x (Relay a) next settled before mid after t u h k refl (turn run)
-      kept does told takes (carries refl) c i j u adds uses
+      kept does told takes (carries refl) c i j o adds uses
   step_on s p [] w x (Close link lease keep outcome) next settled did before mid after t u h k
-      turn rests kept does told takes carries run c i j u adds uses =
+      turn rests kept does told takes carries run c i j o adds uses =
       closed_on s p w x link lease keep outcome next settled did before mid after t u h k rests
-      kept does told takes run c i j u adds uses
+      kept does told takes run c i j o adds uses
   step_on s p [] w x (Ended outcome attempts) next settled did before mid after t u h k
-      turn rests kept does told takes carries run c i j u adds uses =
+      turn rests kept does told takes carries run c i j o adds uses =
       ended_on s p [] w x outcome attempts next settled did before mid after t u h k rests kept
-      does told takes run c i j u adds uses
+      does told takes run c i j o adds uses
   step_on s p (r ∷ own) w x ReadHead next settled did before mid after t u h k
-      turn rests kept does told takes carries run c i j u adds uses =
+      turn rests kept does told takes carries run c i j o adds uses =
       absurd run.holds
   step_on s p (r ∷ own) w x (Refuse answer e) next settled did before mid after t u h k
-      turn rests kept does told takes carries run c i j u adds uses =
+      turn rests kept does told takes carries run c i j o adds uses =
       absurd run.holds
   step_on s p (r ∷ own) w x (Connect context session) next settled did before mid after t u h k
-      turn rests kept does told takes carries run c i j u adds uses =
+      turn rests kept does told takes carries run c i j o adds uses =
       absurd run.holds
   step_on s p (r ∷ own) w x (Relay a) next settled did before mid after t u h k
-      turn rests kept does told takes carries run c i j u adds uses =
+      turn rests kept does told takes carries run c i j o adds uses =
       absurd run.holds
   step_on s p (r ∷ own) w x (Close link lease keep outcome) next settled did before mid after t u
-      h k turn rests kept does told takes carries run c i j u adds uses =
+      h k turn rests kept does told takes carries run c i j o adds uses =
       absurd run.holds
   step_on s p (r ∷ own) w x (Ended outcome attempts) next settled did before mid after t u h k
-      turn rests kept does told takes carries run c i j u adds uses =
+      turn rests kept does told takes carries run c i j o adds uses =
       ended_on s p (r ∷ own) w x outcome attempts next settled did before mid after t u h k rests
-      kept does told takes run c i j u adds uses
+      kept does told takes run c i j o adds uses
 
   -- an attempt in which all that can be done asks a silent link
   quiet_over : (s : Start) (p : Passed) (w : World) (a : Box (Attempt L C))

@@ -136,13 +136,13 @@ module _ {L C : Type 0} (state : L → LinkState) (start_at : L → LinkStart) w
             (sym (none_before m.phase going)) (Gains-nothing told_before told_now told);
         offered = takes_nothing (offers_before start_at [] m.phase) had has
             (none_taken m.phase going unlinked) kept;
-    uses = record {
-      client = 0;
-      upstream = 0;
-      client_rose = ap (λ (l : LinkState). l.used) is;
-      upstream_rose = unlinked_asked state start_at 0 [] m.phase unlinked refl;
-      all = unused;
-    };
+        uses = record {
+          client = 0;
+          upstream = 0;
+          client_rose = ap (λ (l : LinkState). l.used) is;
+          upstream_rose = unlinked_asked state start_at 0 [] m.phase unlinked refl;
+          all = unused;
+        };
         counted = none;
       }
 
