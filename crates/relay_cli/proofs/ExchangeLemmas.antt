@@ -106,10 +106,11 @@ pub runs_script : (made first last : ScriptLink) (connector old : ScriptConnecto
     (start_of (world_with (script_state first) first_ahead (gets_failed old)))
     (world_with (script_state last) ahead faults)
     (Some (links_returned old)) (Some after) (faults_answered old) refusals
-    (Some (offers_left old)) left turns processed
+    (Some (offers_left old)) left (script_state first) turns processed
     → Processes script_state script_start (start_of (first_world made connector))
     (world_with (script_state last) ahead faults)
-    (Some []) (Some after) (Some []) refusals (Some (offers_of peer)) left turns processed
+    (Some []) (Some after) (Some []) refusals (Some (offers_of peer)) left (script_state made) turns
+    processed
 runs_script made first last connector old peer first_ahead ahead faults after refusals left turns
     processed offered is none same run =
     let world : world_with (script_state first) first_ahead (gets_failed old)
@@ -118,24 +119,29 @@ runs_script made first last connector old peer first_ahead ahead faults after re
     let unreturned : links_returned old ≡ [] = rw same offered.returned in
     let unrefused : faults_answered old ≡ Some [] = rw same offered.refusals in
     let stocked : offers_left old ≡ offers_of peer = rw same (left_is peer connector offered) in
-    subst (λ (w : World). Processes script_state script_start (start_of w)
+    subst (λ (c : LinkState). Processes script_state script_start
+    (start_of (first_world made connector)) (world_with (script_state last) ahead faults)
+    (Some []) (Some after) (Some []) refusals (Some (offers_of peer)) left c turns processed)
+    (ap script_state is)
+    (subst (λ (w : World). Processes script_state script_start (start_of w)
     (world_with (script_state last) ahead faults)
-    (Some []) (Some after) (Some []) refusals (Some (offers_of peer)) left turns processed) world
+    (Some []) (Some after) (Some []) refusals (Some (offers_of peer)) left (script_state first)
+    turns processed) world
     (subst (λ (rs : List (Returned ScriptLink)). Processes script_state script_start
     (start_of (world_with (script_state first) first_ahead (gets_failed old)))
     (world_with (script_state last) ahead faults)
-    (Some rs) (Some after) (Some []) refusals (Some (offers_of peer)) left turns processed)
-    unreturned
+    (Some rs) (Some after) (Some []) refusals (Some (offers_of peer)) left (script_state first)
+    turns processed) unreturned
     (subst (λ (told : Option (List Fault)). Processes script_state script_start
     (start_of (world_with (script_state first) first_ahead (gets_failed old)))
     (world_with (script_state last) ahead faults)
-    (Some (links_returned old)) (Some after) told refusals (Some (offers_of peer)) left turns
-    processed) unrefused
+    (Some (links_returned old)) (Some after) told refusals (Some (offers_of peer)) left
+    (script_state first) turns processed) unrefused
     (subst (λ (os : List Offer). Processes script_state script_start
     (start_of (world_with (script_state first) first_ahead (gets_failed old)))
     (world_with (script_state last) ahead faults)
-    (Some (links_returned old)) (Some after) (faults_answered old) refusals (Some os) left turns
-    processed) stocked run)))
+    (Some (links_returned old)) (Some after) (faults_answered old) refusals (Some os) left
+    (script_state first) turns processed) stocked run))))
 
 -- the links that came back, where the connector had one link, are that one
 answer_by : (after : List (Returned ScriptLink)) (left : List (Option LinkItems))
@@ -182,8 +188,8 @@ pub is_run : (script : ScriptSpec) (made last : ScriptLink) (connector : ScriptC
     → AllAnswerBy after script.peer.read script.peer.write
     → Processes script_state script_start (start_of (first_world made connector))
     (world_with (script_state last) ahead faults)
-    (Some []) (Some after) (Some []) refusals (Some (offers_of script.peer)) left script.turns
-    processed
+    (Some []) (Some after) (Some []) refusals (Some (offers_of script.peer)) left
+    (script_state made) script.turns processed
     → processed.outcome ≢ ended.OutOfMemory
     → IsRun script (reported script.peer.name processed last after)
 is_run script made last connector schedule ahead faults after refusals left processed fresh offered
@@ -218,12 +224,12 @@ is_run script made last connector schedule ahead faults after refusals left proc
 
 -- the first link that came back starts within what it took
 pub first_starts_within : (s : Start) (w : World) (before after : List (Returned ScriptLink))
-    (told refusals : Option (List Fault)) (had has : Option (List Offer)) (turns : ℕ)
-    (processed : Processed) → before ≡ []
-    → Processes script_state script_start s w (Some before) (Some after) told refusals had has turns
-    processed
+    (told refusals : Option (List Fault)) (had has : Option (List Offer)) (client : LinkState)
+    (turns : ℕ) (processed : Processed) → before ≡ []
+    → Processes script_state script_start s w (Some before) (Some after) told refusals had has
+    client turns processed
     → FirstStartsWithin after
-first_starts_within s w before after told refusals had has turns processed none run =
+first_starts_within s w before after told refusals had has client turns processed none run =
     let own : after ≡ run.own = own_is before after run.own none run.gained in
     subst FirstStartsWithin (sym own)
     (starts_within s run.passed w run.own processed.history.attempts processed.outcome

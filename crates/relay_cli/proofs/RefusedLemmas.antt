@@ -104,9 +104,10 @@ pub always_limit : (script : ScriptSpec) (client : ScriptLink) (connector : Scri
     → IsFresh client script.client script.client_write → IsConnectorOf script.peer connector
     → branches_left schedule ≡ script.schedule
     → processed.outcome ≡ ended.TurnLimit → processed.history.attempts ≡ []
-    → processed.history.turns_taken ≡ script.turns
+    → processed.history.turns_taken ≡ script.turns → processed.history.items_used ≡ 0
     → IsRun script (record { outcome = ended.TurnLimit; written = []; attempts = [] })
-always_limit script client connector schedule processed fresh offered named outcome attempts turns =
+always_limit script client connector schedule processed fresh offered named outcome attempts turns
+    unused =
     record {
       client = client;
       fresh = fresh;
@@ -146,6 +147,13 @@ always_limit script client connector schedule processed fresh offered named outc
         };
         refused = rw outcome refl;
         offered = rw outcome refl;
+        uses = record {
+          client = 0;
+          upstream = 0;
+          client_rose = refl;
+          upstream_rose = refl;
+          all = unused;
+        };
         exact = rw outcome (record {
           no_request = λ _ _. inl (inl refl);
           refused = λ _ _ _ _. inl (inl refl);

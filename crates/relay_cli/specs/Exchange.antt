@@ -108,7 +108,7 @@ pub record IsRun (script : ScriptSpec) (request : RequestSpec) : Type 0 where
   pub run : Processes script_state script_start (start_of (first_world client connector))
       (world_with (script_state last) ahead faults)
       (Some []) (Some returned) (Some []) refusals (Some (offers_of script.peer)) left
-      script.turns processed
+      (script_state client) script.turns processed
   -- what is reported is the outcome and what passed
   pub printable : request.outcome ≢ OutOfMemory
   pub outcome : request.outcome ≡ processed.outcome

@@ -7,6 +7,7 @@ pub mod StepLemmas
 mod TakenLemmas
 mod RefusalLemmas
 mod TurnLemmas
+mod CountLemmas
 pub mod ExactLemmas
 pub mod UnderWay
 pub mod UseLemmas

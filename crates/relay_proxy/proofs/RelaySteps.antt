@@ -1,5 +1,5 @@
 -- What a turn of an attempt's exchange makes of the run so far.
-use Rattle.std.proofs.Common.{◌≡◌, ◌≢◌, ◌↔◌, ℕ, Bool, true, false, not, ◌&&◌, List, [], length, Option, None, Some, refl, sym, ap, subst, ◌∙◌, inl, inr}
+use Rattle.std.proofs.Common.{◌≡◌, ◌≢◌, ◌↔◌, ℕ, ◌+◌, Bool, true, false, not, ◌&&◌, List, [], length, Option, None, Some, refl, sym, ap, subst, ◌∙◌, inl, inr}
 use Rattle.std.specs.Prelude.{IsTrue, ◌==◌, if◌then◌else◌}
 use Rattle.std.specs.Box.{with_value}
 use Rattle.std.specs.Global.{Box}
@@ -42,9 +42,10 @@ use Rattle.relay_proxy.specs.Phases.{IsLeased, RunSoFar}
 use Rattle.relay_proxy.specs.Relaying.{turned, TurnsOver, TurnsWithin}
 use Rattle.relay_proxy.specs.Reuse.{lets_ask, client_reusable}
 use Rattle.relay_proxy.specs.Turn.{world_with, Advances, HasMoved, HasWaited, MeetsSilence, held_state}
-use Rattle.relay_proxy.specs.Uses.{BothUse, ExchangeMoved, TurnUses, work_by}
+use Rattle.relay_proxy.specs.Uses.{BothUse, ExchangeMoved, LinkUses, PhaseUses, TurnCounts, TurnUses, ups, work_by}
 use Rattle.relay_proxy.proofs.ConnectSteps.{part_relayed}
 use Rattle.relay_proxy.proofs.OpenHead.{exchange_open}
+use Rattle.relay_proxy.proofs.CountLemmas.{both_counts}
 use Rattle.relay_proxy.proofs.UseLemmas.{moved_uses, turned_uses}
 use Rattle.relay_proxy.specs.declared.machine.Attempt.{Attempt}
 use Rattle.relay_proxy.specs.declared.machine.Lease.{Lease}
@@ -520,33 +521,112 @@ module _ {L C : Type 0} (state : L → LinkState) (start_at : L → LinkStart)
         (state (link_of within.attempt.value.exchange)) (state (link_of within.exchange))) is
         within.turns.asks
 
+    -- the link of the next phase was asked as often as the exchange's
+    next_asked : (k : ℕ) → LinkUses state start_at k (link_of within.exchange)
+        → PhaseUses state start_at k [] next
+    next_asked k asked =
+        subst (λ (n : Phase L C). PhaseUses state start_at k [] n) (sym within.stands) asked
+
+    -- what a turn counted, where the link was asked so often behind it
+    counts_at : (u : ℕ) (end : Phase L C)
+        → ((k : ℕ) → LinkUses state start_at k (link_of within.exchange)
+        → PhaseUses state start_at k [] end)
+        → BothUse u w.client x.client (state (link_of within.attempt.value.exchange))
+        (state (link_of within.exchange))
+        → (a : Box (Attempt L C)) (n : ℕ) → phase ≡ Relay a
+        → LinkUses state start_at n (link_of a.value.exchange)
+        → TurnCounts state start_at n w.client x.client u [] end
+    counts_at u end lands uses a n is asked =
+        let own : LinkUses state start_at n (link_of within.attempt.value.exchange) =
+        subst (λ (b : Box (Attempt L C)). LinkUses state start_at n (link_of b.value.exchange))
+        (sym (same_attempt within.attempt a (sym within.was ∙ is))) asked in
+        let both = both_counts n u w.client x.client
+        (state (link_of within.attempt.value.exchange)) (state (link_of within.exchange))
+        (start_at (link_of within.attempt.value.exchange)).used uses own in
+        record {
+          of_client = both.of_client;
+          of_own = both.of_own;
+          client_rose = both.client_rose;
+          own_rose = lands (both.of_own + n) (both.own_rose
+              ∙ ap (λ (b : LinkStart). ups (both.of_own + n) b.used) (sym within.turns.same_start));
+          all = both.all;
+        }
+
     -- the uses of a turn that moved
+    moved_both : did.step ≡ step.Moved → (s : Origin) (p : Passed) (a : Box (Attempt L C))
+        → phase ≡ Relay a → IsUnderWay state start_at s p w.client w.ahead a.value.exchange
+        → BothUse (work_by did.branch asked).used w.client x.client
+        (state (link_of within.attempt.value.exchange)) (state (link_of within.exchange))
+    moved_both did_move s p a is under =
+        moved_uses w.client x.client (state (link_of within.attempt.value.exchange))
+        (state (link_of within.exchange)) asked within.turns.measured did.branch _ _
+        (within.turns.moves s p (own_under s p a is under) did_move)
+
     pub moved_uses_within : did.step ≡ step.Moved → (s : Origin) (p : Passed)
         (a : Box (Attempt L C)) → phase ≡ Relay a
         → IsUnderWay state start_at s p w.client w.ahead a.value.exchange
         → TurnUses (work_by did.branch asked).used w.client x.client (held_state state phase)
         (λ link. held_state state next ≡ Some link)
     moved_uses_within did_move s p a is under =
-        uses_at (work_by did.branch asked).used next next_held
-        (moved_uses w.client x.client (state (link_of within.attempt.value.exchange))
-        (state (link_of within.exchange)) asked within.turns.measured did.branch _ _
-        (within.turns.moves s p (own_under s p a is under) did_move))
+        uses_at (work_by did.branch asked).used next next_held (moved_both did_move s p a is under)
+
+    pub moved_counts_within : did.step ≡ step.Moved → (s : Origin) (p : Passed)
+        (a : Box (Attempt L C)) (n : ℕ) → phase ≡ Relay a
+        → IsUnderWay state start_at s p w.client w.ahead a.value.exchange
+        → LinkUses state start_at n (link_of a.value.exchange)
+        → TurnCounts state start_at n w.client x.client (work_by did.branch asked).used [] next
+    moved_counts_within did_move s p a n is under had =
+        counts_at (work_by did.branch asked).used next next_asked
+        (moved_both did_move s p a is under) a n is had
 
     -- one that waits asked the link that it waits for
+    waited_both : did.step ≡ step.Waited NotReady
+        → BothUse 1 w.client x.client (state (link_of within.attempt.value.exchange))
+        (state (link_of within.exchange))
+    waited_both is = inl (refl, asked_so (step.Waited NotReady) is)
+
     pub waited_uses_within : did.step ≡ step.Waited NotReady
         → TurnUses 1 w.client x.client (held_state state phase)
         (λ link. held_state state next ≡ Some link)
-    waited_uses_within is =
-        uses_at 1 next next_held (inl (refl, asked_so (step.Waited NotReady) is))
+    waited_uses_within is = uses_at 1 next next_held (waited_both is)
+
+    pub waited_counts_within : did.step ≡ step.Waited NotReady
+        → (a : Box (Attempt L C)) (n : ℕ) → phase ≡ Relay a
+        → LinkUses state start_at n (link_of a.value.exchange)
+        → TurnCounts state start_at n w.client x.client 1 [] next
+    waited_counts_within is = counts_at 1 next next_asked (waited_both is)
 
     -- one that met silence asked none
+    silent_both : did.step ≡ step.Waited Silent
+        → BothUse 0 w.client x.client (state (link_of within.attempt.value.exchange))
+        (state (link_of within.exchange))
+    silent_both is = inr (refl, asked_so (step.Waited Silent) is)
+
     pub silent_uses_within : did.step ≡ step.Waited Silent
         → TurnUses 0 w.client x.client (held_state state phase)
         (λ link. held_state state next ≡ Some link)
-    silent_uses_within is =
-        uses_at 0 next next_held (inr (refl, asked_so (step.Waited Silent) is))
+    silent_uses_within is = uses_at 0 next next_held (silent_both is)
+
+    pub silent_counts_within : did.step ≡ step.Waited Silent
+        → (a : Box (Attempt L C)) (n : ℕ) → phase ≡ Relay a
+        → LinkUses state start_at n (link_of a.value.exchange)
+        → TurnCounts state start_at n w.client x.client 0 [] next
+    silent_counts_within is = counts_at 0 next next_asked (silent_both is)
+
+    -- the link of an attempt that is to be closed was asked as often as the exchange's
+    end_asked : (end : Phase L C) (lease : Lease) (keep : Bool) (outcome : Outcome)
+        → end ≡ Close (link_of within.exchange) lease keep outcome
+        → (k : ℕ) → LinkUses state start_at k (link_of within.exchange)
+        → PhaseUses state start_at k [] end
+    end_asked end lease keep outcome is k had =
+        subst (λ (n : Phase L C). PhaseUses state start_at k [] n) (sym is) had
 
     -- one that finished asked none
+    finished_both : did.step ≡ step.Finished
+        → BothUse 0 w.client x.client (state (link_of within.attempt.value.exchange))
+        (state (link_of within.exchange))
+    finished_both is = inr (refl, asked_so step.Finished is)
+
     pub finished_uses_within : did.step ≡ step.Finished → (end : Phase L C)
         → ((a : Box (Attempt L C)) → next ≡ Relay a
         → end ≡ Close (link_of a.value.exchange) a.value.lease (may_keep a.value.exchange)
@@ -555,10 +635,28 @@ module _ {L C : Type 0} (state : L → LinkState) (start_at : L → LinkStart)
         (λ link. held_state state end ≡ Some link)
     finished_uses_within is end closes =
         uses_at 0 end (ap (λ (k : Phase L C). held_state state k)
-        (closes (turned within.attempt within.exchange) within.stands))
-        (inr (refl, asked_so step.Finished is))
+        (closes (turned within.attempt within.exchange) within.stands)) (finished_both is)
+
+    pub finished_counts_within : did.step ≡ step.Finished → (end : Phase L C)
+        → ((a : Box (Attempt L C)) → next ≡ Relay a
+        → end ≡ Close (link_of a.value.exchange) a.value.lease (may_keep a.value.exchange)
+        (Served None (client_reusable a.value.exchange x.ahead)))
+        → (a : Box (Attempt L C)) (n : ℕ) → phase ≡ Relay a
+        → LinkUses state start_at n (link_of a.value.exchange)
+        → TurnCounts state start_at n w.client x.client 0 [] end
+    finished_counts_within is end closes =
+        counts_at 0 end (end_asked end _ _ _
+        (closes (turned within.attempt within.exchange) within.stands)) (finished_both is)
 
     -- one that failed asked one or none
+    failed_both : (why : Fail) → did.step ≡ step.Failed why
+        → BothUse (if asked then 1 else 0) w.client x.client
+        (state (link_of within.attempt.value.exchange)) (state (link_of within.exchange))
+    failed_both why is =
+        turned_uses w.client x.client (state (link_of within.attempt.value.exchange))
+        (state (link_of within.exchange)) asked within.turns.measured
+        (asked_so (step.Failed why) is)
+
     pub failed_uses_within : (why : Fail) → did.step ≡ step.Failed why → (end : Phase L C)
         → ((a : Box (Attempt L C)) → next ≡ Relay a
         → end ≡ Close (link_of a.value.exchange) a.value.lease false (outcome_of why))
@@ -566,10 +664,17 @@ module _ {L C : Type 0} (state : L → LinkState) (start_at : L → LinkStart)
         (λ link. held_state state end ≡ Some link)
     failed_uses_within why is end closes =
         uses_at (if asked then 1 else 0) end (ap (λ (k : Phase L C). held_state state k)
-        (closes (turned within.attempt within.exchange) within.stands))
-        (turned_uses w.client x.client (state (link_of within.attempt.value.exchange))
-        (state (link_of within.exchange)) asked within.turns.measured
-        (asked_so (step.Failed why) is))
+        (closes (turned within.attempt within.exchange) within.stands)) (failed_both why is)
+
+    pub failed_counts_within : (why : Fail) → did.step ≡ step.Failed why → (end : Phase L C)
+        → ((a : Box (Attempt L C)) → next ≡ Relay a
+        → end ≡ Close (link_of a.value.exchange) a.value.lease false (outcome_of why))
+        → (a : Box (Attempt L C)) (n : ℕ) → phase ≡ Relay a
+        → LinkUses state start_at n (link_of a.value.exchange)
+        → TurnCounts state start_at n w.client x.client (if asked then 1 else 0) [] end
+    failed_counts_within why is end closes =
+        counts_at (if asked then 1 else 0) end (end_asked end _ _ _
+        (closes (turned within.attempt within.exchange) within.stands)) (failed_both why is)
 
     -- a turn that waited waits because a link answered so
     pub waited_cause : did.step ≡ step.Waited NotReady

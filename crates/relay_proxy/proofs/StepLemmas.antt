@@ -1,7 +1,8 @@
 -- A step takes the run so far on, and the end adds up what it says.
 use Rattle.std.specs.Global.{Box}
-use Rattle.std.proofs.Common.{◌≡◌, ◌≢◌, ℕ, Bool, true, false, List, [], ◌∷◌, ◌++◌, Option, None, Some, Ok, Err, map, true≢false, refl, sym, ap, subst, ◌∙◌, inl, inr, append_assoc, append-nil}
+use Rattle.std.proofs.Common.{◌≡◌, ◌≢◌, ℕ, ◌+◌, min, Bool, true, false, List, [], ◌∷◌, ◌++◌, Option, None, Some, Ok, Err, map, true≢false, refl, sym, ap, subst, ◌∙◌, inl, inr, append_assoc, append-nil}
 use Rattle.relay_links.specs.Connector.{Offer}
+use Rattle.relay_links.specs.Count.{last_count}
 use Rattle.relay_links.specs.Link.{LinkState, LinkStart, LinkItems}
 use Rattle.relay_links.specs.Told.{more, Gains}
 use Rattle.relay_links.specs.declared.Returned.{Returned}
@@ -18,6 +19,7 @@ use Rattle.relay_proxy.specs.Refusals.{faults_for, faults_before, faults_of_turn
 use Rattle.relay_proxy.specs.Request.{StepsOn}
 use Rattle.relay_proxy.specs.Stock.{items_back}
 use Rattle.relay_proxy.specs.Turn.{Advances, HasCause, IsStalled, is_over, is_end}
+use Rattle.relay_proxy.specs.Uses.{LinkUses, OwnUses, PhaseUses, TurnCounts}
 use Rattle.relay_proxy.specs.Closing.{Hands, HandsBack, Settles, GivesUp, Finishes, IsQuietExchange, IsQuiet, Rests, TurnOf, Ends}
 use Rattle.relay_proxy.proofs.ConnectSteps.{part_relayed}
 use Rattle.relay_proxy.proofs.HeadSteps.{half_answered}
@@ -65,6 +67,20 @@ module _ {L : Type 0} (state : L → LinkState) (start_at : L → LinkStart) whe
   }
 
 module _ {L C : Type 0} (state : L → LinkState) (start_at : L → LinkStart) where
+  -- what a turn counted is what its step counts, where the link of both phases was asked as often
+  settled_counts : (n : ℕ) (client client' : LinkState) (used : ℕ) (own now : List (Returned L))
+      (next settled : Phase L C)
+      → ((k : ℕ) → PhaseUses state start_at k own next → PhaseUses state start_at k now settled)
+      → TurnCounts state start_at n client client' used own next
+      → TurnCounts state start_at n client client' used now settled
+  settled_counts n client client' used own now next settled asks turn = record {
+    of_client = turn.of_client;
+    of_own = turn.of_own;
+    client_rose = turn.client_rose;
+    own_rose = asks (turn.of_own + n) turn.own_rose;
+    all = turn.all;
+  }
+
   -- what settling leaves
   record Settled (s : Start) (p : Passed) (w : World) (next settled : Phase L C)
       (before after : Option (List (Returned L))) : Type 0 where
@@ -73,6 +89,7 @@ module _ {L C : Type 0} (state : L → LinkState) (start_at : L → LinkStart) w
     run : RunSoFar state start_at s p w handed settled
     refused : faults_before [] next ≡ faults_before handed settled
     offered : offers_before start_at [] next ≡ offers_before start_at handed settled
+    uses : (n : ℕ) → PhaseUses state start_at n [] next → PhaseUses state start_at n handed settled
 
   -- a phase that stays
   stays : (s : Start) (p : Passed) (w : World) (next settled : Phase L C)
@@ -84,6 +101,7 @@ module _ {L C : Type 0} (state : L → LinkState) (start_at : L → LinkStart) w
     run = subst (λ (n : Phase L C). RunSoFar state start_at s p w [] n) (sym same) run;
     refused = ap (λ (n : Phase L C). faults_before [] n) (sym same);
     offered = ap (λ (n : Phase L C). offers_before start_at [] n) (sym same);
+    uses = λ n uses. subst (λ (k : Phase L C). PhaseUses state start_at n [] k) (sym same) uses;
   }
 
   -- settling keeps the run so far
@@ -114,6 +132,9 @@ module _ {L C : Type 0} (state : L → LinkState) (start_at : L → LinkStart) w
     refused = ap (λ (n : Phase L C). faults_before (does.2.entry ∷ []) n) (sym does.1);
     offered = ap (λ (l : L). Ok (start_at l).items ∷ []) (sym does.2.hands.is_link)
         ∙ ap (λ (n : Phase L C). offers_before start_at (does.2.entry ∷ []) n) (sym does.1);
+    uses = λ n uses. subst
+        (λ (k : Phase L C). PhaseUses state start_at n (does.2.entry ∷ []) k) (sym does.1)
+        (subst (λ (l : L). LinkUses state start_at n l) (sym does.2.hands.is_link) uses);
   }
   settle_run s p w (Ended outcome attempts) settled before after does run =
       stays s p w (Ended outcome attempts) settled before after does.0 does.1 run
@@ -162,9 +183,13 @@ module _ {L C : Type 0} (state : L → LinkState) (start_at : L → LinkStart) w
       → Takes had (offers_of_turn start_at phase next) has
       → offers_before start_at [] phase ++ offers_of_turn start_at phase next
       ≡ offers_before start_at [] next
-      → StepsOn state start_at s p x [] before after told_before told_after had has phase settled
+      → (client : LinkState) (counted counts used : ℕ) → counts ≡ min (counted + used) last_count
+      → ((n : ℕ) → PhaseUses state start_at n [] phase
+      → TurnCounts state start_at n client x.client used [] next)
+      → StepsOn state start_at s p x [] before after told_before told_after had has client counted
+      counts phase settled
   live_on s p x phase next settled before mid after told_before told_after had has live turn kept
-      does told takes carries =
+      does told takes carries client counted counts used adds uses =
       let done = settle_run s turn.passed x next settled mid after does turn.run in
       record {
         passed = turn.passed;
@@ -181,6 +206,12 @@ module _ {L C : Type 0} (state : L → LinkState) (start_at : L → LinkStart) w
           takes = takes;
           are = carries ∙ done.offered;
         };
+        uses = λ n had. record {
+          used = used;
+          turn = settled_counts n client x.client used [] done.handed next settled
+              (λ k. done.uses k) (uses n had);
+          adds = adds;
+        };
         rested = λ over. absurd (true≢false (sym over ∙ live));
       }
 
@@ -192,10 +223,13 @@ module _ {L C : Type 0} (state : L → LinkState) (start_at : L → LinkStart) w
       → Rests {L = L} {C = C} w x (Ended outcome attempts) next did → mid ≡ before
       → Settles next mid after settled → Gains told_before [] told_after → Takes had [] has
       → RunSoFar {C = C} state start_at s p w own (Ended outcome attempts)
-      → StepsOn {C = C} state start_at s p x own before after told_before told_after had has
-      (Ended outcome attempts) settled
+      → (client : LinkState) (counted counts used : ℕ) → counts ≡ min (counted + used) last_count
+      → ((n : ℕ) → PhaseUses {C = C} state start_at n own (Ended outcome attempts)
+      → TurnCounts state start_at n client x.client used own next)
+      → StepsOn {C = C} state start_at s p x own before after told_before told_after had has client
+      counted counts (Ended outcome attempts) settled
   ended_on s p own w x outcome attempts next settled did before mid after told_before told_after
-      had has rests kept does told takes run =
+      had has rests kept does told takes run client counted counts used adds uses =
       let stayed = subst (λ (k : Phase L C). Settles k mid after settled) rests.0 does in
       record {
         passed = p;
@@ -221,6 +255,15 @@ module _ {L C : Type 0} (state : L → LinkState) (start_at : L → LinkStart) w
               offers_before {C = C} start_at rs (Ended outcome attempts)) (sym (append-nil own))
               ∙ ap (λ (k : Phase L C). offers_before start_at (own ++ []) k) (sym stayed.0);
         };
+        uses = λ n had. record {
+          used = used;
+          turn = settled_counts n client x.client used own (own ++ []) next settled
+              (λ k asked. subst (λ (rs : List (Returned L)). PhaseUses state start_at k rs settled)
+              (sym (append-nil own))
+              (subst (λ (q : Phase L C). PhaseUses state start_at k own q)
+              (rests.0 ∙ sym stayed.0) asked)) (uses n had);
+          adds = adds;
+        };
         rested = λ over. refl;
       }
 
@@ -232,10 +275,13 @@ module _ {L C : Type 0} (state : L → LinkState) (start_at : L → LinkStart) w
       → Rests w x (Close link lease keep outcome) next did → mid ≡ before
       → Settles next mid after settled → Gains told_before [] told_after → Takes had [] has
       → RunSoFar {C = C} state start_at s p w [] (Close link lease keep outcome)
-      → StepsOn state start_at s p x [] before after told_before told_after had has
-      (Close link lease keep outcome) settled
+      → (client : LinkState) (counted counts used : ℕ) → counts ≡ min (counted + used) last_count
+      → ((n : ℕ) → PhaseUses {C = C} state start_at n [] (Close link lease keep outcome)
+      → TurnCounts state start_at n client x.client used [] next)
+      → StepsOn state start_at s p x [] before after told_before told_after had has client counted
+      counts (Close link lease keep outcome) settled
   closed_on s p w x link lease keep outcome next settled did before mid after told_before told_after
-      had has rests kept does told takes run =
+      had has rests kept does told takes run client counted counts used adds uses =
       let done = settle_run s p w (Close link lease keep outcome) settled mid after
       (subst (λ (k : Phase L C). Settles k mid after settled) rests.0 does) run in
       record {
@@ -246,6 +292,14 @@ module _ {L C : Type 0} (state : L → LinkState) (start_at : L → LinkStart) w
             (sym rests.2) done.run;
         refused = record { faults = []; gained = told; are = done.refused };
         offered = record { taken = []; takes = takes; are = done.offered };
+        uses = λ n had. record {
+          used = used;
+          turn = settled_counts n client x.client used [] done.handed next settled
+              (λ k asked. done.uses k
+              (subst (λ (q : Phase L C). PhaseUses state start_at k [] q) rests.0 asked))
+              (uses n had);
+          adds = adds;
+        };
         rested = λ over. refl;
       }
 
@@ -262,50 +316,54 @@ module _ {L C : Type 0} (state : L → LinkState) (start_at : L → LinkStart) w
       → offers_before start_at [] phase ++ offers_of_turn start_at phase next
       ≡ offers_before start_at [] next)
       → RunSoFar state start_at s p w own phase
-      → StepsOn state start_at s p x own before after told_before told_after had has phase settled
+      → (client : LinkState) (counted counts used : ℕ) → counts ≡ min (counted + used) last_count
+      → ((n : ℕ) → PhaseUses state start_at n own phase
+      → TurnCounts state start_at n client x.client used own next)
+      → StepsOn state start_at s p x own before after told_before told_after had has client counted
+      counts phase settled
   step_on s p [] w x ReadHead next settled did before mid after t u h k
-      turn rests kept does told takes carries run =
+      turn rests kept does told takes carries run c i j o adds uses =
       live_on s p x ReadHead next settled before mid after t u h k refl (turn run)
-      kept does told takes (carries refl)
+      kept does told takes (carries refl) c i j o adds uses
   step_on s p [] w x (Refuse answer e) next settled did before mid after t u h k
-      turn rests kept does told takes carries run =
+      turn rests kept does told takes carries run c i j o adds uses =
       live_on s p x (Refuse answer e) next settled before mid after t u h k refl (turn run)
-      kept does told takes (carries refl)
+      kept does told takes (carries refl) c i j o adds uses
   step_on s p [] w x (Connect context session) next settled did before mid after t u h k
-      turn rests kept does told takes carries run =
+      turn rests kept does told takes carries run c i j o adds uses =
       live_on s p x (Connect context session) next settled before mid after t u h k refl (turn run)
-      kept does told takes (carries refl)
+      kept does told takes (carries refl) c i j o adds uses
   step_on s p [] w x (Relay a) next settled did before mid after t u h k
-      turn rests kept does told takes carries run =
+      turn rests kept does told takes carries run c i j o adds uses =
       live_on s p x (Relay a) next settled before mid after t u h k refl (turn run)
-      kept does told takes (carries refl)
+      kept does told takes (carries refl) c i j o adds uses
   step_on s p [] w x (Close link lease keep outcome) next settled did before mid after t u h k
-      turn rests kept does told takes carries run =
+      turn rests kept does told takes carries run c i j o adds uses =
       closed_on s p w x link lease keep outcome next settled did before mid after t u h k rests
-      kept does told takes run
+      kept does told takes run c i j o adds uses
   step_on s p [] w x (Ended outcome attempts) next settled did before mid after t u h k
-      turn rests kept does told takes carries run =
+      turn rests kept does told takes carries run c i j o adds uses =
       ended_on s p [] w x outcome attempts next settled did before mid after t u h k rests kept
-      does told takes run
+      does told takes run c i j o adds uses
   step_on s p (r ∷ own) w x ReadHead next settled did before mid after t u h k
-      turn rests kept does told takes carries run =
+      turn rests kept does told takes carries run c i j o adds uses =
       absurd run.holds
   step_on s p (r ∷ own) w x (Refuse answer e) next settled did before mid after t u h k
-      turn rests kept does told takes carries run =
+      turn rests kept does told takes carries run c i j o adds uses =
       absurd run.holds
   step_on s p (r ∷ own) w x (Connect context session) next settled did before mid after t u h k
-      turn rests kept does told takes carries run =
+      turn rests kept does told takes carries run c i j o adds uses =
       absurd run.holds
   step_on s p (r ∷ own) w x (Relay a) next settled did before mid after t u h k
-      turn rests kept does told takes carries run =
+      turn rests kept does told takes carries run c i j o adds uses =
       absurd run.holds
   step_on s p (r ∷ own) w x (Close link lease keep outcome) next settled did before mid after t u
-      h k turn rests kept does told takes carries run =
+      h k turn rests kept does told takes carries run c i j o adds uses =
       absurd run.holds
   step_on s p (r ∷ own) w x (Ended outcome attempts) next settled did before mid after t u h k
-      turn rests kept does told takes carries run =
+      turn rests kept does told takes carries run c i j o adds uses =
       ended_on s p (r ∷ own) w x outcome attempts next settled did before mid after t u h k rests
-      kept does told takes run
+      kept does told takes run c i j o adds uses
 
   -- an attempt in which all that can be done asks a silent link
   quiet_over : (s : Start) (p : Passed) (w : World) (a : Box (Attempt L C))
@@ -331,9 +389,10 @@ module _ {L C : Type 0} (state : L → LinkState) (start_at : L → LinkStart) w
       → (IsStalled state start_at w phase → IsQuietExchange state start_at s p w link)
       → faults_before [] phase ≡ []
       → offers_before start_at [] phase ≡ Ok (start_at link).items ∷ []
+      → ((n : ℕ) → PhaseUses state start_at n [] phase → LinkUses state start_at n link)
       → Ends state start_at s p w [] before after phase ending
   linked_end s p w phase link lease keep before after ending outcome is back run leased ends
-      stalled none holds = record {
+      stalled none holds linked = record {
         handed = back.entry ∷ [];
         gained = back.gained;
         ended = record {
@@ -348,6 +407,8 @@ module _ {L C : Type 0} (state : L → LinkState) (start_at : L → LinkStart) w
         };
         refused = sym none;
         offered = ap (λ (l : L). Ok (start_at l).items ∷ []) back.hands.is_link ∙ sym holds;
+        uses = λ n asked. subst (λ (l : L). LinkUses state start_at n l)
+            (sym back.hands.is_link) (linked n asked);
         quiet = λ limit still. subst (λ (l : L). IsQuietExchange state start_at s p w l)
             (sym back.hands.is_link) (stalled still);
       }
@@ -358,8 +419,9 @@ module _ {L C : Type 0} (state : L → LinkState) (start_at : L → LinkStart) w
       → RunSoFar state start_at s p w [] phase → IsUnsent p
       → (IsStalled state start_at w phase → IsQuiet state start_at s p w [])
       → faults_before [] phase ≡ [] → offers_before start_at [] phase ≡ []
+      → ((n : ℕ) → PhaseUses state start_at n [] phase → OwnUses state start_at n [])
       → Ends state start_at s p w [] before after phase ending
-  unlinked_end s p w phase before after ending gives run unsent stalled none bare = record {
+  unlinked_end s p w phase before after ending gives run unsent stalled none bare asked = record {
     handed = [];
     gained = gives.same ∙ more-nil before;
     ended = record {
@@ -371,6 +433,7 @@ module _ {L C : Type 0} (state : L → LinkState) (start_at : L → LinkStart) w
     };
     refused = ap (λ (o : Outcome). faults_for {L = L} [] o) gives.limit ∙ sym none;
     offered = ap (λ (o : Outcome). offers_for start_at [] o) gives.limit ∙ sym bare;
+    uses = asked;
     quiet = λ limit still. stalled still;
   }
 
@@ -401,6 +464,8 @@ module _ {L C : Type 0} (state : L → LinkState) (start_at : L → LinkStart) w
         ∙ ap (λ (rs : List (Returned L)). offers_for start_at rs outcome) (append-nil own)
         ∙ ap (λ (xs : List (Option LinkItems)). map Ok xs ++ map Err (faults_for own outcome))
         (sym (append-nil (items_back start_at own)));
+    uses = λ n asked. subst (λ (rs : List (Returned L)). OwnUses state start_at n rs)
+        (sym (append-nil own)) asked;
     quiet = λ limit never. absurd never;
   }
 
@@ -412,12 +477,13 @@ module _ {L C : Type 0} (state : L → LinkState) (start_at : L → LinkStart) w
   end_of s p [] w ReadHead before after ending does run =
       unlinked_end s p w ReadHead before after ending does run run.holds.unsent
       (λ h. inl (subst (λ (xs : List ℕ). IsOpen xs) run.holds.whole h.0, h.1)) refl refl
+      (λ n asked. asked)
   end_of s p [] w (Refuse answer e) before after ending does run =
       unlinked_end s p w (Refuse answer e) before after ending does run run.holds.unsent
-      (λ h. inr (half_answered s p answer e run.holds, h)) refl refl
+      (λ h. inr (half_answered s p answer e run.holds, h)) refl refl (λ n asked. asked)
   end_of s p [] w (Connect context session) before after ending does run =
       unlinked_end s p w (Connect context session) before after ending does run run.holds.unsent
-      (λ h. absurd h) refl refl
+      (λ h. absurd h) refl refl (λ n asked. asked)
   end_of s p [] w (Relay a) before after ending does run =
       linked_end s p w (Relay a) (link_of a.value.exchange) a.value.lease false before after
       ending TurnLimit does.limit does.back run run.holds.leased (
@@ -425,10 +491,10 @@ module _ {L C : Type 0} (state : L → LinkState) (start_at : L → LinkStart) w
             run.holds.leased.reused run.holds.under_way.order,
         refl,
       )
-      (λ h. quiet_over s p w a run.holds h) refl refl
+      (λ h. quiet_over s p w a run.holds h) refl refl (λ n asked. asked)
   end_of s p [] w (Close link lease keep outcome) before after ending does run =
       linked_end s p w (Close link lease keep outcome) link lease keep before after ending outcome
-      does.0 does.1 run run.holds.0 run.holds.1 (λ h. absurd h) refl refl
+      does.0 does.1 run run.holds.0 run.holds.1 (λ h. absurd h) refl refl (λ n asked. asked)
   end_of s p [] w (Ended outcome attempts) before after ending does run =
       ended_end s p w [] outcome attempts before after ending run.holds does.0 does.1 does.2 run
   end_of s p (r ∷ own) w ReadHead before after ending does run = absurd run.holds

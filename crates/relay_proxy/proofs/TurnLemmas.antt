@@ -1,14 +1,17 @@
 -- What a turn of a phase that relays is, of the phase as it stands.
-use Rattle.std.proofs.Common.{◌≡◌, true, false, List, [], ◌++◌, Option, true≢false, refl, sym, ap, ◌∙◌}
+use Rattle.std.proofs.Common.{◌≡◌, ℕ, ◌+◌, ◌∷◌, subst, arith, true, false, List, [], ◌++◌, Option, true≢false, refl, sym, ap, ◌∙◌}
 use Rattle.std.specs.Global.{Box}
 use Rattle.relay_links.specs.Link.{LinkState, LinkStart}
 use Rattle.relay_links.specs.declared.Returned.{Returned}
 use Rattle.relay_proxy.specs.Closing.{Rests, Settles, TurnOf}
 use Rattle.relay_core.specs.Past.{Origin}
 use Rattle.relay_attempt.specs.Exchange.{IsUnderWay}
+use Rattle.relay_attempt.specs.Head.{link_of}
 use Rattle.relay_attempt.specs.Passed.{Passed}
+use Rattle.relay_session.specs.declared.session.HttpSession.{HttpSession}
 use Rattle.relay_proxy.specs.Passed.{World, Start, origin_of}
 use Rattle.relay_proxy.specs.Phases.{RunSoFar}
+use Rattle.relay_proxy.specs.Uses.{ClientUses, LinkUses, OwnUses, PhaseUses, TurnCounts}
 use Rattle.relay_proxy.specs.Refusals.{faults_of_turn}
 use Rattle.relay_proxy.specs.Relaying.{is_relaying, is_closing}
 use Rattle.relay_proxy.specs.Stock.{items_held}
@@ -16,6 +19,7 @@ use Rattle.relay_proxy.specs.Taken.{offers_before, offers_of_turn}
 use Rattle.relay_proxy.specs.Turn.{Advances, DoesWork, WorksIn, links_held}
 use Rattle.relay_proxy.proofs.RefusalLemmas.{none_before_link}
 use Rattle.relay_proxy.proofs.TakenLemmas.{held_offers}
+use Rattle.relay_proxy.proofs.CountLemmas.{client_counts}
 use Rattle.relay_proxy.proofs.UseLemmas.{relaying_of}
 use Rattle.relay_proxy.specs.declared.machine.Attempt.{Attempt}
 use Rattle.relay_proxy.specs.declared.machine.Phase.{Phase}
@@ -94,6 +98,84 @@ module _ {L C : Type 0} (state : L → LinkState) (start_at : L → LinkStart) w
   relaying_uses s p own w (Close link lease keep outcome) T is run uses =
       absurd (true≢false (sym is))
   relaying_uses s p own w (Ended outcome attempts) T is run uses = absurd (true≢false (sym is))
+
+  -- so often were both links asked in it
+  pub relaying_counts : (s : Start) (p : Passed) (own : List (Returned L)) (w : World)
+      (client' : LinkState) (n used : ℕ) (phase next : Phase L C) → is_relaying phase ≡ true
+      → RunSoFar state start_at s p w own phase → PhaseUses state start_at n own phase
+      → ((o : Origin) (q : Passed) (a : Box (Attempt L C)) (m : ℕ) → phase ≡ Relay a
+      → IsUnderWay state start_at o q w.client w.ahead a.value.exchange
+      → LinkUses state start_at m (link_of a.value.exchange)
+      → TurnCounts state start_at m w.client client' used [] next)
+      → TurnCounts state start_at n w.client client' used own next
+  relaying_counts s p own w client' n used ReadHead next is run had counts =
+      absurd (true≢false (sym is))
+  relaying_counts s p own w client' n used (Refuse answer error) next is run had counts =
+      absurd (true≢false (sym is))
+  relaying_counts s p own w client' n used (Connect context session) next is run had counts =
+      absurd (true≢false (sym is))
+  relaying_counts s p [] w client' n used (Relay a) next is run had counts =
+      counts (origin_of s run.holds.head a.value.lease.reused) p a n refl run.holds.under_way had
+  relaying_counts s p (r ∷ own) w client' n used (Relay a) next is run had counts =
+      absurd run.holds
+  relaying_counts s p own w client' n used (Close link lease keep outcome) next is run had counts =
+      absurd (true≢false (sym is))
+  relaying_counts s p own w client' n used (Ended outcome attempts) next is run had counts =
+      absurd (true≢false (sym is))
+
+  -- a phase that holds no link was asked as often as what was handed back
+  pub unlinked_asked : (n : ℕ) (own : List (Returned L)) (next : Phase L C)
+      → links_held state start_at next ≡ 0 → OwnUses state start_at n own
+      → PhaseUses state start_at n own next
+  unlinked_asked n own ReadHead none had = had
+  unlinked_asked n own (Refuse answer error) none had = had
+  unlinked_asked n own (Connect context session) none had = had
+  unlinked_asked n own (Relay a) none had = cc
+  unlinked_asked n own (Close link lease keep outcome) none had = cc
+  unlinked_asked n own (Ended outcome attempts) none had = had
+
+  -- a turn that asked the client's link alone
+  pub head_counts : (n used : ℕ) (client client' : LinkState) (own : List (Returned L))
+      (next : Phase L C) → ClientUses used client client' → links_held state start_at next ≡ 0
+      → OwnUses state start_at n own → TurnCounts state start_at n client client' used own next
+  head_counts n used client client' own next uses none had =
+      let same : n ≡ 0 + n = omega (arith) in
+      let all : used ≡ used + 0 = omega (arith) in
+      record {
+        of_client = used;
+        of_own = 0;
+        client_rose = client_counts used client client' uses;
+        own_rose = subst (λ (k : ℕ). PhaseUses state start_at k own next) same
+            (unlinked_asked n own next none had);
+        all = all;
+      }
+
+  -- a turn that asked no link
+  pub still_counts : (n used : ℕ) (client : LinkState) (own : List (Returned L))
+      (next : Phase L C) → used ≡ 0 → PhaseUses state start_at n own next
+      → TurnCounts state start_at n client client used own next
+  still_counts n used client own next none had =
+      let same : n ≡ 0 + n = omega (arith) in
+      let all : used ≡ 0 + 0 = omega (arith, none) in
+      record {
+        of_client = 0;
+        of_own = 0;
+        client_rose = refl;
+        own_rose = subst (λ (k : ℕ). PhaseUses state start_at k own next) same had;
+        all = all;
+      }
+
+  -- the turn that asks the connector
+  pub connect_counts : (s : Start) (p : Passed) (own : List (Returned L)) (w : World) (context : C)
+      (session : Box HttpSession) (n used : ℕ) (client : LinkState) (next : Phase L C)
+      → RunSoFar state start_at s p w own (Connect context session) → OwnUses state start_at n own
+      → used ≡ 0 → PhaseUses state start_at 0 [] next
+      → TurnCounts state start_at n client client used own next
+  connect_counts s p [] w context session n used client next run had none fresh =
+      still_counts n used client [] next none
+      (subst (λ (k : ℕ). PhaseUses state start_at k [] next) (sym had) fresh)
+  connect_counts s p (r ∷ own) w context session n used client next run had none fresh =
+      absurd run.holds
 
 -- a phase that does not relay holds no attempt
 pub not_relaying : {L C : Type 0} (phase : Phase L C) (a : Box (Attempt L C))

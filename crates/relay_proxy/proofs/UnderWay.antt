@@ -1,5 +1,5 @@
 -- A request between two steps of one call.
-use Rattle.std.proofs.Common.{◌≡◌, ◌≢◌, ℕ, ◌+◌, ◌≤◌, true, false, List, [], ◌++◌, Option, true≢false, refl, sym, ap, subst, ◌∙◌, inl, inr, arith}
+use Rattle.std.proofs.Common.{◌≡◌, ◌≢◌, ℕ, ◌+◌, min, ◌≤◌, true, false, List, [], ◌++◌, Option, true≢false, refl, sym, ap, subst, ◌∙◌, inl, inr, arith}
 use Rattle.relay_links.specs.Count.{last_count, up}
 use Rattle.relay_links.specs.Connector.{Offer}
 use Rattle.relay_links.specs.Link.{LinkState, LinkStart}
@@ -15,6 +15,7 @@ use Rattle.relay_proxy.specs.Phases.{RunSoFar}
 use Rattle.relay_proxy.specs.Refusals.{faults_before}
 use Rattle.relay_proxy.specs.Request.{is_stop, Counts, StepsOn, ComesToEnd, Processes}
 use Rattle.relay_proxy.specs.Turn.{IsStalled, HasCause, links_held, is_over, is_end}
+use Rattle.relay_proxy.specs.Uses.{PhaseUses, OwnUses, StepCounts, CountsAll, ups}
 use Rattle.relay_proxy.specs.declared.machine.Machine.{Machine}
 use Rattle.relay_proxy.specs.declared.machine.Phase.{Phase}
 use Rattle.relay_proxy.specs.declared.machine.Phase.TheVariants.{ReadHead, Refuse, Connect, Relay, Close, Ended}
@@ -23,7 +24,9 @@ use Rattle.relay_proxy.specs.declared.machine.RunStep.TheVariants as step
 use Rattle.relay_proxy.specs.declared.outcome.Outcome.TheVariants.{TurnLimit}
 use Rattle.relay_proxy.specs.declared.outcome.Processed.{Processed}
 use Rattle.relay_proxy.proofs.StepLemmas.{more-nil, more-more}
+use Rattle.relay_proxy.proofs.CountLemmas.{ups_twice, min_twice}
 use Rattle.relay_proxy.proofs.ExactLemmas.{exact_of}
+use Rattle.relay_proxy.proofs.TurnLemmas.{unlinked_asked}
 use Rattle.relay_proxy.proofs.TakenLemmas.{takes_nothing, takes_twice}
 
 -- a step after which the call goes on is counted
@@ -42,17 +45,56 @@ no_end (step.Waited Silent) goes = absurd (true≢false goes)
 no_end step.Ended goes = absurd (true≢false goes)
 
 module _ {L C : Type 0} (state : L → LinkState) (start_at : L → LinkStart) where
+  -- all uses so far were counted: those of the client's link, and those of the request's own
+  pub record UsesSoFar (first last : LinkState) (own : List (Returned L)) (phase : Phase L C)
+      (counted : ℕ) : Type 0 where
+    pub client : ℕ
+    pub upstream : ℕ
+    pub client_rose : last.used ≡ ups client first.used
+    pub upstream_rose : PhaseUses state start_at upstream own phase
+    pub all : counted ≡ min (client + upstream) last_count
+
+  -- those of one more step
+  used_on : (first before last : LinkState) (own now : List (Returned L)) (phase next : Phase L C)
+      (counted counts : ℕ) (so_far : UsesSoFar first before own phase counted)
+      → StepCounts state start_at so_far.upstream before last counted counts now next
+      → UsesSoFar first last now next counts
+  used_on first before last own now phase next counted counts so_far step = record {
+    client = step.turn.of_client + so_far.client;
+    upstream = step.turn.of_own + so_far.upstream;
+    client_rose = step.turn.client_rose
+        ∙ ap (λ (k : ℕ). ups step.turn.of_client k) so_far.client_rose
+        ∙ ups_twice step.turn.of_client so_far.client first.used;
+    upstream_rose = step.turn.own_rose;
+    all = min_twice so_far.client so_far.upstream step.turn.of_client step.turn.of_own counted
+        step.used counts so_far.all step.turn.all step.adds;
+  }
+
+  -- those of a request that came to its end
+  all_used : (first last : LinkState) (own now : List (Returned L)) (phase : Phase L C)
+      (counted items : ℕ) (so_far : UsesSoFar first last own phase counted)
+      → ((n : ℕ) → PhaseUses state start_at n own phase → OwnUses state start_at n now)
+      → items ≡ counted → CountsAll state start_at first last now items
+  all_used first last own now phase counted items so_far ends is = record {
+    client = so_far.client;
+    upstream = so_far.upstream;
+    client_rose = so_far.client_rose;
+    upstream_rose = ends so_far.upstream so_far.upstream_rose;
+    all = is ∙ so_far.all;
+  }
+
   -- the run so far since the call began, and the turns that were taken
   pub record IsUnderWay
       (s : Start) (w : World) (before now : Option (List (Returned L)))
       (told_before told_now : Option (List Fault)) (had has : Option (List Offer))
-      (m : Machine L C) (turns : ℕ) : Type 0 where
+      (first : LinkState) (m : Machine L C) (turns : ℕ) : Type 0 where
     pub passed : Passed
     pub own : List (Returned L)
     pub gained : now ≡ more before own
     pub run : RunSoFar state start_at s passed w own m.phase
     pub refused : Gains told_before (faults_before own m.phase) told_now
     pub offered : Takes had (offers_before start_at own m.phase) has
+    pub uses : UsesSoFar first w.client own m.phase m.work.used
     pub counted : m.turns ≡ turns
 
   -- a request that has not ended was refused nothing
@@ -77,12 +119,14 @@ module _ {L C : Type 0} (state : L → LinkState) (start_at : L → LinkStart) w
   -- a request that was just begun
   pub begun : (w x : World) (before now : Option (List (Returned L)))
       (told_before told_now : Option (List Fault)) (had has : Option (List Offer))
-      (m : Machine L C) → now ≡ before
+      (first : LinkState) (m : Machine L C) → now ≡ before
       → told_now ≡ told_before → has ≡ had
       → RunSoFar state start_at (start_of w) nothing x [] m.phase
       → is_over m.phase ≡ false → links_held state start_at m.phase ≡ 0 → m.turns ≡ 0
-      → IsUnderWay (start_of w) x before now told_before told_now had has m 0
-  begun w x before now told_before told_now had has m same told kept run going unlinked none =
+      → x.client ≡ first → m.work.used ≡ 0
+      → IsUnderWay (start_of w) x before now told_before told_now had has first m 0
+  begun w x before now told_before told_now had has first m same told kept run going unlinked none
+      is unused =
       record {
         passed = nothing;
         own = [];
@@ -92,17 +136,26 @@ module _ {L C : Type 0} (state : L → LinkState) (start_at : L → LinkStart) w
             (sym (none_before m.phase going)) (Gains-nothing told_before told_now told);
         offered = takes_nothing (offers_before start_at [] m.phase) had has
             (none_taken m.phase going unlinked) kept;
+        uses = record {
+          client = 0;
+          upstream = 0;
+          client_rose = ap (λ (l : LinkState). l.used) is;
+          upstream_rose = unlinked_asked state start_at 0 [] m.phase unlinked refl;
+          all = unused;
+        };
         counted = none;
       }
 
   -- one more step that is counted
   pub goes_on : (s : Start) (w x : World) (before now after : Option (List (Returned L)))
-      (t u v : Option (List Fault)) (h k l : Option (List Offer)) (m n : Machine L C) (turns : ℕ)
-      (under : IsUnderWay s w before now t u h k m turns)
-      → StepsOn state start_at s under.passed x under.own now after u v k l m.phase n.phase
+      (t u v : Option (List Fault)) (h k l : Option (List Offer)) (first : LinkState)
+      (m n : Machine L C) (turns : ℕ)
+      (under : IsUnderWay s w before now t u h k first m turns)
+      → StepsOn state start_at s under.passed x under.own now after u v k l w.client m.work.used
+      n.work.used m.phase n.phase
       → n.turns ≡ up m.turns → turns + 1 ≤ last_count
-      → IsUnderWay s x before after t v h l n (turns + 1)
-  goes_on s w x before now after t u v h k l m n turns under steps one few = record {
+      → IsUnderWay s x before after t v h l first n (turns + 1)
+  goes_on s w x before now after t u v h k l first m n turns under steps one few = record {
     passed = steps.passed;
     own = under.own ++ steps.handed;
     gained = steps.gained
@@ -115,19 +168,23 @@ module _ {L C : Type 0} (state : L → LinkState) (start_at : L → LinkStart) w
     offered = subst (λ (os : List Offer). Takes h os l) steps.offered.are
         (takes_twice h k l (offers_before start_at under.own m.phase) steps.offered.taken
         under.offered steps.offered.takes);
+    uses = used_on first w.client x.client under.own (under.own ++ steps.handed) m.phase n.phase
+        m.work.used n.work.used under.uses
+        (steps.uses under.uses.upstream under.uses.upstream_rose);
     counted = omega (arith, one, under.counted);
   }
 
   -- the end of a request whose turns were all taken
   pub all_taken : (s : Start) (w x : World) (before now after : Option (List (Returned L)))
-      (t u v : Option (List Fault)) (h k l : Option (List Offer)) (m : Machine L C)
-      (turns most : ℕ) (processed : Processed)
-      (under : IsUnderWay s w before now t u h k m turns) → most ≡ turns
+      (t u v : Option (List Fault)) (h k l : Option (List Offer)) (first : LinkState)
+      (m : Machine L C) (turns most : ℕ) (processed : Processed)
+      (under : IsUnderWay s w before now t u h k first m turns) → most ≡ turns
       → ComesToEnd state start_at s under.passed x under.own now after m.phase processed
-      → v ≡ u → l ≡ k → processed.history.turns_taken ≡ m.turns
-      → Processes state start_at s x before after t v h l most processed
-  all_taken s w x before now after t u v h k l m turns most processed under all ends told kept
-      taken = record {
+      → v ≡ u → l ≡ k → processed.history.turns_taken ≡ m.turns → x.client ≡ w.client
+      → processed.history.items_used ≡ m.work.used
+      → Processes state start_at s x before after t v h l first most processed
+  all_taken s w x before now after t u v h k l first m turns most processed under all ends told kept
+      taken same items = record {
         passed = under.passed;
         own = under.own ++ ends.handed;
         gained = ends.gained
@@ -140,6 +197,10 @@ module _ {L C : Type 0} (state : L → LinkState) (start_at : L → LinkStart) w
         offered = subst (λ (os : List Offer). Takes h os l) (sym ends.offered)
             (subst (λ (o : Option (List Offer)).
             Takes h (offers_before start_at under.own m.phase) o) (sym kept) under.offered);
+        uses = all_used first x.client under.own (under.own ++ ends.handed) m.phase m.work.used
+            processed.history.items_used
+            (subst (λ (c : LinkState). UsesSoFar first c under.own m.phase m.work.used) (sym same)
+            under.uses) ends.uses items;
         exact = exact_of state start_at s under.passed x (under.own ++ ends.handed)
             processed.history.attempts processed.outcome ends.ended;
         limit = λ is. inl (taken ∙ under.counted ∙ sym all);
@@ -147,16 +208,18 @@ module _ {L C : Type 0} (state : L → LinkState) (start_at : L → LinkStart) w
 
   -- the end of a request after a step that ended it, or that met silence
   pub stopped : (s : Start) (w x y : World) (before now mid after : Option (List (Returned L)))
-      (t u v z : Option (List Fault)) (h k l a : Option (List Offer)) (m n : Machine L C)
-      (turns most : ℕ) (processed : Processed)
-      (under : IsUnderWay s w before now t u h k m turns)
-      (steps : StepsOn state start_at s under.passed x under.own now mid u v k l m.phase n.phase)
+      (t u v z : Option (List Fault)) (h k l a : Option (List Offer)) (first : LinkState)
+      (m n : Machine L C) (turns most : ℕ) (processed : Processed)
+      (under : IsUnderWay s w before now t u h k first m turns)
+      (steps : StepsOn state start_at s under.passed x under.own now mid u v k l w.client
+      m.work.used n.work.used m.phase n.phase)
       → ComesToEnd state start_at s steps.passed y (under.own ++ steps.handed) mid after n.phase
       processed
       → z ≡ v → a ≡ l → (processed.outcome ≡ TurnLimit → IsStalled state start_at y n.phase)
-      → Processes state start_at s y before after t z h a most processed
-  stopped s w x y before now mid after t u v z h k l a m n turns most processed under steps ends
-      told kept stalled =
+      → y.client ≡ x.client → processed.history.items_used ≡ n.work.used
+      → Processes state start_at s y before after t z h a first most processed
+  stopped s w x y before now mid after t u v z h k l a first m n turns most processed under steps
+      ends told kept stalled same items =
       record {
         passed = steps.passed;
         own = (under.own ++ steps.handed) ++ ends.handed;
@@ -177,6 +240,14 @@ module _ {L C : Type 0} (state : L → LinkState) (start_at : L → LinkStart) w
             (offers_before start_at under.own m.phase ++ steps.offered.taken) o) (sym kept)
             (takes_twice h k l (offers_before start_at under.own m.phase) steps.offered.taken
             under.offered steps.offered.takes));
+        uses = all_used first y.client (under.own ++ steps.handed)
+            ((under.own ++ steps.handed) ++ ends.handed) n.phase n.work.used
+            processed.history.items_used
+            (subst (λ (c : LinkState).
+            UsesSoFar first c (under.own ++ steps.handed) n.phase n.work.used) (sym same)
+            (used_on first w.client x.client under.own (under.own ++ steps.handed) m.phase n.phase
+            m.work.used n.work.used under.uses
+            (steps.uses under.uses.upstream under.uses.upstream_rose))) ends.uses items;
         exact = exact_of state start_at s steps.passed y
             ((under.own ++ steps.handed) ++ ends.handed) processed.history.attempts
             processed.outcome ends.ended;

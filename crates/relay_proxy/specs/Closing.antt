@@ -1,5 +1,5 @@
 -- How a request gives its link back, and what it leaves.
-use Rattle.std.specs.Prelude.{◌≡◌, ◌⊎◌, Bool, true, false, List, [], ◌∷◌, ◌++◌, Option}
+use Rattle.std.specs.Prelude.{◌≡◌, ◌⊎◌, ℕ, Bool, true, false, List, [], ◌∷◌, ◌++◌, Option}
 use Rattle.relay_tasks.specs.Head.{RequestHead}
 use Rattle.relay_links.specs.Link.{LinkState, LinkStart}
 use Rattle.relay_links.specs.Told.{more}
@@ -15,6 +15,7 @@ use Rattle.relay_proxy.specs.Taken.{offers_for, offers_before}
 use Rattle.relay_proxy.specs.Refusals.{faults_for, faults_before}
 use Rattle.relay_proxy.specs.Relayable.{IsRelayable}
 use Rattle.relay_proxy.specs.Turn.{IsStalled, Advances}
+use Rattle.relay_proxy.specs.Uses.{PhaseUses, OwnUses}
 use Rattle.relay_proxy.specs.declared.finish.Ending.{Ending}
 use Rattle.relay_proxy.specs.declared.machine.Lease.{Lease}
 use Rattle.relay_proxy.specs.declared.machine.Phase.{Phase}
@@ -141,5 +142,8 @@ module _ {L C : Type 0} (state : L → LinkState) (start_at : L → LinkStart) w
     -- nor were offers taken for another
     pub offered : offers_for start_at (own ++ handed) ending.outcome
         ≡ offers_before start_at own phase
+    -- no link was asked any more
+    pub uses : (n : ℕ) → PhaseUses state start_at n own phase
+        → OwnUses state start_at n (own ++ handed)
     pub quiet : ending.outcome ≡ TurnLimit → IsStalled state start_at w phase
         → IsQuiet state start_at s p w (own ++ handed)

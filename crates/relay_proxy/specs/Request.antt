@@ -16,6 +16,7 @@ use Rattle.relay_proxy.specs.Taken.{Takes, TakesOn, offers_for, offers_before}
 use Rattle.relay_proxy.specs.Phases.{RunSoFar}
 use Rattle.relay_proxy.specs.Refusals.{faults_for, faults_before, AnswersFaults}
 use Rattle.relay_proxy.specs.Turn.{IsStalled, is_over}
+use Rattle.relay_proxy.specs.Uses.{PhaseUses, OwnUses, StepCounts, CountsAll}
 use Rattle.relay_proxy.specs.Closing.{IsQuiet}
 use Rattle.relay_proxy.specs.declared.machine.Phase.{Phase}
 use Rattle.relay_proxy.specs.declared.machine.RunStep.{RunStep}
@@ -53,13 +54,17 @@ module _ {L C : Type 0} (state : L → LinkState) (start_at : L → LinkStart) w
   pub record StepsOn
       (s : Start) (p : Passed) (w : World) (own : List (Returned L))
       (before after : Option (List (Returned L))) (told_before told_after : Option (List Fault))
-      (had has : Option (List Offer)) (phase next : Phase L C) : Type 0 where
+      (had has : Option (List Offer)) (client : LinkState) (counted counts : ℕ)
+      (phase next : Phase L C) : Type 0 where
     pub passed : Passed
     pub handed : List (Returned L)
     pub gained : after ≡ more before handed
     pub run : RunSoFar state start_at s passed w (own ++ handed) next
     pub refused : AnswersFaults told_before told_after own phase (own ++ handed) next
     pub offered : TakesOn start_at had has own phase (own ++ handed) next
+    -- so often were both links asked
+    pub uses : (n : ℕ) → PhaseUses state start_at n own phase
+        → StepCounts state start_at n client w.client counted counts (own ++ handed) next
     -- a request that has ended passes nothing more
     pub rested : is_over phase ≡ true → passed ≡ p
 
@@ -77,6 +82,9 @@ module _ {L C : Type 0} (state : L → LinkState) (start_at : L → LinkStart) w
     -- and the one that took what was taken of the offers
     pub offered : offers_for start_at (own ++ handed) processed.outcome
         ≡ offers_before start_at own phase
+    -- no link was asked any more
+    pub uses : (n : ℕ) → PhaseUses state start_at n own phase
+        → OwnUses state start_at n (own ++ handed)
     -- a request that has ended gives no `TurnLimit`
     pub over : is_over phase ≡ true → processed.outcome ≢ TurnLimit
     pub quiet : processed.outcome ≡ TurnLimit → IsStalled state start_at w phase
@@ -87,8 +95,8 @@ module _ {L C : Type 0} (state : L → LinkState) (start_at : L → LinkStart) w
 -- cause
 pub record Processes {L : Type 0} (state : L → LinkState) (start_at : L → LinkStart)
     (s : Start) (w : World) (before after : Option (List (Returned L)))
-    (told_before told_after : Option (List Fault)) (had has : Option (List Offer)) (turns : ℕ)
-    (processed : Processed) : Type 0 where
+    (told_before told_after : Option (List Fault)) (had has : Option (List Offer))
+    (client : LinkState) (turns : ℕ) (processed : Processed) : Type 0 where
   pub passed : Passed
   pub own : List (Returned L)
   pub gained : after ≡ more before own
@@ -97,6 +105,8 @@ pub record Processes {L : Type 0} (state : L → LinkState) (start_at : L → Li
   pub refused : Gains told_before (faults_for own processed.outcome) told_after
   -- of what the connector had it took the first: the link, or that fault
   pub offered : Takes had (offers_for start_at own processed.outcome) has
+  -- what is recorded of uses are those of the client's link, and of the link that was handed back
+  pub uses : CountsAll state start_at client w.client own processed.history.items_used
   -- the other way round: where a cause stands, the outcome is its own
   pub exact : IsExact state start_at s passed w own processed.outcome
   -- a request that has not ended took all its turns, or all that it asks is silent

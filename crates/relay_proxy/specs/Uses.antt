@@ -1,7 +1,7 @@
 -- How a turn uses the links, and what it moved in an exchange, by the branch that it took.
 use Rattle.std.specs.Global.{Box}
-use Rattle.std.specs.Prelude.{◌≡◌, ◌⊎◌, ◌↔◌, ℕ, ◌+◌, ◌≤◌, Bool, IsTrue, min, if◌then◌else◌, List, [], ◌∷◌, Option, None, Some}
-use Rattle.relay_links.specs.Count.{last_count, Rose}
+use Rattle.std.specs.Prelude.{◌≡◌, ◌⊎◌, ◌↔◌, ℕ, zero, suc, ◌+◌, ◌≤◌, Bool, IsTrue, min, if◌then◌else◌, List, [], ◌∷◌, Option, None, Some}
+use Rattle.relay_links.specs.Count.{last_count, up, Rose}
 use Rattle.relay_links.specs.Link.{LinkState, LinkStart}
 use Rattle.relay_links.specs.Told.{more}
 use Rattle.relay_links.specs.declared.Returned.{Returned}
@@ -10,13 +10,14 @@ use Rattle.relay_links.specs.declared.branch.Branch.TheVariants as branch
 use Rattle.relay_core.specs.Past.{Origin}
 use Rattle.relay_core.specs.Uses.{AsksEither, AsksNone, IsUsed}
 use Rattle.relay_attempt.specs.Exchange.{IsUnderWay, HasMoved}
+use Rattle.relay_attempt.specs.Head.{link_of}
 use Rattle.relay_attempt.specs.Passed.{Passed}
 use Rattle.relay_attempt.specs.declared.h1_exchange.H1Exchange.{H1Exchange}
 use Rattle.relay_proxy.specs.Passed.{World}
 use Rattle.relay_proxy.specs.Work.{added_work}
 use Rattle.relay_proxy.specs.declared.machine.Attempt.{Attempt}
 use Rattle.relay_proxy.specs.declared.machine.Phase.{Phase}
-use Rattle.relay_proxy.specs.declared.machine.Phase.TheVariants.{Relay}
+use Rattle.relay_proxy.specs.declared.machine.Phase.TheVariants.{ReadHead, Refuse, Connect, Relay, Close, Ended}
 use Rattle.relay_proxy.specs.declared.work.Work.{Work}
 
 -- ---- how often the links were asked
@@ -57,6 +58,60 @@ pub record Measured (client client' upstream upstream' : LinkState) (asked : Boo
   pub rose : IsTrue asked ↔ (Rose client.used client'.used ⊎ Rose upstream.used upstream'.used)
   pub client_fits : client.used ≤ last_count
   pub upstream_fits : upstream.used ≤ last_count
+
+-- ---- the uses of a request
+
+-- the count that went up so many times; it stands still at its last value
+abbrev pub ups : ℕ → ℕ → ℕ
+ups zero count = count
+ups (suc n) count = up (ups n count)
+
+module _ {L : Type 0} (state : L → LinkState) (start_at : L → LinkStart) where
+  -- a link was asked so many times since it was handed out
+  abbrev pub LinkUses : ℕ → L → Type 0
+  LinkUses n link = (state link).used ≡ ups n (start_at link).used
+
+  -- the link that a request handed back was asked so many times since; it has one at most
+  abbrev pub OwnUses : ℕ → List (Returned L) → Type 0
+  OwnUses n [] = n ≡ 0
+  OwnUses n (r ∷ []) = LinkUses n r.link
+  OwnUses n (r ∷ q ∷ own) = ⊥
+
+  -- all uses of a request were counted: those of the client's link, and those of its own
+  pub record CountsAll (first last : LinkState) (own : List (Returned L)) (counted : ℕ)
+      : Type 0 where
+    pub client : ℕ
+    pub upstream : ℕ
+    pub client_rose : last.used ≡ ups client first.used
+    pub upstream_rose : OwnUses upstream own
+    pub all : counted ≡ min (client + upstream) last_count
+
+module _ {L C : Type 0} (state : L → LinkState) (start_at : L → LinkStart) where
+  -- the link of a request was asked so many times up to that phase
+  abbrev pub PhaseUses : ℕ → List (Returned L) → Phase L C → Type 0
+  PhaseUses n own ReadHead = OwnUses state start_at n own
+  PhaseUses n own (Refuse answer error) = OwnUses state start_at n own
+  PhaseUses n own (Connect context session) = OwnUses state start_at n own
+  PhaseUses n own (Relay a) = LinkUses state start_at n (link_of a.value.exchange)
+  PhaseUses n own (Close link lease keep outcome) = LinkUses state start_at n link
+  PhaseUses n own (Ended outcome attempts) = OwnUses state start_at n own
+
+  -- a turn asked the client's link so many times, and the request's own, which had been asked n
+  -- times before
+  pub record TurnCounts (n : ℕ) (client client' : LinkState) (used : ℕ)
+      (own : List (Returned L)) (next : Phase L C) : Type 0 where
+    pub of_client : ℕ
+    pub of_own : ℕ
+    pub client_rose : client'.used ≡ ups of_client client.used
+    pub own_rose : PhaseUses (of_own + n) own next
+    pub all : used ≡ of_client + of_own
+
+  -- the same of a step, by what was counted before it and after
+  pub record StepCounts (n : ℕ) (client client' : LinkState) (before after : ℕ)
+      (own : List (Returned L)) (next : Phase L C) : Type 0 where
+    pub used : ℕ
+    pub turn : TurnCounts n client client' used own next
+    pub adds : after ≡ min (before + used) last_count
 
 -- ---- what moved in an exchange
 

@@ -12,6 +12,7 @@ ghost use Rattle.relay_proxy.specs.Passed.{World, Start, TellsClient};
 ghost use Rattle.relay_proxy.specs.Phases.{IsRelaying, RunSoFar};
 ghost use Rattle.relay_proxy.specs.Refusals.{faults_before};
 ghost use Rattle.relay_proxy.specs.Stock.{items_held};
+ghost use Rattle.relay_proxy.specs.Uses.{LinkUses, PhaseUses};
 ghost use Rattle.relay_proxy.specs.Turn.{world_with, DoesWork, is_over, is_end, links_held, Advances, HasCause};
 
 use crate::machine::{Attempt, Lease, Next, Phase, RunStep};
@@ -74,6 +75,8 @@ pub(crate) fn connect<K: Connector, C: Drop>(
     ensures returned { K.returned connector.new ≡ K.returned connector.old }
     ensures offers { Takes (K.stock connector.old) (offers_before K.Byte.start [] result.phase)
         (K.stock connector.new) }
+    // A link that was given was not asked yet.
+    ensures fresh { PhaseUses K.Byte.state K.Byte.start 0 [] result.phase }
     ensures refusals { Gains (K.refusals connector.old) (faults_before [] result.phase)
         (K.refusals connector.new) }
     ensures faults { K.fault_count connector.old ≤ K.fault_count connector.new }
@@ -151,6 +154,8 @@ fn begin<L: ByteLink, C: Drop>(
     ensures over { is_over result.phase ≡ is_end result.step }
     ensures linked { links_held L.state L.start result.phase ≡ 1 }
     ensures items { items_held L.start result.phase ≡ (L.start link).items ∷ [] }
+    ensures fresh { IsHandedOut (L.state link) (L.start link) lease.reused
+        → PhaseUses L.state L.start 0 [] result.phase }
 {
     match H1Exchange::begin(alloc, Box::into_inner(session), link, head) {
         Ok(exchange) => hold(
@@ -183,6 +188,8 @@ fn hold<L: ByteLink, C: Drop>(alloc: Global, attempt: Attempt<L, C>) -> Next<L, 
     ensures linked { links_held L.state L.start result.phase ≡ 1 }
     ensures items { items_held L.start result.phase
         ≡ (L.start (link_of attempt.exchange)).items ∷ [] }
+    ensures asked { (n : ℕ) → LinkUses L.state L.start n (link_of attempt.exchange)
+        → PhaseUses L.state L.start n [] result.phase }
 {
     match Box::new(alloc, attempt) {
         Ok(attempt) => Next {

@@ -110,6 +110,7 @@ impl<SV: ProxyHttp, K: Connector, P: Purger> HttpProxy<SV, K, P> {
             nothing (world_of D.state client.new (K.fault_count self.now.connector)) []
             result.machine.phase }
         ensures no_turns { result.machine.turns ≡ 0 }
+        ensures unused { result.machine.work.used ≡ 0 }
         ensures going { is_over result.machine.phase ≡ false }
         ensures no_link { links_held K.Byte.state K.Byte.start result.machine.phase ≡ 0 }
         ensures no_items { items_held K.Byte.start result.machine.phase ≡ [] }
@@ -149,6 +150,7 @@ impl<SV: ProxyHttp, K: Connector, P: Purger> HttpProxy<SV, K, P> {
             (K.returned self.old.connector) (K.returned self.new.connector)
             (K.refusals self.old.connector) (K.refusals self.new.connector)
             (K.stock self.old.connector) (K.stock self.new.connector)
+            (D.state client.old.link) machine.old.machine.work.used machine.new.machine.work.used
             machine.old.machine.phase machine.new.machine.phase }
         // Before there is a link it moved something of the client, or went on to its next phase; in
         // an exchange it asked a link once, or none and it moved a task or brought an end, by the
@@ -307,7 +309,8 @@ impl<SV: ProxyHttp, K: Connector, P: Purger> HttpProxy<SV, K, P> {
             (world_of D.state client.new (K.fault_count self.new.connector))
             (K.returned self.old.connector) (K.returned self.new.connector)
             (K.refusals self.old.connector) (K.refusals self.new.connector)
-            (K.stock self.old.connector) (K.stock self.new.connector) turns result }
+            (K.stock self.old.connector) (K.stock self.new.connector)
+            (D.state client.old.link) turns result }
         ensures within { result.history.turns_taken ≤ turns }
         // Each turn that was counted did some work.
         ensures worked { result.history.turns_taken ≤ result.history.items_used

@@ -16,7 +16,7 @@ ghost use Rattle.relay_proxy.specs.Relaying.{is_relaying, TurnsOver, TurnsWithin
 ghost use Rattle.relay_proxy.specs.Reuse.{client_reusable, lets_ask_again};
 ghost use Rattle.relay_proxy.specs.Stock.{items_held};
 ghost use Rattle.relay_proxy.specs.Turn.{world_of, DoesWork, is_over, is_end, held_state, links_held, Advances, HasCause};
-ghost use Rattle.relay_proxy.specs.Uses.{MovedBy, TurnUses};
+ghost use Rattle.relay_proxy.specs.Uses.{LinkUses, MovedBy, TurnCounts, TurnUses};
 ghost use Rattle.relay_proxy.specs.Work.{total_work};
 
 use crate::connecting::outcome_of;
@@ -59,6 +59,13 @@ pub(crate) fn relay<D: ByteLink, U: Drop, L: ByteLink, H: Schedule, C: Drop>(
         a.value.exchange
         → TurnUses result.work.used (D.state client.old.link) (D.state client.new.link)
         (held_state L.state phase.old) (λ link. held_state L.state phase.new ≡ Some link) }
+    ensures counts { (s : Origin) (p : Passed) (a : Box (Attempt L C)) (n : ℕ)
+        → phase.old ≡ Phase.Relay a
+        → IsUnderWay L.state L.start s p (D.state client.old.link) client.old.ahead
+        a.value.exchange
+        → LinkUses L.state L.start n (link_of a.value.exchange)
+        → TurnCounts L.state L.start n (D.state client.old.link) (D.state client.new.link)
+        result.work.used [] phase.new }
     ensures moves { (faults : ℕ) (a : Box (Attempt L C)) → phase.old ≡ Phase.Relay a
         → result.step ≡ RunStep.Moved → MovedBy {C = C} L.state L.start
         (world_of D.state client.old faults) (world_of D.state client.new faults) result.work

@@ -1,5 +1,5 @@
 //! One turn of a request, by the phase in which it stands.
-ghost use Rattle.std.specs.Prelude.{◌≡◌, ◌+◌, ◌≤◌, List, [], ◌++◌, Some, false};
+ghost use Rattle.std.specs.Prelude.{◌≡◌, ◌+◌, ◌≤◌, ℕ, List, [], ◌++◌, Some, false};
 ghost use Rattle.std.specs.Global.{Box};
 ghost use Rattle.relay_links.specs.Link.{LinkState};
 ghost use Rattle.relay_links.specs.Told.{Gains};
@@ -12,7 +12,7 @@ ghost use Rattle.relay_proxy.specs.Refusals.{faults_of_turn};
 ghost use Rattle.relay_proxy.specs.Relaying.{is_relaying};
 ghost use Rattle.relay_proxy.specs.Stock.{items_held, all_items};
 ghost use Rattle.relay_proxy.specs.Turn.{world_of, held_state, links_held, is_over, is_end, WorksIn, HasCause};
-ghost use Rattle.relay_proxy.specs.Uses.{MovedBy, TurnUses};
+ghost use Rattle.relay_proxy.specs.Uses.{MovedBy, PhaseUses, TurnCounts, TurnUses};
 
 use crate::client_head::{read_head, write_refusal};
 use crate::connecting::connect;
@@ -55,6 +55,12 @@ pub(crate) fn take_turn<SV: ProxyHttp, K: Connector, D: ByteLink, U: Drop, H: Sc
         → TurnUses result.work.used (D.state client.old.link) (D.state client.new.link)
         (held_state K.Byte.state phase.old)
         (λ link. held_state K.Byte.state phase.new ≡ Some link) }
+    ensures counts { (s : Start) (p : Passed) (own : List _) (n : ℕ)
+        → RunSoFar {C = SV.CTX} K.Byte.state K.Byte.start s p
+        (world_of D.state client.old (K.fault_count connector.old)) own phase.old
+        → PhaseUses K.Byte.state K.Byte.start n own phase.old
+        → TurnCounts K.Byte.state K.Byte.start n (D.state client.old.link)
+        (D.state client.new.link) result.work.used own phase.new }
     ensures moves { (a : Box _) → phase.old ≡ Phase.Relay a → result.step ≡ RunStep.Moved
         → MovedBy {C = SV.CTX} K.Byte.state K.Byte.start
         (world_of D.state client.old (K.fault_count connector.old))
@@ -116,6 +122,12 @@ fn move_on<SV: ProxyHttp, K: Connector, D: ByteLink, U: Drop>(
         → TurnUses result.work.used (D.state client.old.link) (D.state client.new.link)
         (held_state K.Byte.state phase.old)
         (λ link. held_state K.Byte.state phase.new ≡ Some link) }
+    ensures counts { (s : Start) (p : Passed) (own : List _) (n : ℕ)
+        → RunSoFar {C = SV.CTX} K.Byte.state K.Byte.start s p
+        (world_of D.state client.old (K.fault_count connector.old)) own phase.old
+        → PhaseUses K.Byte.state K.Byte.start n own phase.old
+        → TurnCounts K.Byte.state K.Byte.start n (D.state client.old.link)
+        (D.state client.new.link) result.work.used own phase.new }
     ensures over { is_over phase.new ≡ is_end result.step }
     ensures out { K.out connector.new + links_held K.Byte.state K.Byte.start phase.old
         ≡ K.out connector.old + links_held K.Byte.state K.Byte.start phase.new }

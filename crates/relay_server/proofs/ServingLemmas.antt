@@ -146,23 +146,25 @@ module _ {L C D U : Type 0}
 
   -- a turn of the first request: none is counted, and what passed goes on
   pub record TakesTurn (old now : Books L) (visit next : Visit D U L C) (t u : Option (List Fault))
-      (h k : Option (List Offer)) : Type 0 where
+      (h k : Option (List Offer)) (i j : ℕ) : Type 0 where
     pub counted : now.requests_ended ≡ old.requests_ended
     pub faults : old.faults ≤ now.faults
     pub steps : (s : Start) (p : Passed) (own : List (Returned L))
         → RunSoFar state start_at s p (world_of client_state visit.client old.faults) own
         visit.phase
         → StepsOn state start_at s p (world_of client_state next.client now.faults) own
-        old.returned now.returned t u h k visit.phase next.phase
+        old.returned now.returned t u h k (client_state visit.client.link) i j visit.phase
+        next.phase
 
   -- a turn behind which the request goes on
   pub goes_on : (before old now : Books L) (visit next : Visit D U L C)
       (rest : List (Visit D U L C)) (t u : Option (List Fault)) (h k : Option (List Offer))
+      (i j : ℕ)
       → Serves state start_at client_state before old (visit ∷ rest)
-      → TakesTurn old now visit next t u h k
+      → TakesTurn old now visit next t u h k i j
       → is_over next.phase ≡ false
       → Serves state start_at client_state before now (next ∷ rest)
-  goes_on before old now visit next rest t u h k serves turn going =
+  goes_on before old now visit next rest t u h k i j serves turn going =
       let under = serves.under_way.0 in
       let taken = turn.steps under.start under.passed [] under.run in
       let w = world_of client_state next.client now.faults in
@@ -189,11 +191,12 @@ module _ {L C D U : Type 0}
   -- a turn behind which the request has ended
   pub ends_now : (before old now : Books L) (visit next : Visit D U L C)
       (rest : List (Visit D U L C)) (t u : Option (List Fault)) (h k : Option (List Offer))
+      (i j : ℕ)
       → Serves state start_at client_state before old (visit ∷ rest)
-      → TakesTurn old now visit next t u h k
+      → TakesTurn old now visit next t u h k i j
       → is_over next.phase ≡ true
       → EndsOne state start_at client_state before now next rest
-  ends_now before old now visit next rest t u h k serves turn over =
+  ends_now before old now visit next rest t u h k i j serves turn over =
       let under = serves.under_way.0 in
       let taken = turn.steps under.start under.passed [] under.run in
       record {

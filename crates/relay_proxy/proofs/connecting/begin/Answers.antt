@@ -1,6 +1,6 @@
 -- The exchange is under way over the link and its attempt is held, or memory was wanted for one of
 -- both.
-use Rattle.std.proofs.Common.{refl}
+use Rattle.std.proofs.Common.{refl, sym}
 use Rattle.relay_proxy.proofs.ConnectSteps.{begun, not_begun}
 use Rattle.relay_proxy.proofs.connecting.begin.Goals as goal
 
@@ -23,3 +23,12 @@ returns-in-Err-clause-run g c = λ s p w run is handed peer.
 -- the cause is that of holding the attempt
 pub returns-in-Ok-clause-cause : goal.returns-in-Ok-clause-cause
 returns-in-Ok-clause-cause g c = λ w x. c.hold.ensures.cause w x c.args.context c.args.session
+
+-- the link was not asked since it was handed out
+pub returns-in-Ok-clause-fresh : goal.returns-in-Ok-clause-fresh
+returns-in-Ok-clause-fresh g c = λ handed.
+    c.hold.ensures.asked 0 (rw c.in-Ok.ensures.over (sym handed.used))
+
+-- nor was one over which the exchange was not begun
+pub returns-in-Err-clause-fresh : goal.returns-in-Err-clause-fresh
+returns-in-Err-clause-fresh g c = λ handed. rw c.in-Err.ensures.link (sym handed.used)

@@ -64,3 +64,7 @@ pub returns-in-Err-clause-refusals : goal.returns-in-Err-clause-refusals
 returns-in-Err-clause-refusals g c =
     rw c.refused_link.ensures.phase (one_added c.in-Err.fault _ _ c.in-Err.ensures.fault
     c.in-Err.ensures.refused)
+
+-- a link that was given was not asked yet
+pub returns-in-Ok-get-clause-fresh : goal.returns-in-Ok-get-clause-fresh
+returns-in-Ok-get-clause-fresh g c = c.begin.ensures.fresh c.in-Ok-get.ensures.handed

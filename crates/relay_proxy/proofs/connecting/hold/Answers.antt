@@ -13,3 +13,12 @@ pub returns-in-Err-clause-run : goal.returns-in-Err-clause-run
 returns-in-Err-clause-run g c = λ s p w tells order calm relaying.
     rw (c.into_link.ensures, c.in-Err.ensures.value_returned)
     (not_held g.L.ByteLink.state g.L.ByteLink.start s p w c.args.attempt tells order relaying)
+
+-- the link of an attempt that is held was asked as often
+pub returns-in-Ok-clause-asked : goal.returns-in-Ok-clause-asked
+returns-in-Ok-clause-asked g c = λ n had. rw c.in-Ok.ensures.ok had
+
+-- and so was one that is to go back
+pub returns-in-Err-clause-asked : goal.returns-in-Err-clause-asked
+returns-in-Err-clause-asked g c = λ n had.
+    rw (c.into_link.ensures, c.in-Err.ensures.value_returned) had

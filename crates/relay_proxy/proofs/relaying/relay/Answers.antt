@@ -3,7 +3,7 @@ use Rattle.std.proofs.Common.{◌≡◌, refl, ap, ◌∙◌}
 use Rattle.relay_tasks.specs.declared.took.Pause.TheVariants.{NotReady, Silent}
 use Rattle.relay_core.specs.declared.step.Step.TheVariants as step
 use Rattle.relay_proxy.specs.Turn.{world_of}
-use Rattle.relay_proxy.proofs.RelaySteps.{moved_within, waited_within, finished_within, failed_within, moved_by, moved_cause, waited_cause, silent_cause, moved_uses_within, waited_uses_within, silent_uses_within, finished_uses_within, failed_uses_within}
+use Rattle.relay_proxy.proofs.RelaySteps.{moved_within, waited_within, finished_within, failed_within, moved_by, moved_cause, waited_cause, silent_cause, moved_uses_within, waited_uses_within, silent_uses_within, finished_uses_within, failed_uses_within, moved_counts_within, waited_counts_within, silent_counts_within, finished_counts_within, failed_counts_within}
 use Rattle.relay_proxy.proofs.relaying.relay.Goals as goal
 
 -- the exchange moved
@@ -133,3 +133,50 @@ returns-in-Failed-clause-uses g c = λ s p a is under.
     (world_of g.D.ByteLink.state c.args.client.now 0)
     (world_of g.D.ByteLink.state c.turn_within-asked.new.client 0) _ _ _ _
     c.turn_within-asked.ensures.turns _ c.in-Failed.is _ c.close_failed.ensures.closes)
+
+-- what was counted went up by that
+pub returns-in-Moved-clause-counts : goal.returns-in-Moved-clause-counts
+returns-in-Moved-clause-counts g c = λ s p a n is under had.
+    rw c.work_of.ensures.exact
+    (moved_counts_within g.L.ByteLink.state g.L.ByteLink.start
+    (world_of g.D.ByteLink.state c.args.client.now 0)
+    (world_of g.D.ByteLink.state c.turn_within-asked.new.client 0) _ _ _ _
+    c.turn_within-asked.ensures.turns c.in-Moved.is s p a n is under had)
+
+-- by the use of a turn that waits
+pub returns-in-Waited-NotReady-clause-counts : goal.returns-in-Waited-NotReady-clause-counts
+returns-in-Waited-NotReady-clause-counts g c = λ s p a n is under had.
+    let here = c.in-Waited-NotReady in
+    let pause : here.field-0 ≡ NotReady = rw here.is at here.field-0-is in
+    waited_counts_within g.L.ByteLink.state g.L.ByteLink.start
+    (world_of g.D.ByteLink.state c.args.client.now 0)
+    (world_of g.D.ByteLink.state c.turn_within-asked.new.client 0) _ _ _ _
+    c.turn_within-asked.ensures.turns (here.is ∙ ap step.Waited pause) a n is had
+
+-- by none in silence
+pub returns-in-Waited-Silent-clause-counts : goal.returns-in-Waited-Silent-clause-counts
+returns-in-Waited-Silent-clause-counts g c = λ s p a n is under had.
+    let here = c.in-Waited-Silent in
+    let pause : here.field-0 ≡ Silent = rw here.is at here.field-0-is in
+    silent_counts_within g.L.ByteLink.state g.L.ByteLink.start
+    (world_of g.D.ByteLink.state c.args.client.now 0)
+    (world_of g.D.ByteLink.state c.turn_within-asked.new.client 0) _ _ _ _
+    c.turn_within-asked.ensures.turns (here.is ∙ ap step.Waited pause) a n is had
+
+-- by none at the end
+pub returns-in-Finished-clause-counts : goal.returns-in-Finished-clause-counts
+returns-in-Finished-clause-counts g c = λ s p a n is under had.
+    rw c.close_finished.ensures.work
+    (finished_counts_within g.L.ByteLink.state g.L.ByteLink.start
+    (world_of g.D.ByteLink.state c.args.client.now 0)
+    (world_of g.D.ByteLink.state c.turn_within-asked.new.client 0) _ _ _ _
+    c.turn_within-asked.ensures.turns c.in-Finished.is _ c.close_finished.ensures.closes a n is had)
+
+-- by one or none at a failure
+pub returns-in-Failed-clause-counts : goal.returns-in-Failed-clause-counts
+returns-in-Failed-clause-counts g c = λ s p a n is under had.
+    rw c.close_failed.ensures.used
+    (failed_counts_within g.L.ByteLink.state g.L.ByteLink.start
+    (world_of g.D.ByteLink.state c.args.client.now 0)
+    (world_of g.D.ByteLink.state c.turn_within-asked.new.client 0) _ _ _ _
+    c.turn_within-asked.ensures.turns _ c.in-Failed.is _ c.close_failed.ensures.closes a n is had)

@@ -3,6 +3,7 @@
 use Rattle.std.proofs.Common.{refl, sym, ◌∙◌, inr}
 use Rattle.relay_proxy.proofs.RefusalLemmas.{none_added}
 use Rattle.relay_proxy.proofs.TakenLemmas.{takes_nothing, one_out, no_offers}
+use Rattle.relay_proxy.proofs.TurnLemmas.{head_counts, still_counts, connect_counts}
 use Rattle.relay_proxy.proofs.turn.move_on.Goals as goal
 
 -- a turn that reads the head is a turn
@@ -108,3 +109,57 @@ returns-in-Close-clause-uses g c =
       refl,
       inr (refl, record { client_same = refl; upstream_same = refl }),
     ))
+
+-- a turn that reads the head counts the client's uses
+pub returns-in-ReadHead-clause-counts : goal.returns-in-ReadHead-clause-counts
+returns-in-ReadHead-clause-counts g c =
+    rw (c.go_on.ensures.phase, c.go_on.ensures.work, sym c.replace.ensures.value ∙ c.in-ReadHead.is)
+    (λ s p own n run had. head_counts g.K.Byte.ByteLink.state g.K.Byte.ByteLink.start n
+    c.read_head.result.work.used _ _ own c.read_head.result.phase c.read_head.ensures.uses
+    c.read_head.ensures.unlinked had)
+
+-- and so does one that writes the refusal
+pub returns-in-Refuse-clause-counts : goal.returns-in-Refuse-clause-counts
+returns-in-Refuse-clause-counts g c =
+    rw (
+      c.go_on-in-Refuse.ensures.phase,
+      c.go_on-in-Refuse.ensures.work,
+      sym c.replace.ensures.value ∙ c.in-Refuse.is,
+    )
+    (λ s p own n run had. head_counts g.K.Byte.ByteLink.state g.K.Byte.ByteLink.start n
+    c.write_refusal.result.work.used _ _ own c.write_refusal.result.phase
+    c.write_refusal.ensures.uses c.write_refusal.ensures.unlinked had)
+
+-- one that asks the connector counts none
+pub returns-in-Connect-clause-counts : goal.returns-in-Connect-clause-counts
+returns-in-Connect-clause-counts g c =
+    rw (
+      c.go_on-in-Connect.ensures.phase,
+      c.go_on-in-Connect.ensures.work,
+      sym c.replace.ensures.value ∙ c.in-Connect.is,
+    )
+    (λ s p own n run had. connect_counts g.K.Byte.ByteLink.state g.K.Byte.ByteLink.start s p own
+    _ _ _ n c.connect.result.work.used _ c.connect.result.phase run had c.connect.ensures.unused
+    c.connect.ensures.fresh)
+
+-- nor does one of a request that is to be closed
+pub returns-in-Close-clause-counts : goal.returns-in-Close-clause-counts
+returns-in-Close-clause-counts g c =
+    rw (
+      c.go_on-in-Close.ensures.phase,
+      c.go_on-in-Close.ensures.work,
+      sym c.replace.ensures.value ∙ c.in-Close.is,
+    )
+    (λ s p own n run had. still_counts g.K.Byte.ByteLink.state g.K.Byte.ByteLink.start n 0 _ own _
+    refl had)
+
+-- or has ended
+pub returns-in-Ended-clause-counts : goal.returns-in-Ended-clause-counts
+returns-in-Ended-clause-counts g c =
+    rw (
+      c.go_on-in-Ended.ensures.phase,
+      c.go_on-in-Ended.ensures.work,
+      sym c.replace.ensures.value ∙ c.in-Ended.is,
+    )
+    (λ s p own n run had. still_counts g.K.Byte.ByteLink.state g.K.Byte.ByteLink.start n 0 _ own _
+    refl had)

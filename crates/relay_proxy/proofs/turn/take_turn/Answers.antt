@@ -3,7 +3,7 @@ use Rattle.std.proofs.Common.{refl, sym, ◌∙◌}
 use Rattle.relay_proxy.specs.Turn.{world_of}
 use Rattle.relay_proxy.proofs.RefusalLemmas.{none_added}
 use Rattle.relay_proxy.proofs.TakenLemmas.{takes_nothing}
-use Rattle.relay_proxy.proofs.TurnLemmas.{relaying_turn, relaying_rests, relaying_uses, relaying_works, relaying_unrefused, relaying_takes, relaying_carries, not_relaying}
+use Rattle.relay_proxy.proofs.TurnLemmas.{relaying_turn, relaying_rests, relaying_uses, relaying_counts, relaying_works, relaying_unrefused, relaying_takes, relaying_carries, not_relaying}
 use Rattle.relay_proxy.proofs.turn.take_turn.Goals as goal
 
 -- a turn of the attempt is a turn
@@ -77,3 +77,13 @@ returns-then-is_relaying-clause-moves g c =
 pub returns-clause-moves : goal.returns-clause-moves
 returns-clause-moves g c = λ a is did.
     absurd (not_relaying c.args.phase.now a (sym c.is_relaying.ensures ∙ c.if-is_relaying.false) is)
+
+-- and so often were both links asked
+pub returns-then-is_relaying-clause-counts : goal.returns-then-is_relaying-clause-counts
+returns-then-is_relaying-clause-counts g c = λ s p own n run had.
+    relaying_counts g.K.Byte.ByteLink.state g.K.Byte.ByteLink.start s p own
+    (world_of g.D.ByteLink.state c.args.client.now
+    (g.K.Connector.fault_count c.args.connector.now))
+    (g.D.ByteLink.state c.relay.new.client.link) n c.relay.result.work.used
+    c.args.phase.now c.relay.new.phase (sym c.is_relaying.ensures ∙ c.if-is_relaying.true) run had
+    c.relay.ensures.counts

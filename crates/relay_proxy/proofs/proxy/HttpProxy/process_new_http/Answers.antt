@@ -14,11 +14,13 @@ loop-turn-init g c =
     let faults = g.K.Connector.fault_count c.args.self.now.connector in (
       begun g.K.Byte.ByteLink.state g.K.Byte.ByteLink.start
           (world_of g.D.ByteLink.state c.args.client.now faults)
-          (world_of g.D.ByteLink.state c.begin-machine.new.client faults) _ _ _ _ _ _
+          (world_of g.D.ByteLink.state c.begin-machine.new.client faults) _ _ _ _ _ _ _
           c.begin-machine.result.machine refl refl refl
           (rw c.take_kept-kept.ensures.after at c.begin-machine.ensures.run)
           c.begin-machine.ensures.going c.begin-machine.ensures.no_link
-          c.begin-machine.ensures.no_turns,
+          c.begin-machine.ensures.no_turns
+          (rw (c.begin-machine.ensures.client, c.take_kept-kept.ensures.after) refl)
+          c.begin-machine.ensures.unused,
       rw (c.begin-machine.ensures.client, c.take_kept-kept.ensures.after) refl,
       rw c.begin-machine.ensures.no_items refl,
       omega (arith, c.begin-machine.ensures.no_link),
@@ -40,7 +42,7 @@ returns-then-is_stop-clause-processes g c =
     (g.K.Connector.fault_count c.args.self.now.connector)) in
     let steps = c.step-step.ensures.steps s under.passed under.own under.run in
     let ends = c.close.ensures.ends s steps.passed _ steps.run in
-    stopped state start s _ _ _ _ _ _ _ _ _ _ _ _ _ _ _ c.loop-turn.machine.machine
+    stopped state start s _ _ _ _ _ _ _ _ _ _ _ _ _ _ _ _ c.loop-turn.machine.machine
     c.step-step.new.machine.machine _ _ c.close.result under steps ends c.close.ensures.refusals
     c.close.ensures.offers
     (stops_at state start _
@@ -52,6 +54,7 @@ returns-then-is_stop-clause-processes g c =
     (rw (c.close.ensures.client, c.close.ensures.faults) (refl
     {a = world_of g.D.ByteLink.state c.step-step.new.client
     (g.K.Connector.fault_count c.step-step.new.self.connector)})) ends.over)
+    (rw c.close.ensures.client refl) c.close.ensures.used
 
 -- one more step leaves the request under way
 pub loop-turn-preserved : goal.loop-turn-preserved
@@ -66,7 +69,7 @@ loop-turn-preserved g c =
     let goes = sym c.is_stop.ensures ∙ c.if-is_stop.false in
     let few : c.loop-turn._turn + 1 ≤ last_count =
     omega (arith, c.loop-turn-test.true, c.ranges.turns.fits) in (
-      goes_on state start s _ _ _ _ _ _ _ _ _ _ _ c.loop-turn.machine.machine
+      goes_on state start s _ _ _ _ _ _ _ _ _ _ _ _ c.loop-turn.machine.machine
           c.step-step.new.machine.machine _ under steps
           (one_more _ _ c.step-step.result c.step-step.ensures.counted goes) few,
       c.step-step.ensures.client_start ∙ c.loop-turn.invariant.1,
@@ -96,6 +99,7 @@ returns-clause-processes g c =
     let ends = c.close-2.ensures.ends s under.passed under.own under.run in
     let all : c.args.turns ≡ c.loop-turn._turn =
     omega (arith, c.loop-turn-test.false, c.loop-turn.auto._turn-end) in
-    all_taken state start s _ _ _ _ _ _ _ _ _ _ _ c.loop-turn.machine.machine _ _ c.close-2.result
+    all_taken state start s _ _ _ _ _ _ _ _ _ _ _ _ c.loop-turn.machine.machine _ _ c.close-2.result
     under all ends c.close-2.ensures.refusals c.close-2.ensures.offers
     c.close-2.ensures.turns
+    (rw c.close-2.ensures.client refl) c.close-2.ensures.used

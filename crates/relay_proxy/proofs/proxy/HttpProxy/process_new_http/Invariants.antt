@@ -17,7 +17,7 @@ invariant-loop-turn g l =
     (g.K.Connector.returned l.fn.self.connector) (g.K.Connector.returned l.self.connector)
     (g.K.Connector.refusals l.fn.self.connector) (g.K.Connector.refusals l.self.connector)
     (g.K.Connector.stock l.fn.self.connector) (g.K.Connector.stock l.self.connector)
-    l.machine.machine l._turn
+    (g.D.ByteLink.state l.fn.client.link) l.machine.machine l._turn
     × (g.D.ByteLink.start l.client.link ≡ g.D.ByteLink.start l.fn.client.link)
     × (all_items g.K.Byte.ByteLink.start (g.K.Connector.returned l.self.connector)
     (items_held g.K.Byte.ByteLink.start l.machine.machine.phase)

@@ -14,7 +14,10 @@ returns-clause-steps g c = λ s p own run.
     c.take_turn-step.result.step _ _ _ _ _ _ _ (c.take_turn-step.ensures.turn s p)
     c.take_turn-step.ensures.rests c.take_turn-step.ensures.returned c.settle.ensures.settles
     c.take_turn-step.ensures.refusals c.take_turn-step.ensures.offers
-    c.take_turn-step.ensures.carries run)
+    c.take_turn-step.ensures.carries run (g.D.ByteLink.state c.args.client.now.link)
+    c.args.machine.now.machine.work.used _ c.take_turn-step.result.work.used
+    (ap (λ (work : Work). work.used) c.plus-machine.ensures.sum)
+    (λ n had. c.take_turn-step.ensures.counts s p own n run had))
 
 -- its cause is that of the turn
 pub returns-clause-cause : goal.returns-clause-cause

@@ -17,6 +17,7 @@ turn : (g : Over) → (c : goal.After-is_end g)
     (g.K.Connector.refusals c.step-step.new.self.connector)
     (g.K.Connector.stock c.args.proxy.now.connector)
     (g.K.Connector.stock c.step-step.new.self.connector)
+    c.self.inside.machine.machine.work.used c.step-step.new.machine.machine.work.used
 turn g c = record {
   counted = ap (λ (p : HttpProxy g.row.SV.Denot g.row.K.Denot g.row.P.Denot). p.requests_ended)
       c.step-step.ensures.same;
@@ -30,7 +31,7 @@ returns-clause-goes g c = λ before rest goes serves.
     goes_on g.K.Byte.ByteLink.state g.K.Byte.ByteLink.start g.D.ByteLink.state before
     (books g.K.Connector.returned g.K.Connector.fault_count c.args.proxy.now) _
     (record { client = c.self.inside.client; phase = c.self.inside.machine.machine.phase })
-    _ rest _ _ _ _ (rw c.self.view_is serves) (turn g c)
+    _ rest _ _ _ _ _ _ (rw c.self.view_is serves) (turn g c)
     (c.step-step.ensures.ended ∙ sym c.is_end.ensures ∙ goes)
 
 -- one that ends it leaves it at its end
@@ -39,5 +40,5 @@ returns-clause-ends g c = λ before rest ends serves.
     ends_now g.K.Byte.ByteLink.state g.K.Byte.ByteLink.start g.D.ByteLink.state before
     (books g.K.Connector.returned g.K.Connector.fault_count c.args.proxy.now) _
     (record { client = c.self.inside.client; phase = c.self.inside.machine.machine.phase })
-    _ rest _ _ _ _ (rw c.self.view_is serves) (turn g c)
+    _ rest _ _ _ _ _ _ (rw c.self.view_is serves) (turn g c)
     (c.step-step.ensures.ended ∙ sym c.is_end.ensures ∙ ends)
