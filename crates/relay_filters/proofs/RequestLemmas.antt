@@ -110,7 +110,8 @@ module _ (u : Bool) (piece : Piece) (end : Bool) (came came' : List HttpTask) (e
 -- what was left of a piece ends the request by the call that left it
 ends_of : (error : Option Error) (input output : Item) (bytes left : Option (List ℕ)) (end : Bool)
     → error ≡ None → input ≡ item.Piece bytes end → output ≡ item.Piece left end
-    → (is_none error && is_end_in (has_piece input) output) ≡ (end || takes_away (is_some bytes) left)
+    → (is_none error && is_end_in (has_piece input) output)
+    ≡ (end || takes_away (is_some bytes) left)
 ends_of error input output bytes left end ok was became =
     ap (λ (x : Option Error). is_none x && is_end_in (has_piece input) output) ok
     ∙ ap (λ (i : Item). is_end_in (has_piece i) output) was
@@ -131,14 +132,18 @@ pub one_piece : (a ended end client_end u : Bool) (es : List LogEntry) (on : Typ
     → on → PassesRequest a ended es on came put → came' ≡ came ++ put_of u piece
     → put' ≡ put ++ put_of false (piece_of ended end client_end (is_some piece.bytes) left)
     → e.input ≡ item.Piece piece.bytes end → e.output ≡ item.Piece left end → e.error ≡ None
-    → PassesRequest a (ended || (piece_of ended end client_end (is_some piece.bytes) left).upstream_end) (es ++ e ∷ []) on
+    → PassesRequest a
+    (ended || (piece_of ended end client_end (is_some piece.bytes) left).upstream_end)
+    (es ++ e ∷ []) on
     came' put'
-one_piece a ended end client_end u es on came came' put put' piece left e is_on r is is' was became ok =
+one_piece a ended end client_end u es on came came' put put' piece left e is_on r is is' was became
+    ok =
     record {
       rest = [];
       read = read_on u piece end came came' es e r.rest r.read (r.all is_on) is was;
       all = λ so. refl;
-      left = is' ∙ ap (λ (xs : List HttpTask). xs ++ put_of false (piece_of ended end client_end (is_some piece.bytes) left))
+      left = is' ∙ ap (λ (xs : List HttpTask).
+          xs ++ put_of false (piece_of ended end client_end (is_some piece.bytes) left))
           r.left
           ∙ ap (λ (xs : List HttpTask). passed a es ++ xs)
           (puts_left ended ∙ ap (λ (b : Bool). passes b e) r.is_ended)
@@ -151,16 +156,20 @@ one_piece a ended end client_end u es on came came' put put' piece left e is_on 
         → (if b || is_some e.error then [] else put_in_item (has_piece e.input) e.output)
         ≡ (if b then [] else put_in_item (has_piece e.input) e.output)
     plain true isnt = refl
-    plain false isnt = ap (λ (x : Bool). if x then [] else put_in_item (has_piece e.input) e.output) isnt
+    plain false isnt =
+        ap (λ (x : Bool). if x then [] else put_in_item (has_piece e.input) e.output) isnt
 
-    puts_left : (b : Bool) → put_of false (piece_of b end client_end (is_some piece.bytes) left) ≡ passes b e
+    puts_left : (b : Bool)
+        → put_of false (piece_of b end client_end (is_some piece.bytes) left) ≡ passes b e
     puts_left true = refl
     puts_left false =
         sym (plain false (ap is_some ok)
         ∙ ap (λ (i : Item). put_in_item (has_piece i) e.output) was
         ∙ ap (λ (i : Item). put_in_item (is_some piece.bytes) i) became)
 
-    ends_left : (b : Bool) → (b || (piece_of b end client_end (is_some piece.bytes) left).upstream_end) ≡ (b || is_end_by e)
+    ends_left : (b : Bool)
+        → (b || (piece_of b end client_end (is_some piece.bytes) left).upstream_end)
+        ≡ (b || is_end_by e)
     ends_left true = refl
     ends_left false = sym (ends_of e.error e.input e.output piece.bytes left end ok was became)
 
@@ -182,7 +191,8 @@ one_refused a ended end u es on on' came came' put put' piece e is_on r is is' w
   where
     none_passes : (b : Bool) → passes b e ≡ []
     none_passes true = refl
-    none_passes false = ap (λ (x : Bool). if x then [] else put_in_item (has_piece e.input) e.output) bad
+    none_passes false =
+        ap (λ (x : Bool). if x then [] else put_in_item (has_piece e.input) e.output) bad
 
     no_end : (b : Bool) → (b || is_end_by e) ≡ b
     no_end true = refl

@@ -1,5 +1,5 @@
 -- A side behind filters: how each answer of the inner side goes on, with the call that it led to.
-use Rattle.std.proofs.Common.{◌≡◌, ℕ, Bool, true, false, not, ◌&&◌, ◌||◌, if◌then◌else◌, List, [], ◌∷◌, ◌++◌, length, Option, Some, None, is_some, is_none, option_to_list, Err, refl, sym, ap, subst, ◌∙◌, append-nil, append_assoc, inl, inr, ◌⊎◌, IsTrue, IsSome}
+use Rattle.std.proofs.Common.{◌≡◌, ℕ, Bool, true, false, not, ◌&&◌, ◌||◌, if◌then◌else◌, List, [], ◌∷◌, ◌++◌, length, Option, Some, None, is_some, option_to_list, Err, refl, sym, ap, subst, ◌∙◌, append-nil, append_assoc, inl, inr, ◌⊎◌, IsTrue, IsSome}
 use Rattle.relay_tasks.specs.declared.error.Error.{Error}
 use Rattle.relay_tasks.specs.declared.error.Fail.{Fail}
 use Rattle.relay_tasks.specs.declared.error.Fail.TheVariants as fail
@@ -62,7 +62,8 @@ stands_on : (inner inner' : DownPast → Type 0) (allows : Standing → LogEntry
     → (u' ≡ false → (u ≡ false) × (ended' ≡ ended)) → (ended' ≡ true → r' ≡ true)
     → came' ≡ h.came → p'.put ≡ p.put → inner' (record p' { put = came' })
     → IsHooked inner' allows seen mark first a ended' u' r' st p'
-stands_on inner inner' allows seen mark first a ended ended' u u' r r' st p p' came' h plain ends is same
+stands_on inner inner' allows seen mark first a ended ended' u u' r r' st p p' came' h plain ends is
+    same
     holds = record {
       keeps = h.keeps;
       came = came';
@@ -115,7 +116,8 @@ pub refuses_on : (inner inner' : DownPast → Type 0)
     → BatchRefused inner' refuses' (record p { put = h.came }) tasks why
     → BatchRefused (IsHooked inner' allows seen mark first a ended u' r' st)
     (λ past left e. RefusesOver inner' refuses' past left e) p tasks why
-refuses_on inner inner' refuses' allows seen mark first a ended u u' r r' st p tasks why h plain ends b =
+refuses_on inner inner' refuses' allows seen mark first a ended u u' r r' st p tasks why h plain
+    ends b =
     record {
       filtered = b.filtered;
       left = b.left;
@@ -265,8 +267,8 @@ reads_open : (inner inner' : DownPast → Type 0) (blames' : DownPast → Error 
     → DownGoes (IsHooked inner' allows seen' mark' first a (ended || made.upstream_end) u' r' None)
     (λ past e. BlamesOver inner' blames' None past e) (p.put ++ put_of u made) p.batched p.closing
     None
-reads_open inner inner' blames' allows seen mark first a ended u u' r r' p piece made seen' mark' h up
-    inside client f g =
+reads_open inner inner' blames' allows seen mark first a ended u u' r r' p piece made seen' mark' h
+    up inside client f g =
     let end = is_last piece in
     let left = f.left in
     let e = entered inner allows seen mark first a ended u r p h piece.bytes end seen' mark'
@@ -299,7 +301,8 @@ reads_open inner inner' blames' allows seen mark first a ended u u' r r' p piece
             g.past.put p.put (p.put ++ put_of u one) piece left e refl (h.request low) g.is_put
             (ap (λ (b : Bool). p.put ++ put_of b one) low) refl refl refl);
         ends_inside = λ so.
-            ends_too ended r piece.upstream_end piece.client_end (takes_away (is_some piece.bytes) left) r' inside
+            ends_too ended r piece.upstream_end piece.client_end
+            (takes_away (is_some piece.bytes) left) r' inside
             h.ends_inside client
             (λ isnt.
             (keeps_here inner allows seen mark first a ended u r p piece made seen' mark' h f
@@ -327,8 +330,8 @@ stops_open : (inner inner' : DownPast → Type 0) (blames' : DownPast → Error 
     → DownGoes (IsHooked inner' allows seen' mark' first a ended u' r' (Some why))
     (λ past e. BlamesOver inner' blames' (Some why) past e) put p.batched p.closing
     (error_of_fail why)
-stops_open inner inner' blames' allows seen mark first a ended u u' r r' p piece fail.OutOfMemory put
-    seen' mark' h up stays same f g = record {
+stops_open inner inner' blames' allows seen mark first a ended u u' r r' p piece fail.OutOfMemory
+    put seen' mark' h up stays same f g = record {
       past = record g.past { put = put };
       stands = record {
         keeps = h.keeps;
@@ -357,8 +360,8 @@ stops_open inner inner' blames' allows seen mark first a ended u u' r r' p piece
       is_closing = g.is_closing;
       blamed = λ e isnt. cc;
     }
-stops_open inner inner' blames' allows seen mark first a ended u u' r r' p piece (fail.Error error) put
-    seen' mark' h up stays same f g =
+stops_open inner inner' blames' allows seen mark first a ended u u' r r' p piece
+    (fail.Error error) put seen' mark' h up stays same f g =
     let end = is_last piece in
     let left = failed (item.Piece f.left end) error in
     let e = entered inner allows seen mark first a ended u r p h piece.bytes end seen' mark' left
@@ -371,8 +374,8 @@ stops_open inner inner' blames' allows seen mark first a ended u u' r r' p piece
         holds = g.stands;
         before = h.before;
         own = h.own ++ e ∷ [];
-        parts = parts_on inner allows seen mark first a ended u r p h piece.bytes end seen' mark' left
-            f.call;
+        parts = parts_on inner allows seen mark first a ended u r p h piece.bytes end seen' mark'
+            left f.call;
         began = h.began;
         logged = walks_on inner allows seen mark first a ended u r p h piece.bytes end seen' mark'
             left f.call (Some (fail.Error error) ≡ None);

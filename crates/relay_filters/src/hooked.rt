@@ -99,8 +99,8 @@ fn filter_piece<SV: ProxyHttp>(
 
 impl<'a, SV: ProxyHttp, D> Hooked<'a, SV, D> {
     /// The side over that one, with the calls of the application in the log of that session and
-    /// with that context; `ended` says that the request ended with its head. It tells what the inner
-    /// one has told.
+    /// with that context; `ended` says that the request ended with its head. It tells what the
+    /// inner one has told.
     ///
     /// What passed is as inside, where nothing was put yet, the session's head was read, and the
     /// application keeps pieces.
