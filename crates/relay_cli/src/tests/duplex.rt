@@ -1,8 +1,8 @@
 //! Requests with bodies by the top call: both bodies pass at once, whatever the cuts, the schedule
 //! and the faults of the links.
 use super::support::{
-    Failing, Ran, WRITES, bytes_item, cut_in_two, fault, only, push_bytes, run, run_items,
-    slow_link,
+    BAD_GATEWAY, Failing, Ran, WRITES, bytes_item, cut_in_two, fault, only, push_bytes, run,
+    run_items, slow_link,
 };
 use relay_links::{BRANCHES, Branch, ListSchedule, ReadItem, ScriptLink, WriteItem};
 use relay_proxy::Outcome;
@@ -129,24 +129,40 @@ fn run_asking(alloc: Global, client: Failing, peer: Failing) -> Result<Ran, Fail
     )
 }
 
-/// Whether the outcome tells this error, no wrong byte passed, and the link was not kept.
+/// Whether the outcome tells this error, no wrong byte was sent, and the link was not kept.
 fn has_failed(ran: &Ran, kind: ErrorType, side: ErrorSource) -> bool {
-    ran.failure() == Some((kind, side))
-        && LEAVE_WRITTEN.starts_with(&ran.written)
-        && LEAVE_SENT.starts_with(&ran.sent)
-        && !ran.kept
+    ran.failure() == Some((kind, side)) && LEAVE_SENT.starts_with(&ran.sent) && !ran.kept
+}
+
+/// The generated answer behind the leave.
+const LEAVE_AND_BAD_GATEWAY: &[u8] =
+    b"HTTP/1.1 100 Continue\r\n\r\nHTTP/1.1 502 Bad Gateway\r\nserver: Pingora\r\n\
+    content-length: 0\r\ncache-control: private, no-store\r\n\r\n";
+
+/// Whether this is what a client gets where the peer fails: the generated answer, the leave before
+/// it or not.
+fn is_answered(written: &[u8]) -> bool {
+    written == BAD_GATEWAY || written == LEAVE_AND_BAD_GATEWAY
 }
 
 /// Whether the call of the client's link that fails is told.
 fn tells_client(alloc: Global, call: Failing, kind: ErrorType) -> Result<bool, Fail> {
     let ran = run_asking(alloc, call, Failing::No)?;
-    Ok(ran.client_faults == 1 && has_failed(&ran, kind, ErrorSource::Downstream))
+    Ok(
+        ran.client_faults == 1
+            && has_failed(&ran, kind, ErrorSource::Downstream)
+            && LEAVE_WRITTEN.starts_with(&ran.written),
+    )
 }
 
 /// Whether the call of the peer's link that fails is told.
 fn tells_peer(alloc: Global, call: Failing, kind: ErrorType) -> Result<bool, Fail> {
     let ran = run_asking(alloc, Failing::No, call)?;
-    Ok(ran.peer_faults == 1 && has_failed(&ran, kind, ErrorSource::Upstream))
+    Ok(
+        ran.peer_faults == 1
+            && has_failed(&ran, kind, ErrorSource::Upstream)
+            && is_answered(&ran.written),
+    )
 }
 
 /// Whether the request is relayed over links none of whose calls fails, though they are told to.
@@ -198,14 +214,15 @@ const HEAD_WRITES: usize = 16;
 
 const PEER_WRITES: usize = 21;
 
-/// Whether the request ends where a write of its head fails, with nothing for the client.
+/// Whether the request ends where a write of its head fails, and the client gets the generated
+/// answer alone.
 fn ends_at_head(alloc: Global, call: usize) -> Result<bool, Fail> {
     let ran = run_asking(alloc, Failing::No, Failing::Write(call))?;
     Ok(
         ran.peer_faults == 1
             && has_failed(&ran, ErrorType::WriteError, ErrorSource::Upstream)
             && ran.sent.len() < ASKING_SENT.len()
-            && ran.written.is_empty(),
+            && ran.written.as_slice() == BAD_GATEWAY,
     )
 }
 

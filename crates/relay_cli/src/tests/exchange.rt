@@ -1,5 +1,7 @@
 //! One GET over links that give and take it in any pieces, and that fail at any call.
-use super::support::{Failing, cut_in_two, push_bytes, run, run_items, slow_link};
+use super::support::{
+    BAD_GATEWAY, Failing, Ran, cut_in_two, push_bytes, run, run_items, slow_link,
+};
 use bytes::Bytes;
 use relay_links::{ListSchedule, ReadItem, ScriptLink};
 use relay_tasks::{ErrorSource, ErrorType};
@@ -151,36 +153,45 @@ fn byte_link(alloc: Global, bytes: &[u8], failing: Failing) -> Result<ScriptLink
     Ok(slow_link(alloc, items, failing)?)
 }
 
-/// Whether one GET over links that fail as they are told ends by that error, and no wrong byte
-/// passed.
-fn fails_by(
-    alloc: Global,
-    client: Failing,
-    peer: Failing,
-    error: (ErrorType, ErrorSource),
-) -> Result<bool, Fail> {
-    let ran = run(
+/// One GET over links that fail as they are told.
+fn run_failing(alloc: Global, client: Failing, peer: Failing) -> Result<Ran, Fail> {
+    run(
         alloc,
         byte_link(alloc, REQUEST, client)?,
         byte_link(alloc, RESPONSE, peer)?,
         ListSchedule::new(Vec::new(alloc)),
-    )?;
+    )
+}
+
+/// Whether a call of the client's link that fails is told as its fault, and no wrong byte passed.
+fn tells_client(alloc: Global, call: Failing, kind: ErrorType) -> Result<bool, Fail> {
+    let ran = run_failing(alloc, call, Failing::No)?;
     Ok(
-        ran.failure() == Some(error)
+        ran.failure() == Some((kind, ErrorSource::Downstream))
             && WRITTEN.starts_with(&ran.written)
             && SENT.starts_with(&ran.sent)
             && ran.written.len() < WRITTEN.len(),
     )
 }
 
-/// Whether a call of the client's link that fails is told as its fault.
-fn tells_client(alloc: Global, call: Failing, kind: ErrorType) -> Result<bool, Fail> {
-    fails_by(alloc, call, Failing::No, (kind, ErrorSource::Downstream))
+/// The length of the final head as it is written.
+const HEAD_LEN: usize = 38;
+
+/// Whether this is what a client gets of a response that breaks off: a front of it that has its
+/// head, or the generated answer alone.
+fn is_broken_off(written: &[u8]) -> bool {
+    written == BAD_GATEWAY
+        || (WRITTEN.starts_with(written) && (HEAD_LEN..WRITTEN.len()).contains(&written.len()))
 }
 
-/// Whether a call of the peer's link that fails is told as its fault.
+/// Whether a call of the peer's link that fails is told as its fault, and the client is answered.
 fn tells_peer(alloc: Global, call: Failing, kind: ErrorType) -> Result<bool, Fail> {
-    fails_by(alloc, Failing::No, call, (kind, ErrorSource::Upstream))
+    let ran = run_failing(alloc, Failing::No, call)?;
+    Ok(
+        ran.failure() == Some((kind, ErrorSource::Upstream))
+            && is_broken_off(&ran.written)
+            && SENT.starts_with(&ran.sent),
+    )
 }
 
 #[test]

@@ -153,6 +153,10 @@ pub(super) fn fault(kind: FaultKind) -> Fault {
     }
 }
 
+/// The answer that is made for an error of the peer's side.
+pub(super) const BAD_GATEWAY: &[u8] = b"HTTP/1.1 502 Bad Gateway\r\nserver: Pingora\r\n\
+    content-length: 0\r\ncache-control: private, no-store\r\n\r\n";
+
 /// More writes than a link of these tests gets.
 pub(super) const WRITES: usize = 24;
 
