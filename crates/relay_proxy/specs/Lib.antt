@@ -1,7 +1,8 @@
 pub mod Relayable
 pub mod Passed
+pub mod Answer
 pub mod Endings
-pub mod Offer
+pub mod Owed
 pub mod Phases
 pub mod Work
 pub mod Uses
