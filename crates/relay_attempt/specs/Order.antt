@@ -144,7 +144,7 @@ pub data FailsFor
   by_refusal : (order : IsInOrder s p link.ended) → RefusesHead s.head.method s.asked p.got e
       → FailsFor s p client link start e
 
--- what passed in order behind a failure
+-- the order of what passed, by why the exchange failed
 abbrev pub order_of : {s : Origin} {p : Passed} {client link : LinkState} {start : LinkStart}
     {e : Error} → FailsFor s p client link start e → IsInOrder s p link.ended
 order_of (FailsFor.by_client order blames) = order
