@@ -41,7 +41,7 @@ use Rattle.relay_sides.specs.Client.{ClientBlames, ClientRefuses, CannotEnd, giv
 use Rattle.relay_peer.specs.Faults as faults
 use Rattle.relay_sides.specs.Filtered.{AreHeads, stops_for_error}
 use Rattle.relay_sides.specs.Filtered as filtered
-use Rattle.relay_peer.specs.Peer.{IsPeer, AreTasks, PeerBlames, IsWriteError, told_of}
+use Rattle.relay_peer.specs.Peer.{IsPeer, AreTasks, PeerBlames, IsOnlyFault, CannotSend, told_of}
 use Rattle.relay_peer.specs.Peer as peer
 use Rattle.relay_sides.specs.declared.client_side.ClientSide.{ClientSide}
 use Rattle.relay_sides.specs.declared.filtered.Filtered.{Filtered}
@@ -72,6 +72,16 @@ none_waits (one ∷ waits) none =
     let some : (length (one ∷ waits) == 0) ≡ false = grind (arith, nat_tests) in
     let wrong = rw some at none in
     absurd (cc)
+
+-- nothing is pending where nothing kept the side from sending: all was sent
+none_unsent : (waits : List ℕ) (sends : Option Error) → sends ≡ None
+    → not (length waits == 0) && is_none sends ≡ false → waits ≡ []
+none_unsent waits None none still = none_waits waits (and_true _ still)
+  where
+    and_true : (b : Bool) → b && true ≡ false → b ≡ false
+    and_true true wrong = wrong
+    and_true false still = refl
+none_unsent waits (Some e) none still = absurd (cc)
 
 -- neither of two stands: nothing waits, and no fault is kept
 neither : (waits : Bool) (kept : Option Fault) → waits || is_some kept ≡ false
@@ -215,13 +225,20 @@ module _ {L : Type 0} (state : L → LinkState) (start_at : L → LinkStart)
         on (inr broken) is =
             absurd (open_is_whole down.session.writing.output is.0 broken.0 is.1 broken.1)
 
-    -- where no send error is kept the request was sent whole
+    -- where no send error is kept nothing is left to be sent
+    none_left : duplex.send_error ≡ None → Finishes (core_of state start_at duplex down up) p q
+        → up.inner.client.request.unsent ≡ []
+    none_left none finishes =
+        none_unsent up.inner.client.request.unsent up.inner.send_failed
+        (sym so_far.marks.sends ∙ none) (finishes.sent none)
+
+    -- and the request was sent whole
     sent_all : duplex.send_error ≡ None → Finishes (core_of state start_at duplex down up) p q
         → q.sent ≡ sent_wire (sent_as s.head p.put)
     sent_all none finishes =
         sym (append-nil q.sent)
         ∙ ap (λ (l : List ℕ). q.sent ++ l)
-        (sym (none_waits up.inner.client.request.unsent (finishes.sent none)))
+        (sym (none_left none finishes))
         ∙ so_far.up.holds.peer.so_far.text
         ∙ ap sent_wire (so_far.up.holds.peer.queued.unlost (finishes.unlost none))
         ∙ ap (λ (h : RequestHead). sent_wire (sent_as h q.taken)) so_far.up.holds.peer.own
@@ -282,22 +299,31 @@ module _ {L : Type 0} (state : L → LinkState) (start_at : L → LinkStart)
         (refused_for s (start_at up.inner.client.link) (state up.inner.client.link) up q so_far.up e
         is) short
 
-    -- a send error that is kept is that of a write, since no request ends short
-    write_error : (e : Error) → duplex.send_error ≡ Some e
-        → IsWriteError (start_at up.inner.client.link) (state up.inner.client.link) e
-    write_error e some = elim (so_far.up.holds.marked.named e (sym so_far.marks.sends ∙ some)) [
-      | inl written ↦ written
-      | inr short ↦ absurd (never_kept e (so_far.send_error e some) short)
-    ]
+    -- a send error that is kept is that of a write, the one call of the link that failed, since no
+    -- request ends short
+    write_error : Finishes (core_of state start_at duplex down up) p q → (e : Error)
+        → duplex.send_error ≡ Some e
+        → IsOnlyFault (start_at up.inner.client.link) (state up.inner.client.link) e
+    write_error finishes e some =
+        let still = unread finishes in
+        let named : CannotSend (start_at up.inner.client.link) (state up.inner.client.link) false e =
+        subst
+        (λ (b : Bool).
+        CannotSend (start_at up.inner.client.link) (state up.inner.client.link) b e)
+        still (so_far.up.holds.marked.named e (sym so_far.marks.sends ∙ some)) in
+        elim named [
+          | inl written ↦ written
+          | inr short ↦ absurd (never_kept e (so_far.send_error e some) short)
+        ]
 
     -- the peer's side answers for it
     write_blamed : (e : Error)
-        → IsWriteError (start_at up.inner.client.link) (state up.inner.client.link) e
+        → IsOnlyFault (start_at up.inner.client.link) (state up.inner.client.link) e
         → PeerBlames (start_at up.inner.client.link) (state up.inner.client.link) s.head s.asked
         (order.up_past in_order q.lost) e
     write_blamed e w =
         peer.PeerBlames.link_failed w.fault w.is w.rose
-        (faults.HasAnswered.on_write w.kind w.before w.behind w.told)
+        (faults.HasAnswered.on_write w.kind [] [] w.told)
 
     -- or the peer's side answers for the error that is kept
     request_by : (error : Option Error) → duplex.send_error ≡ error
@@ -308,15 +334,15 @@ module _ {L : Type 0} (state : L → LinkState) (start_at : L → LinkStart)
         ⊎ ((e : Error) × (lost : Bool)
         × PeerBlames (start_at up.inner.client.link) (state up.inner.client.link) s.head s.asked
         (order.up_past (order_so_far state start_at s p q link ahead down up duplex so_far) lost) e
-        × IsWriteError (start_at up.inner.client.link) (state up.inner.client.link) e)
+        × IsOnlyFault (start_at up.inner.client.link) (state up.inner.client.link) e)
     request_by None none finishes =
         inl (sends_whole none finishes, peer_holds.calm (calm none finishes))
     request_by (Some e) some finishes =
         inr (
           e,
           q.lost,
-          write_blamed e (write_error e some),
-          write_error e some,
+          write_blamed e (write_error finishes e some),
+          write_error finishes e some,
         )
 
     -- both directions were relayed
@@ -335,11 +361,12 @@ module _ {L : Type 0} (state : L → LinkState) (start_at : L → LinkStart)
         }
 
     -- without a fault no send error is kept
-    unsent : (error : Option Error) → duplex.send_error ≡ error
+    unsent : Finishes (core_of state start_at duplex down up) p q → (error : Option Error)
+        → duplex.send_error ≡ error
         → ¬ (Rose (start_at up.inner.client.link).faults (state up.inner.client.link).faults)
         → duplex.send_error ≡ None
-    unsent None is faultless = is
-    unsent (Some e) is faultless = absurd (faultless (write_error e is).rose)
+    unsent finishes None is faultless = is
+    unsent finishes (Some e) is faultless = absurd (faultless (write_error finishes e is).rose)
 
     -- a link that may serve another request is kept
     pub keeps_of : Finishes (core_of state start_at duplex down up) p q
@@ -347,7 +374,7 @@ module _ {L : Type 0} (state : L → LinkState) (start_at : L → LinkStart)
         → ¬ (Rose (start_at up.inner.client.link).faults (state up.inner.client.link).faults)
         → core.may_keep duplex.kind duplex && may_keep_client up.inner.client ≡ true
     keeps_of finishes serves faultless =
-        let none = unsent duplex.send_error refl faultless in
+        let none = unsent finishes duplex.send_error refl faultless in
         let c = so_far.down.client in
         let u = peer_holds in
         let ends = read_ends finishes.ended in
@@ -373,7 +400,7 @@ module _ {L : Type 0} (state : L → LinkState) (start_at : L → LinkStart)
         (and_both (may_keep_writing up.inner.client.request) _
         (kept_writing s.head up.inner.client.request
         (u.is_head ∙ ap (λ (h : RequestHead). Some h) u.own) serves.asks whole
-        (none_waits up.inner.client.request.unsent (finishes.sent none)))
+        (none_left none finishes))
         (and_both (may_keep_reading up.inner.client.response) _
         (kept_reading s.head.method s.asked (state up.inner.client.link).ended q.got
         (told_of in_order.are_of.given) (told_of (so_far.up.given ++ so_far.up.withheld))

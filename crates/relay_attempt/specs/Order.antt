@@ -29,7 +29,7 @@ use Rattle.relay_core.specs.Past.{Origin, DownPast, UpPast}
 use Rattle.relay_peer.specs.Body.{IsFrontOf, body_of, sent_as}
 use Rattle.relay_sides.specs.Client.{ClientBlames}
 use Rattle.relay_sides.specs.Filtered.{handed, is_switch, HasRoom, RefusesHead, asks_to_close}
-use Rattle.relay_peer.specs.Peer.{told_of, EndFramed, Follow, PeerBlames, IsWriteError}
+use Rattle.relay_peer.specs.Peer.{told_of, EndFramed, Follow, PeerBlames, IsOnlyFault}
 use Rattle.relay_attempt.specs.Passed.{Passed, asked}
 
 -- the client's bytes begin with the head of the request
@@ -144,7 +144,7 @@ pub data FailsFor
   by_refusal : (order : IsInOrder s p link.ended) → RefusesHead s.head.method s.asked p.got e
       → FailsFor s p client link start e
 
--- what passed in order behind a failure
+-- the order of what passed, by why the exchange failed
 abbrev pub order_of : {s : Origin} {p : Passed} {client link : LinkState} {start : LinkStart}
     {e : Error} → FailsFor s p client link start e → IsInOrder s p link.ended
 order_of (FailsFor.by_client order blames) = order
@@ -176,7 +176,8 @@ pub record SendsWhole (s : Origin) (p : Passed) (closed : Bool) (order : IsInOrd
 
 -- the response has come whole, and its text was written whole, no read of the peer's link having
 -- failed, where it tells the faults of its reads. And the request was sent whole, no call of that
--- link having failed; or the peer's side answers for the error of the write with which it was not
+-- link having failed; or one write of it failed, with which it was not, and no other call, and the
+-- peer's side answers for that error
 pub record IsRelayed (s : Origin) (p : Passed) (link : LinkState) (start : LinkStart) : Type 0 where
   pub order : IsInOrder s p link.ended
   pub n : ℕ
@@ -186,7 +187,7 @@ pub record IsRelayed (s : Origin) (p : Passed) (link : LinkState) (start : LinkS
   pub written : p.written ≡ (text_of order).text
   pub request : (SendsWhole s p link.ended order × (link.faults ≡ start.faults))
       ⊎ ((e : Error) × (lost : Bool) × PeerBlames start link s.head s.asked (up_past order lost) e
-      × IsWriteError start link e)
+      × IsOnlyFault start link e)
   pub reads : Since [] start.read_faults link.read_faults []
 
 -- the peer's link may serve another request: the request was sent whole, in these pieces; its head

@@ -1,5 +1,6 @@
 -- What the marks of the peer's side tell of its link goes on with each of its calls.
 use Rattle.std.proofs.Common.{◌≡◌, ℕ, ◌≤◌, Bool, true, false, ◌||◌, List, [], ◌∷◌, ◌++◌, Option, Some, None, refl, sym, ap, subst, ◌∙◌, inl, inr}
+use Rattle.std.specs.Prelude.{◌&&◌, is_none}
 use Rattle.relay_tasks.specs.declared.error.Error.{Error}
 use Rattle.relay_tasks.specs.declared.error.Fail.{Fail}
 use Rattle.relay_tasks.specs.declared.error.Fail.TheVariants as fail
@@ -9,7 +10,7 @@ use Rattle.relay_tasks.specs.declared.took.Took.{Took}
 use Rattle.relay_tasks.specs.declared.took.Took.TheVariants as took
 use Rattle.relay_links.specs.Count.{Rose}
 use Rattle.relay_links.specs.Link.{LinkState, LinkStart, IsHandedOut, Writes}
-use Rattle.relay_links.specs.Told.{more, Since}
+use Rattle.relay_links.specs.Told.{Since}
 use Rattle.relay_links.specs.declared.link.Got.{Got}
 use Rattle.relay_links.specs.declared.link.Got.TheVariants as got
 use Rattle.relay_links.specs.declared.link.Put.{Put}
@@ -22,10 +23,8 @@ use Rattle.relay_peer.specs.declared.request_writing.RequestWriting.{RequestWrit
 use Rattle.relay_peer.specs.declared.response_reading.ResponseReading.{ResponseReading}
 use Rattle.relay_core.specs.Up as up
 use Rattle.relay_core.proofs.BoolLemmas.{clash, or_left, or_right, or_false}
-use Rattle.relay_peer.specs.Faults.{TellsFaults}
 use Rattle.relay_peer.specs.Peer.{AreMarked, CannotSend, Loses, put_error}
 use Rattle.relay_peer.specs.Peer as peer
-use Rattle.relay_peer.proofs.FaultLemmas.{more_none, among_on}
 use Rattle.relay_peer.proofs.MoveLemmas.{rose_from, some_error}
 
 -- ---- a call that meets no fault
@@ -45,22 +44,31 @@ leaves_same before after same = record {
 }
 
 -- an error with which nothing could be sent stays one
-cannot_on : (start : LinkStart) (before after : LinkState) (e : Error) (new : List Fault)
+cannot_on : (start : LinkStart) (before after : LinkState) (was is : Bool) (e : Error)
     → (Rose start.faults before.faults → Rose start.faults after.faults)
-    → after.write_faults ≡ more before.write_faults new → CannotSend start before e
-    → CannotSend start after e
-cannot_on start before after e new rises grown (inl w) =
+    → after.write_faults ≡ before.write_faults
+    → (is ≡ false → (was ≡ false) × (after.faults ≡ before.faults))
+    → CannotSend start before was e → CannotSend start after is e
+cannot_on start before after was is e rises writes calm (inl w) =
     inl (record {
       fault = w.fault;
       is = w.is;
       kind = w.kind;
       rose = rises w.rose;
-      before = w.before;
-      behind = w.behind ++ new;
-      told = among_on start.write_faults before.write_faults after.write_faults w.before w.behind
-          new w.fault grown w.told;
+      told = Since-kept [] start.write_faults before.write_faults after.write_faults (w.fault ∷ [])
+          writes w.told;
+      once = λ none.
+          let still = calm none in
+          let one = w.once still.0 in
+          record {
+            before = one.before;
+            after = one.after;
+            calm = one.calm;
+            fails = one.fails;
+            since = still.1 ∙ one.since;
+          };
     })
-cannot_on start before after e new rises grown (inr is) = inr is
+cannot_on start before after was is e rises writes calm (inr short) = inr short
 
 -- the marks of the side still tell of the link
 marked_leaves : (start : LinkStart) (before after : LinkState) (failed reads : Bool)
@@ -73,9 +81,9 @@ marked_leaves start before after failed reads sends lost leaves m = record {
   writes = λ none. Since-kept [] start.write_faults before.write_faults after.write_faults []
       leaves.writes (m.writes none);
   calm = m.calm;
-  named = λ e is. cannot_on start before after e []
-      (λ rose. subst (λ (n : ℕ). Rose start.faults n) (sym leaves.faults) rose)
-      (leaves.writes ∙ more_none before.write_faults) (m.named e is);
+  named = λ e is. cannot_on start before after reads reads e
+      (λ rose. subst (λ (n : ℕ). Rose start.faults n) (sym leaves.faults) rose) leaves.writes
+      (λ none. (none, leaves.faults)) (m.named e is);
   short = m.short;
 }
 
@@ -97,7 +105,8 @@ marked_more start link failed fails was also is sends lost same still m = record
   writes = m.writes;
   calm = λ none unsent. still (m.calm (or_left was also (sym same ∙ none)) unsent)
       (or_right was also (sym same ∙ none));
-  named = m.named;
+  named = λ e named. cannot_on start link link was is e (λ rose. rose) refl
+      (λ none. (or_left was also (sym same ∙ none), refl)) (m.named e named);
   short = m.short;
 }
 
@@ -170,9 +179,9 @@ marked_read start before after came (Some (got.Failed fault)) answer failed fail
       writes = λ none. Since-kept [] start.write_faults before.write_faults after.write_faults []
           f.write_faults (m.writes none);
       calm = λ none unsent. absurd (never none);
-      named = λ e named. cannot_on start before after e []
+      named = λ e named. cannot_on start before after was is e
           (λ rose. rose_from start.faults before.faults after.faults least f.faults)
-          (f.write_faults ∙ more_none before.write_faults) (m.named e named);
+          f.write_faults (λ none. absurd (never none)) (m.named e named);
       short = m.short;
     }
 
@@ -197,6 +206,13 @@ same_error (fail.Error e) = refl
 
 -- ---- a write
 
+-- where something is pending, nothing kept the side from sending
+pub unsent_here : (waits : Bool) (sends : Option Error) → waits && is_none sends ≡ true
+    → sends ≡ None
+unsent_here true None some = refl
+unsent_here true (Some e) some = absurd (cc)
+unsent_here false sends some = absurd (cc)
+
 -- a write that answered no fault
 no_fault : (start : LinkStart) (link : LinkState) (failed fails reads : Bool)
     (sends : Option Error) (lost : Option Fail) → fails ≡ failed || false
@@ -209,47 +225,53 @@ no_fault start link failed fails reads sends lost stays m =
     or_none true = refl
     or_none false = refl
 
--- a write to the link: a fault of it is kept
+-- a write to the link, no other having failed: a fault of it is kept
 pub marked_write : (start : LinkStart) (before after : LinkState) (part : List ℕ)
     (answer : Put) (failed fails reads : Bool) (sends : Option Error) (lost : Option Fail)
     → Writes before part after answer → fails ≡ failed || is_fault answer
-    → start.faults ≤ before.faults → TellsFaults start before
+    → start.faults ≤ before.faults → sends ≡ None
+    → (failed ≡ false → before.faults ≡ start.faults)
     → AreMarked start before failed reads sends lost
     → AreMarked start after fails reads (put_error answer sends) lost
-marked_write start before after part (put.Took n) failed fails reads sends lost w stays least tells
-    m =
+marked_write start before after part (put.Took n) failed fails reads sends lost w stays least
+    unsent stood m =
     no_fault start after failed fails reads sends lost stays
     (marked_leaves start before after failed reads sends lost
     (record { reads = w.read_faults; writes = w.write_faults; faults = w.faults }) m)
-marked_write start before after part put.NotReady failed fails reads sends lost w stays least tells
-    m =
+marked_write start before after part put.NotReady failed fails reads sends lost w stays least
+    unsent stood m =
     no_fault start after failed fails reads sends lost stays
     (marked_leaves start before after failed reads sends lost
     (record { reads = w.read_faults; writes = w.write_faults; faults = w.faults }) m)
-marked_write start before after part put.Silent failed fails reads sends lost w stays least tells
-    m =
+marked_write start before after part put.Silent failed fails reads sends lost w stays least
+    unsent stood m =
     no_fault start after failed fails reads sends lost stays
     (marked_same start before after failed failed reads sends lost w.same refl m)
 marked_write start before after part (put.Failed fault) failed fails reads sends lost w stays least
-    tells m = record {
+    unsent stood m = record {
       reads = λ none. Since-kept [] start.read_faults before.read_faults after.read_faults []
           w.read_faults (m.reads none);
       writes = λ none. absurd (cc);
-      calm = λ unread unsent. absurd (cc);
+      calm = λ unread sent. absurd (cc);
       named = λ e is. inl (record {
         fault = fault;
         is = some_error e (fault_error fault) (sym is);
         kind = w.kind;
         rose = rose_from start.faults before.faults after.faults least w.faults;
-        before = tells.writes;
-        behind = [];
-        told = Since-grows [] start.write_faults before.write_faults after.write_faults tells.writes
-            (fault ∷ []) w.write_faults tells.written;
+        told = Since-grows [] start.write_faults before.write_faults after.write_faults []
+            (fault ∷ []) w.write_faults (m.writes unsent);
+        once = λ unread. record {
+          before = before;
+          after = after;
+          calm = stood (m.calm unread unsent);
+          fails = w;
+          since = refl;
+        };
       });
       short = m.short;
     }
 marked_write start before after part put.OutOfMemory failed fails reads sends lost w stays least
-    tells m =
+    unsent stood m =
     no_fault start after failed fails reads sends lost stays
     (marked_leaves start before after failed reads sends lost
     (record {

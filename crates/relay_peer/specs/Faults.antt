@@ -1,8 +1,8 @@
 -- Which faults a link answered: a peer's since it was handed out, a client's since its request
 -- began.
-use Rattle.std.specs.Prelude.{ℕ, List, [], ◌∷◌, ◌++◌, Option}
+use Rattle.std.specs.Prelude.{◌≡◌, ℕ, List, [], ◌∷◌, ◌++◌, Option}
 use Rattle.relay_tasks.specs.declared.fault.Fault.{Fault}
-use Rattle.relay_links.specs.Link.{LinkState, LinkStart, IsReadFault, IsWriteFault}
+use Rattle.relay_links.specs.Link.{LinkState, LinkStart, IsReadFault, IsWriteFault, FailsWrite}
 use Rattle.relay_links.specs.Told.{Since}
 
 -- the link answered that fault on a read or on a write: it is of a kind that such a call answers,
@@ -14,6 +14,15 @@ pub data HasAnswered (start : LinkStart) (link : LinkState) (fault : Fault) : Ty
   on_write : IsWriteFault fault → (before behind : List Fault)
       → Since [] start.write_faults link.write_faults (before ++ fault ∷ behind)
       → HasAnswered start link fault
+
+-- one call of the link failed since it was handed out, and that was a write, with that fault: the
+-- count of faults stood till then, and it has stood since
+pub record FailsOnce (start : LinkStart) (link : LinkState) (fault : Fault) : Type 0 where
+  pub before : LinkState
+  pub after : LinkState
+  pub calm : before.faults ≡ start.faults
+  pub fails : FailsWrite before fault after
+  pub since : link.faults ≡ after.faults
 
 -- the faults of reads and of writes, in order, where the link tells them
 pub record TellsFaults (start : LinkStart) (link : LinkState) : Type 0 where

@@ -1,6 +1,6 @@
 -- The upstream's side: what passed between a peer and its client since the link was handed out, and
 -- why the side answers with an error (RFC 9110, section 15.2; RFC 9112, sections 3 to 8).
-use Rattle.std.specs.Prelude.{◌≡◌, ℕ, All, ◌≤◌, Bool, true, false, not, ◌==◌, ◌⊎◌, List, [], ◌∷◌, ◌++◌, length, Option, Some, None, is_some, Result, Ok, Err}
+use Rattle.std.specs.Prelude.{◌≡◌, ℕ, All, ◌≤◌, Bool, true, false, not, ◌==◌, ◌&&◌, ◌⊎◌, List, [], ◌∷◌, ◌++◌, length, Option, Some, None, is_some, is_none, Result, Ok, Err}
 use Rattle.std.specs.List.{list_any, concat}
 use Rattle.relay_tasks.specs.declared.context.Context.{Context}
 use Rattle.relay_tasks.specs.declared.error.Error.{Error}
@@ -37,7 +37,7 @@ use Rattle.relay_core.specs.Told.{fault_of}
 use Rattle.relay_core.specs.Up.{UpState}
 use Rattle.relay_core.specs.declared.step.UpKind.TheVariants.{H1}
 use Rattle.relay_peer.specs.declared.peer_side.PeerSide.{PeerSide}
-use Rattle.relay_peer.specs.Faults.{HasAnswered, TellsFaults}
+use Rattle.relay_peer.specs.Faults.{HasAnswered, FailsOnce, TellsFaults}
 use Rattle.relay_peer.specs.Body.{IsFrontOf, bytes_of, body_of, sent_with, sent_as}
 
 -- ---- the response
@@ -97,12 +97,13 @@ pub record AreTasks
 
 -- ---- the side
 
--- the state of the side
+-- the state of the side: nothing is pending once something kept it from sending, so that no write
+-- is made behind one that failed
 abbrev pub state_of : {L : Type 0} → PeerSide L → UpState
 state_of side = record {
   kind = H1;
   upgraded = false;
-  pending = not (length side.client.request.unsent == 0);
+  pending = not (length side.client.request.unsent == 0) && is_none side.send_failed;
   told = side.told;
   read_failed = side.read_failed;
   send_failed = side.send_failed;
@@ -181,19 +182,24 @@ pub record IsPeer {L : Type 0}
   pub takes : lost ≡ None → q.lost ≡ false
   pub why_lost : (e : Error) → lost ≡ Some (fail.Error e) → PeerBlames start link head o.asked q e
 
--- the error tells of a fault that the link answered on a write, which is among those that it tells
-pub record IsWriteError (start : LinkStart) (link : LinkState) (e : Error) : Type 0 where
+-- the error tells of a fault that a write of the link answered, the only one of its writes; and
+-- where no read failed, that is the one call of it that did
+pub record IsWriteError (start : LinkStart) (link : LinkState) (read_failed : Bool) (e : Error)
+    : Type 0 where
   pub fault : Fault
   pub is : e ≡ fault_error fault
   pub kind : IsWriteFault fault
   pub rose : Rose start.faults link.faults
-  pub before : List Fault
-  pub behind : List Fault
-  pub told : Since [] start.write_faults link.write_faults (before ++ fault ∷ behind)
+  pub told : Since [] start.write_faults link.write_faults (fault ∷ [])
+  pub once : read_failed ≡ false → FailsOnce start link fault
+
+-- the error tells of the one fault that the link answered: a write failed, and no other call of it
+abbrev pub IsOnlyFault : LinkStart → LinkState → Error → Type 0
+IsOnlyFault start link e = IsWriteError start link false e
 
 -- an error with which nothing more is sent: that of a write, or that of a request that ends short
-abbrev pub CannotSend : LinkStart → LinkState → Error → Type 0
-CannotSend start link e = IsWriteError start link e ⊎ (e ≡ short_request)
+abbrev pub CannotSend : LinkStart → LinkState → Bool → Error → Type 0
+CannotSend start link read_failed e = IsWriteError start link read_failed e ⊎ (e ≡ short_request)
 
 -- what the marks of the side tell: where no read answered an error, no read of the link failed,
 -- where it tells its faults; where no error kept anything from being sent, no write did; where
@@ -204,7 +210,7 @@ pub record AreMarked
   pub reads : read_failed ≡ false → Since [] start.read_faults link.read_faults []
   pub writes : send_failed ≡ None → Since [] start.write_faults link.write_faults []
   pub calm : read_failed ≡ false → send_failed ≡ None → failed ≡ false
-  pub named : (e : Error) → send_failed ≡ Some e → CannotSend start link e
+  pub named : (e : Error) → send_failed ≡ Some e → CannotSend start link read_failed e
   pub short : (e : Error) → lost ≡ Some (fail.Error e) → e ≡ short_request
 
 -- what passed over a link that had been used before or not

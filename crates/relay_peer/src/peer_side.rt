@@ -31,7 +31,8 @@ pub struct PeerSide<L> {
     told: Told,
     // Why no more of the request is queued, once a piece was lost.
     lost: Option<Fail>,
-    // Whether a read answered an error, and the last error with which nothing could be sent.
+    // Whether a read answered an error, and the last error with which nothing could be sent: from
+    // then on nothing is pending, so that the link is written no more.
     read_failed: bool,
     send_failed: Option<Error>,
 }
@@ -258,7 +259,7 @@ impl<L: ByteLink> Up for PeerSide<L> {
     }
 
     fn has_pending(&self) -> bool {
-        self.client.has_pending()
+        self.client.has_pending() && self.send_failed.is_none()
     }
 
     fn write_pending(&mut self) -> Put {

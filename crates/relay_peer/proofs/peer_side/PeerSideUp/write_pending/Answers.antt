@@ -3,7 +3,7 @@ use Rattle.std.proofs.Common.{Option, ap, sym, subst, ◌∙◌}
 use Rattle.relay_tasks.specs.declared.error.Error.{Error}
 use Rattle.relay_peer.specs.declared.h1_client.H1Client.{H1Client}
 use Rattle.relay_peer.specs.Peer.{AreMarked}
-use Rattle.relay_peer.proofs.MarkLemmas.{marked_write}
+use Rattle.relay_peer.proofs.MarkLemmas.{marked_write, unsent_here}
 use Rattle.relay_peer.proofs.SideLemmas.{side_on, calm_put}
 use Rattle.relay_peer.proofs.SendLemmas.{write_goes}
 use Rattle.relay_peer.proofs.UseLemmas.{put_uses, put_asked}
@@ -25,7 +25,8 @@ returns-clause-goes g c = λ s q stands.
     c.write_pending-put.result c.args.self.now.client.failed c.write_pending-put.new.self.failed
     c.args.self.now.read_failed c.args.self.now.send_failed c.args.self.now.lost
     c.write_pending-put.ensures.answer.writes c.write_pending-put.ensures.failed
-    stands.peer.faults stands.peer.tells stands.marked))
+    stands.peer.faults (unsent_here _ c.args.self.now.send_failed c.requires) stands.peer.calm
+    stands.marked))
     stands
     (write_goes s (g.L.ByteLink.start c.args.self.now.client.link)
     (g.L.ByteLink.start c.write_pending-put.new.self.link)
