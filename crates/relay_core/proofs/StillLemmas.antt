@@ -243,4 +243,8 @@ pub wait_stands : (b : Branch) (old new : State) (result : Step) → StepsTo b o
     → (pause : Pause) → result ≡ step.Waited pause → Stands old new
 wait_stands b old new result by pause h =
     let s = wait_still b old new result pause by h in
-    record { duplex = s.duplex; pending = ap (λ (side : DownState). side.pending) s.down }
+    record {
+      duplex = s.duplex;
+      pending = ap (λ (side : DownState). side.pending) s.down;
+      calls = ap (λ (side : DownState). side.calls) s.down;
+    }

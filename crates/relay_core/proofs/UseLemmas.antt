@@ -25,13 +25,14 @@ use Rattle.relay_core.specs.declared.step.Step.{Step}
 use Rattle.relay_core.specs.declared.step.Step.TheVariants as step
 use Rattle.relay_core.specs.Asked.{Brings}
 use Rattle.relay_core.specs.Batch.{batch_of, rest_of, plain_front}
+use Rattle.relay_core.specs.Down.{DownState}
 use Rattle.relay_core.specs.Pipe.{is_failure}
 use Rattle.relay_core.specs.Piece.{task_put_of}
 use Rattle.relay_core.specs.Sound.{IsSound}
 use Rattle.relay_core.specs.State.{is_reading, is_response_done, finished}
 use Rattle.relay_core.specs.Steps.{StepsTo, with_requests, with_responses}
 use Rattle.relay_core.specs.Table.{State, enabled, down_runs, up_runs, is_failed, step_of_up_write, step_of_down_write, step_of_up_take, step_of_batch, step_of_up_read, step_of_down_read, step_of_half, step_of_up_finish, step_of_down_finish, after_up_take, after_up_finish, after_down_finish, with_piece_read, with_piece_sent, custom_error}
-use Rattle.relay_core.specs.Uses.{IsUsed, MayUse, ReadUses, WriteUses, StepUses, PutsTask, Asks, GainsTask, LosesTasks, MovesInside, HasMoved, BranchUses, BranchGains}
+use Rattle.relay_core.specs.Uses.{IsUsed, MayUse, ReadUses, WriteUses, StepUses, PutsOrCalls, Asks, GainsTask, LosesTasks, ReadsInside, MovesInside, HasMoved, BranchUses, BranchGains}
 use Rattle.relay_core.proofs.BoolLemmas.{and_left, and_right, not_true}
 use Rattle.relay_core.proofs.KeepLemmas.{up_open, down_open}
 use Rattle.relay_core.proofs.MoveLemmas.{batch-rest, leaves_batch, leaves_piece}
@@ -104,16 +105,17 @@ module _ (before after : LinkState) where
   brings_gains old new (inr gave) = inl gave.gives.used
 
   -- a piece that puts a task is one more in the pipe
-  pub put_gains : (d : Duplex) (upgraded : Bool) (piece : Piece)
-      → IsUsed before after ⊎ PutsTask upgraded piece
-      → IsUsed before after
-      ⊎ GainsTask d.requests.tasks (with_piece_read d upgraded piece).requests.tasks
-  put_gains d upgraded piece (inl used) = inl used
-  put_gains d upgraded piece (inr puts) = inr (by_task (task_put_of upgraded piece) refl puts)
+  pub put_gains : (d : Duplex) (side side' : DownState) (piece : Piece)
+      → IsUsed before after ⊎ PutsOrCalls side side' piece
+      → IsUsed before after ⊎ ReadsInside d side (with_piece_read d side.upgraded piece) side'
+  put_gains d side side' piece (inl used) = inl used
+  put_gains d side side' piece (inr (inr called)) = inr (inr called)
+  put_gains d side side' piece (inr (inl puts)) =
+      inr (inl (by_task (task_put_of side.upgraded piece) refl puts))
     where
-      by_task : (task : Option HttpTask) → task_put_of upgraded piece ≡ task
+      by_task : (task : Option HttpTask) → task_put_of side.upgraded piece ≡ task
           → is_some task ≡ true
-          → GainsTask d.requests.tasks (with_piece_read d upgraded piece).requests.tasks
+          → GainsTask d.requests.tasks (with_piece_read d side.upgraded piece).requests.tasks
       by_task None is some = absurd (cc)
       by_task (Some task) is some = (task, rw is refl)
 
@@ -300,11 +302,11 @@ module _ (client client' upstream upstream' : LinkState) where
     moves = moves;
   })
 
-  -- a step that moved asked its link, or it moved a task or brought an end
+  -- a step that moved asked its link, or it moved a task, brought an end or called a hook
   pub step_moved : (b : Branch) (old new : State) (result : Step) → enabled old b ≡ true
       → IsSound old → StepsTo b old new result
       → BranchUses b result client client' upstream upstream' → result ≡ step.Moved
-      → BranchGains b old.duplex new.duplex client client' upstream upstream'
+      → BranchGains b old new client client' upstream upstream'
       → HasMoved b old new client client' upstream upstream'
   step_moved branch.UpWrite old new result on sound by uses moved gains =
       inl (record { used = gains; other_same = uses.1 })
@@ -371,9 +373,9 @@ module _ (client client' upstream upstream' : LinkState) where
       subst (λ (r : Step). StepUses client client' r) moved uses.0 in
       elim gains [
         | inl used ↦ inl (record { used = used; other_same = uses.1 })
-        | inr task ↦ elim may [
+        | inr moves ↦ elim may [
           | inl used ↦ inl (record { used = used; other_same = uses.1 })
-          | inr still ↦ inside branch.DownRead old new (uses.1, still) task
+          | inr still ↦ inside branch.DownRead old new (uses.1, still) moves
         ]
       ]
   step_moved branch.UpFinish old new result on sound by uses moved gains =

@@ -1,5 +1,5 @@
 -- The client's side of a duplex: its meaning, and what each of its answers does.
-use Rattle.std.specs.Prelude.{◌≡◌, Bool, true, false, ◌&&◌, ◌||◌, not, if◌then◌else◌, List, [], ◌∷◌, Result, Ok, Err, IsTrue}
+use Rattle.std.specs.Prelude.{◌≡◌, ◌≤◌, ℕ, Bool, true, false, ◌&&◌, ◌||◌, not, if◌then◌else◌, List, [], ◌∷◌, Result, Ok, Err, IsTrue}
 use Rattle.std.specs.List.{list_any}
 use Rattle.relay_tasks.specs.declared.error.Error.{Error}
 use Rattle.relay_tasks.specs.declared.error.ErrorSource.TheVariants.{Downstream}
@@ -20,7 +20,8 @@ use Rattle.relay_core.specs.Told.{paused, failed, written}
 -- the client's side: whether the end of the request was among its pieces (or went with the head)
 -- and no 101 was accepted since; whether its body has ended; whether it waits for the answer to an
 -- upgrade, and whether it was upgraded; whether its response is done, and the response's body was
--- finished; whether output is pending; and what it tells of its answers
+-- finished; whether output is pending; what it tells of its answers; and how many calls of hooks
+-- its reads have made
 pub record DownState : Type 0 where
   pub request_ended : Bool
   pub body_done : Bool
@@ -30,6 +31,7 @@ pub record DownState : Type 0 where
   pub body_finished : Bool
   pub pending : Bool
   pub told : Told
+  pub calls : ℕ
 
 -- nothing more of the response comes: it is done, or its body was finished
 abbrev pub is_answered : DownState → Bool
@@ -40,16 +42,19 @@ is_answered side = side.response_done || side.body_finished
 abbrev pub may_read : DownState → Bool
 may_read side = not (side.body_done && (side.awaits_upgrade || is_answered side))
 
--- a piece came. The client's end ends the request, and nothing is put behind the request's end
+-- a piece came. The client's end ends the request, nothing is put behind the request's end, and no
+-- call of a hook is taken back
 pub record GivesPiece (before after : DownState) (piece : Piece) : Type 0 where
   pub exact : after ≡ record before {
     request_ended = before.request_ended || piece.upstream_end;
     body_done = before.body_done || piece.client_end;
+    calls = after.calls;
   }
   pub ends : IsTrue piece.client_end → after.request_ended ≡ true
   pub nothing_behind : IsTrue before.request_ended → put_of before.upgraded piece ≡ []
+  pub calls_stay : before.calls ≤ after.calls
 
--- what a read of a piece does, by its answer
+-- what a read of a piece does, by its answer: hooks may be called with a piece, or refuse it
 abbrev pub ReadsPiece : DownState → DownState → Took Piece → Type 0
 ReadsPiece before after (took.Item piece) = GivesPiece before after piece
 ReadsPiece before after took.More = after ≡ before
@@ -57,7 +62,7 @@ ReadsPiece before after (took.Waited pause) =
     after ≡ record before { told = paused pause before.told }
 ReadsPiece before after took.End = ⊥
 ReadsPiece before after (took.Failed fail) =
-    after ≡ record before { told = failed fail before.told }
+    after ≡ record before { told = failed fail before.told; calls = after.calls }
 
 -- a 101 was accepted in between
 abbrev pub accepts : DownState → DownState → Bool

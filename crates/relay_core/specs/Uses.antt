@@ -1,5 +1,5 @@
 -- What a step moved, and which link it asked for that: one of them once, or neither.
-use Rattle.std.specs.Prelude.{◌≡◌, Bool, true, false, ◌⊎◌, List, [], ◌∷◌, ◌++◌, is_some}
+use Rattle.std.specs.Prelude.{◌≡◌, ◌<◌, Bool, true, false, ◌⊎◌, List, [], ◌∷◌, ◌++◌, is_some}
 use Rattle.relay_tasks.specs.declared.task.HttpTask.{HttpTask}
 use Rattle.relay_tasks.specs.declared.took.Pause.TheVariants as pause
 use Rattle.relay_tasks.specs.declared.took.Took.{Took}
@@ -14,6 +14,7 @@ use Rattle.relay_core.specs.declared.duplex.Duplex.{Duplex}
 use Rattle.relay_core.specs.declared.piece.Piece.{Piece}
 use Rattle.relay_core.specs.declared.step.Step.{Step}
 use Rattle.relay_core.specs.declared.step.Step.TheVariants as step
+use Rattle.relay_core.specs.Down.{DownState}
 use Rattle.relay_core.specs.Piece.{task_put_of}
 use Rattle.relay_core.specs.State.{is_reading, is_response_done}
 use Rattle.relay_core.specs.Table.{State}
@@ -56,6 +57,14 @@ StepUses before after (step.Failed why) = MayUse before after
 -- the piece puts a task into the request pipe
 abbrev pub PutsTask : Bool → Piece → Type 0
 PutsTask upgraded piece = is_some (task_put_of upgraded piece) ≡ true
+
+-- the reads of the client made calls of hooks
+abbrev pub HasCalled : DownState → DownState → Type 0
+HasCalled before after = before.calls < after.calls
+
+-- the piece puts a task, or a hook was called with it
+abbrev pub PutsOrCalls : DownState → DownState → Piece → Type 0
+PutsOrCalls before after piece = PutsTask before.upgraded piece ⊎ HasCalled before after
 
 -- ---- both links
 
@@ -102,8 +111,13 @@ pub record LosesTasks (before after : List HttpTask) : Type 0 where
   pub more : List HttpTask
   pub parts : before ≡ (first ∷ more) ++ after
 
+-- a read of the client put a task into the request pipe, or called a hook with what it read
+abbrev pub ReadsInside : Duplex → DownState → Duplex → DownState → Type 0
+ReadsInside before side after side' =
+    GainsTask before.requests.tasks after.requests.tasks ⊎ HasCalled side side'
+
 -- what a step by that branch moved where it asked no link: a task was put into a pipe or taken out
--- of one, or an end came
+-- of one, an end came, or a hook was called
 abbrev pub MovesInside : Branch → State → State → Type 0
 MovesInside branch.UpWrite old new = ⊥
 MovesInside branch.DownWrite old new = ⊥
@@ -119,8 +133,7 @@ MovesInside branch.DownClosed old new =
     (is_reading old.duplex.client_request ≡ true) × (is_reading new.duplex.client_request ≡ false)
 MovesInside branch.UpRead old new =
     GainsTask old.duplex.responses.tasks new.duplex.responses.tasks
-MovesInside branch.DownRead old new =
-    GainsTask old.duplex.requests.tasks new.duplex.requests.tasks
+MovesInside branch.DownRead old new = ReadsInside old.duplex old.down new.duplex new.down
 MovesInside branch.UpFinish old new =
     (old.duplex.upstream_finished ≡ false) × (new.duplex.upstream_finished ≡ true)
 MovesInside branch.DownFinish old new =
@@ -194,8 +207,9 @@ BranchUses branch.DownFinish result client client' upstream upstream' =
 BranchUses branch.MessageUp result client client' upstream upstream' = ⊥
 BranchUses branch.MessageDown result client client' upstream upstream' = ⊥
 
--- what a branch that asks a link did where it moved: it asked that link, or put a task
-abbrev pub BranchGains : Branch → Duplex → Duplex → LinkState → LinkState → LinkState → LinkState
+-- what a branch that asks a link did where it moved: it asked that link, put a task, or called a
+-- hook
+abbrev pub BranchGains : Branch → State → State → LinkState → LinkState → LinkState → LinkState
     → Type 0
 BranchGains branch.UpWrite old new client client' upstream upstream' = IsUsed upstream upstream'
 BranchGains branch.DownWrite old new client client' upstream upstream' = IsUsed client client'
@@ -205,15 +219,18 @@ BranchGains branch.DownDrop old new client client' upstream upstream' = Unit {0}
 BranchGains branch.DownEnd old new client client' upstream upstream' = Unit {0}
 BranchGains branch.DownClosed old new client client' upstream upstream' = Unit {0}
 BranchGains branch.UpRead old new client client' upstream upstream' =
-    IsUsed upstream upstream' ⊎ GainsTask old.responses.tasks new.responses.tasks
+    IsUsed upstream upstream'
+    ⊎ GainsTask old.duplex.responses.tasks new.duplex.responses.tasks
 BranchGains branch.DownRead old new client client' upstream upstream' =
-    IsUsed client client' ⊎ GainsTask old.requests.tasks new.requests.tasks
+    IsUsed client client' ⊎ ReadsInside old.duplex old.down new.duplex new.down
 BranchGains branch.UpFinish old new client client' upstream upstream' = Unit {0}
 BranchGains branch.DownFinish old new client client' upstream upstream' = Unit {0}
 BranchGains branch.MessageUp old new client client' upstream upstream' = Unit {0}
 BranchGains branch.MessageDown old new client client' upstream upstream' = Unit {0}
 
--- a step that waits leaves the duplex, and whether output is pending for the client
+-- a step that waits leaves the duplex, whether output is pending for the client, and the calls of
+-- hooks
 pub record Stands (old new : State) : Type 0 where
   pub duplex : new.duplex ≡ old.duplex
   pub pending : new.down.pending ≡ old.down.pending
+  pub calls : new.down.calls ≡ old.down.calls

@@ -6,7 +6,7 @@ ghost use Rattle.relay_core.specs.Down.{may_read};
 ghost use Rattle.relay_core.specs.Pipe.{has_room};
 ghost use Rattle.relay_core.specs.Past.{Origin, DownPast};
 ghost use Rattle.relay_core.specs.Steps.{DownWrites, DownWritesOn, DownTakes, DownTakesOn, GivesBatch, GivesBatchOn, DownDrops, DownReads, DownReadsOn, DownEnds, DownEndsOn, Becomes};
-ghost use Rattle.relay_core.specs.Uses.{GainsTask, IsUsed, StepUses};
+ghost use Rattle.relay_core.specs.Uses.{IsUsed, ReadsInside, StepUses};
 ghost use Rattle.relay_core.specs.Table.{after_down_write, step_of_down_write, with_upgrade, with_response_done, with_request_done, with_piece_read, with_client_finished};
 
 use crate::batch::{has_end, next_batch};
@@ -145,7 +145,7 @@ impl Duplex {
         ensures asks { StepUses (D.link client.old) (D.link client.new) result }
         ensures gains { (s : Origin) (p : DownPast) → D.past down.old client.old s p
             → result ≡ Step.Moved → IsUsed (D.link client.old) (D.link client.new)
-            ⊎ GainsTask self.old.requests.tasks self.new.requests.tasks }
+            ⊎ ReadsInside self.old (D.state down.old) self.new (D.state down.new) }
         ensures calm { says_failed result ≡ false
             → (D.link client.new).faults ≡ (D.link client.old).faults }
     {

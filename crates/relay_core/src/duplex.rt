@@ -285,15 +285,16 @@ impl Duplex {
             → branch ≡ Branch.UpRead → result ≡ Step.Moved
             → Brings self.old self.new (U.link up.old) (U.link up.new) }
 
-        // The branch asks its link, and what it moved is that link's or a task.
+        // The branch asks its link, and what it moved is that link's or a task, or it called a hook.
         ensures links { BranchUses branch result (D.link client.old) (D.link client.new)
             (U.link up.old) (U.link up.new) }
         ensures gains { (s : Origin) (p : DownPast) (q : UpPast)
             → SoFar (D.past down.old client.old s) (U.past up.old s) (U.blames up.old s)
             (core self.old (D.state down.old) (U.state up.old)) p q
             → result ≡ Step.Moved
-            → BranchGains branch self.old self.new (D.link client.old) (D.link client.new)
-            (U.link up.old) (U.link up.new) }
+            → BranchGains branch (core self.old (D.state down.old) (U.state up.old))
+            (core self.new (D.state down.new) (U.state up.new)) (D.link client.old)
+            (D.link client.new) (U.link up.old) (U.link up.new) }
 
         // A step that does not fail leaves the count of the client's faults.
         ensures calm { says_failed result ≡ false
@@ -373,8 +374,8 @@ impl Duplex {
             (U.link up.new) }
 
         // A step asks one link once, or none. One that moved asked the link of its branch, or it
-        // put a task into a pipe, took some out of one, or brought an end; and one that waits
-        // leaves the duplex as it was.
+        // put a task into a pipe, took some out of one, brought an end, or called a hook; and one
+        // that waits leaves the duplex as it was.
         ensures asks { Asks result (D.link client.old) (D.link client.new) (U.link up.old)
             (U.link up.new) }
         ensures moves { (s : Origin) (p : DownPast) (q : UpPast)

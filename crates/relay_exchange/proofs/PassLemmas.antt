@@ -2,7 +2,7 @@
 --
 --   may_ask       from Asks, whatever the answer: one link was asked once, or none
 --   asks_from, moved_from    from where the first branch began
-use Rattle.std.proofs.Common.{◌≡◌, ◌⊎◌, sym, ap, ◌∙◌, subst, inl, inr}
+use Rattle.std.proofs.Common.{◌≡◌, ℕ, ◌<◌, ◌⊎◌, sym, ap, ◌∙◌, subst, inl, inr}
 use Rattle.relay_tasks.specs.declared.took.Pause.TheVariants as pause
 use Rattle.relay_links.specs.Link.{LinkState}
 use Rattle.relay_links.specs.declared.branch.Branch.{Branch}
@@ -41,8 +41,9 @@ asks_from result client₀ client client' upstream₀ upstream upstream' is is' 
 
 module _ (first mid new : State) (same : mid.duplex ≡ first.duplex)
     (pending : mid.down.pending ≡ first.down.pending)
+    (calls : mid.down.calls ≡ first.down.calls)
   where
-    -- the same of a task or an end, whose branch another duplex than that one does not see
+    -- the same of a task, an end or a call, whose branch another duplex than that one does not see
     at : (b : Branch) → MovesInside b (core first.duplex mid.down mid.up) new
         → MovesInside b first new
     at branch.UpWrite moves = moves
@@ -53,7 +54,10 @@ module _ (first mid new : State) (same : mid.duplex ≡ first.duplex)
     at branch.DownEnd moves = moves
     at branch.DownClosed moves = moves
     at branch.UpRead moves = moves
-    at branch.DownRead moves = moves
+    at branch.DownRead moves = elim moves [
+      | inl task ↦ inl task
+      | inr called ↦ inr (subst (λ (n : ℕ). n < new.down.calls) calls called)
+    ]
     at branch.UpFinish moves = moves
     at branch.DownFinish moves = elim moves [
       | inl waits ↦ inl (sym pending ∙ waits.0, waits.1)

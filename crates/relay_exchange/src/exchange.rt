@@ -98,7 +98,7 @@ impl<D, U: Up> Exchange<D, U> {
             (core self.new.duplex (D.state self.new.down) (U.state self.new.up))
             (D.link client.old) (D.link client.new) (U.link self.old.up) (U.link self.new.up) }
         // A turn asks one link once, or none. One that moved asked the link of its branch, or it
-        // put a task into a pipe, took some out of one, or brought an end.
+        // put a task into a pipe, took some out of one, brought an end, or called a hook.
         ensures asks { Asks result.step (D.link client.old) (D.link client.new)
             (U.link self.old.up) (U.link self.new.up) }
         ensures moves { (s : Origin) (p : DownPast) (q : UpPast)

@@ -60,7 +60,7 @@ pub(crate) fn go_round<C, D: Down<C>, U: Up, H: Schedule>(
         × (U.link up.new ≡ U.link up.old) }
 
     // It asks one link once, or none; and one that moved asked the link of its branch, or it moved
-    // a task or brought an end.
+    // a task, brought an end or called a hook.
     ensures asks { Asks result.0 (D.link client.old) (D.link client.new) (U.link up.old)
         (U.link up.new) }
     ensures moves { (s : Origin) (p : DownPast) (q : UpPast)

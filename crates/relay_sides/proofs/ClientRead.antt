@@ -147,6 +147,7 @@ reads_state before after ahead left old new told done finished broken (took.Item
       (done_joins before after ahead left old new (took.Item bytes) l) l.response;
   ends = λ is. is;
   nothing_behind = λ ended. absurd (l.watches (l.is_still ∙ ended));
+  calls_stay = omega arith;
 }
 reads_state before after ahead left old new told done finished broken took.More l =
     state_same old new told done finished broken
@@ -162,6 +163,7 @@ reads_state before after ahead left old new told done finished broken took.End l
             (rw open_still (l.ends (l.is_still ∙ open_still))) l.response;
         ends = λ is. l.ends (l.is_still ∙ open_still);
         nothing_behind = λ ended. absurd (l.watches (l.is_still ∙ ended));
+        calls_stay = omega arith;
       }
     ]
 reads_state before after ahead left old new told done finished broken (took.Failed why) l =

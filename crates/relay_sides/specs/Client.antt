@@ -48,7 +48,7 @@ queued p = p.batched ++ p.closing
 
 -- the state of the side, whose last batch left the response done or not, and whose response's end
 -- was asked for or not; `kept` is the fault of the first write that failed. That stays pending, to
--- be answered again
+-- be answered again. It calls no hook
 abbrev pub state_of : HttpSession → Told → Bool → Bool → Option Fault → DownState
 state_of session told done finished kept = record {
   request_ended = is_body_done session.reading;
@@ -59,6 +59,7 @@ state_of session told done finished kept = record {
   body_finished = finished;
   pending = not (length (pending session.writing.output) == 0) || is_some kept;
   told = told;
+  calls = 0;
 }
 
 -- the fault is of the kind that a write answers, and among those that the client's link told of its

@@ -97,6 +97,7 @@ impl Down<()> for Client {
       body_finished = c.finished;
       pending = c.pending;
       told = c.told;
+      calls = 0;
     } };
 
     ghost past = { λ c client s p. (p.put ≡ c.put)

@@ -48,6 +48,7 @@ loop-turn-init g c =
       t.ensures.peer_start,
       (t.ensures.stands pause.Silent silent).duplex,
       (t.ensures.stands pause.Silent silent).pending,
+      (t.ensures.stands pause.Silent silent).calls,
     )
 
 -- a branch that cannot be taken is passed
@@ -72,6 +73,7 @@ loop-turn-preserved-then-not-enabled g c =
       i.7,
       i.8,
       i.9,
+      i.10,
     )
 
 -- the first branch that met no silence goes on from those before it
@@ -119,6 +121,7 @@ loop-turn-preserved g c =
       t.ensures.peer_start ∙ i.7,
       (t.ensures.stands pause.Silent silent).duplex ∙ i.8,
       (t.ensures.stands pause.Silent silent).pending ∙ i.9,
+      (t.ensures.stands pause.Silent silent).calls ∙ i.10,
     )
 
 -- all branches were passed: each that can be taken asks a silent link
@@ -177,7 +180,7 @@ returns-then-not-is_silent-2-clause-moves g c = λ s p q f is.
     moved_from
     (core c.args.duplex.now (g.D.Down.state c.args.down.now) (g.U.Up.state c.args.up.now))
     (core c.loop-turn.duplex (g.D.Down.state c.loop-turn.down) (g.U.Up.state c.loop-turn.up))
-    (core t.new.self (g.D.Down.state t.new.down) (g.U.Up.state t.new.up)) i.8 i.9 _
+    (core t.new.self (g.D.Down.state t.new.down) (g.U.Up.state t.new.up)) i.8 i.9 i.10 _
     (g.D.Down.link c.args.client.now) (g.D.Down.link c.loop-turn.client)
     (g.D.Down.link t.new.client) (g.U.Up.link c.args.up.now) (g.U.Up.link c.loop-turn.up)
     (g.U.Up.link t.new.up) i.2 i.3 (t.ensures.moves s before.p before.q before.so_far is)

@@ -34,3 +34,4 @@ invariant-loop-turn g l =
     × (g.U.Up.start l.up ≡ g.U.Up.start l.fn.up)
     × (l.duplex ≡ l.fn.duplex)
     × ((g.D.Down.state l.down).pending ≡ (g.D.Down.state l.fn.down).pending)
+    × ((g.D.Down.state l.down).calls ≡ (g.D.Down.state l.fn.down).calls)
