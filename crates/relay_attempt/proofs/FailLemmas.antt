@@ -89,7 +89,7 @@ module _ (s : Origin) (p : DownPast) (before after : LinkState) (w : WrittenTo b
   })
 
   -- the client's side still answers for the error
-  blames_still : (e : Error) → ClientBlames s p before e → ClientBlames s p after e
+  pub blames_still : (e : Error) → ClientBlames s p before e → ClientBlames s p after e
   blames_still e (client.ClientBlames.link_failed fault is rose counts) =
       client.ClientBlames.link_failed fault is
       (rose_on s.faults before.faults after.faults w.faults rose) (counts_still fault counts)

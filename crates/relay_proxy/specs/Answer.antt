@@ -44,6 +44,6 @@ QueuesAnswer (outgoing.Broken fault) e old new = new.output ≡ outgoing.Broken 
 -- what was written and what waits behind it are that text, and something waits
 pub record WaitsOf (output : Outgoing) (written text : List ℕ) : Type 0 where
   pub left : List ℕ
-  pub open : output ≡ outgoing.Open left
+  pub is_open : output ≡ outgoing.Open left
   pub some : 0 < length left
   pub joined : written ++ left ≡ text

@@ -11,6 +11,7 @@ pub mod Closing
 pub mod Exact
 pub mod Refusals
 pub mod Relaying
+pub mod Leaving
 pub mod Request
 pub mod Reuse
 pub mod Stock

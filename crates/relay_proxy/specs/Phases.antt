@@ -44,6 +44,13 @@ pub record IsLeased (p : Passed) (link : LinkState) (start : LinkStart) (lease :
   pub peer : IsAskedPeer lease.peer
   pub reused : start.reused ≡ lease.reused
 
+module _ {L : Type 0} (state : L → LinkState) (start_at : L → LinkStart) where
+  -- the exchange of an attempt failed, and its client is owed an answer, or what was queued for it
+  pub record IsFailing (s : Start) (p : Passed) (w : World) (link : L) (session : HttpSession)
+      (e : Error) : Type 0 where
+    pub failed : HasFailed s p w.client (state link) (start_at link) e
+    pub waits : WaitsOf session.writing.output p.written (owed_by failed)
+
 module _ {L C : Type 0} (state : L → LinkState) (start_at : L → LinkStart) where
   -- the exchange of an attempt is under way
   pub record IsRelaying (s : Start) (p : Passed) (w : World) (a : Attempt L C) : Type 0 where
@@ -54,19 +61,13 @@ module _ {L C : Type 0} (state : L → LinkState) (start_at : L → LinkStart) w
     pub under_way : IsUnderWay state start_at (origin_of s head a.lease.reused) p w.client w.ahead
         a.exchange
 
-  -- the exchange of an attempt failed, and its client is owed an answer, or what was queued for it
-  pub record IsFailing (s : Start) (p : Passed) (w : World) (link : L) (session : HttpSession)
-      (e : Error) : Type 0 where
-    pub failed : HasFailed s p w.client (state link) (start_at link) e
-    pub waits : WaitsOf session.writing.output p.written (owed_by failed)
-
   -- what has passed in each phase
   abbrev pub IsAt : Start → Passed → World → Phase L C → Type 0
   IsAt s p w ReadHead = IsReadingHead s p w.ahead
   IsAt s p w (Connect context session) = IsConnecting s p w session.value
   IsAt s p w (Relay a) = IsRelaying s p w a.value
   IsAt s p w (Fail link lease session error) =
-      IsLeased p (state link) (start_at link) lease × IsFailing s p w link session.value error
+      IsLeased p (state link) (start_at link) lease × IsFailing state start_at s p w link session.value error
   IsAt s p w (Close link lease keep outcome) =
       IsLeased p (state link) (start_at link) lease
       × EndsLinked s p w (state link) (start_at link) keep (error_of outcome) outcome

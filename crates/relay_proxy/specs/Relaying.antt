@@ -1,19 +1,9 @@
 -- A turn of a phase that relays, where it stands.
-use Rattle.std.specs.Prelude.{◌≡◌, ℕ, Bool, true, false, List, ◌++◌}
+use Rattle.std.specs.Prelude.{◌≡◌, ℕ, Bool, true, false, List}
 use Rattle.std.specs.Box.{with_value}
 use Rattle.std.specs.Global.{Box}
-use Rattle.relay_tasks.specs.Head.{RequestHead}
-use Rattle.relay_tasks.specs.declared.error.Error.{Error}
-use Rattle.relay_tasks.specs.declared.error.Fail.{Fail}
-use Rattle.relay_tasks.specs.declared.error.Fail.TheVariants as fail
-use Rattle.relay_tasks.specs.declared.fault.Fault.{Fault}
 use Rattle.relay_tasks.specs.declared.took.Pause.TheVariants.{NotReady, Silent}
-use Rattle.relay_links.specs.Count.{Rose}
 use Rattle.relay_links.specs.Link.{LinkState, LinkStart}
-use Rattle.relay_session.specs.Asked.{request_of}
-use Rattle.relay_session.specs.Response.{Holds}
-use Rattle.relay_session.specs.declared.session.HttpSession.{HttpSession}
-use Rattle.relay_session.specs.declared.writing.Outgoing.TheVariants as outgoing
 use Rattle.relay_core.specs.Asked.{WaitRose}
 use Rattle.relay_core.specs.Causes.{says_failed}
 use Rattle.relay_core.specs.Past.{Origin}
@@ -21,12 +11,8 @@ use Rattle.relay_core.specs.declared.step.Step.TheVariants as step
 use Rattle.relay_exchange.specs.declared.exchange.Turn.{Turn}
 use Rattle.relay_attempt.specs.Exchange.{IsUnderWay, Turns, MeetsSilence, Asks, HasMoved}
 use Rattle.relay_attempt.specs.Head.{link_of}
-use Rattle.relay_attempt.specs.Order.{FailsFor, order_of}
 use Rattle.relay_attempt.specs.Passed.{Passed}
 use Rattle.relay_attempt.specs.declared.h1_exchange.H1Exchange.{H1Exchange}
-use Rattle.relay_proxy.specs.Endings.{IsPartRelayed}
-use Rattle.relay_proxy.specs.Passed.{Start, origin_of}
-use Rattle.relay_proxy.specs.Relayable.{IsRelayable}
 use Rattle.relay_proxy.specs.Uses.{Measured}
 use Rattle.relay_proxy.specs.declared.machine.Attempt.{Attempt}
 use Rattle.relay_proxy.specs.declared.machine.Phase.{Phase}
@@ -66,25 +52,6 @@ is_answering (Ended outcome attempts) = false
 abbrev pub turned : {L C : Type 0} → Box (Attempt L C) → H1Exchange L → Box (Attempt L C)
 turned a x =
     with_value a (record { exchange = x; lease = a.value.lease; context = a.value.context })
-
--- an exchange failed with that error, and left that session: it answers the request, with the tasks
--- that were queued, of whose text so much was written; where a write failed, the client's link did
-pub record LeavesSession (s : Start) (p : Passed) (client link : LinkState) (start : LinkStart)
-    (session : HttpSession) (e : Error) : Type 0 where
-  pub head : RequestHead
-  pub relayable : IsRelayable head
-  pub why : FailsFor (origin_of s head start.reused) p client link start e
-  pub answers : session.writing.request ≡ request_of head
-  pub holds : Holds session.writing ((order_of why).batched ++ (order_of why).closing) p.written
-  pub broken : (fault : Fault) → session.writing.output ≡ outgoing.Broken fault
-      → Rose s.faults client.faults
-
--- what a failure leaves: a part of the exchange where memory was wanted, or that
-abbrev pub LeavesBy : Start → Passed → LinkState → LinkState → LinkStart → HttpSession → Fail
-    → Type 0
-LeavesBy s p client link start session fail.OutOfMemory = IsPartRelayed s p link start
-LeavesBy s p client link start session (fail.Error e) =
-    LeavesSession s p client link start session e
 
 module _ {L : Type 0} (state : L → LinkState) (start_at : L → LinkStart) where
   -- one turn of an exchange, between these states of the client's link and these bytes that were

@@ -1,6 +1,6 @@
 //! The generated answer of a request, and what was queued before it: written to the client (RFC
 //! 9110, section 15).
-ghost use Rattle.std.specs.Prelude.{◌≡◌, ◌<◌, ℕ, List, [], length};
+ghost use Rattle.std.specs.Prelude.{◌≡◌, ◌⊎◌, ◌<◌, ℕ, List, [], length};
 ghost use Rattle.relay_attempt.specs.Passed.{Passed};
 ghost use Rattle.relay_session.specs.Response.{pending, MayWrite, WritesPending};
 ghost use Rattle.relay_proxy.specs.Owed.{outcome_owed};
@@ -101,6 +101,8 @@ fn took<L, C>(session: Box<HttpSession>, owed: Owed, attempts: AttemptList) -> N
     ensures whole { pending session.value.writing.output ≡ []
         → (result.phase ≡ Phase.Ended (outcome_owed owed) attempts)
         × (result.step ≡ RunStep.Ended) }
+    ensures step { (result.step ≡ RunStep.Moved) ⊎ (result.step ≡ RunStep.Ended) }
+    ensures attempts { attempts_in result.phase ≡ attempts }
     ensures work { result.work ≡ Work.USED }
 {
     if session.has_pending() {
