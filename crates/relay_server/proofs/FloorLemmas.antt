@@ -1,5 +1,5 @@
 -- Places of a floor: what is taken out and put in, and the first that is idle.
-use Rattle.std.proofs.Common.{◌≡◌, ℕ, nat_lt, zero, suc, ◌+◌, ◌<◌, ◌≤◌, Bool, true, false, List, [], ◌∷◌, ◌++◌, map, length, get_or, Option, Some, None, refl, sym, ap, ◌∙◌, inl, inr, arith}
+use Rattle.std.proofs.Common.{◌≡◌, ℕ, nat_lt, IsSome, IfSome, IfNone, OnSome, MatchOption, zero, suc, ◌+◌, ◌<◌, ◌≤◌, Bool, true, false, List, [], ◌∷◌, map, length, get_or, Option, Some, None, refl, sym, ap, inl, inr, arith}
 use Rattle.std.specs.List.{insert, remove, position, position_or_len}
 use Rattle.std.proofs.lemmas.List.{get_or-map, get_or_default, length-map}
 use Rattle.std.proofs.lemmas.Bool.{cases_eq}
@@ -69,3 +69,14 @@ pub first_passes : {X : Type 0} (passes : X → Bool) (xs : List X) (i : ℕ) (x
 first_passes passes xs i x within first =
     let at : get_or (insert xs i x) i x ≡ x = get_or-insert_at xs i x x within in
     rw at at ((position-Some passes (insert xs i x) i x first).1)
+
+-- what a queue gave stood at its place, or nothing changed
+pub took : {V X Y : Type 0} (f : X → Y) (items : V → List X) (old new : V) (result : Option X)
+    (i : ℕ) → (IsSome result → i < length (items old))
+    → IfSome result (λ x. x ≡ get_or (items old) i x)
+    → OnSome result (items new ≡ remove (items old) i) → IfNone result (new ≡ old)
+    → MatchOption result (map f (items new) ≡ map f (items old))
+    (λ x. map f (items old) ≡ insert (map f (items new)) i (f x))
+took f items old new None i within at left same = ap (λ (v : _). map f (items v)) same
+took f items old new (Some x) i within at left same =
+    rw left (taken_at f (items old) i x (within refl) at)

@@ -1,2 +1,3 @@
 pub mod FloorLemmas
+pub mod IdleLemmas
 pub mod ServingLemmas

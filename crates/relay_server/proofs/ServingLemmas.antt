@@ -21,7 +21,7 @@ use Rattle.relay_proxy.specs.declared.outcome.Outcome.{Outcome}
 use Rattle.relay_proxy.specs.declared.outcome.Outcome.TheVariants.{NoRequest, Refused, Served, TurnLimit, OutOfMemory}
 use Rattle.relay_proxy.specs.declared.outcome.Processed.{Processed}
 use Rattle.relay_proxy.specs.declared.proxy.HttpProxy.{HttpProxy}
-use Rattle.relay_server.specs.Serving.{Books, books, CountRises, Visit, HaveEnded, EndedRequest, all_held, Divides, IsUnderWay, AreUnderWay, Serves, EndsOne, ServesOn}
+use Rattle.relay_server.specs.Serving.{Books, books, CountRises, Visit, HaveEnded, EndedRequest, all_held, AreUnderWay, Serves, EndsOne, ServesOn}
 use Rattle.relay_server.specs.Serving.AreEnded.{none, one_more}
 
 -- one more request that ended lets the count rise
@@ -58,6 +58,14 @@ add_last xs ys zs = subst (λ (l : List _). IsPermutation l ((xs ++ ys) ++ zs))
     (sym (append_assoc xs zs ys)) (subst (λ (l : List _). IsPermutation (xs ++ (zs ++ ys)) l)
     (sym (append_assoc xs ys zs))
     (IsPermutation-append_right xs (zs ++ ys) (ys ++ zs) (IsPermutation-append_comm zs ys)))
+
+-- what one gained is gained by all
+pub joins : {X : Type 0} (own rest all more : List X) → IsPermutation (own ++ rest) all
+    → IsPermutation ((own ++ more) ++ rest) (all ++ more)
+joins own rest all more joined =
+    IsPermutation-trans ((own ++ more) ++ rest) ((own ++ rest) ++ more) (all ++ more)
+    (IsPermutation-sym ((own ++ rest) ++ more) ((own ++ more) ++ rest) (add_last own more rest))
+    (IsPermutation-append_left more (own ++ rest) all joined)
 
 module _ {L C : Type 0} (state : L → LinkState) (start_at : L → LinkStart) where
   -- what has passed in a phase that goes on does not hang on the connector's count of faults
@@ -206,6 +214,15 @@ all_held-insert state start_at (suc place) visit [] = refl
 all_held-insert state start_at (suc place) visit (next ∷ rest) =
     omega (arith, all_held-insert state start_at place visit rest)
 
+-- the links of one are among those of all
+pub held_by_one : {L C D U : Type 0} (state : L → LinkState) (start_at : L → LinkStart)
+    (place : ℕ) (visit : Visit D U L C) (rest visits : List (Visit D U L C)) (out : ℕ)
+    → visits ≡ insert rest place visit → all_held state start_at visits ≤ out
+    → links_held state start_at visit.phase ≤ out
+held_by_one state start_at place visit rest visits out taken held =
+    let all : all_held state start_at (insert rest place visit) ≤ out = rw taken at held in
+    omega (arith, all, all_held-insert state start_at place visit rest)
+
 module _ {L C D U : Type 0}
     (state : L → LinkState) (start_at : L → LinkStart) (client_state : D → LinkState) where
   -- requests that are under way go on while calls of the connector fail for others
@@ -297,15 +314,6 @@ module _ {L C D U : Type 0}
         → StepsOn state start_at s p (world_of client_state next.client now.faults) own
         old.returned now.returned t u h k (client_state visit.client.link) i j visit.phase
         next.phase
-
-  -- what a turn hands back joins the links of its request
-  joins : (own rest links handed : List (Returned L)) → IsPermutation (own ++ rest) links
-      → IsPermutation ((own ++ handed) ++ rest) (links ++ handed)
-  joins own rest links handed joined =
-      IsPermutation-trans ((own ++ handed) ++ rest) ((own ++ rest) ++ handed) (links ++ handed)
-      (IsPermutation-sym ((own ++ rest) ++ handed) ((own ++ handed) ++ rest)
-      (add_last own handed rest))
-      (IsPermutation-append_left handed (own ++ rest) links joined)
 
   -- a turn behind which the request goes on
   pub goes_on : (before old now : Books L) (visit next : Visit D U L C)
@@ -627,3 +635,36 @@ module _ {SV K P L C D U : Type 0}
     counted = λ fits. (omega arith, fits);
     same = refl;
   }
+
+  -- a server one of whose requests took a turn, and stays at its place
+  pub on_waits : (p q : HttpProxy SV K P) (place : ℕ) (visit next : Visit D U L C)
+      (rest : List (Visit D U L C))
+      → ServesOn state start_at client_state returned out faults p q (visit ∷ rest) (next ∷ rest)
+      → ServesOn state start_at client_state returned out faults p q (insert rest place visit)
+      (insert rest place next)
+  on_waits p q place visit next rest turned =
+      on_then p p q (insert rest place visit) (visit ∷ rest) (insert rest place next)
+      (on_taken p place visit rest)
+      (on_then p q q (visit ∷ rest) (next ∷ rest) (insert rest place next) turned
+      (on_put q place next rest))
+
+  -- a server one of whose requests took a turn, and is last
+  pub on_moves : (p q : HttpProxy SV K P) (place : ℕ) (visit next : Visit D U L C)
+      (rest : List (Visit D U L C))
+      → ServesOn state start_at client_state returned out faults p q (visit ∷ rest) (next ∷ rest)
+      → ServesOn state start_at client_state returned out faults p q (insert rest place visit)
+      (rest ++ next ∷ [])
+  on_moves p q place visit next rest turned =
+      on_then p p q (insert rest place visit) (visit ∷ rest) (rest ++ next ∷ [])
+      (on_taken p place visit rest)
+      (on_then p q q (visit ∷ rest) (next ∷ rest) (rest ++ next ∷ []) turned
+      (on_put_last q next rest))
+
+  -- a server one of whose requests was taken out, whatever followed
+  pub on_leaves : (p q : HttpProxy SV K P) (place : ℕ) (visit : Visit D U L C)
+      (rest last : List (Visit D U L C))
+      → ServesOn state start_at client_state returned out faults p q (visit ∷ rest) last
+      → ServesOn state start_at client_state returned out faults p q (insert rest place visit) last
+  on_leaves p q place visit rest last left =
+      on_then p p q (insert rest place visit) (visit ∷ rest) last
+      (on_taken p place visit rest) left
