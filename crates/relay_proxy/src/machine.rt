@@ -11,6 +11,7 @@
 
 ghost use Rattle.std.specs.Prelude.{◌≡◌, true};
 ghost use Rattle.relay_proxy.specs.Relaying.{is_relaying, is_closing};
+ghost use Rattle.relay_proxy.specs.Turn.{is_reading_head};
 
 use crate::outcome::Outcome;
 use crate::owed::Owed;
@@ -90,6 +91,17 @@ impl<L, C> Machine<L, C> {
 }
 
 impl<L, C> Phase<L, C> {
+    /// Whether the client's head is still read.
+    pub(crate) fn is_reading_head(&self) -> bool
+        ensures { result ≡ is_reading_head self.now }
+    {
+        match self {
+            Phase::ReadHead => true,
+            Phase::Refuse(_, _) | Phase::Connect(_, _) | Phase::Relay(_) => false,
+            Phase::Close(_, _, _, _) | Phase::Ended(_, _) => false,
+        }
+    }
+
     /// Whether the exchange of an attempt is under way.
     pub(crate) fn is_relaying(&self) -> bool
         ensures { result ≡ is_relaying self.now }

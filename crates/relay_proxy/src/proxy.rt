@@ -7,7 +7,7 @@ ghost use Rattle.relay_proxy.specs.Passed.{Start, start_of, nothing};
 ghost use Rattle.relay_proxy.specs.Phases.{RunSoFar};
 ghost use Rattle.relay_proxy.specs.Request.{is_stop, ended_after, Counts, StepsOn, ComesToEnd, Processes};
 ghost use Rattle.relay_proxy.specs.Stock.{items_held, all_items};
-ghost use Rattle.relay_proxy.specs.Turn.{world_of, held_state, links_held, is_over, is_end, HasCause};
+ghost use Rattle.relay_proxy.specs.Turn.{world_of, held_state, links_held, is_reading_head, is_over, is_end, HasCause};
 ghost use Rattle.relay_proxy.specs.Uses.{CountsUses, MovesOn, OwesAnswer, StandsBehind};
 ghost use Rattle.relay_proxy.specs.Work.{total_work, Grows};
 ghost use Rattle.relay_proxy.specs.declared.machine.Phase.{Phase};
@@ -54,6 +54,15 @@ pub struct HttpProxy<SV, K, P> {
 pub struct RequestMachine<SV: ProxyHttp, K: Connector> {
     machine: Machine<K::Byte, SV::CTX>,
     kept: Option<SV::Kept>,
+}
+
+impl<SV: ProxyHttp, K: Connector> RequestMachine<SV, K> {
+    /// Whether the client's head is still read.
+    pub fn is_reading_head(&self) -> bool
+        ensures { result ≡ is_reading_head self.now.machine.phase }
+    {
+        self.machine.phase.is_reading_head()
+    }
 }
 
 impl<SV: ProxyHttp, K: Connector, P: Purger> HttpProxy<SV, K, P> {

@@ -1,6 +1,10 @@
 -- Requests under way, and what one turn, one end and one new client make of them.
-use Rattle.std.proofs.Common.{◌≡◌, ℕ, ◌+◌, ◌≤◌, true, false, true≢false, List, [], ◌∷◌, ◌++◌, Option, Some, None, refl, sym, ap, subst, ◌∙◌, arith}
+use Rattle.std.proofs.Common.{◌≡◌, ℕ, zero, suc, ◌+◌, ◌≤◌, true, false, true≢false, List, [], ◌∷◌, ◌++◌, length, Option, Some, None, refl, sym, ap, subst, ◌∙◌, arith}
+use Rattle.std.specs.List.{insert}
+use Rattle.std.specs.List.Sorted.{IsPermutation}
 use Rattle.std.proofs.lemmas.List.{append-nil, append_assoc}
+use Rattle.std.proofs.lemmas.List.Edits.{insert_end}
+use Rattle.std.proofs.lemmas.List.Sorted.{IsPermutation-refl, IsPermutation-sym, IsPermutation-trans, IsPermutation-append_comm, IsPermutation-append_left, IsPermutation-append_right}
 use Rattle.relay_tasks.specs.declared.Fault.{Fault}
 use Rattle.relay_links.specs.Connector.{Offer}
 use Rattle.relay_links.specs.Link.{LinkState, LinkStart}
@@ -17,8 +21,8 @@ use Rattle.relay_proxy.specs.declared.outcome.Outcome.{Outcome}
 use Rattle.relay_proxy.specs.declared.outcome.Outcome.TheVariants.{NoRequest, Refused, Served, TurnLimit, OutOfMemory}
 use Rattle.relay_proxy.specs.declared.outcome.Processed.{Processed}
 use Rattle.relay_proxy.specs.declared.proxy.HttpProxy.{HttpProxy}
-use Rattle.relay_server.specs.Serving.{Books, books, CountRises, Visit, HaveEnded, all_held, AreUnderWay, Serves, EndsOne, ServesOn}
-use Rattle.relay_server.specs.Serving.HaveEnded.{none, one_more}
+use Rattle.relay_server.specs.Serving.{Books, books, CountRises, Visit, HaveEnded, EndedRequest, all_held, AreUnderWay, Serves, EndsOne, ServesOn}
+use Rattle.relay_server.specs.Serving.AreEnded.{none, one_more}
 
 -- one more request that ended lets the count rise
 pub count_rises : (count : ℕ) (outcome : Outcome) → CountRises count (ended_after count outcome)
@@ -38,6 +42,30 @@ pub more-more : {X : Type 0} (told : Option (List X)) (xs ys : List X)
     → more (more told xs) ys ≡ more told (xs ++ ys)
 more-more None xs ys = refl
 more-more (Some ts) xs ys = ap Some (append_assoc ts xs ys)
+
+-- what stands first and second may stand the other way round
+pub swap_fronts : {X : Type 0} (xs ys zs : List X)
+    → IsPermutation (xs ++ (ys ++ zs)) (ys ++ (xs ++ zs))
+swap_fronts xs ys zs = subst (λ (l : List _). IsPermutation l (ys ++ (xs ++ zs)))
+    (append_assoc xs ys zs) (subst (λ (l : List _). IsPermutation ((xs ++ ys) ++ zs) l)
+    (append_assoc ys xs zs)
+    (IsPermutation-append_left zs (xs ++ ys) (ys ++ xs) (IsPermutation-append_comm xs ys)))
+
+-- what is added in the middle may be added at the end
+pub add_last : {X : Type 0} (xs ys zs : List X)
+    → IsPermutation ((xs ++ zs) ++ ys) ((xs ++ ys) ++ zs)
+add_last xs ys zs = subst (λ (l : List _). IsPermutation l ((xs ++ ys) ++ zs))
+    (sym (append_assoc xs zs ys)) (subst (λ (l : List _). IsPermutation (xs ++ (zs ++ ys)) l)
+    (sym (append_assoc xs ys zs))
+    (IsPermutation-append_right xs (zs ++ ys) (ys ++ zs) (IsPermutation-append_comm zs ys)))
+
+-- what one gained is gained by all
+pub joins : {X : Type 0} (own rest all more : List X) → IsPermutation (own ++ rest) all
+    → IsPermutation ((own ++ more) ++ rest) (all ++ more)
+joins own rest all more joined =
+    IsPermutation-trans ((own ++ more) ++ rest) ((own ++ rest) ++ more) (all ++ more)
+    (IsPermutation-sym ((own ++ rest) ++ more) ((own ++ more) ++ rest) (add_last own more rest))
+    (IsPermutation-append_left more (own ++ rest) all joined)
 
 module _ {L C : Type 0} (state : L → LinkState) (start_at : L → LinkStart) where
   -- what has passed in a phase that goes on does not hang on the connector's count of faults
@@ -75,12 +103,27 @@ module _ {L C : Type 0} (state : L → LinkState) (start_at : L → LinkStart) w
   calm_later s link ahead f g (Close l lease keep outcome) calm = calm
   calm_later s link ahead f g (Ended outcome attempts) calm = calm
 
+  -- what has passed, by the links that were handed back
+  holds_later : (s : Start) (p : Passed) (link : LinkState) (ahead : List ℕ) (f g : ℕ)
+      (own : List (Returned L)) (phase : Phase L C) → is_over phase ≡ false
+      → PhaseHolds state start_at s p (world_with link ahead f) own phase
+      → PhaseHolds state start_at s p (world_with link ahead g) own phase
+  holds_later s p link ahead f g [] phase going holds =
+      at_later s p link ahead f g phase going holds
+  holds_later s p link ahead f g (r ∷ own) ReadHead going holds = absurd holds
+  holds_later s p link ahead f g (r ∷ own) (Refuse answer error) going holds = absurd holds
+  holds_later s p link ahead f g (r ∷ own) (Connect context session) going holds = absurd holds
+  holds_later s p link ahead f g (r ∷ own) (Relay a) going holds = absurd holds
+  holds_later s p link ahead f g (r ∷ own) (Close l lease keep outcome) going holds = absurd holds
+  holds_later s p link ahead f g (r ∷ own) (Ended outcome attempts) going holds =
+      absurd (true≢false going)
+
   -- a request goes on while calls of the connector fail for others
   pub run_later : (s : Start) (p : Passed) (link : LinkState) (ahead : List ℕ) (f g : ℕ)
-      (phase : Phase L C) → is_over phase ≡ false → f ≤ g
-      → RunSoFar state start_at s p (world_with link ahead f) [] phase
-      → RunSoFar state start_at s p (world_with link ahead g) [] phase
-  run_later s p link ahead f g phase going more_faults run = record {
+      (own : List (Returned L)) (phase : Phase L C) → is_over phase ≡ false → f ≤ g
+      → RunSoFar state start_at s p (world_with link ahead f) own phase
+      → RunSoFar state start_at s p (world_with link ahead g) own phase
+  run_later s p link ahead f g own phase going more_faults run = record {
     tells = record {
       came = run.tells.came;
       written = run.tells.written;
@@ -92,20 +135,66 @@ module _ {L C : Type 0} (state : L → LinkState) (start_at : L → LinkStart) w
     untouched = run.untouched;
     going = run.going;
     calm = calm_later s link ahead f g phase run.calm;
-    holds = at_later s p link ahead f g phase going run.holds;
+    holds = holds_later s p link ahead f g own phase going run.holds;
   }
 
-  -- a request that goes on has handed no link back
-  pub none_handed : (s : Start) (p : Passed) (w : World) (own : List (Returned L))
-      (phase : Phase L C) → is_over phase ≡ false → PhaseHolds state start_at s p w own phase
-      → own ≡ []
-  none_handed s p w [] phase going holds = refl
-  none_handed s p w (r ∷ own) ReadHead going holds = absurd holds
-  none_handed s p w (r ∷ own) (Refuse answer error) going holds = absurd holds
-  none_handed s p w (r ∷ own) (Connect context session) going holds = absurd holds
-  none_handed s p w (r ∷ own) (Relay a) going holds = absurd holds
-  none_handed s p w (r ∷ own) (Close l lease keep outcome) going holds = absurd holds
-  none_handed s p w (r ∷ own) (Ended outcome attempts) going holds = absurd (true≢false going)
+module _ {L : Type 0} (state : L → LinkState) (start_at : L → LinkStart) where
+  -- no request has ended
+  pub none_ended : (before : Books L)
+      → HaveEnded state start_at before before.requests_ended before.returned []
+  none_ended before = record {
+    links = [];
+    gained = [];
+    ended = none;
+    joined = IsPermutation-refl [];
+    told = sym (more-nil before.returned);
+  }
+
+  -- requests that are under way hand links back
+  pub ended_gains : (before : Books L) (count : ℕ) (old now : Option (List (Returned L)))
+      (others handed : List (Returned L))
+      → HaveEnded state start_at before count old others → now ≡ more old handed
+      → HaveEnded state start_at before count now (others ++ handed)
+  ended_gains before count old now others handed ended gained = record {
+    links = ended.links;
+    gained = ended.gained ++ handed;
+    ended = ended.ended;
+    joined = subst (λ (l : List (Returned L)). IsPermutation l (ended.gained ++ handed))
+        (append_assoc ended.links others handed)
+        (IsPermutation-append_left handed (ended.links ++ others) ended.gained ended.joined);
+    told = gained ∙ ap (λ (t : Option (List (Returned L))). more t handed) ended.told
+        ∙ more-more before.returned ended.gained handed;
+  }
+
+  -- the order of the others says nothing
+  pub ended_in_order : (before : Books L) (count : ℕ) (returned : Option (List (Returned L)))
+      (others same : List (Returned L)) → IsPermutation others same
+      → HaveEnded state start_at before count returned others
+      → HaveEnded state start_at before count returned same
+  ended_in_order before count returned others same moved ended = record {
+    links = ended.links;
+    gained = ended.gained;
+    ended = ended.ended;
+    joined = IsPermutation-trans (ended.links ++ same) (ended.links ++ others) ended.gained
+        (IsPermutation-append_right ended.links same others
+        (IsPermutation-sym others same moved)) ended.joined;
+    told = ended.told;
+  }
+
+  -- one more request has ended
+  pub one_ended : (before : Books L) (count : ℕ) (returned : Option (List (Returned L)))
+      (own others : List (Returned L)) (outcome : Outcome)
+      → EndedRequest state start_at own outcome
+      → HaveEnded state start_at before count returned (own ++ others)
+      → HaveEnded state start_at before (ended_after count outcome) returned others
+  one_ended before count returned own others outcome request ended = record {
+    links = ended.links ++ own;
+    gained = ended.gained;
+    ended = one_more count ended.links ended.ended own outcome request;
+    joined = subst (λ (l : List (Returned L)). IsPermutation l ended.gained)
+        (sym (append_assoc ended.links own others)) ended.joined;
+    told = ended.told;
+  }
 
 -- the links that are held by the requests of two lists
 pub all_held-append : {L C D U : Type 0} (state : L → LinkState) (start_at : L → LinkStart)
@@ -115,34 +204,104 @@ all_held-append state start_at [] there = omega arith
 all_held-append state start_at (visit ∷ here) there =
     omega (arith, all_held-append state start_at here there)
 
+-- the links that are held where one more request is put at a place
+pub all_held-insert : {L C D U : Type 0} (state : L → LinkState) (start_at : L → LinkStart)
+    (place : ℕ) (visit : Visit D U L C) (rest : List (Visit D U L C))
+    → all_held state start_at (insert rest place visit)
+    ≡ all_held state start_at (visit ∷ rest)
+all_held-insert state start_at zero visit rest = refl
+all_held-insert state start_at (suc place) visit [] = refl
+all_held-insert state start_at (suc place) visit (next ∷ rest) =
+    omega (arith, all_held-insert state start_at place visit rest)
+
+-- the links of one are among those of all
+pub held_by_one : {L C D U : Type 0} (state : L → LinkState) (start_at : L → LinkStart)
+    (place : ℕ) (visit : Visit D U L C) (rest visits : List (Visit D U L C)) (out : ℕ)
+    → visits ≡ insert rest place visit → all_held state start_at visits ≤ out
+    → links_held state start_at visit.phase ≤ out
+held_by_one state start_at place visit rest visits out taken held =
+    let all : all_held state start_at (insert rest place visit) ≤ out = rw taken at held in
+    omega (arith, all, all_held-insert state start_at place visit rest)
+
 module _ {L C D U : Type 0}
     (state : L → LinkState) (start_at : L → LinkStart) (client_state : D → LinkState) where
   -- requests that are under way go on while calls of the connector fail for others
   pub all_later : (f g : ℕ) → f ≤ g → (visits : List (Visit D U L C))
-      → AreUnderWay state start_at client_state f visits
-      → AreUnderWay state start_at client_state g visits
-  all_later f g more_faults [] under_way = under_way
-  all_later f g more_faults (visit ∷ rest) under_way = (
-    record {
-      start = under_way.0.start;
-      passed = under_way.0.passed;
-      run = run_later state start_at under_way.0.start under_way.0.passed
-          (client_state visit.client.link) visit.client.ahead f g visit.phase
-          under_way.0.going more_faults under_way.0.run;
-      going = under_way.0.going;
-    },
-    all_later f g more_faults rest under_way.1,
-  )
+      (links : List (Returned L)) → AreUnderWay state start_at client_state f visits links
+      → AreUnderWay state start_at client_state g visits links
+  all_later f g more_faults [] links under_way = under_way
+  all_later f g more_faults (visit ∷ rest) links under_way = record {
+    own = under_way.own;
+    rest = under_way.rest;
+    of_one = record {
+      start = under_way.of_one.start;
+      passed = under_way.of_one.passed;
+      run = run_later state start_at under_way.of_one.start under_way.of_one.passed
+          (client_state visit.client.link) visit.client.ahead f g under_way.own visit.phase
+          under_way.of_one.going more_faults under_way.of_one.run;
+      going = under_way.of_one.going;
+    };
+    of_others = all_later f g more_faults rest under_way.rest under_way.of_others;
+    joined = under_way.joined;
+  }
 
-  -- the first of the requests is put last
-  pub put_last : (f : ℕ) (visit : Visit D U L C) (rest : List (Visit D U L C))
-      → AreUnderWay state start_at client_state f (visit ∷ rest)
-      → AreUnderWay state start_at client_state f (rest ++ visit ∷ [])
-  put_last f visit [] under_way = under_way
-  put_last f visit (next ∷ rest) under_way = (
-    under_way.1.0,
-    put_last f visit rest (under_way.0, under_way.1.1),
-  )
+  -- one of the requests is taken out
+  pub take_out : (f place : ℕ) (visit : Visit D U L C) (rest : List (Visit D U L C))
+      (links : List (Returned L))
+      → AreUnderWay state start_at client_state f (insert rest place visit) links
+      → AreUnderWay state start_at client_state f (visit ∷ rest) links
+  take_out f zero visit rest links under_way = under_way
+  take_out f (suc place) visit [] links under_way = under_way
+  take_out f (suc place) visit (next ∷ rest) links under_way =
+      let inner = take_out f place visit rest under_way.rest under_way.of_others in
+      let one = under_way.own in
+      let others = inner.rest in
+      record {
+        own = inner.own;
+        rest = one ++ others;
+        of_one = inner.of_one;
+        of_others = record {
+          own = one;
+          rest = others;
+          of_one = under_way.of_one;
+          of_others = inner.of_others;
+          joined = IsPermutation-refl (one ++ others);
+        };
+        joined = IsPermutation-trans (inner.own ++ (one ++ others)) (one ++ under_way.rest) links
+            (IsPermutation-trans (inner.own ++ (one ++ others)) (one ++ (inner.own ++ others))
+            (one ++ under_way.rest) (swap_fronts inner.own one others)
+            (IsPermutation-append_right one (inner.own ++ others) under_way.rest inner.joined))
+            under_way.joined;
+      }
+
+  -- one more request is put at a place
+  pub put_in : (f place : ℕ) (visit : Visit D U L C) (rest : List (Visit D U L C))
+      (links : List (Returned L))
+      → AreUnderWay state start_at client_state f (visit ∷ rest) links
+      → AreUnderWay state start_at client_state f (insert rest place visit) links
+  put_in f zero visit rest links under_way = under_way
+  put_in f (suc place) visit [] links under_way = under_way
+  put_in f (suc place) visit (next ∷ rest) links under_way =
+      let own = under_way.own in
+      let one = under_way.of_others.own in
+      let others = under_way.of_others.rest in
+      record {
+        own = one;
+        rest = own ++ others;
+        of_one = under_way.of_others.of_one;
+        of_others = put_in f place visit rest (own ++ others) (record {
+          own = own;
+          rest = others;
+          of_one = under_way.of_one;
+          of_others = under_way.of_others.of_others;
+          joined = IsPermutation-refl (own ++ others);
+        });
+        joined = IsPermutation-trans (one ++ (own ++ others)) (own ++ under_way.rest) links
+            (IsPermutation-trans (one ++ (own ++ others)) (own ++ (one ++ others))
+            (own ++ under_way.rest) (swap_fronts one own others)
+            (IsPermutation-append_right own (one ++ others) under_way.rest
+            under_way.of_others.joined)) under_way.joined;
+      }
 
   -- a turn of the first request: none is counted, and what passed goes on
   pub record TakesTurn (old now : Books L) (visit next : Visit D U L C) (t u : Option (List Fault))
@@ -165,27 +324,27 @@ module _ {L C D U : Type 0}
       → is_over next.phase ≡ false
       → Serves state start_at client_state before now (next ∷ rest)
   goes_on before old now visit next rest t u h k i j serves turn going =
-      let under = serves.under_way.0 in
-      let taken = turn.steps under.start under.passed [] under.run in
-      let w = world_of client_state next.client now.faults in
-      let kept : taken.handed ≡ [] = none_handed state start_at under.start taken.passed w
-      taken.handed next.phase going taken.run.holds in
-      let returned : now.returned ≡ old.returned = taken.gained
-      ∙ ap (λ (own : List (Returned L)). more old.returned own) kept ∙ more-nil old.returned in
+      let all = serves.under_way in
+      let under = all.of_one in
+      let taken = turn.steps under.start under.passed all.own under.run in
       record {
-        ended = subst (λ (n : ℕ). HaveEnded state start_at before n now.returned)
-            (sym turn.counted) (subst (λ (r : Option (List (Returned L))).
-            HaveEnded state start_at before old.requests_ended r) (sym returned) serves.ended);
-        under_way = (
-          record {
+        links = serves.links ++ taken.handed;
+        ended = subst (λ (n : ℕ). HaveEnded state start_at before n now.returned
+            (serves.links ++ taken.handed)) (sym turn.counted)
+            (ended_gains state start_at before old.requests_ended old.returned now.returned
+            serves.links taken.handed serves.ended taken.gained);
+        under_way = record {
+          own = all.own ++ taken.handed;
+          rest = all.rest;
+          of_one = record {
             start = under.start;
             passed = taken.passed;
-            run = subst (λ (own : List (Returned L)).
-                RunSoFar state start_at under.start taken.passed w own next.phase) kept taken.run;
+            run = taken.run;
             going = going;
-          },
-          all_later old.faults now.faults turn.faults rest serves.under_way.1,
-        );
+          };
+          of_others = all_later old.faults now.faults turn.faults rest all.rest all.of_others;
+          joined = joins all.own all.rest serves.links taken.handed all.joined;
+        };
       }
 
   -- a turn behind which the request has ended
@@ -197,54 +356,71 @@ module _ {L C D U : Type 0}
       → is_over next.phase ≡ true
       → EndsOne state start_at client_state before now next rest
   ends_now before old now visit next rest t u h k i j serves turn over =
-      let under = serves.under_way.0 in
-      let taken = turn.steps under.start under.passed [] under.run in
+      let all = serves.under_way in
+      let under = all.of_one in
+      let taken = turn.steps under.start under.passed all.own under.run in
       record {
-        returned = old.returned;
-        ended = subst (λ (n : ℕ). HaveEnded state start_at before n old.returned)
-            (sym turn.counted) serves.ended;
+        own = all.own ++ taken.handed;
+        links = all.rest;
+        ended = subst (λ (n : ℕ). HaveEnded state start_at before n now.returned
+            ((all.own ++ taken.handed) ++ all.rest)) (sym turn.counted)
+            (ended_in_order state start_at before old.requests_ended now.returned
+            (serves.links ++ taken.handed) ((all.own ++ taken.handed) ++ all.rest)
+            (IsPermutation-sym ((all.own ++ taken.handed) ++ all.rest)
+            (serves.links ++ taken.handed)
+            (joins all.own all.rest serves.links taken.handed all.joined))
+            (ended_gains state start_at before old.requests_ended old.returned now.returned
+            serves.links taken.handed serves.ended taken.gained));
         start = under.start;
         passed = taken.passed;
-        own = taken.handed;
-        gained = taken.gained;
         run = taken.run;
         over = over;
-        under_way = all_later old.faults now.faults turn.faults rest serves.under_way.1;
+        under_way = all_later old.faults now.faults turn.faults rest all.rest all.of_others;
       }
 
   -- one more request came to its end
-  pub one_ended : (before now after : Books L) (visit : Visit D U L C)
-      (returned : Option (List (Returned L))) (s : Start) (p : Passed) (x : World)
-      (own : List (Returned L)) (processed : Processed)
-      → HaveEnded state start_at before now.requests_ended returned
-      → now.returned ≡ more returned own
-      → ComesToEnd state start_at s p x own now.returned after.returned visit.phase processed
-      → after.requests_ended ≡ ended_after now.requests_ended processed.outcome
-      → HaveEnded state start_at before after.requests_ended after.returned
-  one_ended before now after visit returned s p x own processed ended gained comes counted =
-      let all : after.returned ≡ more returned (own ++ comes.handed) = comes.gained
-      ∙ ap (λ (t : Option (List (Returned L))). more t comes.handed) gained
-      ∙ more-more returned own comes.handed in
-      subst (λ (n : ℕ). HaveEnded state start_at before n after.returned) (sym counted)
-      (subst (λ (r : Option (List (Returned L))). HaveEnded state start_at before
-      (ended_after now.requests_ended processed.outcome) r) (sym all)
-      (one_more now.requests_ended returned ended (own ++ comes.handed) processed.outcome
+  pub comes_to_end : (before old now : Books L) (visit : Visit D U L C)
+      (own links : List (Returned L)) (s : Start) (p : Passed) (x : World) (processed : Processed)
+      → HaveEnded state start_at before old.requests_ended old.returned (own ++ links)
+      → ComesToEnd state start_at s p x own old.returned now.returned visit.phase processed
+      → now.requests_ended ≡ ended_after old.requests_ended processed.outcome
+      → HaveEnded state start_at before now.requests_ended now.returned links
+  comes_to_end before old now visit own links s p x processed ended comes counted =
+      let all = own ++ comes.handed in
+      subst (λ (n : ℕ). HaveEnded state start_at before n now.returned links) (sym counted)
+      (one_ended state start_at before old.requests_ended now.returned all links processed.outcome
       (record {
         start = s;
         passed = p;
         world = x;
         attempts = processed.history.attempts;
         ended = comes.ended;
-      })))
+      })
+      (ended_in_order state start_at before old.requests_ended now.returned
+      ((own ++ links) ++ comes.handed) (all ++ links) (add_last own comes.handed links)
+      (ended_gains state start_at before old.requests_ended old.returned now.returned
+      (own ++ links) comes.handed ended comes.gained)))
 
   -- a server that begins with nobody
   pub first_serves : (before : Books L) (visits : List (Visit D U L C)) → visits ≡ []
       → Serves state start_at client_state before before visits
   first_serves before visits nobody = record {
-    ended = none;
+    links = [];
+    ended = none_ended state start_at before;
     under_way = subst (λ (all : List (Visit D U L C)).
-        AreUnderWay state start_at client_state before.faults all) (sym nobody) tt;
+        AreUnderWay state start_at client_state before.faults all []) (sym nobody) refl;
   }
+
+  -- a server at which nobody is left
+  pub last_serves : (before now : Books L) (visits : List (Visit D U L C)) → visits ≡ []
+      → Serves state start_at client_state before now visits
+      → HaveEnded state start_at before now.requests_ended now.returned []
+  last_serves before now visits nobody serves =
+      let none_left : serves.links ≡ [] = subst (λ (all : List (Visit D U L C)).
+      AreUnderWay state start_at client_state now.faults all serves.links) nobody
+      serves.under_way in
+      subst (λ (l : List (Returned L)). HaveEnded state start_at before now.requests_ended
+      now.returned l) none_left serves.ended
 
   -- the request that has ended is ended
   pub ends_one : (before old now : Books L) (visit : Visit D U L C) (rest : List (Visit D U L C))
@@ -257,10 +433,11 @@ module _ {L C D U : Type 0}
       → now.faults ≡ old.faults
       → Serves state start_at client_state before now rest
   ends_one before old now visit rest x processed one comes counted same = record {
-    ended = one_ended before old now visit one.returned one.start one.passed x one.own processed
-        one.ended one.gained (comes one.start one.passed one.own one.run) counted;
-    under_way = subst (λ (f : ℕ). AreUnderWay state start_at client_state f rest) (sym same)
-        one.under_way;
+    links = one.links;
+    ended = comes_to_end before old now visit one.own one.links one.start one.passed x processed
+        one.ended (comes one.start one.passed one.own one.run) counted;
+    under_way = subst (λ (f : ℕ). AreUnderWay state start_at client_state f rest one.links)
+        (sym same) one.under_way;
   }
 
   -- a request under way is given up
@@ -274,13 +451,17 @@ module _ {L C D U : Type 0}
       → now.faults ≡ old.faults
       → Serves state start_at client_state before now rest
   gives_up before old now visit rest x processed serves comes counted same =
-      let under = serves.under_way.0 in
+      let all = serves.under_way in
+      let under = all.of_one in
       record {
-        ended = one_ended before old now visit old.returned under.start under.passed x []
-            processed serves.ended (sym (more-nil old.returned))
-            (comes under.start under.passed [] under.run) counted;
-        under_way = subst (λ (f : ℕ). AreUnderWay state start_at client_state f rest) (sym same)
-            serves.under_way.1;
+        links = all.rest;
+        ended = comes_to_end before old now visit all.own all.rest under.start under.passed x
+            processed (ended_in_order state start_at before old.requests_ended old.returned
+            serves.links (all.own ++ all.rest)
+            (IsPermutation-sym (all.own ++ all.rest) serves.links all.joined) serves.ended)
+            (comes under.start under.passed all.own under.run) counted;
+        under_way = subst (λ (f : ℕ). AreUnderWay state start_at client_state f rest all.rest)
+            (sym same) all.of_others;
       }
 
   -- a request begins
@@ -290,16 +471,20 @@ module _ {L C D U : Type 0}
       → is_over visit.phase ≡ false → Serves state start_at client_state before now rest
       → Serves state start_at client_state before now (visit ∷ rest)
   begins before now visit rest s p run going serves = record {
+    links = serves.links;
     ended = serves.ended;
-    under_way = (
-      record {
+    under_way = record {
+      own = [];
+      rest = serves.links;
+      of_one = record {
         start = s;
         passed = p;
         run = run;
         going = going;
-      },
-      serves.under_way,
-    );
+      };
+      of_others = serves.under_way;
+      joined = IsPermutation-refl serves.links;
+    };
   }
 
 module _ {SV K P L C D U : Type 0}
@@ -331,20 +516,47 @@ module _ {SV K P L C D U : Type 0}
         record k { connector = r.connector; requests_ended = r.requests_ended }) first.same;
   }
 
+  -- a server that took one of its requests out
+  pub on_taken : (p : HttpProxy SV K P) (place : ℕ) (visit : Visit D U L C)
+      (rest : List (Visit D U L C))
+      → ServesOn state start_at client_state returned out faults p p (insert rest place visit)
+      (visit ∷ rest)
+  on_taken p place visit rest = record {
+    serves = λ before serves. record {
+      links = serves.links;
+      ended = serves.ended;
+      under_way = take_out state start_at client_state (faults p.connector) place visit rest
+          serves.links serves.under_way;
+    };
+    held = omega (arith, all_held-insert state start_at place visit rest);
+    counted = λ fits. (omega arith, fits);
+    same = refl;
+  }
+
+  -- a server that put its first request at a place
+  pub on_put : (p : HttpProxy SV K P) (place : ℕ) (visit : Visit D U L C)
+      (rest : List (Visit D U L C))
+      → ServesOn state start_at client_state returned out faults p p (visit ∷ rest)
+      (insert rest place visit)
+  on_put p place visit rest = record {
+    serves = λ before serves. record {
+      links = serves.links;
+      ended = serves.ended;
+      under_way = put_in state start_at client_state (faults p.connector) place visit rest
+          serves.links serves.under_way;
+    };
+    held = omega (arith, all_held-insert state start_at place visit rest);
+    counted = λ fits. (omega arith, fits);
+    same = refl;
+  }
+
   -- a server that put its first request last
   pub on_put_last : (p : HttpProxy SV K P) (visit : Visit D U L C) (rest : List (Visit D U L C))
       → ServesOn state start_at client_state returned out faults p p (visit ∷ rest)
       (rest ++ visit ∷ [])
-  on_put_last p visit rest = record {
-    serves = λ before serves. record {
-      ended = serves.ended;
-      under_way = put_last state start_at client_state (faults p.connector) visit rest
-          serves.under_way;
-    };
-    held = omega (arith, all_held-append state start_at rest (visit ∷ []));
-    counted = λ fits. (omega arith, fits);
-    same = refl;
-  }
+  on_put_last p visit rest = subst (λ (all : List (Visit D U L C)).
+      ServesOn state start_at client_state returned out faults p p (visit ∷ rest) all)
+      (insert_end rest visit) (on_put p (length rest) visit rest)
 
   -- a server one of whose requests took a turn and goes on
   pub on_turned : (p q : HttpProxy SV K P) (visit next : Visit D U L C)
@@ -423,3 +635,36 @@ module _ {SV K P L C D U : Type 0}
     counted = λ fits. (omega arith, fits);
     same = refl;
   }
+
+  -- a server one of whose requests took a turn, and stays at its place
+  pub on_waits : (p q : HttpProxy SV K P) (place : ℕ) (visit next : Visit D U L C)
+      (rest : List (Visit D U L C))
+      → ServesOn state start_at client_state returned out faults p q (visit ∷ rest) (next ∷ rest)
+      → ServesOn state start_at client_state returned out faults p q (insert rest place visit)
+      (insert rest place next)
+  on_waits p q place visit next rest turned =
+      on_then p p q (insert rest place visit) (visit ∷ rest) (insert rest place next)
+      (on_taken p place visit rest)
+      (on_then p q q (visit ∷ rest) (next ∷ rest) (insert rest place next) turned
+      (on_put q place next rest))
+
+  -- a server one of whose requests took a turn, and is last
+  pub on_moves : (p q : HttpProxy SV K P) (place : ℕ) (visit next : Visit D U L C)
+      (rest : List (Visit D U L C))
+      → ServesOn state start_at client_state returned out faults p q (visit ∷ rest) (next ∷ rest)
+      → ServesOn state start_at client_state returned out faults p q (insert rest place visit)
+      (rest ++ next ∷ [])
+  on_moves p q place visit next rest turned =
+      on_then p p q (insert rest place visit) (visit ∷ rest) (rest ++ next ∷ [])
+      (on_taken p place visit rest)
+      (on_then p q q (visit ∷ rest) (next ∷ rest) (rest ++ next ∷ []) turned
+      (on_put_last q next rest))
+
+  -- a server one of whose requests was taken out, whatever followed
+  pub on_leaves : (p q : HttpProxy SV K P) (place : ℕ) (visit : Visit D U L C)
+      (rest last : List (Visit D U L C))
+      → ServesOn state start_at client_state returned out faults p q (visit ∷ rest) last
+      → ServesOn state start_at client_state returned out faults p q (insert rest place visit) last
+  on_leaves p q place visit rest last left =
+      on_then p p q (insert rest place visit) (visit ∷ rest) last
+      (on_taken p place visit rest) left

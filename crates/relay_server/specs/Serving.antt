@@ -1,5 +1,6 @@
 -- Many requests over one proxy: those under way, and those that came to an end.
-use Rattle.std.specs.Prelude.{◌≡◌, ℕ, ◌+◌, ◌≤◌, Bool, true, false, List, [], ◌∷◌, Option}
+use Rattle.std.specs.Prelude.{◌≡◌, ℕ, ◌+◌, ◌≤◌, Bool, true, false, List, [], ◌∷◌, ◌++◌, Option}
+use Rattle.std.specs.List.Sorted.{IsPermutation}
 use Rattle.relay_h1.specs.declared.Connection.{Connection}
 use Rattle.relay_links.specs.Count.{last_count}
 use Rattle.relay_links.specs.Link.{LinkState, LinkStart}
@@ -63,52 +64,72 @@ module _ {L : Type 0} (state : L → LinkState) (start_at : L → LinkStart) whe
     pub ended : IsEnded state start_at start passed world own attempts outcome
 
   -- requests came to their ends, one after the other: each that was served or refused is counted
-  -- once, and the links that were handed back are those of these requests, in order
-  pub data HaveEnded (before : Books L) : ℕ → Option (List (Returned L)) → Type 0 where
-    none : HaveEnded before before.requests_ended before.returned
-    one_more : (count : ℕ) (returned : Option (List (Returned L)))
-        → HaveEnded before count returned
+  -- once, and these are the links that they handed back
+  pub data AreEnded (before : ℕ) : ℕ → List (Returned L) → Type 0 where
+    none : AreEnded before before []
+    one_more : (count : ℕ) (links : List (Returned L)) → AreEnded before count links
         → (own : List (Returned L)) (outcome : Outcome) → EndedRequest own outcome
-        → HaveEnded before (ended_after count outcome) (more returned own)
+        → AreEnded before (ended_after count outcome) (links ++ own)
+
+  -- the same, from these books on: the links that were handed back since then are theirs and those
+  -- others, in some order, since a link may go back before its request ends
+  pub record HaveEnded (before : Books L) (count : ℕ) (returned : Option (List (Returned L)))
+      (others : List (Returned L)) : Type 0 where
+    pub links : List (Returned L)
+    pub gained : List (Returned L)
+    pub ended : AreEnded before.requests_ended count links
+    pub joined : IsPermutation (links ++ others) gained
+    pub told : returned ≡ more before.returned gained
 
   -- how many links the requests hold
   abbrev pub all_held : {D U C : Type 0} → List (Visit D U L C) → ℕ
   all_held [] = 0
   all_held (visit ∷ rest) = links_held state start_at visit.phase + all_held rest
 
+-- these links are those of one and those of others, in some order
+pub record Divides {L : Type 0} (one others : List (Returned L) → Type 0)
+    (links : List (Returned L)) : Type 0 where
+  pub own : List (Returned L)
+  pub rest : List (Returned L)
+  pub of_one : one own
+  pub of_others : others rest
+  pub joined : IsPermutation (own ++ rest) links
+
 module _ {L C D U : Type 0}
     (state : L → LinkState) (start_at : L → LinkStart) (client_state : D → LinkState) where
-  -- the request is under way since some start, and handed no link back
-  pub record IsUnderWay (faults : ℕ) (visit : Visit D U L C) : Type 0 where
+  -- the request is under way since some start, and handed these links back
+  pub record IsUnderWay (faults : ℕ) (visit : Visit D U L C) (own : List (Returned L))
+      : Type 0 where
     pub start : Start
     pub passed : Passed
-    pub run : RunSoFar state start_at start passed (world_of client_state visit.client faults) []
+    pub run : RunSoFar state start_at start passed (world_of client_state visit.client faults) own
         visit.phase
     pub going : is_over visit.phase ≡ false
 
-  -- all requests are under way
-  abbrev pub AreUnderWay : ℕ → List (Visit D U L C) → Type 0
-  AreUnderWay faults [] = Unit {0}
-  AreUnderWay faults (visit ∷ rest) = IsUnderWay faults visit × AreUnderWay faults rest
+  -- all requests are under way, and handed these links back
+  abbrev pub AreUnderWay : ℕ → List (Visit D U L C) → List (Returned L) → Type 0
+  AreUnderWay faults [] links = links ≡ []
+  AreUnderWay faults (visit ∷ rest) links =
+      Divides (IsUnderWay faults visit) (AreUnderWay faults rest) links
 
   -- a server that began with the books `before`: requests have ended, and others are under way
   pub record Serves (before now : Books L) (visits : List (Visit D U L C)) : Type 0 where
-    pub ended : HaveEnded state start_at before now.requests_ended now.returned
-    pub under_way : AreUnderWay now.faults visits
+    pub links : List (Returned L)
+    pub ended : HaveEnded state start_at before now.requests_ended now.returned links
+    pub under_way : AreUnderWay now.faults visits links
 
   -- the same, where one request has come to its end and was not counted yet
   pub record EndsOne (before now : Books L) (visit : Visit D U L C) (rest : List (Visit D U L C))
       : Type 0 where
-    pub returned : Option (List (Returned L))
-    pub ended : HaveEnded state start_at before now.requests_ended returned
+    pub own : List (Returned L)
+    pub links : List (Returned L)
+    pub ended : HaveEnded state start_at before now.requests_ended now.returned (own ++ links)
     pub start : Start
     pub passed : Passed
-    pub own : List (Returned L)
-    pub gained : now.returned ≡ more returned own
     pub run : RunSoFar state start_at start passed
         (world_of client_state visit.client now.faults) own visit.phase
     pub over : is_over visit.phase ≡ true
-    pub under_way : AreUnderWay now.faults rest
+    pub under_way : AreUnderWay now.faults rest links
 
   -- the requests that are open behind one that was ended: its connection's next one, or none
   abbrev pub with_next : AfterRequest (Visit D U L C) D → List (Visit D U L C) → List

@@ -1,6 +1,10 @@
 //! A client's connection that is open, with the request under way on it (RFC 9112, section 9.3).
-ghost use Rattle.std.specs.Prelude.{◌≡◌, ◌≤◌, ◌+◌, List, [], ◌∷◌, true, false};
-ghost use Rattle.relay_proxy.specs.Turn.{links_held, is_over, is_end};
+ghost use Rattle.std.specs.Prelude.{◌≡◌, ◌≤◌, ◌+◌, ℕ, List, [], ◌∷◌, true, false};
+ghost use Rattle.relay_attempt.specs.Passed.{Passed};
+ghost use Rattle.relay_proxy.specs.Passed.{Start};
+ghost use Rattle.relay_proxy.specs.Phases.{RunSoFar};
+ghost use Rattle.relay_proxy.specs.Turn.{links_held, is_over, is_end, world_of};
+ghost use Rattle.relay_server.specs.Idle.{is_idle, HasNotBegun};
 ghost use Rattle.relay_server.specs.Serving.{Books, Visit, books, CountRises, all_held, Serves, EndsOne, with_next, is_reused};
 
 use crate::stillness::Stillness;
@@ -70,15 +74,26 @@ impl<SV: ProxyHttp, K: Connector, D: ByteLink> OpenConnection<SV, K, D> {
         }
     }
 
-    /// Takes one turn of the request; whether it has ended.
-    pub(crate) fn step<P: Purger>(&mut self, proxy: &mut HttpProxy<SV, K, P>) -> bool
+    /// Whether no byte of its request has come: it is between two requests, or before its first.
+    pub(crate) fn is_idle(&self) -> bool
+        ensures exact { result ≡ is_idle self.now }
+        // Nothing was asked, and nothing was done.
+        ensures unbegun { (faults : ℕ) (s : Start) (p : Passed) (own : List _)
+            → is_idle self.now ≡ true → RunSoFar K.Byte.state K.Byte.start s p
+            (world_of D.state self.now.client faults) own self.now.phase → HasNotBegun s p own }
+    {
+        self.machine.is_reading_head() && self.client.ahead().is_empty()
+    }
+
+    /// Takes one turn of the request, and tells what it did.
+    pub(crate) fn step<P: Purger>(&mut self, proxy: &mut HttpProxy<SV, K, P>) -> RunStep
         requires { links_held K.Byte.state K.Byte.start self.old.phase ≤ K.out proxy.old.connector }
-        ensures goes { (before : Books _) (rest : List (Visit _ _ _ _)) → result ≡ false
+        ensures goes { (before : Books _) (rest : List (Visit _ _ _ _)) → is_end result ≡ false
             → Serves K.Byte.state K.Byte.start D.state before
             (books K.returned K.fault_count proxy.old) (self.old ∷ rest)
             → Serves K.Byte.state K.Byte.start D.state before
             (books K.returned K.fault_count proxy.new) (self.new ∷ rest) }
-        ensures ends { (before : Books _) (rest : List (Visit _ _ _ _)) → result ≡ true
+        ensures ends { (before : Books _) (rest : List (Visit _ _ _ _)) → is_end result ≡ true
             → Serves K.Byte.state K.Byte.start D.state before
             (books K.returned K.fault_count proxy.old) (self.old ∷ rest)
             → EndsOne K.Byte.state K.Byte.start D.state before
@@ -91,7 +106,7 @@ impl<SV: ProxyHttp, K: Connector, D: ByteLink> OpenConnection<SV, K, D> {
     {
         let step = proxy.step(&mut self.machine, &mut self.client, &mut self.outside);
         self.stillness = self.stillness.after(step, self.outside.schedule.last());
-        is_end(step)
+        step
     }
 
     /// Ends the request, and begins the next one where the connection is reused.
@@ -170,16 +185,6 @@ pub(crate) enum AfterRequest<O, D> {
     Goes(O),
     /// No request follows: its link is to be closed.
     Ends(D),
-}
-
-/// Whether a step says that its request has ended.
-fn is_end(step: RunStep) -> bool
-    ensures { result ≡ is_end step }
-{
-    match step {
-        RunStep::Moved | RunStep::Waited(_) => false,
-        RunStep::Ended => true,
-    }
 }
 
 /// Whether the client's connection is kept for another request.

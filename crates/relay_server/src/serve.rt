@@ -1,16 +1,19 @@
 //! The server: clients are accepted, each open connection gets one turn in its turn, and where all
-//! of them wait the poller sleeps (RFC 9112, section 9).
-ghost use Rattle.std.specs.Prelude.{◌≡◌, ◌≢◌, ◌⊎◌, ◌↔◌, ◌+◌, ◌≤◌, ◌<◌, [], ◌∷◌, length};
+//! of them wait the poller sleeps (RFC 9112, section 9). Where no seat is free, one that is idle
+//! gives way.
+ghost use Rattle.std.specs.Prelude.{◌≡◌, ◌≢◌, ◌⊎◌, ◌↔◌, ◌+◌, ◌≤◌, ◌<◌, [], ◌∷◌, length, Some, true, false};
+ghost use Rattle.std.specs.List.{position};
 ghost use Rattle.relay_links.specs.Count.{Rose, last_count};
 ghost use Rattle.relay_links.specs.Told.{more};
 ghost use Rattle.relay_proxy.specs.Turn.{links_held};
+ghost use Rattle.relay_server.specs.Idle.{is_idle, GivesWay, IsPutLast, KeepsOrder, IsReplaced};
 ghost use Rattle.relay_server.specs.Listening.{ListensAt};
 ghost use Rattle.relay_server.specs.Serving.{Books, books, CountRises, all_held, HaveEnded, Serves, EndsOne, ServesOn};
 
 use crate::floor::{Floor, MOST_OPEN};
 use crate::open_connection::{AfterRequest, OpenConnection};
 use relay_links::{Connector, Listening, Polled, Poller, Purger};
-use relay_proxy::{HttpProxy, ProxyHttp};
+use relay_proxy::{HttpProxy, ProxyHttp, RunStep};
 use std::alloc::Global;
 use std::sync::Wait;
 
@@ -33,7 +36,8 @@ pub struct ServeEnd {
 
 /// Serves the clients that come to a port, until so many requests have ended. It may wait for ever.
 ///
-/// At most 64 connections are open; a further client is accepted once one of them ends. Each open
+/// At most 64 connections are open. A further client takes the place of the one that has been idle
+/// for longest, of whose request no byte has come; where none is idle it waits. Each open
 /// connection that may move gets one turn in its turn, and where all wait for the outside the
 /// poller sleeps for 100 milliseconds at most. A connection that is reused begins its next request.
 ///
@@ -60,7 +64,7 @@ pub fn serve_with<R: Wait, SV: ProxyHttp, K: Connector, P: Purger, O: Poller>(
     // Each request that was counted came to its end as the proxy promises, and gave its link back.
     ensures requests { HaveEnded K.Byte.state K.Byte.start
         (books K.returned K.fault_count proxy.old) proxy.new.requests_ended
-        (K.returned proxy.new.connector) }
+        (K.returned proxy.new.connector) [] }
     ensures out { K.out proxy.new.connector ≡ K.out proxy.old.connector }
     ensures same { proxy.new ≡ record proxy.old {
       connector = proxy.new.connector;
@@ -143,9 +147,11 @@ fn serve_floor<R: Wait, SV: ProxyHttp, K: Connector, P: Purger, O: Poller>(
         if proxy.requests_ended() - before == requests {
             return Stop::Done;
         }
+        let came = replace_idle(alloc, proxy, poller, floor);
+        let busy = moving || came;
         round = round.wrapping_add(1);
-        woken = !moving || round % ROUNDS_UNASKED == 0;
-        if woken && poller.wait(longest_wait(moving)) == Polled::Failed {
+        woken = !busy || round % ROUNDS_UNASKED == 0;
+        if woken && poller.wait(longest_wait(busy)) == Polled::Failed {
             return Stop::Failed;
         }
     }
@@ -153,8 +159,8 @@ fn serve_floor<R: Wait, SV: ProxyHttp, K: Connector, P: Purger, O: Poller>(
 }
 
 /// How many milliseconds a wait takes at most: none while a connection may move on.
-fn longest_wait(moving: bool) -> u32 {
-    if moving { 0 } else { LONGEST_WAIT }
+fn longest_wait(busy: bool) -> u32 {
+    if busy { 0 } else { LONGEST_WAIT }
 }
 
 /// Accepts the clients that wait, as long as there is room.
@@ -180,6 +186,63 @@ fn accept_all<SV: ProxyHttp, K: Connector, P: Purger, O: Poller>(
     }
 }
 
+/// Where no seat is free and a client waits, the connection that has been idle for longest gives
+/// way to it; whether one did. After a round each connection was asked for its next byte in vain.
+fn replace_idle<SV: ProxyHttp, K: Connector, P: Purger, O: Poller>(
+    alloc: Global,
+    proxy: &mut HttpProxy<SV, K, P>,
+    poller: &mut O,
+    floor: &mut Floor<SV, K, O::Stream>,
+) -> bool
+    requires few { length floor.old ≤ 64 }
+    requires held { all_held K.Byte.state K.Byte.start floor.old ≤ K.out proxy.old.connector }
+    ensures goes { ServesOn K.Byte.state K.Byte.start O.Stream.state K.returned K.out K.fault_count
+        proxy.old proxy.new floor.old floor.new }
+    ensures stays { result ≡ false → floor.new ≡ floor.old }
+    // Who gives way was idle, the first one that was.
+    ensures replaced { result ≡ true → IsReplaced floor.old floor.new }
+    ensures few { length floor.new ≤ 64 }
+    ensures polled { O.fault_count poller.old ≤ O.fault_count poller.new }
+    ensures ports { O.ports poller.new ≡ O.ports poller.old }
+{
+    if floor.len() < MOST_OPEN {
+        return false;
+    }
+    let Some(place) = floor.longest_idle() else {
+        return false;
+    };
+    let Some(link) = poller.accept() else {
+        return false;
+    };
+    give_way(proxy, poller, floor, place);
+    let connection = OpenConnection::begin(alloc, proxy, link);
+    keep(alloc, proxy, poller, floor, connection);
+    true
+}
+
+/// Closes the connection that has been idle for longest. No request is counted.
+fn give_way<SV: ProxyHttp, K: Connector, P: Purger, O: Poller>(
+    proxy: &mut HttpProxy<SV, K, P>,
+    poller: &mut O,
+    floor: &mut Floor<SV, K, O::Stream>,
+    place: usize,
+)
+    requires idle { position is_idle floor.old ≡ Some place }
+    requires held { all_held K.Byte.state K.Byte.start floor.old ≤ K.out proxy.old.connector }
+    ensures goes { ServesOn K.Byte.state K.Byte.start O.Stream.state K.returned K.out K.fault_count
+        proxy.old proxy.new floor.old floor.new }
+    ensures gives_way { GivesWay floor.old floor.new }
+    ensures fewer { length floor.new + 1 ≡ length floor.old }
+    ensures uncounted { proxy.new.requests_ended ≡ proxy.old.requests_ended }
+    ensures polled { O.fault_count poller.old ≤ O.fault_count poller.new }
+    ensures ports { O.ports poller.new ≡ O.ports poller.old }
+{
+    match floor.take(place) {
+        Some(connection) => poller.close(Box::into_inner(connection).give_up(proxy)),
+        None => unreachable!(),
+    }
+}
+
 /// Puts a connection last. Where there is no memory for it, it is given up.
 fn keep<SV: ProxyHttp, K: Connector, P: Purger, O: Poller>(
     alloc: Global,
@@ -193,6 +256,7 @@ fn keep<SV: ProxyHttp, K: Connector, P: Purger, O: Poller>(
         ≤ K.out proxy.old.connector }
     ensures goes { ServesOn K.Byte.state K.Byte.start O.Stream.state K.returned K.out K.fault_count
         proxy.old proxy.new (connection ∷ floor.old) floor.new }
+    ensures last { IsPutLast floor.old floor.new }
     ensures few { length floor.new ≤ length floor.old + 1 }
     ensures polled { O.fault_count poller.old ≤ O.fault_count poller.new }
     ensures ports { O.ports poller.new ≡ O.ports poller.old }
@@ -225,9 +289,15 @@ fn go_round<SV: ProxyHttp, K: Connector, P: Purger, O: Poller>(
     ensures ports { O.ports poller.new ≡ O.ports poller.old }
 {
     let mut moving = false;
+    let mut place: usize = 0;
     for _turn in 0..floor.len() {
-        if take_turn(alloc, proxy, poller, floor, woken) {
-            moving = true;
+        match take_turn(alloc, proxy, poller, floor, place, woken) {
+            Turn::Moved => moving = true,
+            Turn::Waits => {
+                moving = true;
+                place += 1;
+            }
+            Turn::Still => place += 1,
         }
         if proxy.requests_ended() - before == requests {
             return moving;
@@ -236,43 +306,62 @@ fn go_round<SV: ProxyHttp, K: Connector, P: Purger, O: Poller>(
     moving
 }
 
-/// One turn of the first connection, which is then last; whether it may move on. One that is still
-/// takes no turn until it is woken.
+/// What a turn of a connection says.
+#[derive(Clone, Copy, PartialEq, Eq)]
+enum Turn {
+    /// It moved: it is last now, or was closed.
+    Moved,
+    /// It waited in its place, and the next turn may ask another link.
+    Waits,
+    /// It is still, in its place.
+    Still,
+}
+
+/// One turn of the connection at a place. One that is still takes no turn until it is woken.
 fn take_turn<SV: ProxyHttp, K: Connector, P: Purger, O: Poller>(
     alloc: Global,
     proxy: &mut HttpProxy<SV, K, P>,
     poller: &mut O,
     floor: &mut Floor<SV, K, O::Stream>,
+    place: usize,
     woken: bool,
-) -> bool
+) -> Turn
     requires few { length floor.old ≤ 64 }
     requires held { all_held K.Byte.state K.Byte.start floor.old ≤ K.out proxy.old.connector }
     ensures goes { ServesOn K.Byte.state K.Byte.start O.Stream.state K.returned K.out K.fault_count
         proxy.old proxy.new floor.old floor.new }
+    ensures order { KeepsOrder result place floor.old floor.new }
     ensures few { length floor.new ≤ 64 }
     ensures polled { O.fault_count poller.old ≤ O.fault_count poller.new }
     ensures ports { O.ports poller.new ≡ O.ports poller.old }
 {
-    let Some(mut connection) = floor.take_first() else {
-        return false;
+    if !woken && floor.is_still(place) {
+        return Turn::Still;
+    }
+    let Some(mut connection) = floor.take(place) else {
+        return Turn::Still;
     };
     connection.wake(woken);
-    if connection.is_still() {
-        floor.put_last(connection);
-        return false;
+    match connection.step(proxy) {
+        RunStep::Ended => {
+            end_taken(alloc, proxy, poller, floor, Box::into_inner(connection));
+            Turn::Moved
+        }
+        RunStep::Moved => {
+            floor.put_last(connection);
+            Turn::Moved
+        }
+        RunStep::Waited(_) => {
+            let still = connection.is_still();
+            floor.put(place, connection);
+            if still { Turn::Still } else { Turn::Waits }
+        }
     }
-    if connection.step(proxy) {
-        end_first(alloc, proxy, poller, floor, Box::into_inner(connection));
-        return true;
-    }
-    let still = connection.is_still();
-    floor.put_last(connection);
-    !still
 }
 
-/// Ends the request of the connection that was taken out first. It is put last where its next
-/// request has begun, and else closed.
-fn end_first<SV: ProxyHttp, K: Connector, P: Purger, O: Poller>(
+/// Ends the request of the connection that was taken out. It is put last where its next request has
+/// begun, and else closed.
+fn end_taken<SV: ProxyHttp, K: Connector, P: Purger, O: Poller>(
     alloc: Global,
     proxy: &mut HttpProxy<SV, K, P>,
     poller: &mut O,
@@ -295,6 +384,7 @@ fn end_first<SV: ProxyHttp, K: Connector, P: Purger, O: Poller>(
       connector = proxy.new.connector;
       requests_ended = proxy.new.requests_ended;
     } }
+    ensures last { IsPutLast floor.old floor.new }
     ensures few { length floor.new ≤ length floor.old + 1 }
     ensures polled { O.fault_count poller.old ≤ O.fault_count poller.new }
     ensures ports { O.ports poller.new ≡ O.ports poller.old }

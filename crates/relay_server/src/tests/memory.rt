@@ -56,6 +56,14 @@ fn taken(link: &ScriptLink) -> &str {
     str::from_utf8(link.taken()).unwrap_or("no text")
 }
 
+/// What the connection took that was closed first.
+fn first_taken(poller: &MemoryPoller) -> &str {
+    match poller.closed.first() {
+        Some(link) => taken(link),
+        None => "nobody",
+    }
+}
+
 #[test]
 fn serves_two_clients_one_request_each(rt: HostRuntime) -> Result<(), Fail> {
     let alloc = rt.alloc();
@@ -103,7 +111,7 @@ fn answers_seven_where_the_port_is_not_to_be_had(rt: HostRuntime) -> Result<(), 
 fn opens_at_most_64_connections(rt: HostRuntime) -> Result<(), Fail> {
     let alloc = rt.alloc();
     let mut proxy = proxy(alloc, 0)?;
-    let mut poller = MemoryPoller::new(alloc, clients(alloc, 66, &[])?);
+    let mut poller = MemoryPoller::new(alloc, clients(alloc, 66, &["GET /a"])?);
     let end = serve_with(&rt, alloc, &mut proxy, &mut poller, 80, 1);
     assert_eq!(rt;
         end,
@@ -113,6 +121,54 @@ fn opens_at_most_64_connections(rt: HostRuntime) -> Result<(), Fail> {
         }
     );
     assert_eq!(rt; (poller.closed.len(), poller.waiting.len()), (64, 2));
+    Ok(())
+}
+
+#[test]
+fn silent_clients_give_way(rt: HostRuntime) -> Result<(), Fail> {
+    let alloc = rt.alloc();
+    let mut proxy = proxy(alloc, 2)?;
+    let mut poller = MemoryPoller::new(alloc, clients(alloc, 64, &[])?);
+    poller.late = clients(alloc, 2, &[REQUEST])?;
+    let end = serve_with(&rt, alloc, &mut proxy, &mut poller, 80, 2);
+    assert_eq!(rt;
+        end,
+        ServeEnd {
+            status: 0,
+            served: 2
+        }
+    );
+    assert_eq!(rt; poller.closed.len(), 66);
+    Ok(())
+}
+
+#[test]
+fn the_one_that_is_idle_for_longest_gives_way(rt: HostRuntime) -> Result<(), Fail> {
+    let alloc = rt.alloc();
+    let mut proxy = proxy(alloc, 64)?;
+    let mut waiting = clients(alloc, 63, &[REQUEST])?;
+    waiting.push_back(link(alloc, &[])?)?;
+    let mut poller = MemoryPoller::new(alloc, waiting);
+    poller.late = clients(alloc, 1, &[REQUEST])?;
+    let end = serve_with(&rt, alloc, &mut proxy, &mut poller, 80, 64);
+    assert_eq!(rt; end.status, 0);
+    // The silent one came last, and became idle first.
+    assert_eq!(rt; first_taken(&poller), "");
+    Ok(())
+}
+
+#[test]
+fn a_request_under_way_does_not_give_way(rt: HostRuntime) -> Result<(), Fail> {
+    let alloc = rt.alloc();
+    let mut proxy = proxy(alloc, 2)?;
+    let mut waiting = clients(alloc, 63, &["GET /a"])?;
+    waiting.push_back(link(alloc, &[REQUEST])?)?;
+    let mut poller = MemoryPoller::new(alloc, waiting);
+    poller.late = clients(alloc, 1, &[REQUEST])?;
+    let end = serve_with(&rt, alloc, &mut proxy, &mut poller, 80, 2);
+    assert_eq!(rt; end.status, 0);
+    // The one between two requests gave way, though all others came before it.
+    assert_eq!(rt; first_taken(&poller), WRITTEN);
     Ok(())
 }
 

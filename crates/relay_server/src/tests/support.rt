@@ -21,6 +21,8 @@ pub(super) const WRITTEN: &str = "HTTP/1.1 200 OK\r\ncontent-length: 2\r\n\r\nhi
 pub(super) struct MemoryPoller {
     pub(super) listens: bool,
     pub(super) waiting: VecDeque<ScriptLink>,
+    /// They come while it waits for the fourth time.
+    pub(super) late: VecDeque<ScriptLink>,
     pub(super) closed: Vec<ScriptLink>,
     pub(super) waits_left: u64,
     pub(super) faults: u64,
@@ -32,6 +34,7 @@ impl MemoryPoller {
         MemoryPoller {
             listens: true,
             waiting,
+            late: VecDeque::new(alloc),
             closed: Vec::new(alloc),
             waits_left: 10,
             faults: 0,
@@ -65,6 +68,9 @@ impl Poller for MemoryPoller {
     fn wait(&mut self, _millis: u32) -> Polled {
         if self.waits_left > 0 {
             self.waits_left -= 1;
+            if self.waits_left == 6 {
+                let _ = self.waiting.append(&mut self.late);
+            }
             return Polled::Ready;
         }
         self.faults = self.faults.saturating_add(1);

@@ -27,7 +27,7 @@ loop-connection-preserved g c =
           Serves g.K.Byte.ByteLink.state g.K.Byte.ByteLink.start g.O.Stream.ByteLink.state before
           (books g.K.Connector.returned g.K.Connector.fault_count proxy) visits)
           c.in-Some.ensures (goes.serves before serves) in
-          c.give_up.ensures.uncounted (rw c.into_inner.ensures (now.under_way.0.going))
+          c.give_up.ensures.uncounted (rw c.into_inner.ensures (now.under_way.of_one.going))
           ∙ c.loop-connection.invariant.1 before serves,
       omega (arith, c.close.ensures.grows, c.loop-connection.invariant.2),
       c.close.ensures.ports ∙ c.loop-connection.invariant.3,

@@ -15,3 +15,4 @@ invariant-loop-turn g l =
     × (l.fn.before ≤ l.proxy.requests_ended)
     × (l.proxy.requests_ended ≤ last_count)
     × (g.O.Poller.ports l.poller ≡ g.O.Poller.ports l.fn.poller)
+    × (l.place ≤ l._turn)

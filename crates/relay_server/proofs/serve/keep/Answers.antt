@@ -1,4 +1,5 @@
 -- A connection is put last, or given up.
+use Rattle.std.proofs.Common.{inr}
 use Rattle.relay_server.proofs.ServingLemmas.{on_put_last, on_given_up}
 use Rattle.relay_server.proofs.serve.keep.Goals as goal
 
@@ -17,3 +18,7 @@ returns-in-Err-clause-goes g c = rw c.in-Err.ensures.value_returned at
     c.args.proxy.now c.give_up.new.proxy c.in-Err.failed.value c.args.floor.now
     (λ before. c.give_up.ensures.serves before c.args.floor.now)
     c.give_up.ensures.held c.give_up.ensures.counted c.give_up.ensures.same)
+
+-- it is last
+pub returns-in-Ok-clause-last : goal.returns-in-Ok-clause-last
+returns-in-Ok-clause-last g c = inr (c.in-Ok.connection.value, c.put_last.ensures)

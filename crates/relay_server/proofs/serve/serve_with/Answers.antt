@@ -1,13 +1,14 @@
 -- From no request under way to none again.
 use Rattle.std.proofs.Common.{◌∙◌, arith, inl, inr}
 use Rattle.relay_server.specs.Serving.{books}
-use Rattle.relay_server.specs.Serving.HaveEnded.{none}
-use Rattle.relay_server.proofs.ServingLemmas.{first_serves}
+use Rattle.relay_server.proofs.ServingLemmas.{first_serves, last_serves, none_ended}
 use Rattle.relay_server.proofs.serve.serve_with.Goals as goal
 
 -- no memory for the floor: no request has ended
 pub returns-in_default-clause-requests : goal.returns-in_default-clause-requests
-returns-in_default-clause-requests g c = none
+returns-in_default-clause-requests g c =
+    none_ended g.K.Byte.ByteLink.state g.K.Byte.ByteLink.start
+    (books g.K.Connector.returned g.K.Connector.fault_count c.args.proxy.now)
 
 -- where as many requests ended as were asked for, giving up counts no more
 pub end_of-requires-2 : goal.end_of-requires-2
@@ -26,8 +27,11 @@ returns-clause-requests g c =
     let before = books g.K.Connector.returned g.K.Connector.fault_count c.args.proxy.now in
     let first = first_serves g.K.Byte.ByteLink.state g.K.Byte.ByteLink.start
     g.O.Stream.ByteLink.state before c.in-Ok.floor c.in-Ok.ensures in
+    last_serves g.K.Byte.ByteLink.state g.K.Byte.ByteLink.start g.O.Stream.ByteLink.state before
+    (books g.K.Connector.returned g.K.Connector.fault_count c.give_all_up.new.proxy)
+    c.give_all_up.new.floor c.give_all_up.ensures.empty
     (c.give_all_up.ensures.goes.serves before
-    (c.serve_floor-stop.ensures.goes.serves before first)).ended
+    (c.serve_floor-stop.ensures.goes.serves before first))
 
 -- giving all up leaves the ports, and counts no request
 pub returns-clause-listens : goal.returns-clause-listens

@@ -1,5 +1,5 @@
 -- The request is ended, and what follows on its connection is kept.
-use Rattle.relay_server.proofs.serve.end_first.Goals as goal
+use Rattle.relay_server.proofs.serve.end_taken.Goals as goal
 
 -- its next request has begun
 pub returns-in-Goes-clause-serves : goal.returns-in-Goes-clause-serves
