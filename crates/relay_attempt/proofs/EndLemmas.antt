@@ -305,7 +305,8 @@ module _ {L : Type 0} (state : L → LinkState) (start_at : L → LinkStart)
         → IsOnlyFault (start_at up.inner.client.link) (state up.inner.client.link) e
     write_error finishes e some =
         let still = unread finishes in
-        let named : CannotSend (start_at up.inner.client.link) (state up.inner.client.link) false e =
+        let named :
+        CannotSend (start_at up.inner.client.link) (state up.inner.client.link) false e =
         subst
         (λ (b : Bool).
         CannotSend (start_at up.inner.client.link) (state up.inner.client.link) b e)
