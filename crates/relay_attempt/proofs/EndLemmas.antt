@@ -2,7 +2,7 @@
 --
 --   finished_of   from SoFar and Finishes: IsFinished
 --   fails_with    from SoFar and the reason of an error: FailsWith
-use Rattle.std.proofs.Common.{◌≡◌, ℕ, Bool, true, false, not, ◌==◌, ◌⊎◌, List, [], ◌∷◌, ◌++◌, length, drop, map, refl, sym, ap, subst, ◌∙◌, append-nil, append_assoc, inl, inr, Option, Some, None, arith}
+use Rattle.std.proofs.Common.{◌≡◌, ℕ, Bool, true, false, not, ◌==◌, ◌⊎◌, List, [], ◌∷◌, ◌++◌, length, drop, refl, sym, ap, subst, ◌∙◌, append-nil, append_assoc, inl, inr, Option, Some, None, arith}
 use Rattle.std.specs.Prelude.{◌||◌, ◌&&◌, is_some, is_none}
 use Rattle.std.specs.List.{list_any}
 use Rattle.std.proofs.lemmas.Bool.Decides.{nat_tests}
@@ -51,7 +51,6 @@ use Rattle.relay_sides.proofs.FilterLemmas.{inside_of}
 use Rattle.relay_attempt.specs.Exchange.{DownHolds, UpHolds, Blames, BlamesInside, down_state, core_of, IsFinished, FailsWith}
 use Rattle.relay_exchange.specs.Exchange.{may_keep_at}
 use Rattle.relay_attempt.specs.Head.{link_of, may_keep}
-use Rattle.relay_attempt.specs.Passed.{Passed}
 use Rattle.relay_exchange.specs.declared.exchange.Stage.{Stage}
 use Rattle.relay_exchange.specs.declared.exchange.Stage.TheVariants as stage
 use Rattle.relay_attempt.specs.declared.h1_exchange.H1Exchange.{H1Exchange}
@@ -306,7 +305,8 @@ module _ {L : Type 0} (state : L → LinkState) (start_at : L → LinkStart)
         → IsOnlyFault (start_at up.inner.client.link) (state up.inner.client.link) e
     write_error finishes e some =
         let still = unread finishes in
-        let named : CannotSend (start_at up.inner.client.link) (state up.inner.client.link) false e =
+        let named :
+        CannotSend (start_at up.inner.client.link) (state up.inner.client.link) false e =
         subst
         (λ (b : Bool).
         CannotSend (start_at up.inner.client.link) (state up.inner.client.link) b e)

@@ -1,11 +1,9 @@
 -- What a turn makes of an exchange over HTTP/1 links, by what it makes of one over any two sides.
 use Rattle.std.proofs.Common.{◌≡◌, ℕ, ◌⊎◌, List, Result, Err, ◌↔◌, refl, ap, ◌∙◌}
 use Rattle.std.specs.Result.{IsErrOf}
-use Rattle.relay_tasks.specs.declared.error.Error.{Error}
 use Rattle.relay_tasks.specs.declared.error.Fail.{Fail}
 use Rattle.relay_tasks.specs.declared.error.Fail.TheVariants as fail
 use Rattle.relay_links.specs.Link.{LinkState, LinkStart}
-use Rattle.relay_core.specs.Moves.{HasReason}
 use Rattle.relay_core.specs.Past.{Origin, DownPast, UpPast}
 use Rattle.relay_core.specs.declared.step.Step.{Step}
 use Rattle.relay_core.specs.declared.step.Step.TheVariants as step
@@ -14,7 +12,6 @@ use Rattle.relay_exchange.specs.Exchange as over
 use Rattle.relay_exchange.specs.declared.exchange.Stage.TheVariants as stage
 use Rattle.relay_attempt.specs.Exchange.{DownHolds, UpHolds, Blames, IsUnderWay, Turns, ComesTo, down_state, core_of}
 use Rattle.relay_attempt.specs.Head.{link_of, IsRefusedFor}
-use Rattle.relay_attempt.specs.Order.{FailsFor}
 use Rattle.relay_attempt.specs.declared.h1_exchange.H1Exchange.{H1Exchange}
 use Rattle.relay_attempt.specs.declared.h1_exchange.Unbegun.{Unbegun}
 use Rattle.relay_attempt.proofs.OrderLemmas.{passed_by, told_of_attempt, attempt_so_far, order_so_far}
