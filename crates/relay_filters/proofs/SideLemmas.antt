@@ -1,5 +1,5 @@
 -- A side behind filters: how each answer of the inner side goes on, with the call that it led to.
-use Rattle.std.proofs.Common.{◌≡◌, ℕ, Bool, true, false, not, ◌&&◌, ◌||◌, if◌then◌else◌, List, [], ◌∷◌, ◌++◌, length, Option, Some, None, is_some, option_to_list, Err, refl, sym, ap, subst, ◌∙◌, append-nil, append_assoc, inl, inr, ◌⊎◌, IsTrue, IsSome}
+use Rattle.std.proofs.Common.{◌≡◌, ℕ, ◌<◌, Bool, true, false, not, ◌||◌, if◌then◌else◌, List, [], ◌∷◌, ◌++◌, length, Option, Some, None, is_some, Err, arith, length-append, refl, sym, ap, subst, ◌∙◌, append-nil, append_assoc, inl, inr, IsTrue, IsSome}
 use Rattle.relay_tasks.specs.declared.error.Error.{Error}
 use Rattle.relay_tasks.specs.declared.error.Fail.{Fail}
 use Rattle.relay_tasks.specs.declared.error.Fail.TheVariants as fail
@@ -7,15 +7,12 @@ use Rattle.relay_tasks.specs.declared.hook.Hook.TheVariants as hook
 use Rattle.relay_tasks.specs.declared.log.Item.TheVariants as item
 use Rattle.relay_tasks.specs.declared.log.LogEntry.{LogEntry}
 use Rattle.relay_tasks.specs.declared.task.HttpTask.{HttpTask}
-use Rattle.relay_tasks.specs.declared.took.Took.{Took}
-use Rattle.relay_tasks.specs.declared.took.Took.TheVariants as took
 use Rattle.relay_links.specs.declared.link.Put.{Put}
 use Rattle.relay_links.specs.declared.link.Put.TheVariants as put
 use Rattle.relay_session.specs.Reading.{head_of}
 use Rattle.relay_core.specs.Down.{DownState, Writes}
 use Rattle.relay_core.specs.Past.{BatchRefused, DownGoes, DownPast, error_of_fail}
-use Rattle.relay_core.specs.Piece.{is_empty, put_of, task_of, task_put_of}
-use Rattle.relay_core.specs.Uses.{PutsTask}
+use Rattle.relay_core.specs.Piece.{put_of}
 use Rattle.relay_core.specs.declared.piece.Piece.{Piece}
 use Rattle.relay_modules.specs.declared.seen.Seen.{Seen}
 use Rattle.relay_hooks.specs.Call.{Left, entry, failed, only}
@@ -26,7 +23,7 @@ use Rattle.relay_calls.specs.Entry.{cleared}
 use Rattle.relay_calls.specs.Log.{IsAllowed, Walk, requests_in}
 use Rattle.relay_calls.proofs.CallLemmas.{CallsOf-walks}
 use Rattle.relay_calls.proofs.LogLemmas.{Views-same, Walk-append, requests_in-append}
-use Rattle.relay_filters.specs.Request.{Filtered, Filters, KeepsPiece, KeepsPieces, PassesRequest, is_last, piece_of, takes_away}
+use Rattle.relay_filters.specs.Request.{Filtered, Filters, PassesRequest, is_last, piece_of}
 use Rattle.relay_filters.specs.Hooked.{BlamesOver, IsHooked, IsLogged, NoModule, RefusesOver, opened}
 use Rattle.relay_filters.proofs.RequestLemmas.{one_lost, one_piece, one_refused, same_request}
 
@@ -47,25 +44,18 @@ fail_is (fail.Error error) e told = ap fail.Error (some_error error e told)
 abbrev Going : Type 0
 Going = ◌≡◌ {A = Option Fail} None None
 
--- a side that reads on has not stopped
-stopped_never : {A : Type 0} (st : Option Fail) (e : Error) → st ≡ None → st ≡ Some (fail.Error e)
-    → A
-stopped_never st e on is = some_none (fail.Error e) (sym is ∙ on)
-
 -- ---- the inner side alone
 
 -- what passed goes on where the inner side does, and no filter was called
 stands_on : (inner inner' : DownPast → Type 0) (allows : Standing → LogEntry → Type 0)
-    (seen : Seen) (mark first : ℕ) (a ended ended' u u' r r' : Bool) (st : Option Fail)
+    (seen : Seen) (mark first : ℕ) (a ended ended' u u' : Bool) (st : Option Fail)
     (p p' : DownPast) (came' : List HttpTask)
-    (h : IsHooked inner allows seen mark first a ended u r st p)
-    → (u' ≡ false → (u ≡ false) × (ended' ≡ ended)) → (ended' ≡ true → r' ≡ true)
+    (h : IsHooked inner allows seen mark first a ended u st p)
+    → (u' ≡ false → (u ≡ false) × (ended' ≡ ended))
     → came' ≡ h.came → p'.put ≡ p.put → inner' (record p' { put = came' })
-    → IsHooked inner' allows seen mark first a ended' u' r' st p'
-stands_on inner inner' allows seen mark first a ended ended' u u' r r' st p p' came' h plain ends is
-    same
+    → IsHooked inner' allows seen mark first a ended' u' st p'
+stands_on inner inner' allows seen mark first a ended ended' u u' st p p' came' h plain is same
     holds = record {
-      keeps = h.keeps;
       came = came';
       holds = holds;
       before = h.before;
@@ -79,7 +69,6 @@ stands_on inner inner' allows seen mark first a ended ended' u u' r r' st p p' c
           (sym both.1)
           (same_request a ended (requests_in h.own) (st ≡ None) h.came came' p.put p'.put is same
           (h.request both.0));
-      ends_inside = ends;
       head = h.head;
       told = h.told;
     }
@@ -87,19 +76,19 @@ stands_on inner inner' allows seen mark first a ended ended' u u' r r' st p p' c
 -- the inner side went on
 pub goes_on : (inner inner' : DownPast → Type 0) (blames' : DownPast → Error → Type 0)
     (allows : Standing → LogEntry → Type 0) (seen : Seen) (mark first : ℕ)
-    (a ended ended' u u' r r' : Bool) (st : Option Fail) (p : DownPast)
+    (a ended ended' u u' : Bool) (st : Option Fail) (p : DownPast)
     (put_in put batched closing : List HttpTask) (error : Option Error)
-    (h : IsHooked inner allows seen mark first a ended u r st p)
-    → (u' ≡ false → (u ≡ false) × (ended' ≡ ended)) → (ended' ≡ true → r' ≡ true)
+    (h : IsHooked inner allows seen mark first a ended u st p)
+    → (u' ≡ false → (u ≡ false) × (ended' ≡ ended))
     → put_in ≡ h.came → put ≡ p.put → DownGoes inner' blames' put_in batched closing error
-    → DownGoes (IsHooked inner' allows seen mark first a ended' u' r' st)
+    → DownGoes (IsHooked inner' allows seen mark first a ended' u' st)
     (λ past e. BlamesOver inner' blames' st past e) put batched closing error
-goes_on inner inner' blames' allows seen mark first a ended ended' u u' r r' st p put_in put batched
-    closing error h plain ends is same g = record {
+goes_on inner inner' blames' allows seen mark first a ended ended' u u' st p put_in put batched
+    closing error h plain is same g = record {
       past = record g.past { put = put };
       stands =
-          stands_on inner inner' allows seen mark first a ended ended' u u' r r' st p
-          (record g.past { put = put }) g.past.put h plain ends (g.is_put ∙ is) same g.stands;
+          stands_on inner inner' allows seen mark first a ended ended' u u' st p
+          (record g.past { put = put }) g.past.put h plain (g.is_put ∙ is) same g.stands;
       is_put = refl;
       is_batched = g.is_batched;
       is_closing = g.is_closing;
@@ -110,23 +99,22 @@ goes_on inner inner' blames' allows seen mark first a ended ended' u u' r r' st 
 pub refuses_on : (inner inner' : DownPast → Type 0)
     (refuses' : DownPast → List HttpTask → Error → Type 0)
     (allows : Standing → LogEntry → Type 0) (seen : Seen) (mark first : ℕ)
-    (a ended u u' r r' : Bool) (st : Option Fail) (p : DownPast) (tasks : List HttpTask)
-    (why : Fail) (h : IsHooked inner allows seen mark first a ended u r st p)
-    → (u' ≡ false → u ≡ false) → (r ≡ true → r' ≡ true)
+    (a ended u u' : Bool) (st : Option Fail) (p : DownPast) (tasks : List HttpTask)
+    (why : Fail) (h : IsHooked inner allows seen mark first a ended u st p)
+    → (u' ≡ false → u ≡ false)
     → BatchRefused inner' refuses' (record p { put = h.came }) tasks why
-    → BatchRefused (IsHooked inner' allows seen mark first a ended u' r' st)
+    → BatchRefused (IsHooked inner' allows seen mark first a ended u' st)
     (λ past left e. RefusesOver inner' refuses' past left e) p tasks why
-refuses_on inner inner' refuses' allows seen mark first a ended u u' r r' st p tasks why h plain
-    ends b =
+refuses_on inner inner' refuses' allows seen mark first a ended u u' st p tasks why h plain b =
     record {
       filtered = b.filtered;
       left = b.left;
       parts = b.parts;
       past = record b.past { put = p.put };
       stands =
-          stands_on inner inner' allows seen mark first a ended ended u u' r r' st p
+          stands_on inner inner' allows seen mark first a ended ended u u' st p
           (record b.past { put = p.put }) b.past.put h (λ not_up. (plain not_up, refl))
-          (λ so. ends (h.ends_inside so)) b.is_put refl b.stands;
+          b.is_put refl b.stands;
       is_put = refl;
       is_batched = b.is_batched;
       is_closing = b.is_closing;
@@ -150,10 +138,10 @@ stays_stopped holds inner blames st why p put is same h = record {
 
 -- a side whose session has no head is none of which something passed
 pub no_head : {A : Type 0} (inner : DownPast → Type 0) (allows : Standing → LogEntry → Type 0)
-    (seen : Seen) (mark first : ℕ) (a ended u r : Bool) (st : Option Fail) (p : DownPast)
+    (seen : Seen) (mark first : ℕ) (a ended u : Bool) (st : Option Fail) (p : DownPast)
     → st ≡ None → (IsSome (head_of seen.downstream.reading) → ⊥)
-    → IsHooked inner allows seen mark first a ended u r st p → A
-no_head inner allows seen mark first a ended u r st p on none h = absurd (none (h.head on))
+    → IsHooked inner allows seen mark first a ended u st p → A
+no_head inner allows seen mark first a ended u st p on none h = absurd (none (h.head on))
 
 -- ---- a batch
 
@@ -172,19 +160,12 @@ not_opened ended true u' stays plain = (not_before true u' stays plain, refl)
 not_opened ended false true stays plain = cc
 not_opened ended false false stays plain = (refl, refl)
 
--- it is open again for both, or for none
-pub opens_both : (ended r u u' : Bool) → (ended ≡ true → r ≡ true)
-    → opened ended u u' ≡ true → (if not u && u' then false else r) ≡ true
-opens_both ended r true u' ends so = ends so
-opens_both ended r false true ends so = so
-opens_both ended r false false ends so = ends so
-
 -- ---- a piece
 
 -- what no call of a piece fails to say: the log, the walk and the head behind it
 module _ (inner : DownPast → Type 0) (allows : Standing → LogEntry → Type 0) (seen : Seen)
-    (mark first : ℕ) (a ended u r : Bool) (p : DownPast)
-    (h : IsHooked inner allows seen mark first a ended u r None p) (bytes : Option (List ℕ))
+    (mark first : ℕ) (a ended u : Bool) (p : DownPast)
+    (h : IsHooked inner allows seen mark first a ended u None p) (bytes : Option (List ℕ))
     (end : Bool) (seen' : Seen) (mark' : ℕ) (left : Left)
     (call : Calls allows hook.RequestBodyFilter (item.Piece bytes end) seen mark seen' mark' left)
   where
@@ -220,96 +201,50 @@ module _ (inner : DownPast → Type 0) (allows : Standing → LogEntry → Type 
     pub requests_on : requests_in (h.own ++ entered ∷ []) ≡ requests_in h.own ++ entered ∷ []
     requests_on = requests_in-append h.own (entered ∷ [])
 
--- before the end the filter keeps a piece
-keeps_here : (inner : DownPast → Type 0) (allows : Standing → LogEntry → Type 0) (seen : Seen)
-    (mark first : ℕ) (a ended u r : Bool) (p : DownPast) (piece made : Piece) (seen' : Seen)
-    (mark' : ℕ) (h : IsHooked inner allows seen mark first a ended u r None p)
-    (f : Filtered allows ended piece made seen mark seen' mark') → is_last piece ≡ false
-    → KeepsPiece piece.bytes f.left
-keeps_here inner allows seen mark first a ended u r p piece made seen' mark' h f isnt =
-    h.keeps _ _ piece.bytes f.left f.call.allowed refl
-    (ap (λ (b : Bool). item.Piece piece.bytes b) isnt) (ap (λ (b : Bool). item.Piece f.left b) isnt)
-    refl
-
--- the request ends for the upstream where it ended for the inner side
-ends_too : (ended r up client none : Bool) (r' : Bool) → r' ≡ (r || up) → (ended ≡ true → r ≡ true)
-    → (client ≡ true → r' ≡ true) → ((up || client) ≡ false → none ≡ false)
-    → (ended || ((up || client) || none)) ≡ true → r' ≡ true
-ends_too true r up client none r' is before behind keeps so =
-    is ∙ ap (λ (b : Bool). b || up) (before refl)
-ends_too false r true client none r' is before behind keeps so = is ∙ either_way r
-  where
-    either_way : (b : Bool) → (b || true) ≡ true
-    either_way true = refl
-    either_way false = refl
-ends_too false r false true none r' is before behind keeps so = behind refl
-ends_too false r false false none r' is before behind keeps so =
-    absurd (apart (sym (keeps refl) ∙ so))
-  where
-    apart : false ≡ true → ⊥
-    apart same = cc
-
--- the end of what passes
-made_end : (ended end client_end given : Bool) (left : Option (List ℕ))
-    → (ended || (piece_of ended end client_end given left).upstream_end)
-    ≡ (ended || (end || takes_away given left))
-made_end true end client_end given left = refl
-made_end false end client_end given left = refl
-
 -- a piece was read and filtered
 reads_open : (inner inner' : DownPast → Type 0) (blames' : DownPast → Error → Type 0)
     (allows : Standing → LogEntry → Type 0) (seen : Seen) (mark first : ℕ)
-    (a ended u u' r r' : Bool) (p : DownPast) (piece made : Piece) (seen' : Seen) (mark' : ℕ)
-    (h : IsHooked inner allows seen mark first a ended u r None p) → u' ≡ u
-    → r' ≡ (r || piece.upstream_end) → (piece.client_end ≡ true → r' ≡ true)
+    (a ended u u' : Bool) (p : DownPast) (piece made : Piece) (seen' : Seen) (mark' : ℕ)
+    (h : IsHooked inner allows seen mark first a ended u None p) → u' ≡ u
     → Filtered allows ended piece made seen mark seen' mark'
     → DownGoes inner' blames' (h.came ++ put_of u piece) p.batched p.closing None
-    → DownGoes (IsHooked inner' allows seen' mark' first a (ended || made.upstream_end) u' r' None)
+    → DownGoes (IsHooked inner' allows seen' mark' first a (ended || made.upstream_end) u' None)
     (λ past e. BlamesOver inner' blames' None past e) (p.put ++ put_of u made) p.batched p.closing
     None
-reads_open inner inner' blames' allows seen mark first a ended u u' r r' p piece made seen' mark' h
-    up inside client f g =
+reads_open inner inner' blames' allows seen mark first a ended u u' p piece made seen' mark' h
+    up f g =
     let end = is_last piece in
     let left = f.left in
-    let e = entered inner allows seen mark first a ended u r p h piece.bytes end seen' mark'
+    let e = entered inner allows seen mark first a ended u p h piece.bytes end seen' mark'
     (only (item.Piece left end)) f.call in
     let one = piece_of ended end piece.client_end (is_some piece.bytes) left in
     subst (λ (m : Piece). DownGoes
-    (IsHooked inner' allows seen' mark' first a (ended || m.upstream_end) u' r' None)
+    (IsHooked inner' allows seen' mark' first a (ended || m.upstream_end) u' None)
     (λ past e. BlamesOver inner' blames' None past e) (p.put ++ put_of u m) p.batched p.closing
     None) (sym f.is_made)
     (record {
       past = record g.past { put = p.put ++ put_of u one };
       stands = record {
-        keeps = h.keeps;
         came = g.past.put;
         holds = g.stands;
         before = h.before;
         own = h.own ++ e ∷ [];
-        parts = parts_on inner allows seen mark first a ended u r p h piece.bytes end seen' mark'
+        parts = parts_on inner allows seen mark first a ended u p h piece.bytes end seen' mark'
             (only (item.Piece left end)) f.call;
         began = h.began;
-        logged = walks_on inner allows seen mark first a ended u r p h piece.bytes end seen' mark'
+        logged = walks_on inner allows seen mark first a ended u p h piece.bytes end seen' mark'
             (only (item.Piece left end)) f.call Going;
         request = λ plain.
             let low = sym up ∙ plain in
             subst (λ (l : List LogEntry). PassesRequest a (ended || one.upstream_end) l
             Going g.past.put (p.put ++ put_of u one))
-            (sym (requests_on inner allows seen mark first a ended u r p h piece.bytes end seen'
+            (sym (requests_on inner allows seen mark first a ended u p h piece.bytes end seen'
             mark' (only (item.Piece left end)) f.call))
             (one_piece a ended end piece.client_end u (requests_in h.own) Going h.came
             g.past.put p.put (p.put ++ put_of u one) piece left e refl (h.request low) g.is_put
             (ap (λ (b : Bool). p.put ++ put_of b one) low) refl refl refl);
-        ends_inside = λ so.
-            ends_too ended r piece.upstream_end piece.client_end
-            (takes_away (is_some piece.bytes) left) r' inside
-            h.ends_inside client
-            (λ isnt.
-            (keeps_here inner allows seen mark first a ended u r p piece made seen' mark' h f
-            isnt).no_end)
-            (sym (made_end ended end piece.client_end (is_some piece.bytes) left) ∙ so);
         head = λ on.
-            head_on inner allows seen mark first a ended u r p h piece.bytes end seen' mark'
+            head_on inner allows seen mark first a ended u p h piece.bytes end seen' mark'
             (only (item.Piece left end)) f.call;
         told = λ e is. cc;
       };
@@ -322,19 +257,18 @@ reads_open inner inner' blames' allows seen mark first a ended u u' r r' p piece
 -- the filter refused a piece, or memory was wanted
 stops_open : (inner inner' : DownPast → Type 0) (blames' : DownPast → Error → Type 0)
     (allows : Standing → LogEntry → Type 0) (seen : Seen) (mark first : ℕ)
-    (a ended u u' r r' : Bool) (p : DownPast) (piece : Piece) (why : Fail) (put : List HttpTask)
-    (seen' : Seen) (mark' : ℕ) (h : IsHooked inner allows seen mark first a ended u r None p)
-    → u' ≡ u → (r ≡ true → r' ≡ true) → put ≡ p.put
+    (a ended u u' : Bool) (p : DownPast) (piece : Piece) (why : Fail) (put : List HttpTask)
+    (seen' : Seen) (mark' : ℕ) (h : IsHooked inner allows seen mark first a ended u None p)
+    → u' ≡ u → put ≡ p.put
     → Filters allows ended piece (Err why) seen mark seen' mark'
     → DownGoes inner' blames' (h.came ++ put_of u piece) p.batched p.closing None
-    → DownGoes (IsHooked inner' allows seen' mark' first a ended u' r' (Some why))
+    → DownGoes (IsHooked inner' allows seen' mark' first a ended u' (Some why))
     (λ past e. BlamesOver inner' blames' (Some why) past e) put p.batched p.closing
     (error_of_fail why)
-stops_open inner inner' blames' allows seen mark first a ended u u' r r' p piece fail.OutOfMemory
-    put seen' mark' h up stays same f g = record {
+stops_open inner inner' blames' allows seen mark first a ended u u' p piece fail.OutOfMemory
+    put seen' mark' h up same f g = record {
       past = record g.past { put = put };
       stands = record {
-        keeps = h.keeps;
         came = g.past.put;
         holds = g.stands;
         before = h.before;
@@ -351,7 +285,6 @@ stops_open inner inner' blames' allows seen mark first a ended u u' r r' p piece
             one_lost a ended u (requests_in h.own) Going (Some fail.OutOfMemory ≡ None)
             h.came g.past.put p.put put piece (λ so. some_none fail.OutOfMemory so)
             (h.request (sym up ∙ plain)) g.is_put same;
-        ends_inside = λ so. stays (h.ends_inside so);
         head = λ so. some_none fail.OutOfMemory so;
         told = λ e is. cc;
       };
@@ -360,34 +293,32 @@ stops_open inner inner' blames' allows seen mark first a ended u u' r r' p piece
       is_closing = g.is_closing;
       blamed = λ e isnt. cc;
     }
-stops_open inner inner' blames' allows seen mark first a ended u u' r r' p piece
-    (fail.Error error) put seen' mark' h up stays same f g =
+stops_open inner inner' blames' allows seen mark first a ended u u' p piece
+    (fail.Error error) put seen' mark' h up same f g =
     let end = is_last piece in
     let left = failed (item.Piece f.left end) error in
-    let e = entered inner allows seen mark first a ended u r p h piece.bytes end seen' mark' left
+    let e = entered inner allows seen mark first a ended u p h piece.bytes end seen' mark' left
     f.call in
     record {
       past = record g.past { put = put };
       stands = record {
-        keeps = h.keeps;
         came = g.past.put;
         holds = g.stands;
         before = h.before;
         own = h.own ++ e ∷ [];
-        parts = parts_on inner allows seen mark first a ended u r p h piece.bytes end seen' mark'
+        parts = parts_on inner allows seen mark first a ended u p h piece.bytes end seen' mark'
             left f.call;
         began = h.began;
-        logged = walks_on inner allows seen mark first a ended u r p h piece.bytes end seen' mark'
+        logged = walks_on inner allows seen mark first a ended u p h piece.bytes end seen' mark'
             left f.call (Some (fail.Error error) ≡ None);
         request = λ plain.
             subst (λ (l : List LogEntry). PassesRequest a ended l (Some (fail.Error error) ≡ None)
             g.past.put put)
-            (sym (requests_on inner allows seen mark first a ended u r p h piece.bytes end seen'
+            (sym (requests_on inner allows seen mark first a ended u p h piece.bytes end seen'
             mark' left f.call))
             (one_refused a ended end u (requests_in h.own) Going
             (Some (fail.Error error) ≡ None) h.came g.past.put p.put put piece e refl
             (h.request (sym up ∙ plain)) g.is_put same refl refl);
-        ends_inside = λ so. stays (h.ends_inside so);
         head = λ so. some_none (fail.Error error) so;
         told = λ x is. record {
           front = h.own;
@@ -405,137 +336,60 @@ stops_open inner inner' blames' allows seen mark first a ended u u' r r' p piece
     error_in : {x : Error} → Some (fail.Error error) ≡ Some (fail.Error x) → Some error ≡ Some x
     error_in is = cc
 
--- ---- a piece that puts a task
-
--- a test of a piece, and what it puts
-puts_by : (b : Bool) (t : HttpTask) → b ≡ false → is_some (if b then None else Some t) ≡ true
-puts_by true t isnt = cc
-puts_by false t isnt = refl
-
-by_put : (b : Bool) (t : HttpTask) → is_some (if b then None else Some t) ≡ true → b ≡ false
-by_put true t so = cc
-by_put false t so = refl
-
--- a piece that puts a task puts no empty list
-puts_none : {A : Type 0} (o : Option HttpTask) → option_to_list o ≡ [] → is_some o ≡ true → A
-puts_none None none so = cc
-puts_none (Some t) none so = cc
-
--- a piece that is neither empty nor the end stays so
-fills_too : (up client empty empty' none : Bool) → (empty && not up) ≡ false
-    → ((up || client) ≡ false → empty ≡ false → empty' ≡ false)
-    → (empty' && not ((up || client) || none)) ≡ false
-fills_too true client empty empty' none some keeps = and_false empty'
-  where
-    and_false : (b : Bool) → (b && false) ≡ false
-    and_false true = refl
-    and_false false = refl
-fills_too false true empty empty' none some keeps = and_false empty'
-  where
-    and_false : (b : Bool) → (b && false) ≡ false
-    and_false true = refl
-    and_false false = refl
-fills_too false false true empty' none some keeps = cc
-fills_too false false false empty' none some keeps =
-    ap (λ (b : Bool). b && not none) (keeps refl refl)
-
--- what the filter makes of a piece that puts a task puts one
-puts_open : {A : Type 0} (inner : DownPast → Type 0) (allows : Standing → LogEntry → Type 0)
-    (seen : Seen) (mark first : ℕ) (a ended u r : Bool) (p : DownPast) (piece made : Piece)
-    (seen' : Seen) (mark' : ℕ) (h : IsHooked inner allows seen mark first a ended u r None p)
-    → (IsTrue r → put_of u piece ≡ []) → Filtered allows ended piece made seen mark seen' mark'
-    → A ⊎ PutsTask u piece → A ⊎ PutsTask u made
-puts_open inner allows seen mark first a ended u r p piece made seen' mark' h behind f (inl used) =
-    inl used
-puts_open inner allows seen mark first a true u r p piece made seen' mark' h behind f (inr puts) =
-    puts_none (task_put_of u piece) (behind (h.ends_inside refl)) puts
-puts_open inner allows seen mark first a false u r p piece made seen' mark' h behind f (inr puts) =
-    let end = is_last piece in
-    inr (subst (λ (m : Piece). PutsTask u m) (sym f.is_made)
-    (puts_by (is_empty f.left && not (end || takes_away (is_some piece.bytes) f.left))
-    (task_of u (piece_of false end piece.client_end (is_some piece.bytes) f.left))
-    (fills_too piece.upstream_end piece.client_end (is_empty piece.bytes) (is_empty f.left)
-    (takes_away (is_some piece.bytes) f.left)
-    (by_put (is_empty piece.bytes && not piece.upstream_end) (task_of u piece) puts)
-    (λ isnt some.
-    (keeps_here inner allows seen mark first a false u r p piece made seen' mark' h f isnt).fills
-    some))))
-
 -- ---- a side that has not stopped
 
 -- a piece was read and filtered
 pub reads_piece : (inner inner' : DownPast → Type 0) (blames' : DownPast → Error → Type 0)
     (allows : Standing → LogEntry → Type 0) (seen : Seen) (mark first : ℕ)
-    (a ended u u' r r' : Bool) (st : Option Fail) (p : DownPast) (piece made : Piece)
+    (a ended u u' : Bool) (st : Option Fail) (p : DownPast) (piece made : Piece)
     (seen' : Seen) (mark' : ℕ) → st ≡ None
-    → (h : IsHooked inner allows seen mark first a ended u r st p) → u' ≡ u
-    → r' ≡ (r || piece.upstream_end) → (piece.client_end ≡ true → r' ≡ true)
+    → (h : IsHooked inner allows seen mark first a ended u st p) → u' ≡ u
     → Filtered allows ended piece made seen mark seen' mark'
     → DownGoes inner' blames' (h.came ++ put_of u piece) p.batched p.closing None
-    → DownGoes (IsHooked inner' allows seen' mark' first a (ended || made.upstream_end) u' r' st)
+    → DownGoes (IsHooked inner' allows seen' mark' first a (ended || made.upstream_end) u' st)
     (λ past e. BlamesOver inner' blames' st past e) (p.put ++ put_of u made) p.batched p.closing
     None
-reads_piece inner inner' blames' allows seen mark first a ended u u' r r' (Some why) p piece made
+reads_piece inner inner' blames' allows seen mark first a ended u u' (Some why) p piece made
     seen' mark' on h = some_none why on
-reads_piece inner inner' blames' allows seen mark first a ended u u' r r' None p piece made seen'
+reads_piece inner inner' blames' allows seen mark first a ended u u' None p piece made seen'
     mark' on h =
-    reads_open inner inner' blames' allows seen mark first a ended u u' r r' p piece made seen'
+    reads_open inner inner' blames' allows seen mark first a ended u u' p piece made seen'
     mark' h
 
 -- the filter refused a piece, or memory was wanted
 pub stops_at : (inner inner' : DownPast → Type 0) (blames' : DownPast → Error → Type 0)
     (allows : Standing → LogEntry → Type 0) (seen : Seen) (mark first : ℕ)
-    (a ended u u' r r' : Bool) (st : Option Fail) (p : DownPast) (piece : Piece) (why : Fail)
+    (a ended u u' : Bool) (st : Option Fail) (p : DownPast) (piece : Piece) (why : Fail)
     (put : List HttpTask) (seen' : Seen) (mark' : ℕ) → st ≡ None
-    → (h : IsHooked inner allows seen mark first a ended u r st p) → u' ≡ u
-    → (r ≡ true → r' ≡ true) → put ≡ p.put
+    → (h : IsHooked inner allows seen mark first a ended u st p) → u' ≡ u
+    → put ≡ p.put
     → Filters allows ended piece (Err why) seen mark seen' mark'
     → DownGoes inner' blames' (h.came ++ put_of u piece) p.batched p.closing None
-    → DownGoes (IsHooked inner' allows seen' mark' first a ended u' r' (Some why))
+    → DownGoes (IsHooked inner' allows seen' mark' first a ended u' (Some why))
     (λ past e. BlamesOver inner' blames' (Some why) past e) put p.batched p.closing
     (error_of_fail why)
-stops_at inner inner' blames' allows seen mark first a ended u u' r r' (Some before) p piece why put
+stops_at inner inner' blames' allows seen mark first a ended u u' (Some before) p piece why put
     seen' mark' on h = some_none before on
-stops_at inner inner' blames' allows seen mark first a ended u u' r r' None p piece why put seen'
+stops_at inner inner' blames' allows seen mark first a ended u u' None p piece why put seen'
     mark' on h =
-    stops_open inner inner' blames' allows seen mark first a ended u u' r r' p piece why put seen'
+    stops_open inner inner' blames' allows seen mark first a ended u u' p piece why put seen'
     mark' h
 
--- what the filter makes of a piece that puts a task puts one
-pub puts_too : {A : Type 0} (inner : DownPast → Type 0) (allows : Standing → LogEntry → Type 0)
-    (seen : Seen) (mark first : ℕ) (a ended u r : Bool) (st : Option Fail) (p : DownPast)
-    (piece made : Piece) (seen' : Seen) (mark' : ℕ) → st ≡ None
-    → IsHooked inner allows seen mark first a ended u r st p → (IsTrue r → put_of u piece ≡ [])
-    → Filtered allows ended piece made seen mark seen' mark' → A ⊎ PutsTask u piece
-    → A ⊎ PutsTask u made
-puts_too inner allows seen mark first a ended u r (Some why) p piece made seen' mark' on h behind =
-    some_none why on
-puts_too inner allows seen mark first a ended u r None p piece made seen' mark' on h behind =
-    puts_open inner allows seen mark first a ended u r p piece made seen' mark' h behind
+-- ---- the calls
 
--- what is said of a piece is said of the one that was answered
-pub of_item : (A : Type 0) (u : Bool) (made piece : Piece)
-    → ◌≡◌ {A = Took Piece} (took.Item made) (took.Item piece) → A ⊎ PutsTask u made
-    → A ⊎ PutsTask u piece
-of_item A u made piece is puts =
-    subst (λ (m : Piece). A ⊎ PutsTask u m) (ap (λ (t : Took Piece). item_or made t) is) puts
-  where
-    item_or : Piece → Took Piece → Piece
-    item_or other (took.Item it) = it
-    item_or other took.More = other
-    item_or other (took.Waited pause) = other
-    item_or other took.End = other
-    item_or other (took.Failed why) = other
+-- one entry more makes a log longer
+pub longer : (log log' : List LogEntry) (e : LogEntry) → log' ≡ log ++ e ∷ []
+    → length log < length log'
+longer log log' e is = rw is (rw (length-append log (e ∷ [])) (omega arith))
 
 -- ---- the beginning
 
 -- before the first piece nothing passed
 pub begins : (holds : DownPast → Type 0) (allows : Standing → LogEntry → Type 0) (seen : Seen)
-    (mark first : ℕ) (ended u r : Bool) (p : DownPast) → first ≡ length seen.log
-    → KeepsPieces allows → IsSome (head_of seen.downstream.reading) → (ended ≡ true → r ≡ true)
-    → p.put ≡ [] → holds p → IsHooked holds allows seen mark first ended ended u r None p
-begins holds allows seen mark first ended u r p len keeps head inside none h = record {
-  keeps = keeps;
+    (mark first : ℕ) (ended u : Bool) (p : DownPast) → first ≡ length seen.log
+    → IsSome (head_of seen.downstream.reading)
+    → p.put ≡ [] → holds p → IsHooked holds allows seen mark first ended ended u None p
+begins holds allows seen mark first ended u p len head none h = record {
   came = [];
   holds = subst (λ (l : List HttpTask). holds (record p { put = l })) none h;
   before = seen.log;
@@ -555,26 +409,20 @@ begins holds allows seen mark first ended u r p len keeps head inside none h = r
     left = none;
     is_ended = refl;
   };
-  ends_inside = inside;
   head = λ on. head;
   told = λ e is. cc;
 }
 
 -- ---- the states
 
--- a write leaves whether the client was upgraded, and whether the request has ended
+-- a write leaves whether the client was upgraded
 pub writes_leave : (old new : DownState) (answer : Put) → Writes old new answer
-    → (new.upgraded ≡ old.upgraded) × (new.request_ended ≡ old.request_ended)
-writes_leave old new (put.Took n) w =
-    (ap (λ (s : DownState). s.upgraded) w, ap (λ (s : DownState). s.request_ended) w)
-writes_leave old new put.NotReady w =
-    (ap (λ (s : DownState). s.upgraded) w, ap (λ (s : DownState). s.request_ended) w)
-writes_leave old new put.Silent w =
-    (ap (λ (s : DownState). s.upgraded) w, ap (λ (s : DownState). s.request_ended) w)
-writes_leave old new (put.Failed fault) w =
-    (ap (λ (s : DownState). s.upgraded) w, ap (λ (s : DownState). s.request_ended) w)
-writes_leave old new put.OutOfMemory w =
-    (ap (λ (s : DownState). s.upgraded) w, ap (λ (s : DownState). s.request_ended) w)
+    → new.upgraded ≡ old.upgraded
+writes_leave old new (put.Took n) w = ap (λ (s : DownState). s.upgraded) w
+writes_leave old new put.NotReady w = ap (λ (s : DownState). s.upgraded) w
+writes_leave old new put.Silent w = ap (λ (s : DownState). s.upgraded) w
+writes_leave old new (put.Failed fault) w = ap (λ (s : DownState). s.upgraded) w
+writes_leave old new put.OutOfMemory w = ap (λ (s : DownState). s.upgraded) w
 
 -- a body whose last piece did not pass has not ended
 pub still_open : (done client : Bool)

@@ -15,7 +15,7 @@ use Rattle.relay_modules.specs.declared.seen.Seen.{Seen}
 use Rattle.relay_hooks.specs.Standing.{Standing, standing}
 use Rattle.relay_hooks.specs.Session.{moment}
 use Rattle.relay_calls.specs.Log.{IsAllowed, Walk, requests_in}
-use Rattle.relay_filters.specs.Request.{PassesRequest, KeepsPieces}
+use Rattle.relay_filters.specs.Request.{PassesRequest}
 
 -- ---- the state
 
@@ -24,12 +24,14 @@ abbrev pub is_held : Option Fail → Bool → Bool
 is_held stopped held = is_some stopped && held
 
 -- the state of the side over that of its inner one: the request ends where the filter lets it end,
--- a body whose last piece did not pass has not ended, and the side tells of its own answers
-abbrev pub state_over : DownState → Bool → Option Fail → Bool → Told → DownState
-state_over inner ended stopped held told = record inner {
+-- a body whose last piece did not pass has not ended, the side tells of its own answers, and the
+-- calls of hooks are those of the log
+abbrev pub state_over : DownState → Bool → Option Fail → Bool → Told → List LogEntry → DownState
+state_over inner ended stopped held told log = record inner {
   request_ended = ended;
   body_done = if is_held stopped held then false else inner.body_done;
   told = told;
+  calls = length log;
 }
 
 -- the request is open again where an upgrade was accepted in between
@@ -62,9 +64,8 @@ pub record LastTells (e : Error) (es : List LogEntry) : Type 0 where
 -- passed the filter by these calls, and all else passed as it did inside. Of a client that was
 -- upgraded nothing is said
 pub record IsHooked (inner : DownPast → Type 0) (allows : Standing → LogEntry → Type 0)
-    (seen : Seen) (mark first : ℕ) (at_first ended upgraded ended_inside : Bool)
+    (seen : Seen) (mark first : ℕ) (at_first ended upgraded : Bool)
     (stopped : Option Fail) (p : DownPast) : Type 0 where
-  pub keeps : KeepsPieces allows
   pub came : List HttpTask
   pub holds : inner (record p { put = came })
   pub before : List LogEntry
@@ -74,8 +75,6 @@ pub record IsHooked (inner : DownPast → Type 0) (allows : Standing → LogEntr
   pub logged : IsLogged allows own seen mark (stopped ≡ None)
   pub request : upgraded ≡ false
       → PassesRequest at_first ended (requests_in own) (stopped ≡ None) came p.put
-  -- the request has ended for the inner side too
-  pub ends_inside : ended ≡ true → ended_inside ≡ true
   pub head : stopped ≡ None → IsSome (head_of seen.downstream.reading)
   -- the side stopped for what its last call answered
   pub told : (e : Error) → stopped ≡ Some (fail.Error e) → LastTells e own

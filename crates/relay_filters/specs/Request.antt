@@ -10,7 +10,7 @@ use Rattle.relay_tasks.specs.declared.log.Item.TheVariants as item
 use Rattle.relay_tasks.specs.declared.log.LogEntry.{LogEntry}
 use Rattle.relay_tasks.specs.declared.task.HttpTask.{HttpTask}
 use Rattle.relay_tasks.specs.declared.task.HttpTask.TheVariants as task
-use Rattle.relay_core.specs.Piece.{is_empty, put_of}
+use Rattle.relay_core.specs.Piece.{put_of}
 use Rattle.relay_core.specs.declared.piece.Piece.{Piece}
 use Rattle.relay_modules.specs.declared.seen.Seen.{Seen}
 use Rattle.relay_hooks.specs.Call.{only, failed}
@@ -132,17 +132,3 @@ Filters allows ended piece (Ok made) old mark new mark' =
 Filters allows ended piece (Err (fail.Error e)) old mark new mark' =
     Refused allows e piece old mark new mark'
 Filters allows ended piece (Err fail.OutOfMemory) old mark new mark' = new.log ≡ old.log
-
--- ---- the application
-
--- of a piece with bytes bytes are left, and no piece is taken away
-pub record KeepsPiece (bytes left : Option (List ℕ)) : Type 0 where
-  pub fills : is_empty bytes ≡ false → is_empty left ≡ false
-  pub no_end : takes_away (is_some bytes) left ≡ false
-
--- the application keeps each piece before the end
-abbrev pub KeepsPieces : (Standing → LogEntry → Type 0) → Type 0
-KeepsPieces allows =
-    (st : Standing) (e : LogEntry) (bytes left : Option (List ℕ)) → allows st e
-    → e.hook ≡ hook.RequestBodyFilter → e.input ≡ item.Piece bytes false
-    → e.output ≡ item.Piece left false → e.error ≡ None → KeepsPiece bytes left

@@ -1,9 +1,9 @@
 //! The client's side behind the filter of an application: the pieces of the request that the inner
 //! side gives pass it, and the tasks of the response pass as they are.
-ghost use Rattle.std.specs.Prelude.{◌≡◌, ◌||◌, [], is_some, true, false, None, IsSome, IsTrue};
+ghost use Rattle.std.specs.Prelude.{◌≡◌, ◌||◌, ◌<◌, [], length, is_some, true, false, None, OnOk, IsSome, IsTrue};
 ghost use Rattle.relay_session.specs.Reading.{head_of};
 ghost use Rattle.relay_core.specs.Past.{Origin, DownPast};
-ghost use Rattle.relay_filters.specs.Request.{Filters, KeepsPieces, piece_of};
+ghost use Rattle.relay_filters.specs.Request.{Filters, piece_of};
 ghost use Rattle.relay_filters.specs.Hooked.{BlamesOver, IsHooked, RefusesOver, is_held, opened, state_over};
 
 use bytes::Bytes;
@@ -83,6 +83,7 @@ fn filter_piece<SV: ProxyHttp>(
     requires { IsSome (head_of session.old.seen.downstream.reading) }
     ensures filters { Filters (SV.allows app.now) ended piece result session.old.seen
         (SV.mark_of app.now ctx.old) session.new.seen (SV.mark_of app.now ctx.new) }
+    ensures called { OnOk result (length session.old.seen.log < length session.new.seen.log) }
 {
     let Piece {
         bytes: mut body,
@@ -102,8 +103,7 @@ impl<'a, SV: ProxyHttp, D> Hooked<'a, SV, D> {
     /// with that context; `ended` says that the request ended with its head. It tells what the
     /// inner one has told.
     ///
-    /// What passed is as inside, where nothing was put yet, the session's head was read, and the
-    /// application keeps pieces.
+    /// What passed is as inside, where nothing was put yet and the session's head was read.
     pub fn new<C>(
         app: &'a SV,
         session: Session<SV::Modules>,
@@ -115,12 +115,11 @@ impl<'a, SV: ProxyHttp, D> Hooked<'a, SV, D> {
         D: Down<C>,
         ensures state { D.state result.inner ≡ D.state inner }
         ensures begins { (client : C) (s : Origin) (p : DownPast)
-            → KeepsPieces (SV.allows app.now) → IsSome (head_of session.seen.downstream.reading)
-            → ended ≡ (D.state inner).request_ended → p.put ≡ [] → D.past inner client s p
+            → IsSome (head_of session.seen.downstream.reading) → p.put ≡ []
+            → D.past inner client s p
             → IsHooked (D.past result.inner client s) (SV.allows result.app.now)
             result.session.seen (SV.mark_of result.app.now result.ctx) result.first
-            result.at_first result.ended (D.state result.inner).upgraded
-            (D.state result.inner).request_ended result.stopped p }
+            result.at_first result.ended (D.state result.inner).upgraded result.stopped p }
     {
         let first = session.phase_log().len();
         let told = inner.told();
@@ -182,11 +181,12 @@ impl<'a, SV: ProxyHttp, D> Hooked<'a, SV, D> {
 }
 
 impl<'a, SV: ProxyHttp, C, D: Down<C>> Down<C> for Hooked<'a, SV, D> {
-    ghost state = { λ f. state_over (D.state f.inner) f.ended f.stopped f.held f.told };
+    ghost state = { λ f. state_over (D.state f.inner) f.ended f.stopped f.held f.told
+        f.session.seen.log };
 
     ghost past = { λ f client s p. IsHooked (D.past f.inner client s) (SV.allows f.app.now)
         f.session.seen (SV.mark_of f.app.now f.ctx) f.first f.at_first f.ended
-        (D.state f.inner).upgraded (D.state f.inner).request_ended f.stopped p };
+        (D.state f.inner).upgraded f.stopped p };
 
     ghost blames = { λ f client s p e.
         BlamesOver (D.past f.inner client s) (D.blames f.inner client s) f.stopped p e };

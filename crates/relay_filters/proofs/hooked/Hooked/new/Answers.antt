@@ -1,11 +1,10 @@
 -- Before the first piece nothing passed.
-use Rattle.std.proofs.Common.{List, length, sym, ap, ◌∙◌}
+use Rattle.std.proofs.Common.{List, length, ap, ◌∙◌}
 use Rattle.relay_tasks.specs.declared.log.LogEntry.{LogEntry}
 use Rattle.relay_filters.proofs.SideLemmas.{begins}
 use Rattle.relay_filters.proofs.hooked.Hooked.new.Goals as goal
 
 pub returns-clause-begins : goal.returns-clause-begins
-returns-clause-begins g c = λ client s p keeps head ends none h.
-    begins _ _ _ _ _ _ _ _ p
-    (c.len-first.ensures ∙ ap (λ (l : List LogEntry). length l) c.phase_log.ensures) keeps head
-    (λ so. sym ends ∙ so) none h
+returns-clause-begins g c = λ client s p head none h.
+    begins _ _ _ _ _ _ _ p
+    (c.len-first.ensures ∙ ap (λ (l : List LogEntry). length l) c.phase_log.ensures) head none h

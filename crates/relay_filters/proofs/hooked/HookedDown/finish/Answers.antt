@@ -6,14 +6,12 @@ use Rattle.relay_filters.proofs.hooked.HookedDown.finish.Goals as goal
 
 pub returns-in-Ok-clause-goes : goal.returns-in-Ok-clause-goes
 returns-in-Ok-clause-goes g c = λ client s p h.
-    goes_on _ _ _ _ _ _ _ _ _ _ _ _ _ _ _ p _ p.put _ _ _ h
+    goes_on _ _ _ _ _ _ _ _ _ _ _ _ _ p _ p.put _ _ _ h
     (λ low. (sym (ap (λ (x : DownState). x.upgraded) c.in-Ok.ensures.ends.exact) ∙ low, refl))
-    (λ so. ap (λ (x : DownState). x.request_ended) c.in-Ok.ensures.ends.exact ∙ h.ends_inside so)
     refl refl (c.in-Ok.ensures.goes client s _ h.holds)
 
 pub returns-in-Err-clause-goes : goal.returns-in-Err-clause-goes
 returns-in-Err-clause-goes g c = λ client s p h.
-    goes_on _ _ _ _ _ _ _ _ _ _ _ _ _ _ _ p _ p.put _ _ _ h
+    goes_on _ _ _ _ _ _ _ _ _ _ _ _ _ p _ p.put _ _ _ h
     (λ low. (sym (ap (λ (x : DownState). x.upgraded) c.in-Err.ensures.ends) ∙ low, refl))
-    (λ so. ap (λ (x : DownState). x.request_ended) c.in-Err.ensures.ends ∙ h.ends_inside so)
     refl refl (c.in-Err.ensures.goes client s _ h.holds)

@@ -1,7 +1,7 @@
 -- A piece was filtered or refused; any other answer of the inner side calls no filter.
-use Rattle.std.proofs.Common.{Bool, refl, sym, ap, ◌∙◌, ◌||◌, append-nil}
+use Rattle.std.proofs.Common.{refl, sym, ap, ◌∙◌, append-nil, inr}
 use Rattle.relay_core.specs.Down.{DownState}
-use Rattle.relay_filters.proofs.SideLemmas.{goes_on, of_item, puts_too, reads_piece, stops_at}
+use Rattle.relay_filters.proofs.SideLemmas.{goes_on, reads_piece, stops_at}
 use Rattle.relay_filters.proofs.hooked.HookedDown.read_piece.Goals as goal
 
 -- the piece passed its filter
@@ -9,48 +9,39 @@ pub returns-in-Ok-clause-goes : goal.returns-in-Ok-clause-goes
 returns-in-Ok-clause-goes g c =
     rw (c.either-self.ensures)
     (λ s p h.
-    reads_piece _ _ _ _ _ _ _ _ _ _ _ _ _ c.args.self.now.stopped p c.in-Item.piece c.in-Ok.made _
+    reads_piece _ _ _ _ _ _ _ _ _ _ _ c.args.self.now.stopped p c.in-Item.piece c.in-Ok.made _
     _ c.in-None.is h (ap (λ (x : DownState). x.upgraded) c.in-Item.ensures.reads.exact)
-    (ap (λ (x : DownState). x.request_ended) c.in-Item.ensures.reads.exact)
-    c.in-Item.ensures.reads.ends c.in-Ok.ensures.filters (c.in-Item.ensures.goes s _ h.holds))
+    c.in-Ok.ensures.filters (c.in-Item.ensures.goes s _ h.holds))
 
--- where the link was not asked it puts a task
+-- that was one call more
 pub returns-in-Ok-clause-puts : goal.returns-in-Ok-clause-puts
 returns-in-Ok-clause-puts g c = λ s p h piece is.
-    of_item _ _ c.in-Ok.made piece is
-    (puts_too _ _ _ _ _ _ _ _ _ c.args.self.now.stopped p c.in-Item.piece c.in-Ok.made _ _
-    c.in-None.is h c.in-Item.ensures.reads.nothing_behind c.in-Ok.ensures.filters
-    (c.in-Item.ensures.puts s _ h.holds c.in-Item.piece refl))
+    inr (inr c.in-Ok.ensures.called)
 
 -- the filter refused it, or memory was wanted
 pub returns-in-Err-clause-goes : goal.returns-in-Err-clause-goes
 returns-in-Err-clause-goes g c = λ s p h.
-    stops_at _ _ _ _ _ _ _ _ _ _ _ _ _ c.args.self.now.stopped p c.in-Item.piece c.in-Err.why _ _ _
+    stops_at _ _ _ _ _ _ _ _ _ _ _ c.args.self.now.stopped p c.in-Item.piece c.in-Err.why _ _ _
     c.in-None.is h (ap (λ (x : DownState). x.upgraded) c.in-Item.ensures.reads.exact)
-    (λ so. ap (λ (x : DownState). x.request_ended) c.in-Item.ensures.reads.exact
-    ∙ ap (λ (b : Bool). b || c.in-Item.piece.upstream_end) so)
     (append-nil p.put) c.in-Err.ensures.filters (c.in-Item.ensures.goes s _ h.holds)
 
 -- the link gave bytes
 pub returns-in-More-clause-goes : goal.returns-in-More-clause-goes
 returns-in-More-clause-goes g c = λ s p h.
-    goes_on _ _ _ _ _ _ _ _ _ _ _ _ _ _ _ p _ _ _ _ _ h
+    goes_on _ _ _ _ _ _ _ _ _ _ _ _ _ p _ _ _ _ _ h
     (λ low. (sym (ap (λ (x : DownState). x.upgraded) c.in-More.ensures.reads) ∙ low, refl))
-    (λ so. ap (λ (x : DownState). x.request_ended) c.in-More.ensures.reads ∙ h.ends_inside so)
     (append-nil h.came) (append-nil p.put) (c.in-More.ensures.goes s _ h.holds)
 
 -- the inner side has to wait
 pub returns-in-Waited-clause-goes : goal.returns-in-Waited-clause-goes
 returns-in-Waited-clause-goes g c = λ s p h.
-    goes_on _ _ _ _ _ _ _ _ _ _ _ _ _ _ _ p _ _ _ _ _ h
+    goes_on _ _ _ _ _ _ _ _ _ _ _ _ _ p _ _ _ _ _ h
     (λ low. (sym (ap (λ (x : DownState). x.upgraded) c.in-Waited.ensures.reads) ∙ low, refl))
-    (λ so. ap (λ (x : DownState). x.request_ended) c.in-Waited.ensures.reads ∙ h.ends_inside so)
     (append-nil h.came) (append-nil p.put) (c.in-Waited.ensures.goes s _ h.holds)
 
 -- the inner side failed
 pub returns-in-Failed-clause-goes : goal.returns-in-Failed-clause-goes
 returns-in-Failed-clause-goes g c = λ s p h.
-    goes_on _ _ _ _ _ _ _ _ _ _ _ _ _ _ _ p _ _ _ _ _ h
+    goes_on _ _ _ _ _ _ _ _ _ _ _ _ _ p _ _ _ _ _ h
     (λ low. (sym (ap (λ (x : DownState). x.upgraded) c.in-Failed.ensures.reads) ∙ low, refl))
-    (λ so. ap (λ (x : DownState). x.request_ended) c.in-Failed.ensures.reads ∙ h.ends_inside so)
     (append-nil h.came) (append-nil p.put) (c.in-Failed.ensures.goes s _ h.holds)

@@ -1,7 +1,6 @@
 -- Tasks of the response pass as they are.
-use Rattle.std.proofs.Common.{refl, ap, ◌∙◌}
-use Rattle.relay_core.specs.Down.{DownState}
-use Rattle.relay_filters.proofs.SideLemmas.{goes_on, not_before, not_opened, opens_both, refuses_on}
+use Rattle.std.proofs.Common.{refl}
+use Rattle.relay_filters.proofs.SideLemmas.{goes_on, not_before, not_opened, refuses_on}
 use Rattle.relay_filters.proofs.hooked.HookedDown.take_batch.Goals as goal
 
 -- the inner side queued them
@@ -9,18 +8,13 @@ pub returns-in-Ok-clause-goes : goal.returns-in-Ok-clause-goes
 returns-in-Ok-clause-goes g c =
     rw (c.opened-self.ensures, c.upgraded.ensures, c.upgraded-was.ensures)
     (λ client s p h.
-    goes_on _ _ _ _ _ _ _ _ _ _ _ _ _ _ _ p _ p.put _ _ _ h
+    goes_on _ _ _ _ _ _ _ _ _ _ _ _ _ p _ p.put _ _ _ h
     (not_opened _ _ _ c.in-Ok.ensures.takes.upgraded_stays)
-    (λ so. ap (λ (x : DownState). x.request_ended) c.in-Ok.ensures.takes.exact
-    ∙ opens_both c.args.self.now.ended (g.D.Down.state c.args.self.now.inner).request_ended
-    (g.D.Down.state c.args.self.now.inner).upgraded (g.D.Down.state c.take_batch.new.self).upgraded
-    h.ends_inside so)
     refl refl (c.in-Ok.ensures.goes client s _ h.holds))
 
 -- it refused them
 pub returns-in-Err-clause-goes : goal.returns-in-Err-clause-goes
 returns-in-Err-clause-goes g c = λ client s p h.
-    refuses_on _ _ _ _ _ _ _ _ _ _ _ _ _ _ p c.args.tasks c.in-Err.why h
+    refuses_on _ _ _ _ _ _ _ _ _ _ _ _ p c.args.tasks c.in-Err.why h
     (not_before _ _ c.in-Err.ensures.takes.upgraded_stays)
-    (λ so. ap (λ (x : DownState). x.request_ended) c.in-Err.ensures.takes.exact ∙ so)
     (c.in-Err.ensures.goes client s _ h.holds)
