@@ -3,5 +3,7 @@
 #![tactic(auto)]
 
 mod hooked;
+#[cfg(test)]
+mod tests;
 
 pub use hooked::Hooked;
