@@ -215,15 +215,15 @@ module _ {L C : Type 0} (state : L → LinkState) (start_at : L → LinkStart) w
   settles_same : (next settled : Phase L C) (before after : Option (List (Returned L)))
       → Settles next before after settled → is_closing next ≡ false
       → (settled ≡ next) × (after ≡ before)
-  settles_same ReadHead settled before after does open = does
-  settles_same (Connect context session) settled before after does open = does
-  settles_same (Relay a) settled before after does open = does
-  settles_same (Fail link lease session e) settled before after does open =
-      absurd (true≢false open)
-  settles_same (Close link lease keep outcome) settled before after does open =
-      absurd (true≢false open)
-  settles_same (Answer session owed attempts) settled before after does open = does
-  settles_same (Ended outcome attempts) settled before after does open = does
+  settles_same ReadHead settled before after does shut = does
+  settles_same (Connect context session) settled before after does shut = does
+  settles_same (Relay a) settled before after does shut = does
+  settles_same (Fail link lease session e) settled before after does shut =
+      absurd (true≢false shut)
+  settles_same (Close link lease keep outcome) settled before after does shut =
+      absurd (true≢false shut)
+  settles_same (Answer session owed attempts) settled before after does shut = does
+  settles_same (Ended outcome attempts) settled before after does shut = does
 
   -- one that has not ended stays so, or its client is owed an answer then
   settles_live : (next settled : Phase L C) (before after : Option (List (Returned L)))

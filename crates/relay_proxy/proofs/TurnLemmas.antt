@@ -280,5 +280,6 @@ unlinked_items state start_at (Ended outcome attempts) none = refl
 pub answer_offers : {L C : Type 0} (start_at : L → LinkStart) (own : List (Returned L))
     (session : Box HttpSession) (owed : Owed) (attempts : List AttemptRecord) (next : Phase L C)
     → items_held start_at next ≡ [] → attempts_in next ≡ attempts
-    → offers_before start_at own (Answer session owed attempts) ≡ offers_before start_at own next
+    → offers_before {C = C} start_at own (Answer session owed attempts)
+    ≡ offers_before start_at own next
 answer_offers start_at own session owed attempts next none same = rw (none, sym same) refl
