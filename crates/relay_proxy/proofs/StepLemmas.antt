@@ -118,6 +118,13 @@ module _ {L : Type 0} (state : L → LinkState) (start_at : L → LinkStart) whe
         made = given_back p link lease e r attempts leased hands;
       }
 
+  -- where the client takes no more of what it is owed
+  quiet_answer : (s : Start) (p : Passed) (w : World) (own : List (Returned L))
+      → IsHalfGiven state start_at s p w own → w.client.silent_on_write ≡ true
+      → IsQuiet state start_at s p w own
+  quiet_answer s p w [] half silent = inr (half, silent)
+  quiet_answer s p w (r ∷ own) half silent = inr (half, silent)
+
 module _ {L C : Type 0} (state : L → LinkState) (start_at : L → LinkStart) where
   -- what a turn counted is what its step counts, where the link of both phases was asked as often
   settled_counts : (n : ℕ) (client client' : LinkState) (used : ℕ) (own now : List (Returned L))
@@ -285,13 +292,13 @@ module _ {L C : Type 0} (state : L → LinkState) (start_at : L → LinkStart) w
   -- a request whose attempt is not recorded was refused nothing, so far
   live_unrefused : (phase next : Phase L C) → is_over phase ≡ false → is_answering phase ≡ false
       → faults_before [] phase ++ faults_of_turn phase next ≡ faults_before [] next
-  live_unrefused ReadHead next live no = refl
-  live_unrefused (Connect context session) next live no = refl
-  live_unrefused (Relay a) next live no = refl
-  live_unrefused (Fail link lease session e) next live no = refl
-  live_unrefused (Close link lease keep outcome) next live no = absurd (true≢false live)
-  live_unrefused (Answer session owed attempts) next live no = absurd (true≢false no)
-  live_unrefused (Ended outcome attempts) next live no = absurd (true≢false live)
+  live_unrefused ReadHead next live mute = refl
+  live_unrefused (Connect context session) next live mute = refl
+  live_unrefused (Relay a) next live mute = refl
+  live_unrefused (Fail link lease session e) next live mute = refl
+  live_unrefused (Close link lease keep outcome) next live mute = absurd (true≢false live)
+  live_unrefused (Answer session owed attempts) next live mute = absurd (true≢false mute)
+  live_unrefused (Ended outcome attempts) next live mute = absurd (true≢false live)
 
   -- a turn of a request that has not ended, settled, is a step
   live_on : (s : Start) (p : Passed) (x : World) (phase next settled : Phase L C)
@@ -307,7 +314,7 @@ module _ {L C : Type 0} (state : L → LinkState) (start_at : L → LinkStart) w
       → TurnCounts state start_at n client x.client used [] next)
       → StepsOn state start_at s p x [] before after told_before told_after had has client counted
       counts phase settled
-  live_on s p x phase next settled before mid after told_before told_after had has live no turn kept
+  live_on s p x phase next settled before mid after told_before told_after had has live mute turn kept
       does told takes carries client counted counts used adds uses =
       let done = settle_run s turn.passed x next settled mid after does turn.run in
       record {
@@ -318,7 +325,7 @@ module _ {L C : Type 0} (state : L → LinkState) (start_at : L → LinkStart) w
         refused = record {
           faults = faults_of_turn phase next;
           gained = told;
-          are = live_unrefused phase next live no ∙ done.refused;
+          are = live_unrefused phase next live mute ∙ done.refused;
         };
         offered = record {
           taken = offers_of_turn start_at phase next;
@@ -674,13 +681,6 @@ module _ {L C : Type 0} (state : L → LinkState) (start_at : L → LinkStart) w
         quiet = λ limit never. absurd never;
       }
 
-  -- where the client takes no more of what it is owed
-  quiet_answer : (s : Start) (p : Passed) (w : World) (own : List (Returned L))
-      → IsHalfGiven state start_at s p w own → w.client.silent_on_write ≡ true
-      → IsQuiet state start_at s p w own
-  quiet_answer s p w [] half silent = inr (half, silent)
-  quiet_answer s p w (r ∷ own) half silent = inr (half, silent)
-
   -- a request that owes its client an answer gave up
   answered_end : (s : Start) (p : Passed) (w : World) (own : List (Returned L))
       (session : Box HttpSession) (owes : Owed) (attempts : List AttemptRecord)
@@ -719,7 +719,7 @@ module _ {L C : Type 0} (state : L → LinkState) (start_at : L → LinkStart) w
             (sym (append-nil own)) asked;
         quiet = λ limit silent. subst (λ (rs : List (Returned L)). IsQuiet state start_at s p w rs)
             (sym (append-nil own))
-            (quiet_answer s p w own (record {
+            (quiet_answer state start_at s p w own (record {
               owed = owes;
               text = holds.text;
               owes = holds.owes;
