@@ -89,6 +89,15 @@ memory_alone error fail.OutOfMemory found framing causes refused framed = refl
 memory_alone error (fail.Error e) found framing causes refused framed =
     absurd (not_missing framing found (refused (ap (λ (x : Error). fail.Error x) causes)) framed)
 
+-- what the client's link tells stands where the connector gave none
+unconnected_tells : (s : Start) (p : Passed) (w : World) (failed : ℕ)
+    → w.connect_faults ≤ last_count → Rose w.connect_faults failed → TellsClient s p w
+    → TellsClient s p (world_with w.client w.ahead failed)
+unconnected_tells s p w failed fits rose tells =
+    client_still s p w (world_with w.client w.ahead failed)
+    (Rose-le w.connect_faults failed fits rose) refl refl (omega arith)
+    (grew_same w.client w.client refl) tells
+
 -- what passed of an exchange under way, by the mark of its link
 pub part_relayed : (s : Start) (p : Passed) (head : RequestHead) (reused : Bool)
     (link : LinkState) (start : LinkStart) → IsRelayable head → start.reused ≡ reused
@@ -250,15 +259,6 @@ module _ {L C : Type 0} (state : L → LinkState) (start_at : L → LinkStart) w
     accepted = run.holds.accepted;
     unsent = run.holds.unsent;
   }
-
-  -- nor did the client's link say anything
-  unconnected_tells : (s : Start) (p : Passed) (w : World) (failed : ℕ)
-      → w.connect_faults ≤ last_count → Rose w.connect_faults failed → TellsClient s p w
-      → TellsClient s p (world_with w.client w.ahead failed)
-  unconnected_tells s p w failed fits rose tells =
-      client_still s p w (world_with w.client w.ahead failed)
-      (Rose-le w.connect_faults failed fits rose) refl refl (omega arith)
-      (grew_same w.client w.client refl) tells
 
   -- the client is owed an answer for that
   pub not_connected : (s : Start) (p : Passed) (w : World) (failed : ℕ) (context : C)

@@ -4,7 +4,8 @@
 --   leaves_part                what passed is a part of one exchange
 --   left_memory .. left_owing  the phase that follows
 use Rattle.std.specs.Global.{Box}
-use Rattle.std.proofs.Common.{◌≡◌, ◌≢◌, ℕ, ◌<◌, Bool, false, List, [], ◌∷◌, ◌++◌, length, Option, None, Some, refl, sym, ap, subst, ◌∙◌, inl, inr, arith, append-nil, append_assoc}
+use Rattle.std.proofs.Common.{◌≡◌, ◌≢◌, ℕ, ◌<◌, Bool, true, false, not, List, [], ◌∷◌, ◌++◌, length, Option, None, Some, refl, sym, ap, subst, ◌∙◌, inl, inr, arith, append-nil, append_assoc}
+use Rattle.std.specs.Prelude.{◌==◌}
 use Rattle.relay_tasks.specs.Head.{RequestHead}
 use Rattle.relay_tasks.specs.declared.Error.{Error}
 use Rattle.relay_tasks.specs.declared.Fault.{Fault}
@@ -103,7 +104,7 @@ leaves_part s p client link start session e l =
     record { head = l.head; relayable = l.relayable; order = order_of l.why }
 
 -- the exchange failed, and so much is owed to its client
-failed_of : (s : Start) (p : Passed) (client link : LinkState) (start : LinkStart)
+abbrev failed_of : (s : Start) (p : Passed) (client link : LinkState) (start : LinkStart)
     (session : HttpSession) (e : Error) → LeavesSession s p client link start session e
     → HasFailed s p client link start e
 failed_of s p client link start session e l =
@@ -129,6 +130,18 @@ waits_of s p client text output (Queued.opened left is joined) some = record {
 }
 waits_of s p client text output (Queued.lost fault is rose front) some =
     absurd (omega (arith, some, ap length (ap pending is)))
+
+-- nothing waits where the session says so
+pub none_waits : (waits : Bool) (xs : List ℕ) → waits ≡ not (length xs == 0) → waits ≡ false
+    → xs ≡ []
+none_waits waits [] is none = refl
+none_waits waits (x ∷ xs) is none = grind (arith, is, none)
+
+-- and something where it says that
+pub some_waits : (waits : Bool) (xs : List ℕ) → waits ≡ not (length xs == 0) → waits ≡ true
+    → 0 < length xs
+some_waits waits [] is some = grind (arith, is, some)
+some_waits waits (x ∷ xs) is some = omega arith
 
 -- ---- the phase that follows
 

@@ -10,7 +10,7 @@ use Rattle.relay_links.specs.Told.{Since}
 use Rattle.relay_links.proofs.SinceLemmas.{Since-start}
 use Rattle.http.specs.declared.Version.{Version}
 use Rattle.relay_h1.specs.BodyReader.{first_state, is_done}
-use Rattle.relay_h1.specs.ClientHead.{is_http_10, is_informational, is_sent_to}
+use Rattle.relay_h1.specs.ClientHead.{is_sent_to}
 use Rattle.relay_h1.specs.Wire.{generated}
 use Rattle.relay_h1.specs.Verdict.{HasRequest, IsOpen}
 use Rattle.relay_h1.specs.declared.framing.Framing.{Framing}
@@ -122,13 +122,14 @@ unread_sent status reading.Head old none answers =
     ap (λ (r : Request). is_sent_to r.version status) (answers [])
 unread_sent status (reading.Body begun) old none answers = cc
 
+-- what is not both is not
+not_both : (b : Bool) → not (b && false) ≡ true
+not_both true = refl
+not_both false = refl
+
 -- 502 is sent to each client
 pub sent_502 : (version : Version) → is_sent_to version 502 ≡ true
-sent_502 version = by (is_http_10 version)
-  where
-    by : (b : Bool) → not (b && is_informational 502) ≡ true
-    by true = refl
-    by false = refl
+sent_502 version = not_both _
 
 -- how it ends where the client ended with these bytes of its head
 ended_unlinked : (s : Start) (p : Passed) (x : World) (bytes : List ℕ) → bytes ≡ asked s p
