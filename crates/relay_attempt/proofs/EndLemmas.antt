@@ -1,7 +1,7 @@
 -- How an exchange ends: both directions were relayed, or one side answers for the error.
 --
 --   finished_of   from SoFar and Finishes: IsFinished
---   fails_for     from SoFar and the reason of an error: FailsFor
+--   fails_with    from SoFar and the reason of an error: FailsWith
 use Rattle.std.proofs.Common.{◌≡◌, ℕ, Bool, true, false, not, ◌==◌, ◌⊎◌, List, [], ◌∷◌, ◌++◌, length, drop, map, refl, sym, ap, subst, ◌∙◌, append-nil, append_assoc, inl, inr, Option, Some, None, arith}
 use Rattle.std.specs.Prelude.{◌||◌, ◌&&◌, is_some, is_none}
 use Rattle.std.specs.List.{list_any}
@@ -21,7 +21,7 @@ use Rattle.relay_peer.specs.H1Client.{may_keep_client}
 use Rattle.relay_peer.specs.ResponseReading.{says, may_keep_reading}
 use Rattle.relay_peer.specs.ResponseReading as reading
 use Rattle.relay_peer.specs.RequestWriting.{Sent, Stands, sent_wire, may_keep_writing, short_request}
-use Rattle.relay_session.specs.Response.{IsOpen, is_over, pending}
+use Rattle.relay_session.specs.Response.{Holds, IsOpen, is_over, pending}
 use Rattle.relay_session.specs.declared.task_text.Place.TheVariants as place
 use Rattle.relay_session.specs.declared.writing.Outgoing.TheVariants as outgoing
 use Rattle.relay_session.specs.Asked.{request_of}
@@ -48,7 +48,7 @@ use Rattle.relay_sides.specs.declared.filtered.Filtered.{Filtered}
 use Rattle.relay_peer.specs.declared.peer_side.PeerSide.{PeerSide}
 use Rattle.relay_sides.proofs.ClientPast.{open_is_whole}
 use Rattle.relay_sides.proofs.FilterLemmas.{inside_of}
-use Rattle.relay_attempt.specs.Exchange.{DownHolds, UpHolds, Blames, BlamesInside, down_state, core_of, IsFinished}
+use Rattle.relay_attempt.specs.Exchange.{DownHolds, UpHolds, Blames, BlamesInside, down_state, core_of, IsFinished, FailsWith}
 use Rattle.relay_exchange.specs.Exchange.{may_keep_at}
 use Rattle.relay_attempt.specs.Head.{link_of, may_keep}
 use Rattle.relay_attempt.specs.Passed.{Passed}
@@ -101,26 +101,34 @@ module _ {L : Type 0} (state : L → LinkState) (start_at : L → LinkStart)
     (so_far : SoFar (DownHolds link ahead down s) (UpHolds state start_at up s)
     (Blames state start_at up s) (core_of state start_at duplex down up) p q)
   where
+    -- what passed is in order
+    abbrev in_order : IsInOrder s (passed_by p q) (state up.inner.client.link).ended
+    in_order = order_so_far state start_at s p q link ahead down up duplex so_far
+
+    -- why the exchange failed with that error, over what is in order here
+    record FailsHere (e : Error) : Type 0 where
+      why : FailsFor s (passed_by p q) link (state up.inner.client.link)
+          (start_at up.inner.client.link) e
+      own : order.order_of why ≡ in_order
+
     -- the client's side answers for the error
-    fails_client : (e : Error) → ClientBlames s p link e
-        → FailsFor s (passed_by p q) link (state up.inner.client.link)
-        (start_at up.inner.client.link) e
+    fails_client : (e : Error) → ClientBlames s p link e → FailsHere e
     fails_client e blames =
-        order.FailsFor.by_client
-        (order_so_far state start_at s p q link ahead down up duplex so_far) blames
+        record { why = order.FailsFor.by_client in_order blames; own = refl }
 
     -- the peer's side answers for the error
-    fails_peer : (e : Error) → Blames state start_at up s q e
-        → FailsFor s (passed_by p q) link (state up.inner.client.link)
-        (start_at up.inner.client.link) e
-    fails_peer e (filtered.BlamesOver.by_inner blames) =
-        order.FailsFor.by_peer (order_so_far state start_at s p q link ahead down up duplex so_far)
-        q.lost (own_blames state start_at s q up so_far.up e blames)
-    fails_peer e (filtered.BlamesOver.by_refusal is) =
-        order.FailsFor.by_refusal
-        (order_so_far state start_at s p q link ahead down up duplex so_far)
-        (refused_for s (start_at up.inner.client.link) (state up.inner.client.link) up q so_far.up e
-        is)
+    fails_peer : (e : Error) → Blames state start_at up s q e → FailsHere e
+    fails_peer e (filtered.BlamesOver.by_inner blames) = record {
+      why = order.FailsFor.by_peer in_order q.lost
+          (own_blames state start_at s q up so_far.up e blames);
+      own = refl;
+    }
+    fails_peer e (filtered.BlamesOver.by_refusal is) = record {
+      why = order.FailsFor.by_refusal in_order
+          (refused_for s (start_at up.inner.client.link) (state up.inner.client.link) up q so_far.up
+          e is);
+      own = refl;
+    }
 
     -- what was written
     abbrev text : IsWritten down.session.writing (queued p) p.written
@@ -130,10 +138,6 @@ module _ {L : Type 0} (state : L → LinkState) (start_at : L → LinkStart)
     abbrev peer_holds : IsPeer s (start_at up.inner.client.link) (state up.inner.client.link)
         up.inner.client up.inner.lost (inside_of q (so_far.up.given ++ so_far.up.withheld))
     peer_holds = so_far.up.holds.peer
-
-    -- what passed is in order
-    abbrev in_order : IsInOrder s (passed_by p q) (state up.inner.client.link).ended
-    in_order = order_so_far state start_at s p q link ahead down up duplex so_far
 
     -- the tasks that came
     abbrev tasks_are : AreTasks s.head.method s.asked (state up.inner.client.link).ended q.got
@@ -429,17 +433,12 @@ module _ {L : Type 0} (state : L → LinkState) (start_at : L → LinkStart)
     -- the client's side refuses tasks that the peer gave: only where its link failed, since no task
     -- of a response is refused, and no end was asked for
     fails_tasks : (e : Error)
-        → Refused (λ r left e. ClientRefuses s r link left e) false p q e
-        → FailsFor s (passed_by p q) link (state up.inner.client.link)
-        (start_at up.inner.client.link) e
+        → Refused (λ r left e. ClientRefuses s r link left e) false p q e → FailsHere e
     fails_tasks e r = on r.refused
       where
-        on : ClientRefuses s p link r.left e
-            → FailsFor s (passed_by p q) link (state up.inner.client.link)
-            (start_at up.inner.client.link) e
+        on : ClientRefuses s p link r.left e → FailsHere e
         on (client.ClientRefuses.link_failed fault is rose) =
-            order.FailsFor.by_client in_order
-            (client.ClientBlames.link_failed fault is rose.0 (inl rose.1))
+            fails_client e (client.ClientBlames.link_failed fault is rose.0 (inl rose.1))
         on (client.ClientRefuses.cannot_send head framing len first at behind has none is fails) =
             let c = so_far.down.client in
             let own = (HasRequest-unique (given_to s p) head s.head framing c.framing len c.len has
@@ -462,10 +461,9 @@ module _ {L : Type 0} (state : L → LinkState) (start_at : L → LinkStart)
     -- since an end is asked for behind one among its tasks, or where the response is over
     fails_ending : (e : Error)
         → Unended (λ r e. ClientBlames s r link e ⊎ CannotEnd s r e) (down_state down) p e
-        → FailsFor s (passed_by p q) link (state up.inner.client.link)
-        (start_at up.inner.client.link) e
+        → FailsHere e
     fails_ending e u = elim u.why [
-      | inl blames ↦ order.FailsFor.by_client in_order blames
+      | inl blames ↦ fails_client e blames
       | inr cannot ↦ absurd (never_short cannot)
     ]
       where
@@ -481,16 +479,14 @@ module _ {L : Type 0} (state : L → LinkState) (start_at : L → LinkStart)
             ≡ Some e) own cannot.refused)
 
     -- the error has its cause in what passed
-    pub fails_for : (e : Error)
+    fails_here : (e : Error)
         → HasReason (λ r e. ClientBlames s r link e) (λ r left e. ClientRefuses s r link left e)
         (λ r e. ClientBlames s r link e ⊎ CannotEnd s r e) (Blames state start_at up s)
-        (down_state down) p q e
-        → FailsFor s (passed_by p q) link (state up.inner.client.link)
-        (start_at up.inner.client.link) e
-    fails_for e (inl blames) = fails_client e blames
-    fails_for e (inr (inl blames)) = fails_peer e blames
-    fails_for e (inr (inr (inl refused))) = fails_tasks e refused
-    fails_for e (inr (inr (inr unended))) = fails_ending e unended
+        (down_state down) p q e → FailsHere e
+    fails_here e (inl blames) = fails_client e blames
+    fails_here e (inr (inl blames)) = fails_peer e blames
+    fails_here e (inr (inr (inl refused))) = fails_tasks e refused
+    fails_here e (inr (inr (inr unended))) = fails_ending e unended
 
 module _ {L : Type 0} (state : L → LinkState) (start_at : L → LinkStart) where
   -- an exchange that finished, and what it leaves
@@ -520,4 +516,29 @@ module _ {L : Type 0} (state : L → LinkState) (start_at : L → LinkStart) whe
             subst (λ (at : Stage). may_keep_at at duplex && may_keep_client up.inner.client ≡ true)
             (sym is)
             (keeps_of state start_at s p q link ahead down up duplex f finishes serves faultless);
+      }
+
+  -- an exchange that failed, and the session of its client that this leaves
+  pub fails_with : (s : Origin) (p : DownPast) (q : UpPast) (link : LinkState) (ahead : List ℕ)
+      (x : H1Exchange L)
+      → SoFar (DownHolds link ahead x.exchange.down s) (UpHolds state start_at x.exchange.up s)
+      (Blames state start_at x.exchange.up s)
+      (core_of state start_at x.exchange.duplex x.exchange.down x.exchange.up) p q
+      → (e : Error)
+      → HasReason (λ r e. ClientBlames s r link e) (λ r left e. ClientRefuses s r link left e)
+      (λ r e. ClientBlames s r link e ⊎ CannotEnd s r e) (Blames state start_at x.exchange.up s)
+      (down_state x.exchange.down) p q e
+      → FailsWith state start_at s (passed_by p q) link x e
+  fails_with s p q link ahead x f e reason =
+      let down = x.exchange.down in
+      let fails = fails_here state start_at s p q link ahead down x.exchange.up x.exchange.duplex f
+      e reason in
+      record {
+        why = fails.why;
+        answers = answers_own s p link ahead down.session f.down.client;
+        holds = subst
+            (λ (o : IsInOrder s (passed_by p q) (state (link_of x)).ended).
+            Holds down.session.writing (o.batched ++ o.closing) p.written) (sym fails.own)
+            f.down.client.response;
+        broken = f.down.client.broken;
       }

@@ -9,3 +9,4 @@ pub mod EndLemmas
 pub mod TurnLemmas
 pub mod WholeLemmas
 pub mod ServeLemmas
+pub mod FailLemmas

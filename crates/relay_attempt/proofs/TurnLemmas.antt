@@ -18,7 +18,7 @@ use Rattle.relay_attempt.specs.Order.{FailsFor}
 use Rattle.relay_attempt.specs.declared.h1_exchange.H1Exchange.{H1Exchange}
 use Rattle.relay_attempt.specs.declared.h1_exchange.Unbegun.{Unbegun}
 use Rattle.relay_attempt.proofs.OrderLemmas.{passed_by, told_of_attempt, attempt_so_far, order_so_far}
-use Rattle.relay_attempt.proofs.EndLemmas.{finished_of, fails_for}
+use Rattle.relay_attempt.proofs.EndLemmas.{finished_of, fails_with}
 
 -- ---- the beginning
 
@@ -89,15 +89,6 @@ module _ {L : Type 0} (state : L → LinkState) (start_at : L → LinkStart) whe
           under_way s went.p went.q link ahead x
           (record { so_far = went.so_far; goes_on = goes_on })
 
-      fails : (e : Error)
-          → HasReason (λ p e. ClientBlames s p link e) (λ p left e. ClientRefuses s p link left e)
-          (λ p e. ClientBlames s p link e ⊎ CannotEnd s p e) (Blames state start_at x.exchange.up s)
-          (down_state x.exchange.down) went.p went.q e
-          → FailsFor s (passed_by went.p went.q) link (state (link_of x)) (start_at (link_of x)) e
-      fails e why =
-          fails_for state start_at s went.p went.q link ahead x.exchange.down x.exchange.up
-          x.exchange.duplex went.so_far e why
-
       comes : (result : Step) → (result ≡ step.Finished → x.exchange.stage ≡ stage.Bodies)
           → over.ComesTo (λ p e. ClientBlames s p link e)
           (λ p left e. ClientRefuses s p link left e)
@@ -110,7 +101,8 @@ module _ {L : Type 0} (state : L → LinkState) (start_at : L → LinkStart) whe
       comes step.Finished bodies finishes =
           finished_of state start_at s went.p went.q link ahead x (bodies refl) went.so_far
           (finishes refl)
-      comes (step.Failed (fail.Error e)) bodies why = fails e why
+      comes (step.Failed (fail.Error e)) bodies why =
+          fails_with state start_at s went.p went.q link ahead x went.so_far e why
       comes (step.Failed fail.OutOfMemory) bodies free =
           order_so_far state start_at s went.p went.q link ahead x.exchange.down x.exchange.up
           x.exchange.duplex went.so_far

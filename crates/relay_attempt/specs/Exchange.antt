@@ -1,14 +1,18 @@
 -- An exchange so far over HTTP/1 links, and what a turn makes of it.
-use Rattle.std.specs.Prelude.{◌≡◌, ℕ, true, ◌⊎◌, ◌≤◌, List, [], Option, Some}
+use Rattle.std.specs.Prelude.{◌≡◌, ℕ, true, ◌⊎◌, ◌≤◌, List, [], ◌++◌, Option, Some}
 use Rattle.relay_tasks.specs.declared.error.Error.{Error}
 use Rattle.relay_tasks.specs.declared.error.Fail.TheVariants as fail
+use Rattle.relay_tasks.specs.declared.fault.Fault.{Fault}
 use Rattle.relay_tasks.specs.Head.{RequestHead}
 use Rattle.relay_links.specs.Count.{Rose}
 use Rattle.relay_links.specs.Link.{LinkState, LinkStart}
 use Rattle.relay_links.specs.Told.{Since}
 use Rattle.relay_links.specs.declared.branch.Branch.{Branch}
 use Rattle.relay_peer.specs.RequestWriting.{head_in}
+use Rattle.relay_session.specs.Asked.{request_of}
 use Rattle.relay_session.specs.Reading.{head_of, is_body_done}
+use Rattle.relay_session.specs.Response.{Holds}
+use Rattle.relay_session.specs.declared.writing.Outgoing.TheVariants as outgoing
 use Rattle.relay_core.specs.Down.{DownState}
 use Rattle.relay_core.specs.Past.{Origin, DownPast, UpPast}
 use Rattle.relay_core.specs.Table.{State, core}
@@ -16,7 +20,7 @@ use Rattle.relay_core.specs.Uses as uses
 use Rattle.relay_core.specs.declared.duplex.Duplex.{Duplex}
 use Rattle.relay_core.specs.declared.step.Step.{Step}
 use Rattle.relay_core.specs.declared.step.Step.TheVariants as step
-use Rattle.relay_sides.specs.Client.{HasPassed}
+use Rattle.relay_sides.specs.Client.{HasPassed, FailsWrite}
 use Rattle.relay_sides.specs.Client as client
 use Rattle.relay_peer.specs.Faults.{TellsSince}
 use Rattle.relay_peer.specs.Peer.{IsPeerSide, PeerBlames}
@@ -29,7 +33,7 @@ use Rattle.relay_exchange.specs.Exchange.{IsSilentLink}
 use Rattle.relay_exchange.specs.Exchange as over
 use Rattle.relay_attempt.specs.declared.h1_exchange.H1Exchange.{H1Exchange}
 use Rattle.relay_attempt.specs.Head.{link_of, may_keep}
-use Rattle.relay_attempt.specs.Order.{IsInOrder, FailsFor, IsRelayed, Leaves, MayServe}
+use Rattle.relay_attempt.specs.Order.{IsInOrder, FailsFor, order_of, IsRelayed, Leaves, MayServe}
 use Rattle.relay_attempt.specs.Passed.{Passed}
 
 -- the past of the client's side holds
@@ -105,6 +109,19 @@ module _ {L : Type 0} (state : L → LinkState) (start_at : L → LinkStart) whe
         → ¬ (Rose (start_at (link_of x)).faults (state (link_of x)).faults)
         → may_keep x ≡ true
 
+  -- why it failed with that error, and the session that this leaves: it answers the request, with
+  -- the tasks that were queued, of whose text so much was written; and where it keeps the fault of
+  -- a write, the client's link has answered that since the request began
+  pub record FailsWith (s : Origin) (p : Passed) (link : LinkState) (x : H1Exchange L) (e : Error)
+      : Type 0 where
+    pub why : FailsFor s p link (state (link_of x)) (start_at (link_of x)) e
+    pub answers : x.exchange.down.session.writing.request ≡ request_of s.head
+    pub holds : Holds x.exchange.down.session.writing
+        ((order_of why).batched ++ (order_of why).closing) p.written
+    pub broken : (fault : Fault)
+        → x.exchange.down.session.writing.output ≡ outgoing.Broken fault
+        → FailsWrite s link fault
+
   -- what a turn made of it, by its answer: it goes on; both directions were relayed; or it failed,
   -- for a cause
   abbrev pub ComesTo : Origin → Passed → LinkState → List ℕ → H1Exchange L → Step → Type 0
@@ -112,7 +129,7 @@ module _ {L : Type 0} (state : L → LinkState) (start_at : L → LinkStart) whe
   ComesTo s p link ahead x (step.Waited pause) = IsUnderWay s p link ahead x
   ComesTo s p link ahead x step.Finished = IsFinished s p ahead x
   ComesTo s p link ahead x (step.Failed (fail.Error e)) =
-      FailsFor s p link (state (link_of x)) (start_at (link_of x)) e
+      FailsWith s p link x e
   ComesTo s p link ahead x (step.Failed fail.OutOfMemory) =
       IsInOrder s p (state (link_of x)).ended
 

@@ -1,13 +1,14 @@
 -- What was sent to the peer and what was written to the client, in terms of the bytes that passed
 -- (RFC 9110, section 15.2; RFC 9112, sections 3 to 8).
-use Rattle.std.specs.Prelude.{◌≡◌, ◌↔◌, IsTrue, ℕ, All, Bool, true, false, ◌⊎◌, List, [], ◌++◌, drop, map, Some, None}
+use Rattle.std.specs.Prelude.{◌≡◌, ◌↔◌, IsTrue, ℕ, All, Bool, true, false, ◌⊎◌, ◌≤◌, List, [], ◌++◌, drop, map, Some, None}
 use Rattle.std.specs.List.{list_any}
 use Rattle.relay_tasks.specs.declared.error.Error.{Error}
+use Rattle.relay_tasks.specs.declared.fault.Fault.{Fault}
 use Rattle.relay_tasks.specs.declared.task.HttpTask.{HttpTask}
 use Rattle.relay_tasks.specs.Head.{ResponseHead}
 use Rattle.relay_tasks.specs.Task.{is_end}
 use Rattle.relay_links.specs.Link.{LinkState, LinkStart}
-use Rattle.relay_links.specs.Told.{Since}
+use Rattle.relay_links.specs.Told.{Since, more}
 use Rattle.relay_h1.specs.declared.framing.Framing.{Framing}
 use Rattle.relay_h1.specs.Body.{BodyText, ended_text, Body}
 use Rattle.relay_h1.specs.BodyWire.{after_pieces, body_text, is_short}
@@ -142,6 +143,22 @@ pub data FailsFor
       → FailsFor s p client link start e
   by_refusal : (order : IsInOrder s p link.ended) → RefusesHead s.head.method s.asked p.got e
       → FailsFor s p client link start e
+
+-- what passed in order behind a failure
+abbrev pub order_of : {s : Origin} {p : Passed} {client link : LinkState} {start : LinkStart}
+    {e : Error} → FailsFor s p client link start e → IsInOrder s p link.ended
+order_of (FailsFor.by_client order blames) = order
+order_of (FailsFor.by_peer order lost blames) = order
+order_of (FailsFor.by_refusal order refuses) = order
+
+-- nothing but writes came between two states of a client's link: its reads told no more, and its
+-- writes these faults
+pub record WrittenTo (before after : LinkState) : Type 0 where
+  pub ended : after.ended ≡ before.ended
+  pub read : after.read_faults ≡ before.read_faults
+  pub failed : List Fault
+  pub told : after.write_faults ≡ more before.write_faults failed
+  pub faults : before.faults ≤ after.faults
 
 -- the request has ended: an end is among its pieces, or its head says that it has no body
 abbrev pub HasEnded : {s : Origin} {p : Passed} {closed : Bool} → IsInOrder s p closed → Type 0

@@ -165,4 +165,15 @@ impl<L> H1Exchange<L> {
         let H1Exchange { exchange } = self;
         exchange.into_up().into_inner().into_link()
     }
+
+    /// The session of the request, and the link.
+    pub fn into_parts(self) -> (HttpSession, L)
+        ensures session { result.0 ≡ self.exchange.down.session }
+        ensures link { result.1 ≡ link_of self }
+    {
+        let H1Exchange { exchange } = self;
+        let (down, up) = exchange.into_parts();
+        let session = down.into_session();
+        (session, up.into_inner().into_link())
+    }
 }

@@ -178,6 +178,22 @@ impl<D, U> Exchange<D, U> {
     }
 }
 
+impl<D, U> Exchange<D, U> {
+    /// Both sides.
+    pub fn into_parts(self) -> (D, U)
+        ensures down { result.0 ≡ self.down }
+        ensures up { result.1 ≡ self.up }
+    {
+        let Exchange {
+            down,
+            up,
+            duplex: _duplex,
+            stage: _,
+        } = self;
+        (down, up)
+    }
+}
+
 impl<D: Drop, U> Exchange<D, U> {
     /// The upstream's side alone.
     pub fn into_up(self) -> U

@@ -1,5 +1,5 @@
 -- Turns of the connector: the attempt's exchange begins over the link that it gave, or does not.
-use Rattle.std.proofs.Common.{◌≡◌, ◌≢◌, ℕ, ◌≤◌, Bool, false, List, [], ◌∷◌, Option, Some, None, refl, sym, ap, subst, ◌∙◌, inl, inr, arith}
+use Rattle.std.proofs.Common.{◌≡◌, ◌≢◌, ℕ, ◌≤◌, Bool, false, List, [], ◌∷◌, ◌++◌, Option, Some, None, refl, sym, ap, subst, ◌∙◌, inl, inr, arith}
 use Rattle.std.specs.Global.{Box}
 use Rattle.relay_tasks.specs.declared.error.Error.{Error}
 use Rattle.relay_tasks.specs.declared.error.ErrorSource.TheVariants.{Internal, Upstream}
@@ -18,7 +18,12 @@ use Rattle.relay_links.proofs.SinceLemmas.{Since-start}
 use Rattle.relay_h1.specs.Framing.{request_framing}
 use Rattle.relay_h1.specs.Verdict.{refused_from}
 use Rattle.relay_h1.specs.declared.framing.Framing.{Framing}
+use Rattle.relay_h1.specs.Wire.{generated}
+use Rattle.relay_session.specs.Generated.{answer_tasks, AnswersText}
 use Rattle.relay_session.specs.Reading.{head_of}
+use Rattle.relay_session.specs.Response.{AreQueued}
+use Rattle.relay_session.specs.declared.writing.Outgoing.TheVariants.{Open}
+use Rattle.relay_session.specs.declared.writing.Writing.{Writing}
 use Rattle.relay_session.specs.declared.session.HttpSession.{HttpSession}
 use Rattle.relay_sides.specs.Client.{BeginsBehind}
 use Rattle.relay_core.specs.Past.{Origin}
@@ -28,15 +33,19 @@ use Rattle.relay_attempt.specs.declared.h1_exchange.H1Exchange.{H1Exchange}
 use Rattle.relay_attempt.specs.Order as exchange
 use Rattle.relay_attempt.specs.Head.{link_of}
 use Rattle.relay_proxy.specs.Relayable.{IsRelayable}
-use Rattle.relay_proxy.specs.Endings.{IsInOrder, IsAskedPeer, IsPartRelayed, EndsLinked, fault_error, outcome_of}
+use Rattle.relay_proxy.specs.Endings.{IsInOrder, IsAskedPeer, IsPartRelayed, IsUnconnected, IsFailedRecord, EndsLinked, error_of, fault_error, outcome_of}
 use Rattle.relay_proxy.specs.Passed.{World, Start, origin_of, TellsClient, IsUnsent}
 use Rattle.relay_proxy.specs.Phases.{IsConnecting, IsLeased, IsRelaying, RunSoFar}
 use Rattle.relay_proxy.specs.Turn.{Advances, world_with}
 use Rattle.relay_proxy.specs.declared.machine.Attempt.{Attempt}
 use Rattle.relay_proxy.specs.declared.machine.Lease.{Lease}
-use Rattle.relay_proxy.specs.declared.machine.Phase.TheVariants.{Connect, Relay, Close, Ended}
+use Rattle.relay_proxy.specs.declared.machine.Phase.TheVariants.{Connect, Relay, Close, Answer, Ended}
+use Rattle.relay_proxy.specs.declared.owed.Owed.TheVariants.{Served}
+use Rattle.relay_proxy.specs.declared.record.AttemptRecord.{AttemptRecord}
 use Rattle.relay_proxy.specs.declared.outcome.Outcome.{Outcome}
 use Rattle.relay_proxy.specs.declared.outcome.Outcome.TheVariants as outcome
+use Rattle.relay_proxy.proofs.AnswerSteps.{answer_on}
+use Rattle.relay_proxy.proofs.HeadSteps.{begun_answer, generated_some, sent_502}
 use Rattle.relay_proxy.proofs.OpenHead.{exchange_open}
 use Rattle.relay_peer.proofs.FaultLemmas.{grew_same}
 use Rattle.relay_proxy.proofs.Tells.{Rose-le, client_still}
@@ -210,7 +219,8 @@ module _ {L C : Type 0} (state : L → LinkState) (start_at : L → LinkStart) w
           holds = (
             subst (λ (l : L). IsLeased p (state l) (start_at l) lease) (sym same)
                 (leased_anew p (state link) (start_at link) lease run.holds.unsent handed peer),
-            subst (λ (o : Outcome). EndsLinked s p w (state back) (start_at back) false o)
+            subst (λ (o : Outcome).
+                EndsLinked s p w (state back) (start_at back) false (error_of o) o)
                 (sym is_memory) (inr (run.holds.written, run.holds.unsent), refl),
           );
         };
@@ -226,43 +236,87 @@ module _ {L C : Type 0} (state : L → LinkState) (start_at : L → LinkStart) w
           run.holds.accepted.framing causes refused framed)
 
   -- the connector gave no link
+  unconnected : (s : Start) (p : Passed) (w : World) (failed : ℕ) (context : C)
+      (session : Box HttpSession) (fault : Fault) (e : Error) → Rose w.connect_faults failed
+      → IsConnectFault fault → e ≡ fault_error Upstream fault
+      → RunSoFar {C = C} state start_at s p w [] (Connect context session)
+      → IsUnconnected s p (world_with w.client w.ahead failed) e
+  unconnected s p w failed context session fault e rose kind is run = record {
+    fault = fault;
+    kind = kind;
+    error = is;
+    rose = λ below. omega (arith, run.tells.connect_faults, rose below);
+    head = run.holds.head;
+    accepted = run.holds.accepted;
+    unsent = run.holds.unsent;
+  }
+
+  -- nor did the client's link say anything
+  unconnected_tells : (s : Start) (p : Passed) (w : World) (failed : ℕ)
+      → w.connect_faults ≤ last_count → Rose w.connect_faults failed → TellsClient s p w
+      → TellsClient s p (world_with w.client w.ahead failed)
+  unconnected_tells s p w failed fits rose tells =
+      client_still s p w (world_with w.client w.ahead failed)
+      (Rose-le w.connect_faults failed fits rose) refl refl (omega arith)
+      (grew_same w.client w.client refl) tells
+
+  -- the client is owed an answer for that
   pub not_connected : (s : Start) (p : Passed) (w : World) (failed : ℕ) (context : C)
-      (session : Box HttpSession) (peer : Peer) (fault : Fault) → w.connect_faults ≤ last_count
-      → Rose w.connect_faults failed → IsConnectFault fault → IsAskedPeer peer
+      (session session' : Box HttpSession) (fault : Fault) (e : Error)
+      (attempts : List AttemptRecord) → w.connect_faults ≤ last_count
+      → Rose w.connect_faults failed → IsConnectFault fault → e ≡ fault_error Upstream fault
+      → IsFailedRecord attempts e → session'.value.writing.output ≡ Open (generated 502)
       → RunSoFar {C = C} state start_at s p w [] (Connect context session)
       → Advances {C = C} state start_at s (world_with w.client w.ahead failed)
-      (Ended (outcome.Served (Some (fault_error Upstream fault)) false)
-      (record {
-        peer = peer;
-        reused = false;
-        kept = false;
-        error = Some (fault_error Upstream fault);
-      } ∷ []))
-  not_connected s p w failed context session peer fault fits rose kind asked run = record {
+      (Answer session' (Served e) attempts)
+  not_connected s p w failed context session session' fault e attempts fits rose kind is made waits
+      run =
+      answer_on state start_at s p (world_with w.client w.ahead failed) [] session' (Served e)
+      attempts (unconnected_tells s p w failed fits rose run.tells) (record {
+        text = generated 502;
+        owes = (unconnected s p w failed context session fault e rose kind is run, refl);
+        waits = record {
+          left = generated 502;
+          is_open = waits;
+          some = generated_some 502;
+          joined = ap (λ (xs : List ℕ). xs ++ generated 502) run.holds.written;
+        };
+        made = made;
+      })
+
+  -- memory was wanted for the answer
+  pub not_answered : (s : Start) (p : Passed) (w : World) (failed : ℕ) (context : C)
+      (session : Box HttpSession) (fault : Fault) (e : Error) (attempts : List AttemptRecord)
+      → w.connect_faults ≤ last_count → Rose w.connect_faults failed → IsConnectFault fault
+      → e ≡ fault_error Upstream fault → IsFailedRecord attempts e
+      → RunSoFar {C = C} state start_at s p w [] (Connect context session)
+      → Advances {C = C} state start_at s (world_with w.client w.ahead failed)
+      (Ended outcome.OutOfMemory attempts)
+  not_answered s p w failed context session fault e attempts fits rose kind is made run = record {
     passed = p;
     run = record {
-      tells = client_still s p w (world_with w.client w.ahead failed)
-          (Rose-le w.connect_faults failed fits rose) refl refl (omega arith)
-          (grew_same w.client w.client refl) run.tells;
+      tells = unconnected_tells s p w failed fits rose run.tells;
       order = run.order;
       untouched = run.untouched;
-      going = λ limit. cc;
+      going = no_limit;
       calm = tt;
-      holds = (
-        (
-          record {
-            fault = fault;
-            kind = kind;
-            error = refl;
-            rose = λ below. omega (arith, run.tells.connect_faults, rose below);
-            head = run.holds.head;
-            accepted = run.holds.accepted;
-            written = run.holds.written;
-            unsent = run.holds.unsent;
-          },
-          refl,
-        ),
-        (_, refl, record { peer = asked; reused = refl; kept = refl; error = refl }),
-      );
+      holds = (run.holds.unsent, inr (record {
+        e = e;
+        unconnected = unconnected s p w failed context session fault e rose kind is run;
+        part = record {
+          rest = generated 502;
+          joined = ap (λ (xs : List ℕ). xs ++ generated 502) run.holds.written;
+        };
+        is_record = made;
+      }));
     };
   }
+
+-- the session that wants a link has nothing but the answer queued
+pub connecting_answer : (s : Start) (p : Passed) (w : World) (session : HttpSession)
+    (new : Writing) → IsConnecting s p w session
+    → AreQueued session.writing (answer_tasks session.writing.place 502) new
+    → AnswersText 502 session.writing new → new.output ≡ Open (generated 502)
+connecting_answer s p w session new connecting queued text =
+    begun_answer 502 session.writing new (connecting.begins false).response queued text
+    (sent_502 session.writing.request.version)

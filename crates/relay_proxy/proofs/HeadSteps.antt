@@ -1,5 +1,5 @@
 -- Turns before a link is asked for: the client's head comes, is accepted, or is refused.
-use Rattle.std.proofs.Common.{◌≡◌, ℕ, Bool, true, List, [], ◌∷◌, ◌++◌, length, take, drop, Option, Some, refl, le_refl, ◌≢◌, sym, ap, subst, ◌∙◌, inl, inr, arith, length-append, append_assoc, append-nil}
+use Rattle.std.proofs.Common.{◌≡◌, ℕ, ◌<◌, Bool, true, false, not, ◌&&◌, List, [], ◌∷◌, ◌++◌, length, take, drop, Option, Some, None, refl, le_refl, ◌≢◌, sym, ap, subst, ◌∙◌, inl, inr, arith, length-append, append_assoc, append-nil}
 use Rattle.std.specs.Global.{Box}
 use Rattle.relay_tasks.specs.declared.Error.{Error}
 use Rattle.relay_tasks.specs.declared.ErrorSource.TheVariants.{Downstream}
@@ -8,29 +8,41 @@ use Rattle.relay_tasks.specs.Head.{RequestHead}
 use Rattle.relay_links.specs.Link.{LinkState, LinkStart, GivesBytes, EndsRead, FailsRead, FailsWrite, WantsMemory}
 use Rattle.relay_links.specs.Told.{Since}
 use Rattle.relay_links.proofs.SinceLemmas.{Since-start}
+use Rattle.http.specs.declared.Version.{Version}
 use Rattle.relay_h1.specs.BodyReader.{first_state, is_done}
+use Rattle.relay_h1.specs.ClientHead.{is_http_10, is_informational, is_sent_to}
+use Rattle.relay_h1.specs.Wire.{generated}
 use Rattle.relay_h1.specs.Verdict.{HasRequest, IsOpen}
 use Rattle.relay_h1.specs.declared.framing.Framing.{Framing}
 use Rattle.relay_h1.specs.declared.framing.Framing.TheVariants as framing
 use Rattle.relay_session.specs.Asked.{request_of}
 use Rattle.relay_session.specs.Front.{ends_with_head}
 use Rattle.relay_session.specs.Reading.{head_of, is_body_done, RequestSoFar, IsWhole}
-use Rattle.relay_session.specs.Response.{Holds}
+use Rattle.relay_session.specs.Generated.{answer_tasks, AnswersText}
+use Rattle.relay_session.specs.Response.{Holds, HoldsOn, IsText, AreQueued}
+use Rattle.relay_session.specs.Session.{AnswersRead}
+use Rattle.relay_session.specs.TaskWire.{Sent}
+use Rattle.relay_session.specs.declared.reading.Reading.{Reading}
+use Rattle.relay_session.specs.declared.reading.Reading.TheVariants as reading
+use Rattle.relay_session.specs.declared.task_text.Place.TheVariants as place
+use Rattle.relay_session.specs.declared.task_text.Request.{Request}
+use Rattle.relay_session.specs.declared.writing.Outgoing.{Outgoing}
+use Rattle.relay_session.specs.declared.writing.Writing.{Writing}
 use Rattle.relay_session.specs.declared.session.HttpSession.{HttpSession}
 use Rattle.relay_session.specs.declared.writing.Outgoing.TheVariants.{Open}
 use Rattle.relay_sides.specs.Client.{BeginsBehind}
 use Rattle.relay_attempt.specs.Passed.{Passed}
 use Rattle.relay_proxy.specs.Relayable.{IsRelayable}
 use Rattle.relay_proxy.specs.Passed.{World, Start, start_of, origin_of, nothing, asked, TellsClient, IsUnsent}
-use Rattle.relay_proxy.specs.Endings.{IsInOrder, IsLeftAlone, IsTurnedDown, IsHalfAnswered, EndsUnlinked, AttemptsUnlinked, ended_outcome, left_early, fault_error}
-use Rattle.relay_proxy.specs.Phases.{IsRefusing, RunSoFar}
+use Rattle.relay_proxy.specs.Endings.{IsInOrder, IsLeftAlone, IsTurnedDown, EndsUnlinked, AttemptsUnlinked, ended_outcome, left_early, fault_error}
+use Rattle.relay_proxy.specs.Phases.{RunSoFar}
 use Rattle.relay_proxy.specs.Turn.{Advances}
-use Rattle.relay_proxy.specs.Offer.{TakesFront}
-use Rattle.relay_proxy.specs.declared.machine.Phase.TheVariants.{ReadHead, Refuse, Connect, Ended}
+use Rattle.relay_proxy.specs.declared.machine.Phase.TheVariants.{ReadHead, Connect, Answer, Ended}
 use Rattle.relay_proxy.specs.declared.outcome.Outcome.{Outcome}
 use Rattle.relay_proxy.specs.declared.outcome.Outcome.TheVariants as outcome
-use Rattle.relay_proxy.specs.declared.pending.Pending.{Pending}
+use Rattle.relay_proxy.specs.declared.owed.Owed.TheVariants as owed
 use Rattle.relay_proxy.specs.declared.record.AttemptRecord.{AttemptRecord}
+use Rattle.relay_proxy.proofs.AnswerSteps.{answer_on}
 use Rattle.relay_h1.proofs.VerdictLemmas.{HasRequest-IsOpen}
 use Rattle.relay_proxy.proofs.OpenHead.{turns_down_open}
 use Rattle.relay_peer.proofs.FaultLemmas.{Grew, grew_same, grew_none, more_none, added_last, since_none}
@@ -82,22 +94,41 @@ begins_behind s p w head framing len session reused tells none has taken stands 
   tells = tells.fault_lists;
 }
 
--- where some of a generated answer waits, the client was not given all of it
-pub half_answered : (s : Start) (p : Passed) (left : Pending) (e : Option Error)
-    → IsRefusing s p left.output e → IsHalfAnswered s p
-half_answered s p left e refusing = record {
-  answer = refusing.answer;
-  error = e;
-  turned_down = refusing.turned_down;
-  part = record { rest = left.output; joined = refusing.joined };
-  left = λ whole. absurd (omega (
-    arith,
-    left.some,
-    length-append p.written left.output,
-    ap length refusing.joined,
-    ap length whole,
-  ));
-}
+-- a generated answer has bytes
+pub generated_some : (status : ℕ) → 0 < length (generated status)
+generated_some status =
+    let first : generated status ≡ 72 ∷ drop 1 (generated status) = refl in
+    omega (arith, ap length first)
+
+-- the generated answer alone waits in a session that was just begun
+pub begun_answer : (status : ℕ) (old new : Writing) → Holds old [] []
+    → AreQueued old (answer_tasks old.place status) new → AnswersText status old new
+    → is_sent_to old.request.version status ≡ true
+    → new.output ≡ Open (generated status)
+begun_answer status old new holds queued text sent =
+    let queue = queued.grows.queue in
+    let is : IsText old [] queue =
+    subst (λ (o : Outgoing). HoldsOn old o [] []) queued.grows.was_open holds in
+    let none : queue ≡ [] = sym (ap (λ (k : Sent). k.text) is.wire.is) in
+    let stands : old.place ≡ place.NoHead = sym (ap (λ (k : Sent). k.place) is.wire.is) in
+    text queue queued.grows.was_open stands sent
+    ∙ ap (λ (xs : List ℕ). Open (xs ++ generated status)) none
+
+-- a session without a head answers a client of HTTP/1.1
+pub unread_sent : (status : ℕ) (reading : Reading) (old : Writing) → head_of reading ≡ None
+    → ((given : List ℕ) → AnswersRead given reading old)
+    → is_sent_to old.request.version status ≡ true
+unread_sent status reading.Head old none answers =
+    ap (λ (r : Request). is_sent_to r.version status) (answers [])
+unread_sent status (reading.Body begun) old none answers = cc
+
+-- 502 is sent to each client
+pub sent_502 : (version : Version) → is_sent_to version 502 ≡ true
+sent_502 version = by (is_http_10 version)
+  where
+    by : (b : Bool) → not (b && is_informational 502) ≡ true
+    by true = refl
+    by false = refl
 
 -- how it ends where the client ended with these bytes of its head
 ended_unlinked : (s : Start) (p : Passed) (x : World) (bytes : List ℕ) → bytes ≡ asked s p
@@ -120,10 +151,10 @@ ended_unlinked s p x (b ∷ bytes) is open_head ended written unsent =
     apart same = cc
 
 -- no attempt was made then
-ended_attempts : (bytes : List ℕ) (attempts : List AttemptRecord) → attempts ≡ []
-    → AttemptsUnlinked attempts (ended_outcome bytes)
-ended_attempts [] attempts none = none
-ended_attempts (b ∷ bytes) attempts none = none
+ended_attempts : (s : Start) (p : Passed) (x : World) (bytes : List ℕ) (attempts : List AttemptRecord) → attempts ≡ []
+    → AttemptsUnlinked s p x attempts (ended_outcome bytes)
+ended_attempts s p x [] attempts none = none
+ended_attempts s p x (b ∷ bytes) attempts none = none
 
 -- and it is no end by its turns
 ended_going : (bytes : List ℕ) → ended_outcome bytes ≢ outcome.TurnLimit
@@ -191,11 +222,11 @@ module _ {L C : Type 0} (state : L → LinkState) (start_at : L → LinkStart) w
       going = λ limit. ended_going x.ahead (sym is ∙ limit);
       calm = tt;
       holds = subst
-          (λ (o : Outcome). EndsUnlinked s p x o × AttemptsUnlinked attempts o) (sym is) (
+          (λ (o : Outcome). EndsUnlinked s p x o × AttemptsUnlinked s p x attempts o) (sym is) (
             ended_unlinked s p x x.ahead whole
                 (subst (λ (xs : List ℕ). IsOpen xs) run.holds.whole open_head) ends.ended
                 run.holds.written run.holds.unsent,
-            ended_attempts x.ahead attempts none,
+            ended_attempts s p x x.ahead attempts none,
           );
     };
   }
@@ -315,167 +346,24 @@ module _ {L C : Type 0} (state : L → LinkState) (start_at : L → LinkStart) w
       asks = subst (λ (xs : List ℕ). HasRequest xs head framing len) run.holds.whole has
 
   -- the client is to be given a generated answer
-  pub turned_down : (s : Start) (p : Passed) (w : World) (text : List ℕ) (e : Option Error)
-      (answer : Pending)
-      → IsTurnedDown w.ahead text e → answer.output ≡ text
+  pub turned_down : (s : Start) (p : Passed) (w : World) (status : ℕ) (e : Option Error)
+      (session : Box HttpSession) (attempts : List AttemptRecord)
+      → IsTurnedDown w.ahead (generated status) e
+      → session.value.writing.output ≡ Open (generated status) → attempts ≡ []
       → RunSoFar {C = C} state start_at s p w [] ReadHead
-      → Advances {C = C} state start_at s w (Refuse answer e)
-  turned_down s p w text e answer why whole run = record {
-    passed = p;
-    run = record {
-      tells = run.tells;
-      order = run.order;
-      untouched = run.untouched;
-      going = run.going;
-      calm = run.calm;
-      holds = record {
-        answer = text;
-        turned_down = subst (λ (xs : List ℕ). IsTurnedDown xs text e) run.holds.whole why;
-        joined = rw run.holds.written whole;
-        unsent = run.holds.unsent;
-      };
-    };
-  }
-
-  -- the generated answer was taken whole
-  pub refusal_whole : (s : Start) (p : Passed) (w x : World) (answer : Pending) (e : Option Error)
-      (attempts : List AttemptRecord)
-      → x.connect_faults ≡ w.connect_faults → TakesFront w.client x.client answer.output []
-      → attempts ≡ []
-      → RunSoFar {C = C} state start_at s p w [] (Refuse answer e)
-      → Advances {C = C} state start_at s x (Ended (outcome.Refused e) attempts)
-  refusal_whole s p w x answer e attempts same takes none run =
-      record {
-        passed = written_more p (take takes.n answer.output);
-        run = record {
-          tells = client_took s p w x answer.output takes.n same takes.takes run.tells;
-          order = IsInOrder.is_refusal run.holds.answer e run.holds.turned_down
-              (record { rest = []; joined = append-nil _ ∙ all }) run.holds.unsent.sent;
-          untouched = λ open_head. absurd (turns_down_open run.holds.turned_down open_head);
-          going = λ limit. cc;
-          calm = tt;
-          holds = (
-            inl (record {
-              answer = run.holds.answer;
-              turned_down = run.holds.turned_down;
-              whole = all;
-              unsent = record { got = run.holds.unsent.got; sent = run.holds.unsent.sent };
-            }),
-            none,
-          );
+      → Advances {C = C} state start_at s w (Answer session (owed.Refused e) attempts)
+  turned_down s p w status e session attempts why waits none run =
+      answer_on state start_at s p w [] session (owed.Refused e) attempts run.tells (record {
+        text = generated status;
+        owes = (
+          subst (λ (xs : List ℕ). IsTurnedDown xs (generated status) e) run.holds.whole why,
+          run.holds.unsent,
+        );
+        waits = record {
+          left = generated status;
+          is_open = waits;
+          some = generated_some status;
+          joined = ap (λ (xs : List ℕ). xs ++ generated status) run.holds.written;
         };
-      }
-    where
-      all : p.written ++ take takes.n answer.output ≡ run.holds.answer
-      all = ap (λ (xs : List ℕ). p.written ++ xs) (take_whole answer.output takes.n takes.left)
-          ∙ run.holds.joined
-
-  -- some of the generated answer was taken
-  pub refusal_part : (s : Start) (p : Passed) (w x : World) (answer left : Pending)
-      (e : Option Error)
-      → x.connect_faults ≡ w.connect_faults → TakesFront w.client x.client answer.output left.output
-      → RunSoFar {C = C} state start_at s p w [] (Refuse answer e)
-      → Advances {C = C} state start_at s x (Refuse left e)
-  refusal_part s p w x answer left e same takes run =
-      record {
-        passed = written_more p (take takes.n answer.output);
-        run = record {
-          tells = client_took s p w x answer.output takes.n same takes.takes run.tells;
-          order = IsInOrder.is_refusal run.holds.answer e run.holds.turned_down
-              (record { rest = left.output; joined = all }) run.holds.unsent.sent;
-          untouched = λ open_head. absurd (turns_down_open run.holds.turned_down open_head);
-          going = run.going;
-          calm = takes.takes.faults ∙ run.calm;
-          holds = record {
-            answer = run.holds.answer;
-            turned_down = run.holds.turned_down;
-            joined = all;
-            unsent = record { got = run.holds.unsent.got; sent = run.holds.unsent.sent };
-          };
-        };
-      }
-    where
-      all : (p.written ++ take takes.n answer.output) ++ left.output ≡ run.holds.answer
-      all = take_rest p.written answer.output left.output takes.n takes.left ∙ run.holds.joined
-
-  -- the client takes nothing of the generated answer now
-  pub refusal_waits : (s : Start) (p : Passed) (w x : World) (answer left : Pending)
-      (e : Option Error) → x.connect_faults ≡ w.connect_faults → x.client.given ≡ w.client.given
-      → x.client.taken ≡ w.client.taken → x.client.faults ≡ w.client.faults
-      → Grew w.client x.client → left.output ≡ answer.output
-      → RunSoFar {C = C} state start_at s p w [] (Refuse answer e)
-      → Advances {C = C} state start_at s x (Refuse left e)
-  refusal_waits s p w x answer left e same given taken faults grew kept run = record {
-    passed = p;
-    run = record {
-      tells = client_still s p w x (omega arith) given taken (omega arith) grew run.tells;
-      order = run.order;
-      untouched = λ open_head. absurd (turns_down_open run.holds.turned_down open_head);
-      going = run.going;
-      calm = faults ∙ run.calm;
-      holds = subst (λ (xs : List ℕ). IsRefusing s p xs e) (sym kept) run.holds;
-    };
-  }
-
-  -- a write of the generated answer failed
-  pub refusal_fails : (s : Start) (p : Passed) (w x : World) (answer : Pending)
-      (e : Option Error) (fault : Fault) (f : Error) (attempts : List AttemptRecord)
-      → x.connect_faults ≡ w.connect_faults → FailsWrite w.client fault x.client
-      → f ≡ fault_error Downstream fault → attempts ≡ []
-      → RunSoFar {C = C} state start_at s p w [] (Refuse answer e)
-      → Advances {C = C} state start_at s x (Ended (outcome.Refused (Some f)) attempts)
-  refusal_fails s p w x answer e fault f attempts same fails is none run = record {
-    passed = p;
-    run = record {
-      tells = client_still s p w x (omega arith) fails.given fails.taken
-          (Rose-le w.client.faults x.client.faults fails.sound_before.faults_fit fails.faults)
-          (record {
-            reads = [];
-            read = fails.read_faults ∙ more_none w.client.read_faults;
-            writes = fault ∷ [];
-            written = fails.write_faults;
-          }) run.tells;
-      order = run.order;
-      untouched = λ open_head. absurd (turns_down_open run.holds.turned_down open_head);
-      going = λ limit. cc;
-      calm = tt;
-      holds = (
-        inr (inr (record {
-          fault = fault;
-          is = ap (λ (x : Error). Some x) is;
-          rose = λ below. omega (arith, run.tells.faults, fails.faults below);
-          place = inr (record {
-            kind = fails.kind;
-            told = added_last s.write_faults w.client.write_faults x.client.write_faults
-                run.tells.fault_lists.writes fault fails.write_faults
-                run.tells.fault_lists.written;
-            unfinished = half_answered s p answer e run.holds;
-          });
-          unsent = run.holds.unsent;
-        })),
-        none,
-      );
-    };
-  }
-
-  -- the client's link found no memory
-  pub refusal_memory : (s : Start) (p : Passed) (w x : World) (answer : Pending)
-      (e : Option Error) (attempts : List AttemptRecord)
-      → x.connect_faults ≡ w.connect_faults → WantsMemory w.client x.client → attempts ≡ []
-      → RunSoFar {C = C} state start_at s p w [] (Refuse answer e)
-      → Advances {C = C} state start_at s x (Ended outcome.OutOfMemory attempts)
-  refusal_memory s p w x answer e attempts same wants none run = record {
-    passed = p;
-    run = record {
-      tells = client_still s p w x (omega arith) (ap (λ (l : LinkState). l.given) wants.same)
-          (ap (λ (l : LinkState). l.taken) wants.same)
-          (omega (arith, ap (λ (l : LinkState). l.faults) wants.same))
-          (grew_none w.client x.client (ap (λ (l : LinkState). l.read_faults) wants.same)
-          (ap (λ (l : LinkState). l.write_faults) wants.same)) run.tells;
-      order = run.order;
-      untouched = λ open_head. absurd (turns_down_open run.holds.turned_down open_head);
-      going = λ limit. cc;
-      calm = tt;
-      holds = (run.holds.unsent, none);
-    };
-  }
+        made = none;
+      })

@@ -1,5 +1,7 @@
 pub mod Tells
 pub mod OpenHead
+pub mod AnswerSteps
+pub mod FailSteps
 pub mod HeadSteps
 pub mod ConnectSteps
 pub mod RelaySteps

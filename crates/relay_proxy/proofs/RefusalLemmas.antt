@@ -10,7 +10,7 @@ use Rattle.relay_links.proofs.GainsLemmas.{Gains-nothing}
 use Rattle.relay_proxy.specs.Refusals.{faults_before}
 use Rattle.relay_proxy.specs.Turn.{links_held}
 use Rattle.relay_proxy.specs.declared.machine.Phase.{Phase}
-use Rattle.relay_proxy.specs.declared.machine.Phase.TheVariants.{ReadHead, Refuse, Connect, Relay, Close, Ended}
+use Rattle.relay_proxy.specs.declared.machine.Phase.TheVariants.{ReadHead, Connect, Relay, Fail, Close, Answer, Ended}
 
 -- a fault of a connector is the one that has its mark
 pub is_its_fault : (fault : Fault) → IsConnectFault fault → connect_fault fault.retry ≡ fault
@@ -33,8 +33,9 @@ one_added fault before after kind gained =
 pub none_before_link : {L C : Type 0} (state : L → LinkState) (start_at : L → LinkStart)
     (phase : Phase L C) → links_held state start_at phase ≡ 1 → faults_before [] phase ≡ []
 none_before_link state start_at ReadHead held = refl
-none_before_link state start_at (Refuse answer error) held = refl
 none_before_link state start_at (Connect context session) held = refl
 none_before_link state start_at (Relay a) held = refl
+none_before_link state start_at (Fail link lease session error) held = refl
 none_before_link state start_at (Close link lease keep outcome) held = refl
+none_before_link state start_at (Answer session owed attempts) held = cc
 none_before_link state start_at (Ended outcome attempts) held = cc

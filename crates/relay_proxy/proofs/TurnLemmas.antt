@@ -16,33 +16,62 @@ use Rattle.relay_proxy.specs.Refusals.{faults_of_turn}
 use Rattle.relay_proxy.specs.Relaying.{is_relaying, is_closing}
 use Rattle.relay_proxy.specs.Stock.{items_held}
 use Rattle.relay_proxy.specs.Taken.{offers_before, offers_of_turn}
-use Rattle.relay_proxy.specs.Turn.{Advances, DoesWork, WorksIn, links_held}
+use Rattle.relay_proxy.specs.Turn.{Advances, AdvancesOn, DoesWork, WorksIn, links_held}
 use Rattle.relay_proxy.proofs.RefusalLemmas.{none_before_link}
 use Rattle.relay_proxy.proofs.TakenLemmas.{held_offers}
 use Rattle.relay_proxy.proofs.CountLemmas.{client_counts}
 use Rattle.relay_proxy.proofs.UseLemmas.{relaying_of}
 use Rattle.relay_proxy.specs.declared.machine.Attempt.{Attempt}
 use Rattle.relay_proxy.specs.declared.machine.Phase.{Phase}
-use Rattle.relay_proxy.specs.declared.machine.Phase.TheVariants.{ReadHead, Refuse, Connect, Relay, Close, Ended}
+use Rattle.relay_proxy.specs.declared.machine.Phase.TheVariants.{ReadHead, Connect, Relay, Fail, Close, Answer, Ended}
 use Rattle.relay_proxy.specs.declared.machine.RunStep.{RunStep}
 use Rattle.relay_proxy.specs.declared.work.Work.{Work}
 
 module _ {L C : Type 0} (state : L → LinkState) (start_at : L → LinkStart) where
   -- a turn of a phase that relays is one of a request that has not ended
-  pub relaying_turn : (s : Start) (x : World) (phase next : Phase L C) → is_relaying phase ≡ true
-      → Advances {C = C} state start_at s x next → TurnOf state start_at s x phase next
-  relaying_turn s x ReadHead next is turn = absurd (true≢false (sym is))
-  relaying_turn s x (Refuse answer error) next is turn = absurd (true≢false (sym is))
-  relaying_turn s x (Connect context session) next is turn = absurd (true≢false (sym is))
-  relaying_turn s x (Relay a) next is turn = turn
-  relaying_turn s x (Close link lease keep outcome) next is turn = absurd (true≢false (sym is))
-  relaying_turn s x (Ended outcome attempts) next is turn = absurd (true≢false (sym is))
+  pub relaying_turn : (s : Start) (p : Passed) (w x : World) (own : List (Returned L))
+      (phase next : Phase L C) → is_relaying phase ≡ true
+      → RunSoFar state start_at s p w own phase
+      → (RunSoFar state start_at s p w [] phase → Advances {C = C} state start_at s x next)
+      → TurnOf state start_at s x own phase next
+  relaying_turn s p w x own ReadHead next is run turn = absurd (true≢false (sym is))
+  relaying_turn s p w x own (Connect context session) next is run turn =
+      absurd (true≢false (sym is))
+  relaying_turn s p w x [] (Relay a) next is run turn = turn run
+  relaying_turn s p w x (r ∷ own) (Relay a) next is run turn = absurd run.holds
+  relaying_turn s p w x own (Fail link lease session error) next is run turn =
+      absurd (true≢false (sym is))
+  relaying_turn s p w x own (Close link lease keep outcome) next is run turn =
+      absurd (true≢false (sym is))
+  relaying_turn s p w x own (Answer session owed attempts) next is run turn =
+      absurd (true≢false (sym is))
+  relaying_turn s p w x own (Ended outcome attempts) next is run turn =
+      absurd (true≢false (sym is))
+
+  -- a turn that reads the head is one of a request that handed nothing back
+  pub head_turn : (s : Start) (p : Passed) (w x : World) (own : List (Returned L))
+      (next : Phase L C) → RunSoFar {C = C} state start_at s p w own ReadHead
+      → (RunSoFar {C = C} state start_at s p w [] ReadHead → Advances state start_at s x next)
+      → AdvancesOn state start_at s x own next
+  head_turn s p w x [] next run turn = turn run
+  head_turn s p w x (r ∷ own) next run turn = absurd run.holds
+
+  -- and so is one that asks the connector
+  pub connect_turn : (s : Start) (p : Passed) (w x : World) (own : List (Returned L)) (context : C)
+      (session : Box HttpSession) (next : Phase L C)
+      → RunSoFar state start_at s p w own (Connect context session)
+      → (RunSoFar state start_at s p w [] (Connect context session)
+      → Advances state start_at s x next)
+      → AdvancesOn state start_at s x own next
+  connect_turn s p w x [] context session next run turn = turn run
+  connect_turn s p w x (r ∷ own) context session next run turn = absurd run.holds
 
   -- it had not ended before
   pub relaying_rests : (w x : World) (phase next : Phase L C) (did : RunStep)
       → is_relaying phase ≡ true → Rests {L = L} {C = C} w x phase next did
   relaying_rests w x ReadHead next did is = absurd (true≢false (sym is))
-  relaying_rests w x (Refuse answer error) next did is = absurd (true≢false (sym is))
+  relaying_rests w x (Fail link lease session error) next did is = absurd (true≢false (sym is))
+  relaying_rests w x (Answer session owed attempts) next did is = absurd (true≢false (sym is))
   relaying_rests w x (Connect context session) next did is = absurd (true≢false (sym is))
   relaying_rests w x (Relay a) next did is = tt
   relaying_rests w x (Close link lease keep outcome) next did is = absurd (true≢false (sym is))
@@ -53,9 +82,10 @@ module _ {L C : Type 0} (state : L → LinkState) (start_at : L → LinkStart) w
       → links_held {C = C} state start_at next ≡ links_held {C = C} state start_at phase
       → faults_of_turn phase next ≡ []
   relaying_unrefused ReadHead next is held = absurd (true≢false (sym is))
-  relaying_unrefused (Refuse answer error) next is held = absurd (true≢false (sym is))
+  relaying_unrefused (Fail link lease session error) next is held = absurd (true≢false (sym is))
+  relaying_unrefused (Answer session owed attempts) next is held = absurd (true≢false (sym is))
   relaying_unrefused (Connect context session) next is held = absurd (true≢false (sym is))
-  relaying_unrefused (Relay a) next is held = none_before_link state start_at next held
+  relaying_unrefused (Relay a) next is held = refl
   relaying_unrefused (Close link lease keep outcome) next is held = absurd (true≢false (sym is))
   relaying_unrefused (Ended outcome attempts) next is held = absurd (true≢false (sym is))
 
@@ -63,7 +93,8 @@ module _ {L C : Type 0} (state : L → LinkState) (start_at : L → LinkStart) w
   pub relaying_takes : (phase next : Phase L C) → is_relaying phase ≡ true
       → offers_of_turn start_at phase next ≡ []
   relaying_takes ReadHead next is = absurd (true≢false (sym is))
-  relaying_takes (Refuse answer error) next is = absurd (true≢false (sym is))
+  relaying_takes (Fail link lease session error) next is = absurd (true≢false (sym is))
+  relaying_takes (Answer session owed attempts) next is = absurd (true≢false (sym is))
   relaying_takes (Connect context session) next is = absurd (true≢false (sym is))
   relaying_takes (Relay a) next is = refl
   relaying_takes (Close link lease keep outcome) next is = absurd (true≢false (sym is))
@@ -76,7 +107,8 @@ module _ {L C : Type 0} (state : L → LinkState) (start_at : L → LinkStart) w
       → offers_before start_at [] phase ++ offers_of_turn start_at phase next
       ≡ offers_before start_at [] next
   relaying_carries ReadHead next is held items = absurd (true≢false (sym is))
-  relaying_carries (Refuse answer error) next is held items = absurd (true≢false (sym is))
+  relaying_carries (Fail link lease session error) next is held items = absurd (true≢false (sym is))
+  relaying_carries (Answer session owed attempts) next is held items = absurd (true≢false (sym is))
   relaying_carries (Connect context session) next is held items = absurd (true≢false (sym is))
   relaying_carries (Relay a) next is held items =
       sym (held_offers start_at next _ items (none_before_link state start_at next held))
@@ -90,7 +122,8 @@ module _ {L C : Type 0} (state : L → LinkState) (start_at : L → LinkStart) w
       → ((o : Origin) (q : Passed) (a : Box (Attempt L C)) → phase ≡ Relay a
       → IsUnderWay state start_at o q w.client w.ahead a.value.exchange → T) → T
   relaying_uses s p own w ReadHead T is run uses = absurd (true≢false (sym is))
-  relaying_uses s p own w (Refuse answer error) T is run uses = absurd (true≢false (sym is))
+  relaying_uses s p own w (Fail link lease session error) T is run uses = absurd (true≢false (sym is))
+  relaying_uses s p own w (Answer session owed attempts) T is run uses = absurd (true≢false (sym is))
   relaying_uses s p own w (Connect context session) T is run uses = absurd (true≢false (sym is))
   relaying_uses s p own w (Relay a) T is run uses =
       let relays = relaying_of state start_at s p w own a run in
@@ -110,7 +143,9 @@ module _ {L C : Type 0} (state : L → LinkState) (start_at : L → LinkStart) w
       → TurnCounts state start_at n w.client client' used own next
   relaying_counts s p own w client' n used ReadHead next is run had counts =
       absurd (true≢false (sym is))
-  relaying_counts s p own w client' n used (Refuse answer error) next is run had counts =
+  relaying_counts s p own w client' n used (Fail link lease session error) next is run had counts =
+      absurd (true≢false (sym is))
+  relaying_counts s p own w client' n used (Answer session owed attempts) next is run had counts =
       absurd (true≢false (sym is))
   relaying_counts s p own w client' n used (Connect context session) next is run had counts =
       absurd (true≢false (sym is))
@@ -128,7 +163,8 @@ module _ {L C : Type 0} (state : L → LinkState) (start_at : L → LinkStart) w
       → links_held state start_at next ≡ 0 → OwnUses state start_at n own
       → PhaseUses state start_at n own next
   unlinked_asked n own ReadHead none had = had
-  unlinked_asked n own (Refuse answer error) none had = had
+  unlinked_asked n own (Fail link lease session error) none had = cc
+  unlinked_asked n own (Answer session owed attempts) none had = had
   unlinked_asked n own (Connect context session) none had = had
   unlinked_asked n own (Relay a) none had = cc
   unlinked_asked n own (Close link lease keep outcome) none had = cc
@@ -187,7 +223,8 @@ not_relaying {L = L} {C = C} phase a not_so is =
 pub relaying_works : {L C : Type 0} (phase : Phase L C) (did : RunStep) (work : Work)
     → is_relaying phase ≡ true → DoesWork did work → WorksIn phase did work
 relaying_works ReadHead did work is does = absurd (true≢false (sym is))
-relaying_works (Refuse answer error) did work is does = absurd (true≢false (sym is))
+relaying_works (Fail link lease session error) did work is does = absurd (true≢false (sym is))
+relaying_works (Answer session owed attempts) did work is does = absurd (true≢false (sym is))
 relaying_works (Connect context session) did work is does = absurd (true≢false (sym is))
 relaying_works (Relay a) did work is does = does
 relaying_works (Close link lease keep outcome) did work is does = absurd (true≢false (sym is))
@@ -197,7 +234,8 @@ relaying_works (Ended outcome attempts) did work is does = absurd (true≢false 
 pub open_settles : {L C : Type 0} (phase : Phase L C) (told : Option (List (Returned L)))
     → is_closing phase ≡ false → Settles phase told told phase
 open_settles ReadHead told is = (refl, refl)
-open_settles (Refuse answer error) told is = (refl, refl)
+open_settles (Fail link lease session error) told is = absurd (true≢false is)
+open_settles (Answer session owed attempts) told is = (refl, refl)
 open_settles (Connect context session) told is = (refl, refl)
 open_settles (Relay a) told is = (refl, refl)
 open_settles (Close link lease keep outcome) told is = absurd (true≢false is)

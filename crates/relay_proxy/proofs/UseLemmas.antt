@@ -22,12 +22,12 @@ use Rattle.relay_proxy.specs.Closing.{Settles}
 use Rattle.relay_proxy.specs.Passed.{World, Start}
 use Rattle.relay_proxy.specs.Phases.{IsRelaying, RunSoFar}
 use Rattle.relay_proxy.specs.Turn.{held_state}
-use Rattle.relay_proxy.specs.Uses.{BothUse, Measured, MovedBy, StandsBehind, TurnUses, work_by}
+use Rattle.relay_proxy.specs.Uses.{BothUse, Measured, MovedBy, OwesAnswer, StandsBehind, TurnUses, work_by}
 use Rattle.relay_proxy.specs.declared.work.Work.{Work}
 use Rattle.relay_proxy.specs.declared.uses.Uses.{Uses}
 use Rattle.relay_proxy.specs.declared.machine.Attempt.{Attempt}
 use Rattle.relay_proxy.specs.declared.machine.Phase.{Phase}
-use Rattle.relay_proxy.specs.declared.machine.Phase.TheVariants.{ReadHead, Refuse, Connect, Relay, Close, Ended}
+use Rattle.relay_proxy.specs.declared.machine.Phase.TheVariants.{ReadHead, Connect, Relay, Fail, Close, Answer, Ended}
 
 -- a count that went up by one rose
 up_rose : (before after : ℕ) → after ≡ up before → Rose before after
@@ -155,11 +155,20 @@ module _ {L C : Type 0} (state : L → LinkState) (start_at : L → LinkStart) w
       → held_state state next ≡ Some link
       → StandsBehind state before after (held_state state settled) link
   settled_stands ReadHead settled before mid after link same does held = absurd (cc)
-  settled_stands (Refuse answer e) settled before mid after link same does held = absurd (cc)
   settled_stands (Connect context session) settled before mid after link same does held =
       absurd (cc)
   settled_stands (Relay a) settled before mid after link same does held =
       inl (ap (λ (n : Phase L C). held_state state n) does.0 ∙ held)
+  settled_stands (Fail l lease session e) settled before mid after link same does held =
+      let is : state l ≡ link = cc in
+      inr (
+        does.2.entry,
+        does.2.gained
+            ∙ ap (λ (t : Option (List (Returned L))). more t (does.2.entry ∷ [])) same,
+        ap state does.2.hands.is_link ∙ is,
+      )
+  settled_stands (Answer session owed attempts) settled before mid after link same does held =
+      absurd (cc)
   settled_stands (Close l lease keep outcome) settled before mid after link same does held =
       let is : state l ≡ link = cc in
       inr (
@@ -186,11 +195,34 @@ module _ {L C : Type 0} (state : L → LinkState) (start_at : L → LinkStart) w
   )
 
   -- a turn that moved left a phase that settling leaves
-  pub settled_moves : (w x : World) (work : Work) (a : H1Exchange L) (next settled : Phase L C)
+  moved_settled : (w x : World) (work : Work) (a : H1Exchange L) (next settled : Phase L C)
       (before after : Option (List (Returned L))) → Settles next before after settled
       → MovedBy state start_at w x work a next → MovedBy state start_at w x work a settled
-  settled_moves w x work a next settled before after does moves =
+  moved_settled w x work a next settled before after does moves =
       let does : Settles (Relay moves.moved.held) before after settled =
       subst (λ (n : Phase L C). Settles n before after settled) moves.moved.goes_on does in
       subst (λ (n : Phase L C). MovedBy state start_at w x work a n)
       (moves.moved.goes_on ∙ sym does.0) moves
+
+  -- a phase that owes its client an answer still does once it is settled
+  pub owes_settled : (next settled : Phase L C) (before after : Option (List (Returned L)))
+      → Settles next before after settled → OwesAnswer next → OwesAnswer settled
+  owes_settled ReadHead settled before after does owes = absurd owes
+  owes_settled (Connect context session) settled before after does owes = absurd owes
+  owes_settled (Relay a) settled before after does owes = absurd owes
+  owes_settled (Fail link lease session error) settled before after does owes =
+      subst (λ (n : Phase L C). OwesAnswer n) (sym does.1) tt
+  owes_settled (Close link lease keep outcome) settled before after does owes = absurd owes
+  owes_settled (Answer session owed attempts) settled before after does owes =
+      subst (λ (n : Phase L C). OwesAnswer n) (sym does.0) owes
+  owes_settled (Ended outcome attempts) settled before after does owes = absurd owes
+
+  -- what a turn of an exchange did, its step did
+  pub settled_moves : (w x : World) (work : Work) (a : H1Exchange L) (next settled : Phase L C)
+      (before after : Option (List (Returned L))) → Settles next before after settled
+      → MovedBy state start_at w x work a next ⊎ OwesAnswer next
+      → MovedBy state start_at w x work a settled ⊎ OwesAnswer settled
+  settled_moves w x work a next settled before after does (inl moves) =
+      inl (moved_settled w x work a next settled before after does moves)
+  settled_moves w x work a next settled before after does (inr owes) =
+      inr (owes_settled next settled before after does owes)

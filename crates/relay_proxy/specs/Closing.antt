@@ -1,6 +1,7 @@
 -- How a request gives its link back, and what it leaves.
-use Rattle.std.specs.Prelude.{◌≡◌, ◌⊎◌, ℕ, Bool, true, false, List, [], ◌∷◌, ◌++◌, Option}
+use Rattle.std.specs.Prelude.{◌≡◌, ◌⊎◌, ℕ, Bool, true, false, List, [], ◌∷◌, ◌++◌, Option, Some}
 use Rattle.relay_tasks.specs.Head.{RequestHead}
+use Rattle.relay_tasks.specs.declared.Error.{Error}
 use Rattle.relay_links.specs.Link.{LinkState, LinkStart}
 use Rattle.relay_links.specs.Told.{more}
 use Rattle.relay_links.specs.declared.Returned.{Returned}
@@ -10,20 +11,23 @@ use Rattle.relay_attempt.specs.Passed.{Passed}
 use Rattle.relay_attempt.specs.declared.h1_exchange.H1Exchange.{H1Exchange}
 use Rattle.relay_attempt.specs.Head.{link_of}
 use Rattle.relay_proxy.specs.Passed.{World, Start, origin_of, asked}
-use Rattle.relay_proxy.specs.Endings.{error_of, IsAskedPeer, IsHalfAnswered, IsEnded}
+use Rattle.relay_proxy.specs.Endings.{error_of, IsAskedPeer, IsEnded}
+use Rattle.relay_proxy.specs.Owed.{IsHalfGiven}
 use Rattle.relay_proxy.specs.Taken.{offers_for, offers_before}
-use Rattle.relay_proxy.specs.Refusals.{faults_for, faults_before}
+use Rattle.relay_proxy.specs.Refusals.{faults_for, attempts_in, faults_before}
 use Rattle.relay_proxy.specs.Relayable.{IsRelayable}
-use Rattle.relay_proxy.specs.Turn.{IsStalled, Advances}
+use Rattle.relay_proxy.specs.Turn.{links_held, IsStalled, AdvancesOn}
 use Rattle.relay_proxy.specs.Uses.{PhaseUses, OwnUses}
 use Rattle.relay_proxy.specs.declared.finish.Ending.{Ending}
 use Rattle.relay_proxy.specs.declared.machine.Lease.{Lease}
 use Rattle.relay_proxy.specs.declared.machine.Phase.{Phase}
-use Rattle.relay_proxy.specs.declared.machine.Phase.TheVariants.{ReadHead, Refuse, Connect, Relay, Close, Ended}
+use Rattle.relay_proxy.specs.declared.machine.Phase.TheVariants.{ReadHead, Connect, Relay, Fail, Close, Answer, Ended}
 use Rattle.relay_proxy.specs.declared.machine.RunStep.{RunStep}
 use Rattle.relay_proxy.specs.declared.machine.RunStep.TheVariants as step
 use Rattle.relay_proxy.specs.declared.outcome.Outcome.{Outcome}
 use Rattle.relay_proxy.specs.declared.outcome.Outcome.TheVariants.{TurnLimit}
+use Rattle.relay_proxy.specs.declared.outcome.Outcome.TheVariants as outcome
+use Rattle.relay_proxy.specs.declared.owed.Owed.TheVariants.{Served}
 use Rattle.relay_proxy.specs.declared.record.AttemptRecord.{AttemptRecord}
 
 -- the link as it was handed back, and the record of its attempt
@@ -48,14 +52,19 @@ pub record HandsBack {L : Type 0}
   pub hands : Hands link lease keep outcome entry attempts
   pub gained : after ≡ more before (entry ∷ [])
 
--- a phase that is to be closed is ended, and its link goes back; any other stays
+-- a phase that is to be closed is ended, and its link goes back; the link of an exchange that
+-- failed goes back, and its client is given what it is owed; any other phase stays
 abbrev pub Settles : {L C : Type 0} → Phase L C → Option (List (Returned L))
     → Option (List (Returned L)) → Phase L C → Type 0
 Settles ReadHead before after next = (next ≡ ReadHead) × (after ≡ before)
-Settles (Refuse answer error) before after next = (next ≡ Refuse answer error) × (after ≡ before)
 Settles (Connect context session) before after next =
     (next ≡ Connect context session) × (after ≡ before)
 Settles (Relay a) before after next = (next ≡ Relay a) × (after ≡ before)
+Settles (Fail link lease session error) before after next =
+    (attempts : List AttemptRecord) × (next ≡ Answer session (Served error) attempts)
+    × HandsBack link lease false (outcome.Served (Some error) false) before after attempts
+Settles (Answer session owed attempts) before after next =
+    (next ≡ Answer session owed attempts) × (after ≡ before)
 Settles (Close link lease keep outcome) before after next =
     (attempts : List AttemptRecord) × (next ≡ Ended outcome attempts)
     × HandsBack link lease keep outcome before after attempts
@@ -76,14 +85,33 @@ pub record GivesLinkUp {L : Type 0}
   pub limit : ending.outcome ≡ TurnLimit
   pub back : HandsBack link lease false TurnLimit before after ending.attempts
 
+-- a request whose exchange failed, and whose link was not handed back yet, gives up
+pub record GivesFailedUp {L : Type 0}
+    (link : L) (lease : Lease) (e : Error) (before after : Option (List (Returned L)))
+    (ending : Ending) : Type 0 where
+  pub limit : ending.outcome ≡ TurnLimit
+  pub back : HandsBack link lease false (outcome.Served (Some e) false) before after
+      ending.attempts
+
+-- a request that has handed its link back, or was given none, gives up
+pub record GivesAnswerUp {L : Type 0}
+    (attempts : List AttemptRecord) (before after : Option (List (Returned L))) (ending : Ending)
+    : Type 0 where
+  pub limit : ending.outcome ≡ TurnLimit
+  pub made : ending.attempts ≡ attempts
+  pub same : after ≡ before
+
 -- how a request is brought to its end, wherever it stands
 abbrev pub Finishes : {L C : Type 0} → Phase L C → Option (List (Returned L))
     → Option (List (Returned L)) → Ending → Type 0
 Finishes ReadHead before after ending = GivesUp before after ending
-Finishes (Refuse answer error) before after ending = GivesUp before after ending
 Finishes (Connect context session) before after ending = GivesUp before after ending
 Finishes (Relay a) before after ending =
     GivesLinkUp (link_of a.value.exchange) a.value.lease before after ending
+Finishes (Fail link lease session error) before after ending =
+    GivesFailedUp link lease error before after ending
+Finishes (Answer session owed attempts) before after ending =
+    GivesAnswerUp attempts before after ending
 Finishes (Close link lease keep outcome) before after ending =
     (ending.outcome ≡ outcome) × HandsBack link lease keep outcome before after ending.attempts
 Finishes (Ended outcome attempts) before after ending =
@@ -92,9 +120,10 @@ Finishes (Ended outcome attempts) before after ending =
 -- a request that has ended stays as it is, in the same world
 abbrev pub Rests : {L C : Type 0} → World → World → Phase L C → Phase L C → RunStep → Type 0
 Rests w x ReadHead next did = Unit {0}
-Rests w x (Refuse answer error) next did = Unit {0}
 Rests w x (Connect context session) next did = Unit {0}
 Rests w x (Relay a) next did = Unit {0}
+Rests w x (Fail link lease session error) next did = Unit {0}
+Rests w x (Answer session owed attempts) next did = Unit {0}
 Rests w x (Close link lease keep outcome) next did =
     (next ≡ Close link lease keep outcome) × (did ≡ step.Ended) × (x ≡ w)
 Rests w x (Ended outcome attempts) next did =
@@ -112,22 +141,33 @@ module _ {L : Type 0} (state : L → LinkState) (start_at : L → LinkStart) whe
     pub silent : SilentIn state start_at w.client exchange
 
   -- all that a request asks is silent: without a link the client, that is to give more of an open
-  -- head or to take more of a generated answer
+  -- head or to take more of a generated answer; with one the exchange, or the client that is to take
+  -- more of what it is owed
   abbrev pub IsQuiet : Start → Passed → World → List (Returned L) → Type 0
   IsQuiet s p w [] =
       (IsOpen (asked s p) × (w.client.silent_on_read ≡ true))
-      ⊎ (IsHalfAnswered s p × (w.client.silent_on_write ≡ true))
-  IsQuiet s p w (r ∷ own) = IsQuietExchange s p w r.link
+      ⊎ (IsHalfGiven state start_at s p w [] × (w.client.silent_on_write ≡ true))
+  IsQuiet s p w (r ∷ own) =
+      IsQuietExchange s p w r.link
+      ⊎ (IsHalfGiven state start_at s p w (r ∷ own) × (w.client.silent_on_write ≡ true))
 
 module _ {L C : Type 0} (state : L → LinkState) (start_at : L → LinkStart) where
+  -- a turn that wrote of a generated answer: the attempts stay, and no link is held
+  pub record AnswersOn (s : Start) (x : World) (own : List (Returned L))
+      (attempts : List AttemptRecord) (next : Phase L C) : Type 0 where
+    pub advances : AdvancesOn state start_at s x own next
+    pub same : attempts_in next ≡ attempts
+    pub unlinked : links_held state start_at next ≡ 0
+
   -- a turn of a request that has not ended
-  abbrev pub TurnOf : Start → World → Phase L C → Phase L C → Type 0
-  TurnOf s x ReadHead next = Advances state start_at s x next
-  TurnOf s x (Refuse answer error) next = Advances state start_at s x next
-  TurnOf s x (Connect context session) next = Advances state start_at s x next
-  TurnOf s x (Relay a) next = Advances state start_at s x next
-  TurnOf s x (Close link lease keep outcome) next = Unit {0}
-  TurnOf s x (Ended outcome attempts) next = Unit {0}
+  abbrev pub TurnOf : Start → World → List (Returned L) → Phase L C → Phase L C → Type 0
+  TurnOf s x own ReadHead next = AdvancesOn state start_at s x own next
+  TurnOf s x own (Connect context session) next = AdvancesOn state start_at s x own next
+  TurnOf s x own (Relay a) next = AdvancesOn state start_at s x own next
+  TurnOf s x own (Fail link lease session error) next = AdvancesOn state start_at s x own next
+  TurnOf s x own (Close link lease keep outcome) next = Unit {0}
+  TurnOf s x own (Answer session owed attempts) next = AnswersOn s x own attempts next
+  TurnOf s x own (Ended outcome attempts) next = Unit {0}
 
   -- the end of a request: what passed is told, and the outcome has its cause
   pub record Ends
@@ -138,9 +178,9 @@ module _ {L C : Type 0} (state : L → LinkState) (start_at : L → LinkStart) w
     pub gained : after ≡ more before handed
     pub ended : IsEnded state start_at s p w (own ++ handed) ending.attempts ending.outcome
     -- the connector answered faults for no other request
-    pub refused : faults_for (own ++ handed) ending.outcome ≡ faults_before own phase
+    pub refused : faults_for (own ++ handed) ending.attempts ≡ faults_before own phase
     -- nor were offers taken for another
-    pub offered : offers_for start_at (own ++ handed) ending.outcome
+    pub offered : offers_for start_at (own ++ handed) ending.attempts
         ≡ offers_before start_at own phase
     -- no link was asked any more
     pub uses : (n : ℕ) → PhaseUses state start_at n own phase

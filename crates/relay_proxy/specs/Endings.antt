@@ -28,9 +28,10 @@ use Rattle.relay_peer.specs.Body.{IsFrontOf, body_of}
 use Rattle.relay_peer.specs.Faults.{IsLast}
 use Rattle.relay_sides.specs.Filtered.{asks_to_close}
 use Rattle.relay_attempt.specs.Order as exchange
-use Rattle.relay_attempt.specs.Order.{FailsFor, IsRelayed, HasEnded, MayServe}
+use Rattle.relay_attempt.specs.Order.{FailsFor, order_of, IsRelayed, HasEnded, MayServe}
 use Rattle.relay_attempt.specs.Passed.{Passed}
 use Rattle.relay_valid.specs.Valid.{IsValid}
+use Rattle.relay_proxy.specs.Answer.{owed_text, past_at}
 use Rattle.relay_proxy.specs.Relayable.{IsConnect, IsRelayable}
 use Rattle.relay_proxy.specs.Passed.{World, Start, origin_of, asked, TellsClient, TellsLink, IsUnsent, IsUntouched}
 use Rattle.relay_proxy.specs.declared.outcome.Outcome.{Outcome}
@@ -55,13 +56,21 @@ pub data IsTurnedDown (bytes answer : List ℕ) (error : Option Error) : Type 0 
       → error ≡ None → IsTurnedDown bytes answer error
 
 -- what was sent and what was written, whatever the outcome: nothing; the front of a generated
--- answer, with nothing sent; or those of one exchange, whose request is of a form that is relayed
+-- answer, with nothing sent; those of one exchange, whose request is of a form that is relayed; or
+-- those of one that failed when a part had been written: the front of what was queued, with the
+-- answer to its error behind it
 pub data IsInOrder (s : Start) (p : Passed) : Type 0 where
   is_nothing : p.written ≡ [] → p.sent ≡ [] → IsInOrder s p
   is_refusal : (answer : List ℕ) (error : Option Error) → IsTurnedDown (asked s p) answer error
       → IsFrontOf p.written answer → p.sent ≡ [] → IsInOrder s p
   is_exchange : (head : RequestHead) (reused closed : Bool) → IsRelayable head
       → exchange.IsInOrder (origin_of s head reused) p closed → IsInOrder s p
+  is_unlinked : (head : RequestHead) → IsAccepted s p head
+      → IsFrontOf p.written (generated 502) → p.sent ≡ [] → IsInOrder s p
+  is_failure : (head : RequestHead) (reused closed : Bool) (before : List ℕ) (e : Error)
+      → IsRelayable head
+      → (order : exchange.IsInOrder (origin_of s head reused) (past_at p before) closed)
+      → IsFrontOf p.written (owed_text order e) → IsInOrder s p
 
 -- an error of that side which tells of the fault
 abbrev pub fault_error : ErrorSource → Fault → Error
@@ -149,16 +158,25 @@ pub record IsClientFault (s : Start) (p : Passed) (w : World) (error : Option Er
   pub place : FailsInHead s p w fault ⊎ FailsInRefusal s p w fault
   pub unsent : IsUnsent p
 
+-- the client was given all of the text, or a write of its link failed and it was given the front
+abbrev pub IsGiven : Start → Passed → World → List ℕ → Type 0
+IsGiven s p w text =
+    (p.written ≡ text) ⊎ (Rose s.faults w.client.faults × IsFrontOf p.written text)
+
 -- the connector gave no link
-pub record FailsToConnect (s : Start) (p : Passed) (w : World) (e : Error) : Type 0 where
+pub record IsUnconnected (s : Start) (p : Passed) (w : World) (e : Error) : Type 0 where
   pub fault : Fault
   pub kind : IsConnectFault fault
   pub error : e ≡ fault_error Upstream fault
   pub rose : Rose s.connect_faults w.connect_faults
   pub head : RequestHead
   pub accepted : IsAccepted s p head
-  pub written : p.written ≡ []
   pub unsent : IsUnsent p
+
+-- the connector gave no link, for which the client was given an answer
+pub record FailsToConnect (s : Start) (p : Passed) (w : World) (e : Error) : Type 0 where
+  pub unconnected : IsUnconnected s p w e
+  pub answered : IsGiven s p w (generated 502)
 
 -- how it ends where the client ended with these bytes of its head
 abbrev pub ended_outcome : List ℕ → Outcome
@@ -211,15 +229,28 @@ pub record IsRelayedWhole
   pub behind : HasEnded relayed.order
       → IsWhole (asked s p) (body_of relayed.order.pieces) w.ahead
 
--- an attempt failed, for a cause that no valid exchange has: its link is not kept, and the client
--- does not go back
+-- an exchange failed with that error, when a part of what was queued had been written
+pub record HasFailed
+    (s : Start) (p : Passed) (client link : LinkState) (start : LinkStart) (e : Error)
+    : Type 0 where
+  pub head : RequestHead
+  pub relayable : IsRelayable head
+  pub before : List ℕ
+  pub why : FailsFor (origin_of s head start.reused) (past_at p before) client link start e
+
+-- what was queued for the client in it, and then the answer to its error
+abbrev pub owed_by : {s : Start} {p : Passed} {client link : LinkState} {start : LinkStart}
+    {e : Error} → HasFailed s p client link start e → List ℕ
+owed_by {e = e} failed = owed_text (order_of failed.why) e
+
+-- an attempt failed, for a cause that no valid exchange has, and its client was given what was
+-- queued for it and the answer: its link is not kept, and the client does not go back
 pub record IsFailedAttempt
     (s : Start) (p : Passed) (w : World) (link : LinkState) (start : LinkStart) (keep reuse : Bool)
     (e : Error) : Type 0 where
-  pub head : RequestHead
-  pub relayable : IsRelayable head
-  pub why : FailsFor (origin_of s head start.reused) p w.client link start e
-  pub invalid : ¬ (IsValid (origin_of s head start.reused) p w.client link start)
+  pub failed : HasFailed s p w.client link start e
+  pub invalid : ¬ (IsValid (origin_of s failed.head start.reused) p w.client link start)
+  pub answered : IsGiven s p w (owed_by failed)
   pub not_kept : keep ≡ false
   pub stays : reuse ≡ false
 
@@ -230,20 +261,38 @@ pub record IsPartRelayed (s : Start) (p : Passed) (link : LinkState) (start : Li
   pub relayable : IsRelayable head
   pub order : exchange.IsInOrder (origin_of s head start.reused) p link.ended
 
--- what passed where memory was wanted: a part of one exchange, or nothing but bytes of the client
-abbrev pub IsPartOrNone : Start → Passed → LinkState → LinkStart → Type 0
-IsPartOrNone s p link start =
-    IsPartRelayed s p link start ⊎ ((p.written ≡ []) × IsUnsent p)
+-- the same of an exchange that failed with that error: a part of what the client is owed
+pub record IsPartAnswered
+    (s : Start) (p : Passed) (w : World) (link : LinkState) (start : LinkStart) (e : Error)
+    : Type 0 where
+  pub failed : HasFailed s p w.client link start e
+  pub part : IsFrontOf p.written (owed_by failed)
 
--- how a request ends that had this link, which was handed back with that mark
-abbrev pub EndsLinked : Start → Passed → World → LinkState → LinkStart → Bool → Outcome → Type 0
-EndsLinked s p w link start keep NoRequest = ⊥
-EndsLinked s p w link start keep (Refused error) = ⊥
-EndsLinked s p w link start keep (Served None reuse) = IsRelayedWhole s p w link start keep reuse
-EndsLinked s p w link start keep (Served (Some e) reuse) =
+-- what passed where the request was not brought to an end: a part of one exchange, by the error
+-- with which it had failed, if it had
+abbrev pub IsPart : Start → Passed → World → LinkState → LinkStart → Option Error → Type 0
+IsPart s p w link start None = IsPartRelayed s p link start
+IsPart s p w link start (Some e) = IsPartAnswered s p w link start e
+
+-- what passed where memory was wanted: such a part, or nothing but bytes of the client
+abbrev pub IsPartOrNone : Start → Passed → World → LinkState → LinkStart → Option Error → Type 0
+IsPartOrNone s p w link start None =
+    IsPartRelayed s p link start ⊎ ((p.written ≡ []) × IsUnsent p)
+IsPartOrNone s p w link start (Some e) = IsPartAnswered s p w link start e
+
+-- how a request ends that had this link, which was handed back with that mark, and whose attempt is
+-- recorded with that error
+abbrev pub EndsLinked : Start → Passed → World → LinkState → LinkStart → Bool → Option Error
+    → Outcome → Type 0
+EndsLinked s p w link start keep told NoRequest = ⊥
+EndsLinked s p w link start keep told (Refused error) = ⊥
+EndsLinked s p w link start keep told (Served None reuse) =
+    IsRelayedWhole s p w link start keep reuse
+EndsLinked s p w link start keep told (Served (Some e) reuse) =
     IsFailedAttempt s p w link start keep reuse e
-EndsLinked s p w link start keep TurnLimit = IsPartRelayed s p link start × (keep ≡ false)
-EndsLinked s p w link start keep OutOfMemory = IsPartOrNone s p link start × (keep ≡ false)
+EndsLinked s p w link start keep told TurnLimit = IsPart s p w link start told × (keep ≡ false)
+EndsLinked s p w link start keep told OutOfMemory =
+    IsPartOrNone s p w link start told × (keep ≡ false)
 
 -- how a request ends whose exchange failed
 abbrev pub outcome_of : Fail → Outcome
@@ -263,28 +312,45 @@ abbrev pub IsAskedPeer : Peer → Type 0
 IsAskedPeer peer = peer ≡ record { address = []; tls = false; allows_h1 = true }
 
 -- the record of an attempt that had a link
-pub record IsRecordOf (a : AttemptRecord) (start : LinkStart) (keep : Bool) (outcome : Outcome)
-    : Type 0 where
+pub record IsRecordOf (a : AttemptRecord) (start : LinkStart) (keep : Bool) : Type 0 where
   pub peer : IsAskedPeer a.peer
   pub reused : a.reused ≡ start.reused
   pub kept : a.kept ≡ keep
-  pub error : a.error ≡ error_of outcome
 
--- the record of an attempt that was given no link
-pub record IsFailedRecord (a : AttemptRecord) (outcome : Outcome) : Type 0 where
-  pub peer : IsAskedPeer a.peer
-  pub reused : a.reused ≡ false
-  pub kept : a.kept ≡ false
-  pub error : a.error ≡ error_of outcome
+-- the error of that record, by the outcome: its own; where the request was not brought to an end, it
+-- is that with which the exchange had failed, if it had
+abbrev pub IsErrorOf : Option Error → Outcome → Type 0
+IsErrorOf told NoRequest = told ≡ None
+IsErrorOf told (Refused error) = told ≡ error
+IsErrorOf told (Served error reuse) = told ≡ error
+IsErrorOf told TurnLimit = Unit {0}
+IsErrorOf told OutOfMemory = Unit {0}
+
+-- the record of an attempt that was given no link, for that error
+pub record IsFailedRecord (attempts : List AttemptRecord) (e : Error) : Type 0 where
+  pub attempt : AttemptRecord
+  pub attempts_are : attempts ≡ attempt ∷ []
+  pub peer : IsAskedPeer attempt.peer
+  pub reused : attempt.reused ≡ false
+  pub kept : attempt.kept ≡ false
+  pub error : attempt.error ≡ Some e
+
+-- the connector gave the attempt no link, and the client was given a part of the answer
+pub record IsHalfRefused (s : Start) (p : Passed) (w : World) (attempts : List AttemptRecord)
+    : Type 0 where
+  pub e : Error
+  pub unconnected : IsUnconnected s p w e
+  pub part : IsFrontOf p.written (generated 502)
+  pub is_record : IsFailedRecord attempts e
 
 -- the attempts of a request that had no link: one where the connector gave none
-abbrev pub AttemptsUnlinked : List AttemptRecord → Outcome → Type 0
-AttemptsUnlinked attempts NoRequest = attempts ≡ []
-AttemptsUnlinked attempts (Refused error) = attempts ≡ []
-AttemptsUnlinked attempts (Served error reuse) =
-    (a : AttemptRecord) × (attempts ≡ a ∷ []) × IsFailedRecord a (Served error reuse)
-AttemptsUnlinked attempts TurnLimit = attempts ≡ []
-AttemptsUnlinked attempts OutOfMemory = attempts ≡ []
+abbrev pub AttemptsUnlinked : Start → Passed → World → List AttemptRecord → Outcome → Type 0
+AttemptsUnlinked s p w attempts NoRequest = attempts ≡ []
+AttemptsUnlinked s p w attempts (Refused error) = attempts ≡ []
+AttemptsUnlinked s p w attempts (Served None reuse) = ⊥
+AttemptsUnlinked s p w attempts (Served (Some e) reuse) = IsFailedRecord attempts e
+AttemptsUnlinked s p w attempts TurnLimit = (attempts ≡ []) ⊎ IsHalfRefused s p w attempts
+AttemptsUnlinked s p w attempts OutOfMemory = (attempts ≡ []) ⊎ IsHalfRefused s p w attempts
 
 module _ {L : Type 0} (state : L → LinkState) (start_at : L → LinkStart) where
   -- how a request ends that handed back this link
@@ -293,16 +359,17 @@ module _ {L : Type 0} (state : L → LinkState) (start_at : L → LinkStart) whe
       (outcome : Outcome) : Type 0 where
     pub tells : TellsLink p (state r.link) (start_at r.link)
     pub peer : IsAskedPeer r.peer
-    pub ends : EndsLinked s p w (state r.link) (start_at r.link) r.keep outcome
     pub attempt : AttemptRecord
     pub attempts_are : attempts ≡ attempt ∷ []
-    pub is_record : IsRecordOf attempt (start_at r.link) r.keep outcome
+    pub is_record : IsRecordOf attempt (start_at r.link) r.keep
+    pub error : IsErrorOf attempt.error outcome
+    pub ends : EndsLinked s p w (state r.link) (start_at r.link) r.keep attempt.error outcome
 
   -- how a request ends, by the links that it handed back: none or one
   abbrev pub EndsWith :
       Start → Passed → World → List (Returned L) → List AttemptRecord → Outcome → Type 0
   EndsWith s p w [] attempts outcome =
-      EndsUnlinked s p w outcome × AttemptsUnlinked attempts outcome
+      EndsUnlinked s p w outcome × AttemptsUnlinked s p w attempts outcome
   EndsWith s p w (r ∷ []) attempts outcome = EndsReturned s p w r attempts outcome
   EndsWith s p w (r ∷ q ∷ rest) attempts outcome = ⊥
 

@@ -1,7 +1,8 @@
 pub mod Relayable
 pub mod Passed
+pub mod Answer
 pub mod Endings
-pub mod Offer
+pub mod Owed
 pub mod Phases
 pub mod Work
 pub mod Uses
@@ -10,6 +11,7 @@ pub mod Closing
 pub mod Exact
 pub mod Refusals
 pub mod Relaying
+pub mod Leaving
 pub mod Request
 pub mod Reuse
 pub mod Stock

@@ -12,25 +12,19 @@ use Rattle.relay_attempt.specs.Passed.{Passed}
 use Rattle.relay_attempt.specs.Head.{link_of}
 use Rattle.relay_proxy.specs.Relayable.{IsRelayable}
 use Rattle.relay_proxy.specs.Passed.{World, Start, origin_of, asked, TellsClient, TellsLink, IsUnsent, IsUntouched}
-use Rattle.relay_proxy.specs.Endings.{IsAccepted, IsTurnedDown, IsInOrder, EndsUnlinked, EndsLinked, EndsWith, IsAskedPeer, AttemptsUnlinked}
+use Rattle.relay_proxy.specs.Answer.{WaitsOf}
+use Rattle.relay_proxy.specs.Endings.{IsAccepted, IsInOrder, HasFailed, owed_by, error_of, EndsUnlinked, EndsLinked, EndsWith, IsAskedPeer, AttemptsUnlinked}
+use Rattle.relay_proxy.specs.Owed.{IsAnswering}
 use Rattle.relay_proxy.specs.declared.outcome.Outcome.TheVariants.{TurnLimit}
 use Rattle.relay_proxy.specs.declared.machine.Attempt.{Attempt}
 use Rattle.relay_proxy.specs.declared.machine.Lease.{Lease}
 use Rattle.relay_proxy.specs.declared.machine.Phase.{Phase}
-use Rattle.relay_proxy.specs.declared.machine.Phase.TheVariants.{ReadHead, Refuse, Connect, Relay, Close, Ended}
+use Rattle.relay_proxy.specs.declared.machine.Phase.TheVariants.{ReadHead, Connect, Relay, Fail, Close, Answer, Ended}
 
 -- the client's head is read: nothing was taken from what is ahead
 pub record IsReadingHead (s : Start) (p : Passed) (ahead : List ℕ) : Type 0 where
   pub whole : ahead ≡ asked s p
   pub written : p.written ≡ []
-  pub unsent : IsUnsent p
-
--- the client is given a generated answer, and this is left of it
-pub record IsRefusing (s : Start) (p : Passed) (left : List ℕ) (error : Option Error)
-    : Type 0 where
-  pub answer : List ℕ
-  pub turned_down : IsTurnedDown (asked s p) answer error
-  pub joined : p.written ++ left ≡ answer
   pub unsent : IsUnsent p
 
 -- the head was accepted, and a link is wanted for the session that begins behind it
@@ -50,6 +44,13 @@ pub record IsLeased (p : Passed) (link : LinkState) (start : LinkStart) (lease :
   pub peer : IsAskedPeer lease.peer
   pub reused : start.reused ≡ lease.reused
 
+module _ {L : Type 0} (state : L → LinkState) (start_at : L → LinkStart) where
+  -- the exchange of an attempt failed, and its client is owed an answer, or what was queued for it
+  pub record IsFailing (s : Start) (p : Passed) (w : World) (link : L) (session : HttpSession)
+      (e : Error) : Type 0 where
+    pub failed : HasFailed s p w.client (state link) (start_at link) e
+    pub waits : WaitsOf session.writing.output p.written (owed_by failed)
+
 module _ {L C : Type 0} (state : L → LinkState) (start_at : L → LinkStart) where
   -- the exchange of an attempt is under way
   pub record IsRelaying (s : Start) (p : Passed) (w : World) (a : Attempt L C) : Type 0 where
@@ -63,42 +64,49 @@ module _ {L C : Type 0} (state : L → LinkState) (start_at : L → LinkStart) w
   -- what has passed in each phase
   abbrev pub IsAt : Start → Passed → World → Phase L C → Type 0
   IsAt s p w ReadHead = IsReadingHead s p w.ahead
-  IsAt s p w (Refuse answer error) = IsRefusing s p answer.output error
   IsAt s p w (Connect context session) = IsConnecting s p w session.value
   IsAt s p w (Relay a) = IsRelaying s p w a.value
+  IsAt s p w (Fail link lease session error) =
+      IsLeased p (state link) (start_at link) lease × IsFailing state start_at s p w link session.value error
   IsAt s p w (Close link lease keep outcome) =
       IsLeased p (state link) (start_at link) lease
-      × EndsLinked s p w (state link) (start_at link) keep outcome
+      × EndsLinked s p w (state link) (start_at link) keep (error_of outcome) outcome
+  IsAt s p w (Answer session owed attempts) =
+      IsAnswering state start_at s p w [] session.value.writing.output owed attempts
   IsAt s p w (Ended outcome attempts) =
-      EndsUnlinked s p w outcome × AttemptsUnlinked attempts outcome
+      EndsUnlinked s p w outcome × AttemptsUnlinked s p w attempts outcome
 
   -- what has passed in each phase, by the links that the request handed back: a request that has
-  -- handed one back has ended
+  -- handed one back has ended, or its client is owed an answer
   abbrev pub PhaseHolds : Start → Passed → World → List (Returned L) → Phase L C → Type 0
   PhaseHolds s p w [] phase = IsAt s p w phase
   PhaseHolds s p w (r ∷ own) ReadHead = ⊥
-  PhaseHolds s p w (r ∷ own) (Refuse answer error) = ⊥
   PhaseHolds s p w (r ∷ own) (Connect context session) = ⊥
   PhaseHolds s p w (r ∷ own) (Relay a) = ⊥
+  PhaseHolds s p w (r ∷ own) (Fail link lease session error) = ⊥
   PhaseHolds s p w (r ∷ own) (Close link lease keep outcome) = ⊥
+  PhaseHolds s p w (r ∷ own) (Answer session owed attempts) =
+      IsAnswering state start_at s p w (r ∷ own) session.value.writing.output owed attempts
   PhaseHolds s p w (r ∷ own) (Ended outcome attempts) =
       EndsWith state start_at s p w (r ∷ own) attempts outcome
 
   -- a request that ended did not end by its turns
   abbrev pub IsGoing : Phase L C → Type 0
   IsGoing ReadHead = Unit {0}
-  IsGoing (Refuse answer error) = Unit {0}
   IsGoing (Connect context session) = Unit {0}
   IsGoing (Relay a) = Unit {0}
+  IsGoing (Fail link lease session error) = Unit {0}
+  IsGoing (Answer session owed attempts) = Unit {0}
   IsGoing (Close link lease keep outcome) = outcome ≢ TurnLimit
   IsGoing (Ended outcome attempts) = outcome ≢ TurnLimit
 
-  -- no call of the client's link failed before the request ended
+  -- no call of the client's link failed before the request ended or its attempt failed
   abbrev pub IsCalm : Start → World → Phase L C → Type 0
   IsCalm s w ReadHead = w.client.faults ≡ s.faults
-  IsCalm s w (Refuse answer error) = w.client.faults ≡ s.faults
   IsCalm s w (Connect context session) = w.client.faults ≡ s.faults
   IsCalm s w (Relay a) = w.client.faults ≡ s.faults
+  IsCalm s w (Fail link lease session error) = Unit {0}
+  IsCalm s w (Answer session owed attempts) = Unit {0}
   IsCalm s w (Close link lease keep outcome) = Unit {0}
   IsCalm s w (Ended outcome attempts) = Unit {0}
 

@@ -1,46 +1,53 @@
 -- The faults with which the connector refused a request its link.
 use Rattle.std.specs.Prelude.{◌≡◌, List, [], ◌∷◌, ◌++◌, Option, None, Some}
+use Rattle.relay_tasks.specs.declared.Error.{Error}
 use Rattle.relay_tasks.specs.declared.Fault.{Fault}
 use Rattle.relay_links.specs.Connector.{connect_fault}
 use Rattle.relay_links.specs.Told.{Gains}
 use Rattle.relay_links.specs.declared.Returned.{Returned}
 use Rattle.relay_proxy.specs.declared.machine.Phase.{Phase}
-use Rattle.relay_proxy.specs.declared.machine.Phase.TheVariants.{ReadHead, Refuse, Connect, Relay, Close, Ended}
-use Rattle.relay_proxy.specs.declared.outcome.Outcome.{Outcome}
-use Rattle.relay_proxy.specs.declared.outcome.Outcome.TheVariants.{NoRequest, Refused, Served, TurnLimit, OutOfMemory}
+use Rattle.relay_proxy.specs.declared.machine.Phase.TheVariants.{ReadHead, Connect, Relay, Fail, Close, Answer, Ended}
+use Rattle.relay_proxy.specs.declared.record.AttemptRecord.{AttemptRecord}
 
--- the fault of which the error of an outcome tells, where it is the connector's: it has the error's
+-- the fault of which the error of a record tells, where it is the connector's: it has the error's
 -- mark
-abbrev pub fault_told : Outcome → List Fault
-fault_told NoRequest = []
-fault_told (Refused error) = []
-fault_told (Served None reuse) = []
-fault_told (Served (Some e) reuse) = connect_fault e.retry ∷ []
-fault_told TurnLimit = []
-fault_told OutOfMemory = []
+abbrev pub fault_told : Option Error → List Fault
+fault_told None = []
+fault_told (Some e) = connect_fault e.retry ∷ []
 
--- the faults that the connector answered for a request, by the links that it handed back: none
--- where it handed one back
-abbrev pub faults_for : {L : Type 0} → List (Returned L) → Outcome → List Fault
-faults_for [] outcome = fault_told outcome
-faults_for (r ∷ own) outcome = []
+-- the same of the first attempt of a request, the only one
+abbrev pub faults_told : List AttemptRecord → List Fault
+faults_told [] = []
+faults_told (a ∷ attempts) = fault_told a.error
 
--- the faults that the connector answered before that phase: none before the request has ended
+-- the faults that the connector answered for a request, by the links that it handed back and its
+-- attempts: none where it handed one back
+abbrev pub faults_for : {L : Type 0} → List (Returned L) → List AttemptRecord → List Fault
+faults_for [] attempts = faults_told attempts
+faults_for (r ∷ own) attempts = []
+
+-- the attempts that a phase has recorded
+abbrev pub attempts_in : {L C : Type 0} → Phase L C → List AttemptRecord
+attempts_in ReadHead = []
+attempts_in (Connect context session) = []
+attempts_in (Relay a) = []
+attempts_in (Fail link lease session error) = []
+attempts_in (Close link lease keep outcome) = []
+attempts_in (Answer session owed attempts) = attempts
+attempts_in (Ended outcome attempts) = attempts
+
+-- the faults that the connector answered before that phase: none before the attempt is recorded
 abbrev pub faults_before : {L C : Type 0} → List (Returned L) → Phase L C → List Fault
-faults_before own ReadHead = []
-faults_before own (Refuse answer error) = []
-faults_before own (Connect context session) = []
-faults_before own (Relay a) = []
-faults_before own (Close link lease keep outcome) = []
-faults_before own (Ended outcome attempts) = faults_for own outcome
+faults_before own phase = faults_for own (attempts_in phase)
 
--- the faults of a turn: those before the next phase, and none where the request had ended
+-- the faults of a turn: before there is a link those before the next phase, and then none
 abbrev pub faults_of_turn : {L C : Type 0} → Phase L C → Phase L C → List Fault
 faults_of_turn ReadHead next = faults_before [] next
-faults_of_turn (Refuse answer error) next = faults_before [] next
 faults_of_turn (Connect context session) next = faults_before [] next
-faults_of_turn (Relay a) next = faults_before [] next
+faults_of_turn (Relay a) next = []
+faults_of_turn (Fail link lease session error) next = []
 faults_of_turn (Close link lease keep outcome) next = []
+faults_of_turn (Answer session owed attempts) next = []
 faults_of_turn (Ended outcome attempts) next = []
 
 -- between two phases the connector answered these faults and no others; its list gained them, where

@@ -16,25 +16,37 @@ use Rattle.relay_attempt.specs.declared.h1_exchange.H1Exchange.{H1Exchange}
 use Rattle.relay_proxy.specs.Uses.{Measured}
 use Rattle.relay_proxy.specs.declared.machine.Attempt.{Attempt}
 use Rattle.relay_proxy.specs.declared.machine.Phase.{Phase}
-use Rattle.relay_proxy.specs.declared.machine.Phase.TheVariants.{ReadHead, Refuse, Connect, Relay, Close, Ended}
+use Rattle.relay_proxy.specs.declared.machine.Phase.TheVariants.{ReadHead, Connect, Relay, Fail, Close, Answer, Ended}
 
 -- the exchange of an attempt is under way
 abbrev pub is_relaying : {L C : Type 0} → Phase L C → Bool
 is_relaying ReadHead = false
-is_relaying (Refuse answer error) = false
 is_relaying (Connect context session) = false
 is_relaying (Relay a) = true
+is_relaying (Fail link lease session error) = false
 is_relaying (Close link lease keep outcome) = false
+is_relaying (Answer session owed attempts) = false
 is_relaying (Ended outcome attempts) = false
 
--- a link is to be handed back
+-- a link is to be handed back, the request having ended or its client being owed an answer
 abbrev pub is_closing : {L C : Type 0} → Phase L C → Bool
 is_closing ReadHead = false
-is_closing (Refuse answer error) = false
 is_closing (Connect context session) = false
 is_closing (Relay a) = false
+is_closing (Fail link lease session error) = true
 is_closing (Close link lease keep outcome) = true
+is_closing (Answer session owed attempts) = false
 is_closing (Ended outcome attempts) = false
+
+-- a generated answer is written
+abbrev pub is_answering : {L C : Type 0} → Phase L C → Bool
+is_answering ReadHead = false
+is_answering (Connect context session) = false
+is_answering (Relay a) = false
+is_answering (Fail link lease session error) = false
+is_answering (Close link lease keep outcome) = false
+is_answering (Answer session owed attempts) = true
+is_answering (Ended outcome attempts) = false
 
 -- an attempt where it stands, once its exchange has come to that
 abbrev pub turned : {L C : Type 0} → Box (Attempt L C) → H1Exchange L → Box (Attempt L C)

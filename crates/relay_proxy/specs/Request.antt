@@ -78,9 +78,9 @@ module _ {L C : Type 0} (state : L → LinkState) (start_at : L → LinkStart) w
     pub ended : IsEnded state start_at s p w (own ++ handed) processed.history.attempts
         processed.outcome
     -- it is the request for which the connector answered its faults
-    pub refused : faults_for (own ++ handed) processed.outcome ≡ faults_before own phase
+    pub refused : faults_for (own ++ handed) processed.history.attempts ≡ faults_before own phase
     -- and the one that took what was taken of the offers
-    pub offered : offers_for start_at (own ++ handed) processed.outcome
+    pub offered : offers_for start_at (own ++ handed) processed.history.attempts
         ≡ offers_before start_at own phase
     -- no link was asked any more
     pub uses : (n : ℕ) → PhaseUses state start_at n own phase
@@ -101,10 +101,11 @@ pub record Processes {L : Type 0} (state : L → LinkState) (start_at : L → Li
   pub own : List (Returned L)
   pub gained : after ≡ more before own
   pub ended : IsEnded state start_at s passed w own processed.history.attempts processed.outcome
-  -- the connector refused a link exactly where the request ended with that fault's error
-  pub refused : Gains told_before (faults_for own processed.outcome) told_after
+  -- the connector refused a link exactly where the attempt had none, and its record tells of the
+  -- fault
+  pub refused : Gains told_before (faults_for own processed.history.attempts) told_after
   -- of what the connector had it took the first: the link, or that fault
-  pub offered : Takes had (offers_for start_at own processed.outcome) has
+  pub offered : Takes had (offers_for start_at own processed.history.attempts) has
   -- what is recorded of uses are those of the client's link, and of the link that was handed back
   pub uses : CountsAll state start_at client w.client own processed.history.items_used
   -- the other way round: where a cause stands, the outcome is its own

@@ -7,8 +7,8 @@ use Rattle.relay_links.specs.declared.Returned.{Returned}
 use Rattle.relay_proxy.specs.Refusals.{faults_for, faults_before}
 use Rattle.relay_proxy.specs.Stock.{items_held, items_back}
 use Rattle.relay_proxy.specs.declared.machine.Phase.{Phase}
-use Rattle.relay_proxy.specs.declared.machine.Phase.TheVariants.{ReadHead, Refuse, Connect, Relay, Close, Ended}
-use Rattle.relay_proxy.specs.declared.outcome.Outcome.{Outcome}
+use Rattle.relay_proxy.specs.declared.machine.Phase.TheVariants.{ReadHead, Connect, Relay, Fail, Close, Answer, Ended}
+use Rattle.relay_proxy.specs.declared.record.AttemptRecord.{AttemptRecord}
 
 -- these were the next of the offers, in order, and those are left; past the last of them there are
 -- faults alone
@@ -25,10 +25,11 @@ Takes None taken after = after ≡ None
 Takes (Some offers) taken None = ⊥
 Takes (Some offers) taken (Some left) = AreNext taken offers left
 
--- what a request took that handed these links back and came to that outcome
-abbrev pub offers_for : {L : Type 0} → (L → LinkStart) → List (Returned L) → Outcome → List Offer
-offers_for start own outcome =
-    map Ok (items_back start own) ++ map Err (faults_for own outcome)
+-- what a request took that handed these links back and made these attempts
+abbrev pub offers_for : {L : Type 0} → (L → LinkStart) → List (Returned L) → List AttemptRecord
+    → List Offer
+offers_for start own attempts =
+    map Ok (items_back start own) ++ map Err (faults_for own attempts)
 
 -- what a request took before that phase
 abbrev pub offers_before : {L C : Type 0} → (L → LinkStart) → List (Returned L) → Phase L C
@@ -39,10 +40,11 @@ offers_before start own phase =
 -- what a turn takes: before there is a link what the next phase took, and then nothing
 abbrev pub offers_of_turn : {L C : Type 0} → (L → LinkStart) → Phase L C → Phase L C → List Offer
 offers_of_turn start ReadHead next = offers_before start [] next
-offers_of_turn start (Refuse answer error) next = offers_before start [] next
 offers_of_turn start (Connect context session) next = offers_before start [] next
 offers_of_turn start (Relay a) next = []
+offers_of_turn start (Fail link lease session error) next = []
 offers_of_turn start (Close link lease keep outcome) next = []
+offers_of_turn start (Answer session owed attempts) next = []
 offers_of_turn start (Ended outcome attempts) next = []
 
 -- between two phases these were taken, and no others

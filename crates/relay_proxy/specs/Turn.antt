@@ -3,6 +3,7 @@ use Rattle.std.specs.Prelude.{◌≡◌, ◌⊎◌, ℕ, ◌<◌, Bool, true, fa
 use Rattle.relay_links.specs.Count.{up}
 use Rattle.relay_links.specs.Link.{LinkState, LinkStart, GivesBytes, TakesBytes}
 use Rattle.relay_links.specs.declared.branch.Branch.{Branch}
+use Rattle.relay_links.specs.declared.Returned.{Returned}
 use Rattle.relay_tasks.specs.declared.took.Pause.TheVariants.{NotReady, Silent}
 use Rattle.relay_h1.specs.Verdict.{IsOpen}
 use Rattle.relay_h1.specs.declared.Connection.{Connection}
@@ -11,10 +12,10 @@ use Rattle.relay_attempt.specs.Passed.{Passed}
 use Rattle.relay_attempt.specs.Head.{link_of}
 use Rattle.relay_proxy.specs.Passed.{World, Start}
 use Rattle.relay_proxy.specs.Phases.{RunSoFar}
-use Rattle.relay_proxy.specs.Uses.{ExchangeMoved}
+use Rattle.relay_proxy.specs.Uses.{ExchangeMoved, OwesAnswer}
 use Rattle.relay_proxy.specs.Work.{total_work}
 use Rattle.relay_proxy.specs.declared.machine.Phase.{Phase}
-use Rattle.relay_proxy.specs.declared.machine.Phase.TheVariants.{ReadHead, Refuse, Connect, Relay, Close, Ended}
+use Rattle.relay_proxy.specs.declared.machine.Phase.TheVariants.{ReadHead, Connect, Relay, Fail, Close, Answer, Ended}
 use Rattle.relay_proxy.specs.declared.machine.RunStep.{RunStep}
 use Rattle.relay_proxy.specs.declared.machine.RunStep.TheVariants as step
 use Rattle.relay_proxy.specs.declared.work.Work.{Work}
@@ -39,19 +40,21 @@ DoesWork (step.Waited Silent) work = total_work work ≡ 0
 -- the client's head is still read
 abbrev pub is_reading_head : {L C : Type 0} → Phase L C → Bool
 is_reading_head ReadHead = true
-is_reading_head (Refuse answer error) = false
 is_reading_head (Connect context session) = false
 is_reading_head (Relay a) = false
+is_reading_head (Fail link lease session error) = false
 is_reading_head (Close link lease keep outcome) = false
+is_reading_head (Answer session owed attempts) = false
 is_reading_head (Ended outcome attempts) = false
 
 -- the link that a phase holds, as it stands
 abbrev pub held_state : {L C : Type 0} → (L → LinkState) → Phase L C → Option LinkState
 held_state state ReadHead = None
-held_state state (Refuse answer error) = None
 held_state state (Connect context session) = None
 held_state state (Relay a) = Some (state (link_of a.value.exchange))
+held_state state (Fail link lease session error) = Some (state link)
 held_state state (Close link lease keep outcome) = Some (state link)
+held_state state (Answer session owed attempts) = None
 held_state state (Ended outcome attempts) = None
 
 -- a link that is held before and after answered in between that it has to be waited for
@@ -72,36 +75,48 @@ module _ {L C : Type 0} (state : L → LinkState) (start_at : L → LinkStart) w
   -- how many links a phase holds
   abbrev pub links_held : Phase L C → ℕ
   links_held ReadHead = 0
-  links_held (Refuse answer error) = 0
   links_held (Connect context session) = 0
   links_held (Relay a) = 1
+  links_held (Fail link lease session error) = 1
   links_held (Close link lease keep outcome) = 1
+  links_held (Answer session owed attempts) = 0
   links_held (Ended outcome attempts) = 0
 
-  -- a turn took the run so far on to the next phase; `w` is the world after it
-  pub record Advances (s : Start) (w : World) (next : Phase L C) : Type 0 where
+  -- a turn took the run so far on to the next phase, these links having been handed back before;
+  -- `w` is the world after it
+  pub record AdvancesOn (s : Start) (w : World) (own : List (Returned L)) (next : Phase L C)
+      : Type 0 where
     pub passed : Passed
-    pub run : RunSoFar state start_at s passed w [] next
+    pub run : RunSoFar state start_at s passed w own next
+
+  -- the same where none was handed back
+  abbrev pub Advances : Start → World → Phase L C → Type 0
+  Advances s w next = AdvancesOn s w [] next
 
   -- all that a phase asks is silent: outside an exchange the one link that it asks, and in an
   -- exchange what its next write or each of its branches asks
   abbrev pub IsStalled : World → Phase L C → Type 0
   IsStalled w ReadHead = IsOpen w.ahead × (w.client.silent_on_read ≡ true)
-  IsStalled w (Refuse answer error) = w.client.silent_on_write ≡ true
   IsStalled w (Connect context session) = ⊥
   IsStalled w (Relay a) =
       SilentIn state start_at w.client a.value.exchange
+  IsStalled w (Fail link lease session error) = ⊥
   IsStalled w (Close link lease keep outcome) = ⊥
+  IsStalled w (Answer session owed attempts) = w.client.silent_on_write ≡ true
   IsStalled w (Ended outcome attempts) = ⊥
 
-  -- what a turn moved: bytes of the client's head came, or it was judged; bytes of a generated
-  -- answer were taken; a link was given; or a branch of the exchange moved
+  -- what a turn moved: bytes of the client's head came, or it was judged; a link was given, or
+  -- none and the client is owed an answer; a branch of the exchange moved, or it failed and the
+  -- client is owed an answer; or bytes of that were taken
   abbrev pub HasMoved : World → World → Phase L C → Phase L C → Type 0
   HasMoved w x ReadHead next = HasGiven w.client x.client ⊎ (is_reading_head next ≡ false)
-  HasMoved w x (Refuse answer error) next = HasTaken w.client x.client
-  HasMoved w x (Connect context session) next = links_held next ≡ 1
+  HasMoved w x (Connect context session) next =
+      (links_held next ≡ 1) ⊎ OwesAnswer next
   HasMoved w x (Relay a) next =
-      (branch : Option Branch) × ExchangeMoved state start_at branch w x a.value.exchange next
+      ((branch : Option Branch) × ExchangeMoved state start_at branch w x a.value.exchange next)
+      ⊎ OwesAnswer next
+  HasMoved w x (Fail link lease session error) next = OwesAnswer next
+  HasMoved w x (Answer session owed attempts) next = HasTaken w.client x.client
   HasMoved w x (Close link lease keep outcome) next = ⊥
   HasMoved w x (Ended outcome attempts) next = ⊥
 
@@ -127,19 +142,21 @@ module _ {L C : Type 0} (state : L → LinkState) (start_at : L → LinkStart) w
 -- a turn did its work; a request that has ended does none
 abbrev pub WorksIn : {L C : Type 0} → Phase L C → RunStep → Work → Type 0
 WorksIn ReadHead did work = DoesWork did work
-WorksIn (Refuse answer error) did work = DoesWork did work
 WorksIn (Connect context session) did work = DoesWork did work
 WorksIn (Relay a) did work = DoesWork did work
+WorksIn (Fail link lease session error) did work = DoesWork did work
+WorksIn (Answer session owed attempts) did work = DoesWork did work
 WorksIn (Close link lease keep outcome) did work = (total_work work ≡ 0) × (did ≡ step.Ended)
 WorksIn (Ended outcome attempts) did work = (total_work work ≡ 0) × (did ≡ step.Ended)
 
 -- the request has ended
 abbrev pub is_over : {L C : Type 0} → Phase L C → Bool
 is_over ReadHead = false
-is_over (Refuse answer error) = false
 is_over (Connect context session) = false
 is_over (Relay a) = false
+is_over (Fail link lease session error) = false
 is_over (Close link lease keep outcome) = true
+is_over (Answer session owed attempts) = false
 is_over (Ended outcome attempts) = true
 
 -- the answer says that the request has ended

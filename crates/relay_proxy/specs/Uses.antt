@@ -17,7 +17,8 @@ use Rattle.relay_proxy.specs.Passed.{World}
 use Rattle.relay_proxy.specs.Work.{added_work}
 use Rattle.relay_proxy.specs.declared.machine.Attempt.{Attempt}
 use Rattle.relay_proxy.specs.declared.machine.Phase.{Phase}
-use Rattle.relay_proxy.specs.declared.machine.Phase.TheVariants.{ReadHead, Refuse, Connect, Relay, Close, Ended}
+use Rattle.relay_proxy.specs.declared.machine.Phase.TheVariants.{ReadHead, Connect, Relay, Fail, Close, Answer, Ended}
+use Rattle.relay_proxy.specs.declared.owed.Owed.TheVariants.{Refused, Served}
 use Rattle.relay_proxy.specs.declared.work.Work.{Work}
 
 -- ---- how often the links were asked
@@ -90,10 +91,11 @@ module _ {L C : Type 0} (state : L → LinkState) (start_at : L → LinkStart) w
   -- the link of a request was asked so many times up to that phase
   abbrev pub PhaseUses : ℕ → List (Returned L) → Phase L C → Type 0
   PhaseUses n own ReadHead = OwnUses state start_at n own
-  PhaseUses n own (Refuse answer error) = OwnUses state start_at n own
   PhaseUses n own (Connect context session) = OwnUses state start_at n own
   PhaseUses n own (Relay a) = LinkUses state start_at n (link_of a.value.exchange)
+  PhaseUses n own (Fail link lease session error) = LinkUses state start_at n link
   PhaseUses n own (Close link lease keep outcome) = LinkUses state start_at n link
+  PhaseUses n own (Answer session owed attempts) = OwnUses state start_at n own
   PhaseUses n own (Ended outcome attempts) = OwnUses state start_at n own
 
   -- a turn asked the client's link so many times, and the request's own, which had been asked n
@@ -114,6 +116,17 @@ module _ {L C : Type 0} (state : L → LinkState) (start_at : L → LinkStart) w
     pub adds : after ≡ min (before + used) last_count
 
 -- ---- what moved in an exchange
+
+-- the attempt failed, and its client is owed an answer, or what was queued for it
+abbrev pub OwesAnswer : {L C : Type 0} → Phase L C → Type 0
+OwesAnswer ReadHead = ⊥
+OwesAnswer (Connect context session) = ⊥
+OwesAnswer (Relay a) = ⊥
+OwesAnswer (Fail link lease session error) = Unit {0}
+OwesAnswer (Close link lease keep outcome) = ⊥
+OwesAnswer (Answer session (Refused error) attempts) = ⊥
+OwesAnswer (Answer session (Served e) attempts) = Unit {0}
+OwesAnswer (Ended outcome attempts) = ⊥
 
 -- a use of a link
 abbrev pub one_use : Work

@@ -8,19 +8,20 @@ ghost use Rattle.relay_proxy.specs.Endings.{IsTurnedDown, ended_outcome};
 ghost use Rattle.relay_attempt.specs.Passed.{Passed};
 ghost use Rattle.relay_proxy.specs.Passed.{World, Start};
 ghost use Rattle.relay_proxy.specs.Phases.{RunSoFar};
-ghost use Rattle.relay_proxy.specs.Refusals.{faults_before};
+ghost use Rattle.relay_proxy.specs.Refusals.{attempts_in};
 ghost use Rattle.relay_proxy.specs.Stock.{items_held};
 ghost use Rattle.relay_proxy.specs.Uses.{ClientUses};
 ghost use Rattle.relay_proxy.specs.Turn.{world_of, DoesWork, is_over, is_end, links_held, Advances, HasCause};
 
+use crate::connecting::out_of_memory;
 use crate::hooks::ProxyHttp;
 use crate::machine::{Next, Phase, RunStep};
 use crate::outcome::Outcome;
-use crate::pending::{Offered, Pending};
+use crate::owed::Owed;
 use crate::record::AttemptList;
 use crate::relayable::{is_connect, is_relayable};
 use crate::work::Work;
-use relay_h1::{Connection, Output, RequestRead, write_generated};
+use relay_h1::{Connection, RequestRead};
 use relay_links::{ByteLink, Got};
 use relay_session::HttpSession;
 use relay_tasks::{Context, Error, ErrorType, Fail, Pause};
@@ -44,7 +45,7 @@ pub(crate) fn read_head<SV: ProxyHttp, D: ByteLink, U, L: ByteLink>(
     ensures over { is_over result.phase ≡ is_end result.step }
     ensures unlinked { links_held L.state L.start result.phase ≡ 0 }
     ensures no_items { items_held L.start result.phase ≡ [] }
-    ensures unrefused { faults_before [] result.phase ≡ [] }
+    ensures no_attempts { attempts_in result.phase ≡ [] }
     ensures uses { ClientUses result.work.used (D.state client.old.link) (D.state client.new.link) }
     ensures kept { client.new.kept ≡ client.old.kept }
     ensures client_start { D.start client.new.link ≡ D.start client.old.link }
@@ -53,11 +54,7 @@ pub(crate) fn read_head<SV: ProxyHttp, D: ByteLink, U, L: ByteLink>(
         Ok(None) => await_head(alloc, client),
         Ok(Some(read)) => take_head(alloc, hooks, client, read),
         Err(Fail::Error(error)) => give_answer(alloc, 400, Some(error)),
-        Err(Fail::OutOfMemory) => Next {
-            phase: Phase::Ended(Outcome::OutOfMemory, AttemptList::new(alloc)),
-            step: RunStep::Ended,
-            work: Work::ENDED,
-        },
+        Err(Fail::OutOfMemory) => out_of_memory(alloc),
     }
 }
 
@@ -79,17 +76,13 @@ fn await_head<D: ByteLink, U, L: ByteLink, C>(
     ensures over { is_over result.phase ≡ is_end result.step }
     ensures unlinked { links_held L.state L.start result.phase ≡ 0 }
     ensures no_items { items_held L.start result.phase ≡ [] }
-    ensures unrefused { faults_before [] result.phase ≡ [] }
+    ensures no_attempts { attempts_in result.phase ≡ [] }
     ensures uses { ClientUses result.work.used (D.state client.old.link) (D.state client.new.link) }
     ensures kept { client.new.kept ≡ client.old.kept }
     ensures client_start { D.start client.new.link ≡ D.start client.old.link }
 {
     match client.read_more() {
-        Err(_) => Next {
-            phase: Phase::Ended(Outcome::OutOfMemory, AttemptList::new(alloc)),
-            step: RunStep::Ended,
-            work: Work::ENDED,
-        },
+        Err(_) => out_of_memory(alloc),
         Ok(Got::Bytes(_)) => Next {
             phase: Phase::ReadHead,
             step: RunStep::Moved,
@@ -159,7 +152,7 @@ fn take_head<SV: ProxyHttp, D: ByteLink, U, L: ByteLink>(
     ensures over { is_over result.phase ≡ is_end result.step }
     ensures unlinked { links_held L.state L.start result.phase ≡ 0 }
     ensures no_items { items_held L.start result.phase ≡ [] }
-    ensures unrefused { faults_before [] result.phase ≡ [] }
+    ensures no_attempts { attempts_in result.phase ≡ [] }
     ensures uses { ClientUses result.work.used (D.state client.old.link) (D.state client.new.link) }
     ensures kept { client.new.kept ≡ client.old.kept }
     ensures client_start { D.start client.new.link ≡ D.start client.old.link }
@@ -193,7 +186,7 @@ fn accept_head<SV: ProxyHttp, D: ByteLink, U, L: ByteLink>(
     ensures over { is_over result.phase ≡ is_end result.step }
     ensures unlinked { links_held L.state L.start result.phase ≡ 0 }
     ensures no_items { items_held L.start result.phase ≡ [] }
-    ensures unrefused { faults_before [] result.phase ≡ [] }
+    ensures no_attempts { attempts_in result.phase ≡ [] }
     ensures uses { ClientUses result.work.used (D.state client.old.link) (D.state client.new.link) }
     ensures kept { client.new.kept ≡ client.old.kept }
     ensures client_start { D.start client.new.link ≡ D.start client.old.link }
@@ -213,11 +206,7 @@ fn accept_head<SV: ProxyHttp, D: ByteLink, U, L: ByteLink>(
         alloc,
         HttpSession::begun_http1(alloc, read.head, read.framing),
     ) else {
-        return Next {
-            phase: Phase::Ended(Outcome::OutOfMemory, AttemptList::new(alloc)),
-            step: RunStep::Ended,
-            work: Work::ENDED,
-        };
+        return out_of_memory(alloc);
     };
     client.consume(read.len);
     Next {
@@ -241,87 +230,19 @@ fn give_answer<L: ByteLink, C>(alloc: Global, status: u16, error: Option<Error>)
     ensures over { is_over result.phase ≡ is_end result.step }
     ensures unlinked { links_held L.state L.start result.phase ≡ 0 }
     ensures no_items { items_held L.start result.phase ≡ [] }
-    ensures unrefused { faults_before [] result.phase ≡ [] }
+    ensures no_attempts { attempts_in result.phase ≡ [] }
     ensures unused { result.work.used ≡ 0 }
 {
-    let mut text = Vec::new(alloc);
-    let Ok(()) = write_generated(&mut text, status) else {
-        return Next {
-            phase: Phase::Ended(Outcome::OutOfMemory, AttemptList::new(alloc)),
-            step: RunStep::Ended,
-            work: Work::ENDED,
-        };
+    let mut session = HttpSession::new_http1(alloc);
+    let Ok(()) = session.respond_error(status) else {
+        return out_of_memory(alloc);
     };
-    let Some(answer) = Pending::new(Output::new(text)) else {
-        unreachable!()
+    let Ok(session) = Box::new(alloc, session) else {
+        return out_of_memory(alloc);
     };
     Next {
-        phase: Phase::Refuse(answer, error),
+        phase: Phase::Answer(session, Owed::Refused(error), AttemptList::new(alloc)),
         step: RunStep::Moved,
         work: Work::ENDED,
-    }
-}
-
-/// One write of the generated answer.
-pub(crate) fn write_refusal<D: ByteLink, U, L: ByteLink, C>(
-    alloc: Global,
-    client: &mut Connection<D, U>,
-    answer: Pending,
-    error: Option<Error>,
-) -> Next<L, C>
-    ensures run { (s : Start) (p : Passed) (faults : ℕ)
-        → RunSoFar {C = C} L.state L.start s p (world_of D.state client.old faults) []
-        (Phase.Refuse answer error)
-        → Advances L.state L.start s (world_of D.state client.new faults)
-        result.phase }
-    ensures cause { (faults : ℕ) → HasCause {C = C} L.state L.start
-        (world_of D.state client.old faults) (world_of D.state client.new faults)
-        (Phase.Refuse answer error) result.phase result.step }
-    ensures work { DoesWork result.step result.work }
-    ensures over { is_over result.phase ≡ is_end result.step }
-    ensures unlinked { links_held L.state L.start result.phase ≡ 0 }
-    ensures no_items { items_held L.start result.phase ≡ [] }
-    ensures unrefused { faults_before [] result.phase ≡ [] }
-    ensures uses { ClientUses result.work.used (D.state client.old.link) (D.state client.new.link) }
-    ensures kept { client.new.kept ≡ client.old.kept }
-    ensures client_start { D.start client.new.link ≡ D.start client.old.link }
-{
-    match answer.write_to(client) {
-        Offered::Whole => Next {
-            phase: Phase::Ended(Outcome::Refused { error }, AttemptList::new(alloc)),
-            step: RunStep::Ended,
-            work: Work::USED,
-        },
-        Offered::Left(answer) => Next {
-            phase: Phase::Refuse(answer, error),
-            step: RunStep::Moved,
-            work: Work::USED,
-        },
-        Offered::NotReady(answer) => Next {
-            phase: Phase::Refuse(answer, error),
-            step: RunStep::Waited(Pause::NotReady),
-            work: Work::USED,
-        },
-        Offered::Silent(answer) => Next {
-            phase: Phase::Refuse(answer, error),
-            step: RunStep::Waited(Pause::Silent),
-            work: Work::NONE,
-        },
-        Offered::Failed(fault) => {
-            let error = Error::of_fault(fault).into_down();
-            Next {
-                phase: Phase::Ended(
-                    Outcome::Refused { error: Some(error) },
-                    AttemptList::new(alloc),
-                ),
-                step: RunStep::Ended,
-                work: Work::USED,
-            }
-        }
-        Offered::OutOfMemory => Next {
-            phase: Phase::Ended(Outcome::OutOfMemory, AttemptList::new(alloc)),
-            step: RunStep::Ended,
-            work: Work::USED,
-        },
     }
 }

@@ -1,12 +1,14 @@
 //! The connector: asked once for a link, over which the request's one attempt then goes.
 ghost use Rattle.std.specs.Prelude.{◌≡◌, ◌+◌, ◌≤◌, [], ◌∷◌, ℕ, List, Some, IfSome, false};
 ghost use Rattle.std.specs.Global.{Box};
+ghost use Rattle.relay_links.specs.Connector.{IsConnectFault, connect_fault};
+ghost use Rattle.relay_links.specs.Count.{last_count, Rose};
 ghost use Rattle.relay_links.specs.Link.{LinkState, IsHandedOut};
 ghost use Rattle.relay_links.specs.Told.{Gains};
 ghost use Rattle.relay_attempt.specs.Head.{link_of};
 ghost use Rattle.relay_attempt.specs.Passed.{Passed};
 ghost use Rattle.relay_session.specs.Reading.{head_of};
-ghost use Rattle.relay_proxy.specs.Endings.{IsInOrder, IsAskedPeer, fault_error, outcome_of};
+ghost use Rattle.relay_proxy.specs.Endings.{IsInOrder, IsAskedPeer, outcome_of};
 ghost use Rattle.relay_proxy.specs.Taken.{Takes, offers_before};
 ghost use Rattle.relay_proxy.specs.Passed.{World, Start, TellsClient};
 ghost use Rattle.relay_proxy.specs.Phases.{IsRelaying, RunSoFar};
@@ -17,13 +19,14 @@ ghost use Rattle.relay_proxy.specs.Turn.{world_with, DoesWork, is_over, is_end, 
 
 use crate::machine::{Attempt, Lease, Next, Phase, RunStep};
 use crate::outcome::Outcome;
+use crate::owed::Owed;
 use crate::record::{AttemptList, AttemptRecord, AttemptRoom};
 use crate::work::Work;
 use bytes::Bytes;
 use relay_attempt::{H1Exchange, Unbegun};
 use relay_links::{ByteLink, Connector};
 use relay_session::HttpSession;
-use relay_tasks::{Error, ErrorSource, Fail, Fault, Peer, RequestHeader};
+use relay_tasks::{Error, Fail, Fault, Peer, RequestHeader};
 use std::alloc::Global;
 
 /// The peer that each attempt asks for: the connector's only one.
@@ -38,7 +41,7 @@ pub(crate) fn asked_peer() -> Peer
 }
 
 /// A request that ended without a link, when out of memory.
-fn out_of_memory<L, C>(alloc: Global) -> Next<L, C>
+pub(crate) fn out_of_memory<L, C>(alloc: Global) -> Next<L, C>
     ensures phase { result.phase ≡ Phase.Ended Outcome.OutOfMemory [] }
     ensures step { result.step ≡ RunStep.Ended }
     ensures work { result.work ≡ Work.ENDED }
@@ -51,7 +54,7 @@ fn out_of_memory<L, C>(alloc: Global) -> Next<L, C>
 }
 
 /// Asks the connector for a link. Room for the attempt's record and the head that is to be sent are
-/// made first.
+/// made first. Where it gives none the client is answered with 502.
 pub(crate) fn connect<K: Connector, C: Drop>(
     alloc: Global,
     connector: &mut K,
@@ -93,32 +96,51 @@ pub(crate) fn connect<K: Connector, C: Drop>(
             let lease = Lease { peer, reused, room };
             begin(alloc, context, session, head, link, lease)
         }
-        Err(fault) => refused_link(room, peer, fault),
+        Err(fault) => refused_link(session, room, peer, fault),
     }
 }
 
-/// A request that ended without a link, since the connector gave none.
-fn refused_link<L, C>(room: AttemptRoom, peer: Peer, fault: Fault) -> Next<L, C>
-    ensures phase { let error = Some (fault_error ErrorSource.Upstream fault) in
-        result.phase ≡ Phase.Ended (Outcome.Served error false)
-        (record { peer = peer; reused = false; kept = false; error = error } ∷ []) }
-    ensures step { result.step ≡ RunStep.Ended }
-    ensures work { result.work ≡ Work.ENDED }
+/// A request to which the connector gave no link: its attempt is recorded, and the client is owed
+/// 502.
+fn refused_link<L: ByteLink, C>(
+    session: Box<HttpSession>,
+    room: AttemptRoom,
+    peer: Peer,
+    fault: Fault,
+) -> Next<L, C>
+    ensures run { (s : Start) (p : Passed) (w : World) (failed : ℕ) (context : C)
+        → w.connect_faults ≤ last_count → Rose w.connect_faults failed → IsConnectFault fault
+        → IsAskedPeer peer
+        → RunSoFar {C = C} L.state L.start s p w [] (Phase.Connect context session)
+        → Advances {C = C} L.state L.start s (world_with w.client w.ahead failed) result.phase }
+    ensures cause { (w x : World) (context : C) → HasCause {C = C} L.state L.start w x
+        (Phase.Connect context session) result.phase result.step }
+    ensures over { is_over result.phase ≡ is_end result.step }
+    ensures unlinked { links_held L.state L.start result.phase ≡ 0 }
+    ensures no_items { items_held L.start result.phase ≡ [] }
+    ensures told { faults_before [] result.phase ≡ connect_fault fault.retry ∷ [] }
+    ensures work { DoesWork result.step result.work }
+    ensures unused { result.work.used ≡ 0 }
+    ensures fresh { PhaseUses L.state L.start 0 [] result.phase }
 {
-    let error = Some(Error::of_fault(fault).into_up());
+    let error = Error::of_fault(fault).into_up();
     let attempts = room.fill(AttemptRecord {
         peer,
         reused: false,
         kept: false,
-        error,
+        error: Some(error),
     });
-    let outcome = Outcome::Served {
-        error,
-        reuse: false,
+    let mut session = session;
+    let Ok(()) = session.respond_error(502) else {
+        return Next {
+            phase: Phase::Ended(Outcome::OutOfMemory, attempts),
+            step: RunStep::Ended,
+            work: Work::ENDED,
+        };
     };
     Next {
-        phase: Phase::Ended(outcome, attempts),
-        step: RunStep::Ended,
+        phase: Phase::Answer(session, Owed::Served(error), attempts),
+        step: RunStep::Moved,
         work: Work::ENDED,
     }
 }

@@ -8,6 +8,7 @@ ghost use Rattle.relay_proxy.specs.Turn.{links_held, is_over};
 use crate::connecting::asked_peer;
 use crate::machine::{Attempt, Lease, Phase};
 use crate::outcome::Outcome;
+use crate::owed::Owed;
 use crate::record::{AttemptList, AttemptRecord};
 use relay_links::Connector;
 use std::alloc::Global;
@@ -49,7 +50,8 @@ fn release<K: Connector>(
     })
 }
 
-/// Ends a request that is to be closed: its link goes back. Any other phase stays.
+/// Ends a request that is to be closed: its link goes back. That of a failed attempt goes back too,
+/// and the client is given what it is owed. Any other phase stays.
 pub(crate) fn settle<K: Connector, C: Drop>(connector: &mut K, phase: &mut Phase<K::Byte, C>)
     requires { links_held K.Byte.state K.Byte.start phase.old ≤ K.out connector.old }
     ensures settles { Settles phase.old (K.returned connector.old) (K.returned connector.new)
@@ -70,7 +72,7 @@ pub(crate) fn settle<K: Connector, C: Drop>(connector: &mut K, phase: &mut Phase
     }
 }
 
-/// Ends a request that is to be closed: its link goes back.
+/// Ends a request that is to be closed, or goes on to what its client is owed: its link goes back.
 fn close<K: Connector, C: Drop>(connector: &mut K, phase: &mut Phase<K::Byte, C>)
     requires closing { is_closing phase.old ≡ true }
     requires held { links_held K.Byte.state K.Byte.start phase.old ≤ K.out connector.old }
@@ -92,10 +94,15 @@ fn close<K: Connector, C: Drop>(connector: &mut K, phase: &mut Phase<K::Byte, C>
             let attempts = release(connector, link, lease, keep, outcome);
             phase.put(Phase::Ended(outcome, attempts));
         }
+        Phase::Fail(link, lease, session, error) => {
+            let owed = Owed::Served(error);
+            let attempts = release(connector, link, lease, false, owed.outcome());
+            phase.put(Phase::Answer(session, owed, attempts));
+        }
         Phase::ReadHead => unreachable!(),
-        Phase::Refuse(_answer, _error) => unreachable!(),
         Phase::Connect(_context, _session) => unreachable!(),
         Phase::Relay(_attempt) => unreachable!(),
+        Phase::Answer(_session, _owed, _attempts) => unreachable!(),
         Phase::Ended(_outcome, _attempts) => unreachable!(),
     }
 }
@@ -150,7 +157,6 @@ pub(crate) fn finish<K: Connector, C: Drop>(
 {
     match phase {
         Phase::ReadHead => give_up(alloc),
-        Phase::Refuse(_answer, _error) => give_up(alloc),
         Phase::Connect(_context, _session) => give_up(alloc),
         Phase::Relay(attempt) => {
             let Attempt {
@@ -160,6 +166,14 @@ pub(crate) fn finish<K: Connector, C: Drop>(
             } = Box::into_inner(attempt);
             give_link_up(connector, exchange.into_link(), lease)
         }
+        Phase::Fail(link, lease, _session, error) => Ending {
+            outcome: Outcome::TurnLimit,
+            attempts: release(connector, link, lease, false, Owed::Served(error).outcome()),
+        },
+        Phase::Answer(_session, _owed, attempts) => Ending {
+            outcome: Outcome::TurnLimit,
+            attempts,
+        },
         Phase::Close(link, lease, keep, outcome) => Ending {
             outcome,
             attempts: release(connector, link, lease, keep, outcome),

@@ -1,13 +1,14 @@
 //! The proxy itself: one request, from the client's bytes to its outcome.
 #![tactic(auto)]
 
+mod answering;
 mod client_head;
 mod connecting;
 mod finish;
 mod hooks;
 mod machine;
 mod outcome;
-mod pending;
+mod owed;
 mod proxy;
 mod record;
 mod relayable;

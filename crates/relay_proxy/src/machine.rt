@@ -1,10 +1,11 @@
 //! The machine of one request: its phases, and what a turn makes of one.
 //!
 //! ```text
-//! ReadHead -> Connect -> Relay -> Close -> Ended
-//!    |           |
-//!    |           +-> Ended (no link was given)
-//!    +-> Refuse -> Ended (a generated answer)
+//! ReadHead -> Connect -> Relay -> Close -> Ended (relayed)
+//!    |           |         |
+//!    |           |         +-> Fail -> Answer -> Ended (the exchange failed)
+//!    |           +-> Answer -> Ended (no link was given)
+//!    +-> Answer -> Ended (the head was turned down)
 //!    +-> Ended (nothing asked, nothing relayed)
 //! ```
 
@@ -13,7 +14,7 @@ ghost use Rattle.relay_proxy.specs.Relaying.{is_relaying, is_closing};
 ghost use Rattle.relay_proxy.specs.Turn.{is_reading_head};
 
 use crate::outcome::Outcome;
-use crate::pending::Pending;
+use crate::owed::Owed;
 use crate::record::{AttemptList, AttemptRoom};
 use crate::work::Work;
 use relay_attempt::H1Exchange;
@@ -53,14 +54,17 @@ pub(crate) struct Attempt<L, C> {
 pub(crate) enum Phase<L, C> {
     /// The client's head is read.
     ReadHead,
-    /// The client is given a generated answer, with that error.
-    Refuse(Pending, Option<Error>),
     /// The head was accepted, and a link is wanted for the session that begins behind it.
     Connect(C, Box<HttpSession>),
     /// The request is sent, and the response comes back, over the attempt's link.
     Relay(Box<Attempt<L, C>>),
+    /// The attempt failed with that error: its link is to be handed back, and what waits in the
+    /// session is to be written.
+    Fail(L, Lease, Box<HttpSession>, Error),
     /// The request has ended, and its link is to be handed back.
     Close(L, Lease, bool, Outcome),
+    /// What waits in the session is written, a generated answer last; no link is held.
+    Answer(Box<HttpSession>, Owed, AttemptList),
     /// The request has ended.
     Ended(Outcome, AttemptList),
 }
@@ -93,8 +97,8 @@ impl<L, C> Phase<L, C> {
     {
         match self {
             Phase::ReadHead => true,
-            Phase::Refuse(_, _) | Phase::Connect(_, _) | Phase::Relay(_) => false,
-            Phase::Close(_, _, _, _) | Phase::Ended(_, _) => false,
+            Phase::Connect(_, _) | Phase::Relay(_) | Phase::Fail(_, _, _, _) => false,
+            Phase::Close(_, _, _, _) | Phase::Answer(_, _, _) | Phase::Ended(_, _) => false,
         }
     }
 
@@ -104,8 +108,8 @@ impl<L, C> Phase<L, C> {
     {
         match self {
             Phase::Relay(_) => true,
-            Phase::ReadHead | Phase::Refuse(_, _) | Phase::Connect(_, _) => false,
-            Phase::Close(_, _, _, _) | Phase::Ended(_, _) => false,
+            Phase::ReadHead | Phase::Connect(_, _) | Phase::Fail(_, _, _, _) => false,
+            Phase::Close(_, _, _, _) | Phase::Answer(_, _, _) | Phase::Ended(_, _) => false,
         }
     }
 
@@ -114,9 +118,9 @@ impl<L, C> Phase<L, C> {
         ensures { result ≡ is_closing self.now }
     {
         match self {
-            Phase::Close(_, _, _, _) => true,
-            Phase::ReadHead | Phase::Refuse(_, _) | Phase::Connect(_, _) => false,
-            Phase::Relay(_) | Phase::Ended(_, _) => false,
+            Phase::Fail(_, _, _, _) | Phase::Close(_, _, _, _) => true,
+            Phase::ReadHead | Phase::Connect(_, _) | Phase::Relay(_) => false,
+            Phase::Answer(_, _, _) | Phase::Ended(_, _) => false,
         }
     }
 
@@ -129,9 +133,10 @@ impl<L, C> Phase<L, C> {
         match mem::replace(self, Phase::ReadHead) {
             Phase::Relay(attempt) => attempt,
             Phase::ReadHead => unreachable!(),
-            Phase::Refuse(_answer, _error) => unreachable!(),
             Phase::Connect(_context, _session) => unreachable!(),
+            Phase::Fail(_link, _lease, _session, _error) => unreachable!(),
             Phase::Close(_link, _lease, _keep, _outcome) => unreachable!(),
+            Phase::Answer(_session, _owed, _attempts) => unreachable!(),
             Phase::Ended(_outcome, _attempts) => unreachable!(),
         }
     }
@@ -143,10 +148,11 @@ impl<L, C> Phase<L, C> {
     {
         match mem::replace(self, phase) {
             Phase::ReadHead => {}
-            Phase::Refuse(_answer, _error) => unreachable!(),
             Phase::Connect(_context, _session) => unreachable!(),
             Phase::Relay(_attempt) => unreachable!(),
+            Phase::Fail(_link, _lease, _session, _error) => unreachable!(),
             Phase::Close(_link, _lease, _keep, _outcome) => unreachable!(),
+            Phase::Answer(_session, _owed, _attempts) => unreachable!(),
             Phase::Ended(_outcome, _attempts) => unreachable!(),
         }
     }

@@ -8,7 +8,7 @@ ghost use Rattle.relay_proxy.specs.Phases.{RunSoFar};
 ghost use Rattle.relay_proxy.specs.Request.{is_stop, ended_after, Counts, StepsOn, ComesToEnd, Processes};
 ghost use Rattle.relay_proxy.specs.Stock.{items_held, all_items};
 ghost use Rattle.relay_proxy.specs.Turn.{world_of, held_state, links_held, is_reading_head, is_over, is_end, HasCause};
-ghost use Rattle.relay_proxy.specs.Uses.{CountsUses, MovesOn, StandsBehind};
+ghost use Rattle.relay_proxy.specs.Uses.{CountsUses, MovesOn, OwesAnswer, StandsBehind};
 ghost use Rattle.relay_proxy.specs.Work.{total_work, Grows};
 ghost use Rattle.relay_proxy.specs.declared.machine.Phase.{Phase};
 
@@ -149,7 +149,7 @@ impl<SV: ProxyHttp, K: Connector, P: Purger> HttpProxy<SV, K, P> {
         requires { links_held K.Byte.state K.Byte.start machine.old.machine.phase
             ≤ K.out self.old.connector }
         // The run so far goes on, these links were handed back, and of what the connector has the
-        // request took its link, or the one fault of which its error tells.
+        // request took its link, or the one fault of which its attempt's error tells.
         ensures steps { (s : Start) (p : Passed) (own : List _)
             → RunSoFar K.Byte.state K.Byte.start s p
             (world_of D.state client.old (K.fault_count self.old.connector)) own
@@ -181,13 +181,14 @@ impl<SV: ProxyHttp, K: Connector, P: Purger> HttpProxy<SV, K, P> {
             (StandsBehind K.Byte.state (K.returned self.old.connector)
             (K.returned self.new.connector)
             (held_state K.Byte.state machine.new.machine.phase)) }
-        // In an exchange that moved, a use, a task or an end was counted, by the branch it took.
+        // In an exchange that moved, a use, a task or an end was counted, by the branch it took; or
+        // it failed, and the client is owed an answer.
         ensures moves { (a : Box _) → machine.old.machine.phase ≡ Phase.Relay a
             → result ≡ RunStep.Moved → MovesOn K.Byte.state K.Byte.start
             (world_of D.state client.old (K.fault_count self.old.connector))
             (world_of D.state client.new (K.fault_count self.new.connector))
             machine.old.machine.work machine.new.machine.work a.value.exchange
-            machine.new.machine.phase }
+            machine.new.machine.phase ⊎ OwesAnswer machine.new.machine.phase }
         // A step that moved did some work.
         ensures progress { result ≡ RunStep.Moved
             → Rose (total_work machine.old.machine.work) (total_work machine.new.machine.work) }

@@ -1,6 +1,6 @@
 //! The attempt: one turn of its exchange, and what becomes of the client and of the link once it
 //! has ended (RFC 9112, section 9.3).
-ghost use Rattle.std.specs.Prelude.{◌≡◌, ◌<◌, ℕ, [], None, Some, true, false, if◌then◌else◌};
+ghost use Rattle.std.specs.Prelude.{◌≡◌, ◌⊎◌, ◌<◌, ℕ, [], ◌∷◌, None, Some, true, false, if◌then◌else◌};
 ghost use Rattle.std.specs.Global.{Box};
 ghost use Rattle.relay_links.specs.Link.{LinkState};
 ghost use Rattle.relay_core.specs.Asked.{WaitRose};
@@ -9,19 +9,19 @@ ghost use Rattle.relay_core.specs.Past.{Origin};
 ghost use Rattle.relay_attempt.specs.Exchange.{IsUnderWay, Turns, MeetsSilence, Asks, HasMoved};
 ghost use Rattle.relay_attempt.specs.Head.{link_of, may_keep};
 ghost use Rattle.relay_attempt.specs.Passed.{Passed};
-ghost use Rattle.relay_proxy.specs.Endings.{outcome_of};
-ghost use Rattle.relay_proxy.specs.Passed.{Start};
-ghost use Rattle.relay_proxy.specs.Phases.{RunSoFar};
+ghost use Rattle.relay_proxy.specs.Leaving.{LeavesBy};
+ghost use Rattle.relay_proxy.specs.Passed.{World, Start, TellsClient};
+ghost use Rattle.relay_proxy.specs.Phases.{IsLeased, RunSoFar};
 ghost use Rattle.relay_proxy.specs.Relaying.{is_relaying, TurnsOver, TurnsWithin};
 ghost use Rattle.relay_proxy.specs.Reuse.{client_reusable, lets_ask_again};
 ghost use Rattle.relay_proxy.specs.Stock.{items_held};
 ghost use Rattle.relay_proxy.specs.Turn.{world_of, DoesWork, is_over, is_end, held_state, links_held, Advances, HasCause};
-ghost use Rattle.relay_proxy.specs.Uses.{LinkUses, MovedBy, TurnCounts, TurnUses};
+ghost use Rattle.relay_proxy.specs.Uses.{LinkUses, MovedBy, OwesAnswer, PhaseUses, TurnCounts, TurnUses};
 ghost use Rattle.relay_proxy.specs.Work.{total_work};
 
-use crate::connecting::outcome_of;
-use crate::machine::{Attempt, Did, Phase, RunStep};
+use crate::machine::{Attempt, Did, Lease, Next, Phase, RunStep};
 use crate::outcome::Outcome;
+use crate::owed::{Owed, queue_answer};
 use crate::uses::Uses;
 use crate::work::{Work, work_of, work_of_failure};
 use http::Version;
@@ -32,6 +32,7 @@ use relay_h1::{Connection, closes};
 use relay_links::{ByteLink, Schedule};
 use relay_session::HttpSession;
 use relay_tasks::{Fail, Pause};
+use std::alloc::Global;
 
 /// What one turn of an exchange came to, and whether a count of uses of both links rose in it.
 #[derive(Clone, Copy)]
@@ -42,6 +43,7 @@ struct Turned {
 
 /// One turn of a phase that relays, where it stands. The schedule picks the branch of the duplex.
 pub(crate) fn relay<D: ByteLink, U: Drop, L: ByteLink, H: Schedule, C: Drop>(
+    alloc: Global,
     client: &mut Connection<D, U>,
     schedule: &mut H,
     phase: &mut Phase<L, C>,
@@ -69,7 +71,7 @@ pub(crate) fn relay<D: ByteLink, U: Drop, L: ByteLink, H: Schedule, C: Drop>(
     ensures moves { (faults : ℕ) (a : Box (Attempt L C)) → phase.old ≡ Phase.Relay a
         → result.step ≡ RunStep.Moved → MovedBy {C = C} L.state L.start
         (world_of D.state client.old faults) (world_of D.state client.new faults) result.work
-        a.value.exchange phase.new }
+        a.value.exchange phase.new ⊎ OwesAnswer phase.new }
     ensures over { is_over phase.new ≡ is_end result.step }
     ensures linked { links_held L.state L.start phase.new ≡ links_held L.state L.start phase.old }
     ensures items { items_held L.start phase.new ≡ items_held L.start phase.old }
@@ -91,7 +93,7 @@ pub(crate) fn relay<D: ByteLink, U: Drop, L: ByteLink, H: Schedule, C: Drop>(
             work: Work::NONE,
         },
         Step::Finished => close_finished(client, phase),
-        Step::Failed(why) => close_failed(phase, why, asked),
+        Step::Failed(why) => leave_failed(alloc, phase, why, asked),
     }
 }
 
@@ -126,15 +128,30 @@ fn close_finished<D, U, L: ByteLink, C: Drop>(
 }
 
 /// The end of an attempt whose exchange failed, a link having been asked in that turn or not: its
-/// link is to go back, and is not kept.
-fn close_failed<L: ByteLink, C: Drop>(phase: &mut Phase<L, C>, why: Fail, asked: bool) -> Did
+/// link is to go back, not kept, and the client is given what it is owed.
+fn leave_failed<L: ByteLink, C: Drop>(
+    alloc: Global,
+    phase: &mut Phase<L, C>,
+    why: Fail,
+    asked: bool,
+) -> Did
     requires { is_relaying phase.old ≡ true }
-    ensures closes { (a : Box (Attempt L C)) → phase.old ≡ Phase.Relay a
-        → phase.new ≡ Phase.Close (link_of a.value.exchange) a.value.lease false (outcome_of why) }
-    ensures over { is_over phase.new ≡ true }
+    ensures run { (a : Box (Attempt L C)) (s : Start) (p : Passed) (w : World)
+        → phase.old ≡ Phase.Relay a → TellsClient s p w
+        → let link = link_of a.value.exchange in
+        IsLeased p (L.state link) (L.start link) a.value.lease
+        → LeavesBy s p w.client (L.state link) (L.start link) a.value.exchange.exchange.down.session
+        why → Advances {C = C} L.state L.start s w phase.new }
+    ensures owes { result.step ≡ RunStep.Moved → OwesAnswer phase.new }
+    ensures step { (result.step ≡ RunStep.Moved) ⊎ (result.step ≡ RunStep.Ended) }
+    ensures held { (a : Box (Attempt L C)) → phase.old ≡ Phase.Relay a
+        → held_state L.state phase.new ≡ Some (L.state (link_of a.value.exchange)) }
+    ensures last { (a : Box (Attempt L C)) (n : ℕ) → phase.old ≡ Phase.Relay a
+        → LinkUses L.state L.start n (link_of a.value.exchange)
+        → PhaseUses L.state L.start n [] phase.new }
+    ensures over { is_over phase.new ≡ is_end result.step }
     ensures linked { links_held L.state L.start phase.new ≡ links_held L.state L.start phase.old }
     ensures items { items_held L.start phase.new ≡ items_held L.start phase.old }
-    ensures step { result.step ≡ RunStep.Ended }
     ensures work { 0 < total_work result.work }
     ensures used { result.work.used ≡ (if asked then 1 else 0) }
 {
@@ -143,10 +160,66 @@ fn close_failed<L: ByteLink, C: Drop>(phase: &mut Phase<L, C>, why: Fail, asked:
         lease,
         context: _,
     } = Box::into_inner(phase.take_attempt());
-    phase.put(Phase::Close(exchange.into_link(), lease, false, outcome_of(why)));
-    Did {
+    let (session, link) = exchange.into_parts();
+    let work = work_of_failure(asked);
+    phase.go_on(leave(alloc, session, link, lease, why, work))
+}
+
+/// What a failed exchange leaves: its link is to go back, not kept, and its client is owed an
+/// answer, or what was queued for it. Where nothing waits then, the request ends.
+fn leave<L: ByteLink, C>(
+    alloc: Global,
+    session: HttpSession,
+    link: L,
+    lease: Lease,
+    why: Fail,
+    work: Work,
+) -> Next<L, C>
+    ensures run { (s : Start) (p : Passed) (w : World) → TellsClient s p w
+        → IsLeased p (L.state link) (L.start link) lease
+        → LeavesBy s p w.client (L.state link) (L.start link) session why
+        → Advances {C = C} L.state L.start s w result.phase }
+    ensures owes { result.step ≡ RunStep.Moved → OwesAnswer result.phase }
+    ensures step { (result.step ≡ RunStep.Moved) ⊎ (result.step ≡ RunStep.Ended) }
+    ensures held { held_state L.state result.phase ≡ Some (L.state link) }
+    ensures last { (n : ℕ) → LinkUses L.state L.start n link
+        → PhaseUses L.state L.start n [] result.phase }
+    ensures over { is_over result.phase ≡ is_end result.step }
+    ensures linked { links_held L.state L.start result.phase ≡ 1 }
+    ensures items { items_held L.start result.phase ≡ (L.start link).items ∷ [] }
+    ensures work { result.work ≡ work }
+{
+    let mut session = session;
+    let error = match why {
+        Fail::OutOfMemory => return closed(link, lease, Outcome::OutOfMemory, work),
+        Fail::Error(error) => error,
+    };
+    let Ok(()) = queue_answer(&mut session, error) else {
+        return closed(link, lease, Outcome::OutOfMemory, work);
+    };
+    if !session.has_pending() {
+        return closed(link, lease, Owed::Served(error).outcome(), work);
+    }
+    let Ok(session) = Box::new(alloc, session) else {
+        return closed(link, lease, Outcome::OutOfMemory, work);
+    };
+    Next {
+        phase: Phase::Fail(link, lease, session, error),
+        step: RunStep::Moved,
+        work,
+    }
+}
+
+/// A request that ended over a link that is to go back, not kept.
+fn closed<L, C>(link: L, lease: Lease, outcome: Outcome, work: Work) -> Next<L, C>
+    ensures phase { result.phase ≡ Phase.Close link lease false outcome }
+    ensures step { result.step ≡ RunStep.Ended }
+    ensures work { result.work ≡ work }
+{
+    Next {
+        phase: Phase::Close(link, lease, false, outcome),
         step: RunStep::Ended,
-        work: work_of_failure(asked),
+        work,
     }
 }
 
@@ -169,9 +242,10 @@ fn turn_within<D: ByteLink, U: Drop, L: ByteLink, H: Schedule, C>(
     match phase {
         Phase::Relay(attempt) => turn_counted(&mut attempt.exchange, client, schedule),
         Phase::ReadHead => unreachable!(),
-        Phase::Refuse(_, _) => unreachable!(),
         Phase::Connect(_, _) => unreachable!(),
+        Phase::Fail(_, _, _, _) => unreachable!(),
         Phase::Close(_, _, _, _) => unreachable!(),
+        Phase::Answer(_, _, _) => unreachable!(),
         Phase::Ended(_, _) => unreachable!(),
     }
 }

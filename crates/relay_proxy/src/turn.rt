@@ -1,5 +1,5 @@
 //! One turn of a request, by the phase in which it stands.
-ghost use Rattle.std.specs.Prelude.{◌≡◌, ◌+◌, ◌≤◌, ℕ, List, [], ◌++◌, Some, false};
+ghost use Rattle.std.specs.Prelude.{◌≡◌, ◌⊎◌, ◌+◌, ◌≤◌, ℕ, List, [], ◌++◌, Some, false};
 ghost use Rattle.std.specs.Global.{Box};
 ghost use Rattle.relay_links.specs.Link.{LinkState};
 ghost use Rattle.relay_links.specs.Told.{Gains};
@@ -12,9 +12,10 @@ ghost use Rattle.relay_proxy.specs.Refusals.{faults_of_turn};
 ghost use Rattle.relay_proxy.specs.Relaying.{is_relaying};
 ghost use Rattle.relay_proxy.specs.Stock.{items_held, all_items};
 ghost use Rattle.relay_proxy.specs.Turn.{world_of, held_state, links_held, is_over, is_end, WorksIn, HasCause};
-ghost use Rattle.relay_proxy.specs.Uses.{MovedBy, PhaseUses, TurnCounts, TurnUses};
+ghost use Rattle.relay_proxy.specs.Uses.{MovedBy, OwesAnswer, PhaseUses, TurnCounts, TurnUses};
 
-use crate::client_head::{read_head, write_refusal};
+use crate::answering::write_answer;
+use crate::client_head::read_head;
 use crate::connecting::connect;
 use crate::hooks::ProxyHttp;
 use crate::machine::{Did, Next, Phase, RunStep};
@@ -35,11 +36,11 @@ pub(crate) fn take_turn<SV: ProxyHttp, K: Connector, D: ByteLink, U: Drop, H: Sc
     schedule: &mut H,
     phase: &mut Phase<K::Byte, SV::CTX>,
 ) -> Did
-    ensures turn { (s : Start) (p : Passed)
+    ensures turn { (s : Start) (p : Passed) (own : List _)
         → RunSoFar {C = SV.CTX} K.Byte.state K.Byte.start s p
-        (world_of D.state client.old (K.fault_count connector.old)) [] phase.old
+        (world_of D.state client.old (K.fault_count connector.old)) own phase.old
         → TurnOf K.Byte.state K.Byte.start s
-        (world_of D.state client.new (K.fault_count connector.new))
+        (world_of D.state client.new (K.fault_count connector.new)) own
         phase.old phase.new }
     ensures cause { HasCause K.Byte.state K.Byte.start
         (world_of D.state client.old (K.fault_count connector.old))
@@ -65,7 +66,7 @@ pub(crate) fn take_turn<SV: ProxyHttp, K: Connector, D: ByteLink, U: Drop, H: Sc
         → MovedBy {C = SV.CTX} K.Byte.state K.Byte.start
         (world_of D.state client.old (K.fault_count connector.old))
         (world_of D.state client.new (K.fault_count connector.new)) result.work a.value.exchange
-        phase.new }
+        phase.new ⊎ OwesAnswer phase.new }
     ensures over { is_over phase.new ≡ is_end result.step }
     ensures out { K.out connector.new + links_held K.Byte.state K.Byte.start phase.old
         ≡ K.out connector.old + links_held K.Byte.state K.Byte.start phase.new }
@@ -87,7 +88,7 @@ pub(crate) fn take_turn<SV: ProxyHttp, K: Connector, D: ByteLink, U: Drop, H: Sc
         (K.stock connector.old) }
 {
     if phase.is_relaying() {
-        return relay(client, schedule, phase);
+        return relay(alloc, client, schedule, phase);
     }
     move_on(alloc, hooks, connector, client, phase)
 }
@@ -102,11 +103,11 @@ fn move_on<SV: ProxyHttp, K: Connector, D: ByteLink, U: Drop>(
     phase: &mut Phase<K::Byte, SV::CTX>,
 ) -> Did
     requires { is_relaying phase.old ≡ false }
-    ensures turn { (s : Start) (p : Passed)
+    ensures turn { (s : Start) (p : Passed) (own : List _)
         → RunSoFar {C = SV.CTX} K.Byte.state K.Byte.start s p
-        (world_of D.state client.old (K.fault_count connector.old)) [] phase.old
+        (world_of D.state client.old (K.fault_count connector.old)) own phase.old
         → TurnOf K.Byte.state K.Byte.start s
-        (world_of D.state client.new (K.fault_count connector.new))
+        (world_of D.state client.new (K.fault_count connector.new)) own
         phase.old phase.new }
     ensures cause { HasCause K.Byte.state K.Byte.start
         (world_of D.state client.old (K.fault_count connector.old))
@@ -150,11 +151,18 @@ fn move_on<SV: ProxyHttp, K: Connector, D: ByteLink, U: Drop>(
 {
     match mem::replace(phase, Phase::ReadHead) {
         Phase::ReadHead => phase.go_on(read_head(alloc, hooks, client)),
-        Phase::Refuse(answer, error) => { phase.go_on(write_refusal(alloc, client, answer, error)) }
         Phase::Connect(context, session) => {
             phase.go_on(connect(alloc, connector, context, session))
         }
         Phase::Relay(_attempt) => unreachable!(),
+        Phase::Fail(link, lease, session, error) => phase.go_on(Next {
+            phase: Phase::Fail(link, lease, session, error),
+            step: RunStep::Moved,
+            work: Work::ENDED,
+        }),
+        Phase::Answer(session, owed, attempts) => {
+            phase.go_on(write_answer(client, session, owed, attempts))
+        }
         Phase::Close(link, lease, keep, outcome) => phase.go_on(Next {
             phase: Phase::Close(link, lease, keep, outcome),
             step: RunStep::Ended,

@@ -54,7 +54,7 @@ gains_nothing before after queue same = by_told before.taken same
     by_told (Some xs) is = is ∙ ap Some (sym (append-nil xs))
 
 -- a count that rose has not fallen
-not_fallen : (before after : ℕ) → before ≤ last_count → Rose before after → before ≤ after
+pub not_fallen : (before after : ℕ) → before ≤ last_count → Rose before after → before ≤ after
 not_fallen before after fits rose =
     elim (cases_lt after last_count) [
       | inl below ↦ omega (arith, rose below)

@@ -60,6 +60,21 @@ impl ClientSide {
         &self.session
     }
 
+    /// The session alone.
+    pub fn into_session(self) -> HttpSession
+        ensures { result ≡ self.session }
+    {
+        let ClientSide {
+            alloc: _,
+            session,
+            told: _,
+            done: _,
+            finished: _,
+            broken: _,
+        } = self;
+        session
+    }
+
     /// Queues the tasks for the client, none behind an end of the response that was asked for. A
     /// failure in front is answered with its error.
     fn queue(&mut self, tasks: TaskList) -> Result<bool>

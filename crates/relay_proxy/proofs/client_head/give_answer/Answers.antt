@@ -1,12 +1,15 @@
 -- The answer is the generated one, whole.
-use Rattle.std.proofs.Common.{◌∙◌, ◌++◌, List, ℕ, ap}
-use Rattle.relay_h1.specs.Wire.{generated}
-use Rattle.relay_proxy.proofs.HeadSteps.{turned_down}
+use Rattle.std.proofs.Common.{◌≡◌, ◌∙◌, ap, sym}
+use Rattle.relay_session.specs.declared.session.HttpSession.{HttpSession}
+use Rattle.relay_proxy.proofs.HeadSteps.{turned_down, begun_answer, unread_sent}
 use Rattle.relay_proxy.proofs.client_head.give_answer.Goals as goal
 
--- a head that is turned down is refused with the generated answer
+-- a head that is turned down is given the generated answer
 pub returns-clause-run : goal.returns-clause-run
 returns-clause-run g c = λ s p w run why.
-    turned_down g.L.ByteLink.state g.L.ByteLink.start s p w _ _ _ why
-    (c.in-Some.ensures ∙ c.new-2.ensures ∙ c.in-Ok.ensures.ok
-    ∙ ap (λ (xs : List ℕ). xs ++ generated c.args.status) c.new-text.ensures.items) run
+    let begun = c.new_http1.ensures in
+    turned_down g.L.ByteLink.state g.L.ByteLink.start s p w c.args.status _ _ _ why
+    (ap (λ (k : HttpSession). k.writing.output) c.in-Ok-new.ensures.ok
+    ∙ begun_answer c.args.status _ _ begun.response c.in-Ok.ensures.ok c.in-Ok.ensures.text
+    (unread_sent c.args.status _ _ begun.head begun.answers))
+    c.new.ensures run

@@ -1,0 +1,612 @@
+-- Turns that write a generated answer, and what was queued before it.
+--
+--   owes_on                     what the client is owed, after a write of its link
+--   owes_order, owes_open       what passed is in order, and the head is open no more
+--   ends_served, ends_part      how a request ends that owes an answer, or owed one
+--   answer_took .. answer_memory    what each answer of a write makes of the run so far
+use Rattle.std.specs.Global.{Box}
+use Rattle.std.proofs.Common.{◌≡◌, ◌≢◌, ◌⊎◌, ℕ, ◌<◌, Bool, false, List, [], ◌∷◌, ◌++◌, length, take, drop, Option, None, Some, refl, sym, ap, subst, ◌∙◌, inl, inr, arith, append-nil, length-append}
+use Rattle.relay_tasks.specs.declared.Error.{Error}
+use Rattle.relay_tasks.specs.declared.Fault.{Fault}
+use Rattle.relay_links.specs.Count.{Rose}
+use Rattle.relay_links.specs.Link.{LinkState, LinkStart, FailsWrite}
+use Rattle.relay_links.specs.declared.Returned.{Returned}
+use Rattle.relay_links.specs.declared.link.Put.{Put}
+use Rattle.relay_links.specs.declared.link.Put.TheVariants as put
+use Rattle.relay_h1.specs.Verdict.{IsOpen}
+use Rattle.relay_h1.proofs.VerdictLemmas.{HasRequest-IsOpen}
+use Rattle.relay_session.specs.Response.{pending, WritesPending, WritesQueue}
+use Rattle.relay_session.specs.declared.session.HttpSession.{HttpSession}
+use Rattle.relay_session.specs.declared.writing.Outgoing.{Outgoing}
+use Rattle.relay_session.specs.declared.writing.Outgoing.TheVariants as outgoing
+use Rattle.relay_core.specs.Past.{Origin}
+use Rattle.relay_peer.specs.Body.{IsFrontOf}
+use Rattle.relay_peer.proofs.FaultLemmas.{added_last, grew_none, grew_same, more_none}
+use Rattle.relay_attempt.specs.Order.{FailsFor, WrittenTo, order_of}
+use Rattle.relay_attempt.specs.Passed.{Passed}
+use Rattle.relay_attempt.proofs.FailLemmas.{blames_still, written_to}
+use Rattle.relay_valid.specs.Valid.{IsValid}
+use Rattle.relay_valid.proofs.ValidLemmas.{never_fails}
+use Rattle.relay_proxy.specs.Answer.{owed_text, past_at, WaitsOf}
+use Rattle.relay_proxy.specs.Endings.{IsInOrder, IsGiven, IsHalfRefused, IsPart, IsPartOrNone, HasFailed, owed_by, EndsWith, fault_error}
+use Rattle.relay_proxy.specs.Owed.{Owes, HasAttempts, IsAnswering, IsHalfGiven, outcome_owed, outcome_failed}
+use Rattle.relay_proxy.specs.Passed.{World, Start, origin_of, asked, TellsClient}
+use Rattle.relay_proxy.specs.Phases.{PhaseHolds, RunSoFar}
+use Rattle.relay_proxy.specs.Turn.{AdvancesOn, HasTaken, HasMoved, HasCause}
+use Rattle.relay_proxy.specs.declared.machine.Phase.{Phase}
+use Rattle.relay_proxy.specs.declared.machine.Phase.TheVariants.{Answer, Ended}
+use Rattle.relay_proxy.specs.declared.machine.RunStep.{RunStep}
+use Rattle.relay_proxy.specs.declared.machine.RunStep.TheVariants as step
+use Rattle.relay_proxy.specs.declared.outcome.Outcome.{Outcome}
+use Rattle.relay_proxy.specs.declared.outcome.Outcome.TheVariants as outcome
+use Rattle.relay_proxy.specs.declared.owed.Owed.{Owed}
+use Rattle.relay_proxy.specs.declared.owed.Owed.TheVariants.{Refused, Served}
+use Rattle.relay_proxy.specs.declared.record.AttemptRecord.{AttemptRecord}
+use Rattle.relay_proxy.proofs.OpenHead.{turns_down_open, exchange_open}
+use Rattle.relay_proxy.proofs.Tells.{Rose-le, client_took, client_still, take_whole, take_rest}
+
+-- the client took some
+pub taken_of : (output : Outgoing) (before after : LinkState) (n : ℕ) (left : Outgoing)
+    → 0 < length (pending output) → WritesPending output before after (put.Took n) left
+    → HasTaken before after
+taken_of (outgoing.Open queue) before after n left some writes =
+    (queue, n, writes.writes.writes)
+taken_of (outgoing.Broken fault) before after n left some writes = absurd (omega (arith, some))
+
+-- a turn that moved or ended has its cause where it moved
+pub moved_or_ended : {L C : Type 0} (state : L → LinkState) (start_at : L → LinkStart)
+    (w x : World) (phase next : Phase L C) (did : RunStep)
+    → (did ≡ step.Moved) ⊎ (did ≡ step.Ended)
+    → (did ≡ step.Moved → HasMoved state start_at w x phase next)
+    → HasCause state start_at w x phase next did
+moved_or_ended state start_at w x phase next did (inl is) moved =
+    subst (λ (d : RunStep). HasCause state start_at w x phase next d) (sym is) (moved is)
+moved_or_ended {L} {C} state start_at w x phase next did (inr is) moved =
+    subst (λ (d : RunStep). HasCause state start_at w x phase next d) (sym is) tt
+
+-- ---- a failed exchange
+
+-- what failed an exchange still did, and the same was queued in it
+record Still {o : Origin} {p : Passed} {before link : LinkState} {start : LinkStart} {e : Error}
+    (why : FailsFor o p before link start e) (after : LinkState) : Type 0 where
+  again : FailsFor o p after link start e
+  same : order_of again ≡ order_of why
+
+still : (o : Origin) (p : Passed) (before after link : LinkState) (start : LinkStart) (e : Error)
+    → WrittenTo before after → (why : FailsFor o p before link start e) → Still why after
+still o p before after link start e to (FailsFor.by_client order blames) = record {
+  again = FailsFor.by_client order (blames_still o _ before after to e blames);
+  same = refl;
+}
+still o p before after link start e to (FailsFor.by_peer order lost blames) =
+    record { again = FailsFor.by_peer order lost blames; same = refl }
+still o p before after link start e to (FailsFor.by_refusal order refuses) =
+    record { again = FailsFor.by_refusal order refuses; same = refl }
+
+-- an exchange that failed still did, and as much is owed
+record FailedOn {s : Start} {p : Passed} {before link : LinkState} {start : LinkStart} {e : Error}
+    (failed : HasFailed s p before link start e) (written : List ℕ) (after : LinkState)
+    : Type 0 where
+  again : HasFailed s (past_at p written) after link start e
+  same : owed_by again ≡ owed_by failed
+
+failed_on : (s : Start) (p : Passed) (written : List ℕ) (before after link : LinkState)
+    (start : LinkStart) (e : Error) (failed : HasFailed s p before link start e)
+    → WrittenTo before after → FailedOn failed written after
+failed_on s p written before after link start e failed to =
+    let on = still (origin_of s failed.head start.reused) (past_at p failed.before) before after
+    link start e to failed.why in
+    record {
+      again = record {
+        head = failed.head;
+        relayable = failed.relayable;
+        before = failed.before;
+        why = on.again;
+      };
+      same = ap (λ o. owed_text o e) on.same;
+    }
+
+-- no valid exchange fails
+pub failed_invalid : (s : Start) (p : Passed) (client link : LinkState) (start : LinkStart)
+    (e : Error) (failed : HasFailed s p client link start e)
+    → IsValid (origin_of s failed.head start.reused) p client link start → ⊥
+failed_invalid s p client link start e failed valid =
+    never_fails (origin_of s failed.head start.reused) (past_at p failed.before) client link start e
+    failed.why (record {
+      asks = record {
+        request = valid.asks.request;
+        gives = valid.asks.gives;
+        is_request = valid.asks.is_request;
+        stays = valid.asks.stays;
+      };
+      answers = record {
+        response = valid.answers.response;
+        gives = valid.answers.gives;
+        is_response = valid.answers.is_response;
+        ends = valid.answers.ends;
+      };
+      client_faultless = valid.client_faultless;
+      link_faultless = valid.link_faultless;
+    })
+
+-- an answer is no end by its turns
+pub owed_going : (owed : Owed) → outcome_owed owed ≢ outcome.TurnLimit
+owed_going (Refused error) limit = cc
+owed_going (Served e) limit = cc
+
+pub failed_going : (owed : Owed) (fault : Fault) → outcome_failed owed fault ≢ outcome.TurnLimit
+failed_going (Refused error) fault limit = cc
+failed_going (Served e) fault limit = cc
+
+-- ---- what is owed
+
+-- where some waits, the client was not given all of it
+pub waits_left : (output : Outgoing) (written text : List ℕ) → WaitsOf output written text
+    → written ≢ text
+waits_left output written text waits whole = absurd (omega (
+  arith,
+  waits.some,
+  length-append written waits.left,
+  ap length waits.joined,
+  ap length whole,
+))
+
+-- and it was given the front
+pub waits_front : (output : Outgoing) (written text : List ℕ) → WaitsOf output written text
+    → IsFrontOf written text
+waits_front output written text waits = record { rest = waits.left; joined = waits.joined }
+
+module _ {L : Type 0} (state : L → LinkState) (start_at : L → LinkStart) where
+  -- what the client is owed is so still after a write of its link
+  owes_on : (s : Start) (p : Passed) (written : List ℕ) (w x : World) (own : List (Returned L))
+      (owed : Owed) (text : List ℕ) → WrittenTo w.client x.client
+      → x.connect_faults ≡ w.connect_faults → Owes state start_at s p w own owed text
+      → Owes state start_at s (past_at p written) x own owed text
+  owes_on s p written w x [] (Refused error) text to same owes =
+      (owes.0, record { got = owes.1.got; sent = owes.1.sent })
+  owes_on s p written w x [] (Served e) text to same owes = (
+    record {
+      fault = owes.0.fault;
+      kind = owes.0.kind;
+      error = owes.0.error;
+      rose = rw same owes.0.rose;
+      head = owes.0.head;
+      accepted = record {
+        framing = owes.0.accepted.framing;
+        len = owes.0.accepted.len;
+        has = owes.0.accepted.has;
+        relayable = owes.0.accepted.relayable;
+      };
+      unsent = record { got = owes.0.unsent.got; sent = owes.0.unsent.sent };
+    },
+    owes.1,
+  )
+  owes_on s p written w x (r ∷ own) (Refused error) text to same owes = absurd owes
+  owes_on s p written w x (r ∷ own) (Served e) text to same owes =
+      let on = failed_on s p written w.client x.client (state r.link) (start_at r.link) e owes.0 to
+      in
+      (on.again, owes.1 ∙ sym on.same)
+
+  -- the attempts are those that they were
+  attempts_on : (p : Passed) (written : List ℕ) (own : List (Returned L)) (owed : Owed)
+      (attempts : List AttemptRecord) → HasAttempts state start_at p own owed attempts
+      → HasAttempts state start_at (past_at p written) own owed attempts
+  attempts_on p written [] (Refused error) attempts made = made
+  attempts_on p written [] (Served e) attempts made = made
+  attempts_on p written (r ∷ []) (Refused error) attempts made = absurd made
+  attempts_on p written (r ∷ []) (Served e) attempts made = record {
+    tells = record { got = made.tells.got; sent = made.tells.sent; faults = made.tells.faults };
+    peer = made.peer;
+    not_kept = made.not_kept;
+    attempt = made.attempt;
+    attempts_are = made.attempts_are;
+    is_record = made.is_record;
+    error = made.error;
+  }
+  attempts_on p written (r ∷ q ∷ own) owed attempts made = absurd made
+
+  -- what was written of it is in order
+  pub owes_order : (s : Start) (p : Passed) (w : World) (own : List (Returned L)) (owed : Owed)
+      (text : List ℕ) → Owes state start_at s p w own owed text → IsFrontOf p.written text
+      → IsInOrder s p
+  owes_order s p w [] (Refused error) text owes front =
+      IsInOrder.is_refusal text error owes.0 front owes.1.sent
+  owes_order s p w [] (Served e) text owes front =
+      IsInOrder.is_unlinked owes.0.head owes.0.accepted
+      (subst (λ (t : List ℕ). IsFrontOf p.written t) owes.1 front) owes.0.unsent.sent
+  owes_order s p w (r ∷ own) (Refused error) text owes front = absurd owes
+  owes_order s p w (r ∷ own) (Served e) text owes front =
+      IsInOrder.is_failure owes.0.head _ _ owes.0.before e owes.0.relayable
+      (order_of owes.0.why) (subst (λ (t : List ℕ). IsFrontOf p.written t) owes.1 front)
+
+  -- the client's head is open no more
+  pub owes_open : (s : Start) (p : Passed) (w : World) (own : List (Returned L)) (owed : Owed)
+      (text : List ℕ) → Owes state start_at s p w own owed text → IsOpen (asked s p) → ⊥
+  owes_open s p w [] (Refused error) text owes open_head = turns_down_open owes.0 open_head
+  owes_open s p w [] (Served e) text owes open_head =
+      HasRequest-IsOpen (asked s p) owes.0.head owes.0.accepted.framing owes.0.accepted.len
+      owes.0.accepted.has open_head
+  owes_open s p w (r ∷ own) (Refused error) text owes open_head = absurd owes
+  owes_open s p w (r ∷ own) (Served e) text owes open_head =
+      exchange_open s (past_at p owes.0.before) owes.0.head _ _ (order_of owes.0.why) open_head
+
+  -- ---- how it ends
+
+  -- an attempt failed, and its client was given what it is owed, or a write failed
+  pub ends_served : (s : Start) (p : Passed) (w : World) (own : List (Returned L)) (e : Error)
+      (text : List ℕ) (attempts : List AttemptRecord)
+      → Owes state start_at s p w own (Served e) text → IsGiven s p w text
+      → HasAttempts state start_at p own (Served e) attempts
+      → EndsWith state start_at s p w own attempts (outcome.Served (Some e) false)
+  ends_served s p w [] e text attempts owes given made = (
+    (
+      record {
+        unconnected = owes.0;
+        answered = subst (λ (t : List ℕ). IsGiven s p w t) owes.1 given;
+      },
+      refl,
+    ),
+    made,
+  )
+  ends_served s p w (r ∷ []) e text attempts owes given made = record {
+    tells = made.tells;
+    peer = made.peer;
+    attempt = made.attempt;
+    attempts_are = made.attempts_are;
+    is_record = made.is_record;
+    error = made.error;
+    ends = record {
+      failed = owes.0;
+      invalid = failed_invalid s p w.client (state r.link) (start_at r.link) e owes.0;
+      answered = subst (λ (t : List ℕ). IsGiven s p w t) owes.1 given;
+      not_kept = made.not_kept;
+      stays = refl;
+    };
+  }
+  ends_served s p w (r ∷ q ∷ own) e text attempts owes given made = absurd made
+
+  -- the request was not brought to an end, and a part was written
+  pub ends_part : (s : Start) (p : Passed) (w : World) (own : List (Returned L)) (owed : Owed)
+      (text : List ℕ) (attempts : List AttemptRecord)
+      → Owes state start_at s p w own owed text → IsFrontOf p.written text
+      → HasAttempts state start_at p own owed attempts
+      → EndsWith state start_at s p w own attempts outcome.TurnLimit
+      × EndsWith state start_at s p w own attempts outcome.OutOfMemory
+  ends_part s p w [] (Refused error) text attempts owes part made =
+      ((owes.1, inl made), (owes.1, inl made))
+  ends_part s p w [] (Served e) text attempts owes part made =
+      let half : IsHalfRefused s p w attempts = record {
+        e = e;
+        unconnected = owes.0;
+        part = subst (λ (t : List ℕ). IsFrontOf p.written t) owes.1 part;
+        is_record = made;
+      } in
+      ((owes.0.unsent, inr half), (owes.0.unsent, inr half))
+  ends_part s p w (r ∷ []) (Refused error) text attempts owes part made = absurd made
+  ends_part s p w (r ∷ []) (Served e) text attempts owes part made =
+      let some : IsFrontOf p.written (owed_by owes.0) =
+      subst (λ (t : List ℕ). IsFrontOf p.written t) owes.1 part in
+      (
+        record {
+          tells = made.tells;
+          peer = made.peer;
+          attempt = made.attempt;
+          attempts_are = made.attempts_are;
+          is_record = made.is_record;
+          error = tt;
+          ends = (
+            subst (λ (t : Option Error). IsPart s p w (state r.link) (start_at r.link) t)
+                (sym made.error) (record { failed = owes.0; part = some }),
+            made.not_kept,
+          );
+        },
+        record {
+          tells = made.tells;
+          peer = made.peer;
+          attempt = made.attempt;
+          attempts_are = made.attempts_are;
+          is_record = made.is_record;
+          error = tt;
+          ends = (
+            subst (λ (t : Option Error). IsPartOrNone s p w (state r.link) (start_at r.link) t)
+                (sym made.error) (record { failed = owes.0; part = some }),
+            made.not_kept,
+          );
+        },
+      )
+  ends_part s p w (r ∷ q ∷ own) owed text attempts owes part made = absurd made
+
+  -- the answer was written whole
+  ends_whole : (s : Start) (p : Passed) (w : World) (own : List (Returned L)) (owed : Owed)
+      (text : List ℕ) (attempts : List AttemptRecord)
+      → Owes state start_at s p w own owed text → p.written ≡ text
+      → HasAttempts state start_at p own owed attempts
+      → EndsWith state start_at s p w own attempts (outcome_owed owed)
+  ends_whole s p w [] (Refused error) text attempts owes whole made = (
+    inl (record { answer = text; turned_down = owes.0; whole = whole; unsent = owes.1 }),
+    made,
+  )
+  ends_whole s p w (r ∷ own) (Refused error) text attempts owes whole made = absurd owes
+  ends_whole s p w own (Served e) text attempts owes whole made =
+      ends_served s p w own e text attempts owes (inl whole) made
+
+module _ {L C : Type 0} (state : L → LinkState) (start_at : L → LinkStart) where
+  -- what a phase that answers holds
+  pub answering_of : (s : Start) (p : Passed) (w : World) (own : List (Returned L))
+      (session : Box HttpSession) (owed : Owed) (attempts : List AttemptRecord)
+      → RunSoFar {C = C} state start_at s p w own (Answer session owed attempts)
+      → IsAnswering state start_at s p w own session.value.writing.output owed attempts
+  answering_of s p w [] session owed attempts run = run.holds
+  answering_of s p w (r ∷ own) session owed attempts run = run.holds
+
+  -- more is to be written
+  pub answer_on : (s : Start) (p : Passed) (w : World) (own : List (Returned L))
+      (session : Box HttpSession) (owed : Owed) (attempts : List AttemptRecord)
+      → TellsClient s p w
+      → IsAnswering state start_at s p w own session.value.writing.output owed attempts
+      → AdvancesOn {C = C} state start_at s w own (Answer session owed attempts)
+  answer_on s p w own session owed attempts tells holds = record {
+    passed = p;
+    run = record {
+      tells = tells;
+      order = owes_order state start_at s p w own owed holds.text holds.owes
+          (waits_front _ _ _ holds.waits);
+      untouched = λ open_head.
+          absurd (owes_open state start_at s p w own owed holds.text holds.owes open_head);
+      going = tt;
+      calm = tt;
+      holds = by own holds;
+    };
+  }
+    where
+      by : (l : List (Returned L))
+          → IsAnswering state start_at s p w l session.value.writing.output owed attempts
+          → PhaseHolds {C = C} state start_at s p w l (Answer session owed attempts)
+      by [] held = held
+      by (r ∷ l) held = held
+
+  -- the request has ended
+  answer_over : (s : Start) (p : Passed) (w : World) (own : List (Returned L)) (owed : Owed)
+      (text : List ℕ) (attempts : List AttemptRecord) (end : Outcome) → TellsClient s p w
+      → Owes state start_at s p w own owed text → IsFrontOf p.written text
+      → end ≢ outcome.TurnLimit → EndsWith state start_at s p w own attempts end
+      → AdvancesOn {C = C} state start_at s w own (Ended end attempts)
+  answer_over s p w own owed text attempts end tells owes front going ends = record {
+    passed = p;
+    run = record {
+      tells = tells;
+      order = owes_order state start_at s p w own owed text owes front;
+      untouched = λ open_head. absurd (owes_open state start_at s p w own owed text owes open_head);
+      going = going;
+      calm = tt;
+      holds = by own ends;
+    };
+  }
+    where
+      by : (l : List (Returned L)) → EndsWith state start_at s p w l attempts end
+          → PhaseHolds {C = C} state start_at s p w l (Ended end attempts)
+      by [] held = held
+      by (r ∷ l) held = held
+
+-- the past, with what was written of it
+past_same : (s : Start) (p : Passed) (w : World) → TellsClient s p w
+    → TellsClient s (past_at p p.written) w
+past_same s p w tells = record {
+  came = tells.came;
+  written = tells.written;
+  faults = tells.faults;
+  connect_faults = tells.connect_faults;
+  fault_lists = tells.fault_lists;
+}
+
+module _ {L C : Type 0} (state : L → LinkState) (start_at : L → LinkStart)
+    (s : Start) (p : Passed) (w x : World) (own : List (Returned L)) (session : Box HttpSession)
+    (owed : Owed) (attempts : List AttemptRecord) (same : x.connect_faults ≡ w.connect_faults)
+    (output left : Outgoing) (is : output ≡ session.value.writing.output)
+    (run : RunSoFar {C = C} state start_at s p w own (Answer session owed attempts))
+  where
+    -- what the phase holds
+    holds : IsAnswering state start_at s p w own session.value.writing.output owed attempts
+    holds = answering_of state start_at s p w own session owed attempts run
+
+    -- the write is one of what waits
+    written : (answer : Put) → WritesPending output w.client x.client answer left
+        → WritesQueue w.client x.client holds.waits.left answer left
+    written answer writes =
+        let so : WritesPending (outgoing.Open holds.waits.left) w.client x.client answer left =
+        subst (λ (o : Outgoing). WritesPending o w.client x.client answer left)
+        (is ∙ holds.waits.is_open) writes in
+        so
+
+    -- nothing but that write came
+    wrote : (answer : Put) → WritesPending output w.client x.client answer left
+        → WrittenTo w.client x.client
+    wrote answer writes = written_to output w.client x.client answer left writes
+
+    -- what is owed then
+    owes : (answer : Put) → WritesPending output w.client x.client answer left → (text : List ℕ)
+        → Owes state start_at s (past_at p text) x own owed holds.text
+    owes answer writes text =
+        owes_on state start_at s p text w x own owed holds.text (wrote answer writes) same
+        holds.owes
+
+    -- the attempts
+    made : (text : List ℕ) → HasAttempts state start_at (past_at p text) own owed attempts
+    made text = attempts_on state start_at p text own owed attempts holds.made
+
+    -- the client took some, and more is left or the answer was written whole
+    pub answer_took : (n : ℕ) (session' : Box HttpSession) (next : Phase L C)
+        → left ≡ session'.value.writing.output
+        → WritesPending output w.client x.client (put.Took n) left
+        → (0 < length (pending left) → next ≡ Answer session' owed attempts)
+        → (pending left ≡ [] → next ≡ Ended (outcome_owed owed) attempts)
+        → AdvancesOn {C = C} state start_at s x own next
+    answer_took n session' next stands writes more whole =
+        by wr.rest refl
+      where
+        wr : WritesQueue w.client x.client holds.waits.left (put.Took n) left
+        wr = written (put.Took n) writes
+
+        text : List ℕ
+        text = p.written ++ take n holds.waits.left
+
+        tells : TellsClient s (past_at p (p.written ++ take n holds.waits.left)) x
+        tells = client_took s p w x holds.waits.left n same wr.writes.writes run.tells
+
+        by : (rest : List ℕ) → wr.rest ≡ rest → AdvancesOn {C = C} state start_at s x own next
+        by [] none =
+            let all : p.written ++ take n holds.waits.left ≡ holds.text =
+            ap (λ (xs : List ℕ). p.written ++ xs)
+            (take_whole holds.waits.left n (sym none ∙ wr.writes.left)) ∙ holds.waits.joined in
+            subst (λ (k : Phase L C). AdvancesOn state start_at s x own k)
+            (sym (whole (ap pending wr.leaves ∙ none)))
+            (answer_over state start_at s
+            (past_at p (p.written ++ take n holds.waits.left)) x own owed holds.text attempts
+            (outcome_owed owed) tells
+            (owes (put.Took n) writes (p.written ++ take n holds.waits.left))
+            (record { rest = []; joined = append-nil _ ∙ all }) (owed_going owed)
+            (ends_whole state start_at s
+            (past_at p (p.written ++ take n holds.waits.left)) x own owed holds.text attempts
+            (owes (put.Took n) writes (p.written ++ take n holds.waits.left)) all
+            (made (p.written ++ take n holds.waits.left))))
+        by (b ∷ bs) some =
+            let waits : pending left ≡ b ∷ bs = ap pending wr.leaves ∙ some in
+            let long : 0 < length (pending left) = omega (arith, ap length waits) in
+            subst (λ (k : Phase L C). AdvancesOn state start_at s x own k) (sym (more long))
+            (answer_on state start_at s
+            (past_at p (p.written ++ take n holds.waits.left)) x own session' owed attempts tells
+            (record {
+              text = holds.text;
+              owes = owes (put.Took n) writes (p.written ++ take n holds.waits.left);
+              waits = record {
+                left = wr.rest;
+                is_open = sym stands ∙ wr.leaves;
+                some = omega (arith, ap length some);
+                joined = take_rest p.written holds.waits.left wr.rest n wr.writes.left
+                    ∙ holds.waits.joined;
+              };
+              made = made (p.written ++ take n holds.waits.left);
+            }))
+
+    -- the client takes nothing now, and what waited waits
+    still_on : (answer : Put) (session' : Box HttpSession)
+        → WritesPending output w.client x.client answer left
+        → session'.value.writing.output ≡ outgoing.Open holds.waits.left → TellsClient s p x
+        → AdvancesOn {C = C} state start_at s x own (Answer session' owed attempts)
+    still_on answer session' writes stands tells =
+        answer_on state start_at s (past_at p p.written) x own session' owed attempts
+        (past_same s p x tells) (record {
+          text = holds.text;
+          owes = owes answer writes p.written;
+          waits = record {
+            left = holds.waits.left;
+            is_open = stands;
+            some = holds.waits.some;
+            joined = holds.waits.joined;
+          };
+          made = made p.written;
+        })
+
+    -- it has to be waited for
+    pub answer_waits : (session' : Box HttpSession) → left ≡ session'.value.writing.output
+        → WritesPending output w.client x.client put.NotReady left
+        → AdvancesOn {C = C} state start_at s x own (Answer session' owed attempts)
+    answer_waits session' stands writes =
+        let wr = written put.NotReady writes in
+        let waits = wr.writes.writes in
+        still_on put.NotReady session' writes
+        (sym stands ∙ wr.leaves ∙ ap outgoing.Open wr.writes.left)
+        (client_still s p w x (omega (arith, same)) waits.given waits.taken
+        (omega (arith, waits.faults))
+        (grew_none w.client x.client waits.read_faults waits.write_faults) run.tells)
+
+    -- it is silent
+    pub answer_silent : (session' : Box HttpSession) → left ≡ session'.value.writing.output
+        → WritesPending output w.client x.client put.Silent left
+        → AdvancesOn {C = C} state start_at s x own (Answer session' owed attempts)
+    answer_silent session' stands writes =
+        let wr = written put.Silent writes in
+        let silent = wr.writes.writes in
+        still_on put.Silent session' writes
+        (sym stands ∙ wr.leaves ∙ ap outgoing.Open wr.writes.left)
+        (client_still s p w x (omega (arith, same)) (ap (λ (l : LinkState). l.given) silent.same)
+        (ap (λ (l : LinkState). l.taken) silent.same)
+        (omega (arith, ap (λ (l : LinkState). l.faults) silent.same))
+        (grew_same w.client x.client silent.same) run.tells)
+
+    -- the write failed
+    pub answer_fails : (fault : Fault) → WritesPending output w.client x.client (put.Failed fault) left
+        → AdvancesOn {C = C} state start_at s x own (Ended (outcome_failed owed fault) attempts)
+    answer_fails fault writes =
+        answer_over state start_at s (past_at p p.written) x own owed holds.text attempts
+        (outcome_failed owed fault) (past_same s p x tells)
+        (owes (put.Failed fault) writes p.written) front (failed_going owed fault)
+        (by own owed (owes (put.Failed fault) writes p.written) (made p.written))
+      where
+        fails : FailsWrite w.client fault x.client
+        fails = (written (put.Failed fault) writes).writes.writes
+
+        tells : TellsClient s p x
+        tells = client_still s p w x (omega (arith, same)) fails.given fails.taken
+            (Rose-le w.client.faults x.client.faults fails.sound_before.faults_fit fails.faults)
+            (record {
+              reads = [];
+              read = fails.read_faults ∙ more_none w.client.read_faults;
+              writes = fault ∷ [];
+              written = fails.write_faults;
+            }) run.tells
+
+        rose : Rose s.faults x.client.faults
+        rose = λ below. omega (arith, run.tells.faults, fails.faults below)
+
+        front : IsFrontOf p.written holds.text
+        front = waits_front _ _ _ holds.waits
+
+        by : (l : List (Returned L)) (o : Owed)
+            → Owes state start_at s (past_at p p.written) x l o holds.text
+            → HasAttempts state start_at (past_at p p.written) l o attempts
+            → EndsWith state start_at s (past_at p p.written) x l attempts (outcome_failed o fault)
+        by [] (Refused error) owes made = (
+          inr (inr (record {
+            fault = fault;
+            is = refl;
+            rose = rose;
+            place = inr (record {
+              kind = fails.kind;
+              told = added_last s.write_faults w.client.write_faults x.client.write_faults
+                  run.tells.fault_lists.writes fault fails.write_faults
+                  run.tells.fault_lists.written;
+              unfinished = record {
+                answer = holds.text;
+                error = error;
+                turned_down = owes.0;
+                part = front;
+                left = waits_left _ _ _ holds.waits;
+              };
+            });
+            unsent = owes.1;
+          })),
+          made,
+        )
+        by (r ∷ l) (Refused error) owes made = absurd owes
+        by l (Served e) owes made =
+            ends_served state start_at s (past_at p p.written) x l e holds.text attempts owes
+            (inr (rose, front)) made
+
+    -- the client's link found no memory
+    pub answer_memory : WritesPending output w.client x.client put.OutOfMemory left
+        → AdvancesOn {C = C} state start_at s x own (Ended outcome.OutOfMemory attempts)
+    answer_memory writes =
+        let wants = (written put.OutOfMemory writes).writes.writes in
+        let tells : TellsClient s p x =
+        client_still s p w x (omega (arith, same)) (ap (λ (l : LinkState). l.given) wants.same)
+        (ap (λ (l : LinkState). l.taken) wants.same)
+        (omega (arith, ap (λ (l : LinkState). l.faults) wants.same))
+        (grew_none w.client x.client (ap (λ (l : LinkState). l.read_faults) wants.same)
+        (ap (λ (l : LinkState). l.write_faults) wants.same)) run.tells in
+        let front : IsFrontOf p.written holds.text = waits_front _ _ _ holds.waits in
+        answer_over state start_at s (past_at p p.written) x own owed holds.text attempts
+        outcome.OutOfMemory (past_same s p x tells) (owes put.OutOfMemory writes p.written) front
+        (λ limit. cc)
+        (ends_part state start_at s (past_at p p.written) x own owed holds.text attempts
+        (owes put.OutOfMemory writes p.written) front (made p.written)).1

@@ -1,0 +1,66 @@
+-- Each answer of the one write is a turn of the answer.
+use Rattle.std.proofs.Common.{◌≡◌, ◌<◌, List, ℕ, [], length, refl, ap, ◌∙◌, sym}
+use Rattle.relay_session.specs.declared.session.HttpSession.{HttpSession}
+use Rattle.relay_proxy.specs.Turn.{world_of}
+use Rattle.relay_proxy.specs.declared.machine.Phase.TheVariants.{Answer}
+use Rattle.relay_proxy.proofs.AnswerSteps.{answer_took, answer_waits, answer_silent, answer_fails, answer_memory, taken_of, moved_or_ended}
+use Rattle.relay_proxy.proofs.answering.write_on.Goals as goal
+
+-- the client took some
+pub returns-in-Took-clause-run : goal.returns-in-Took-clause-run
+returns-in-Took-clause-run g c = λ s p own faults run.
+    answer_took g.L.ByteLink.state g.L.ByteLink.start s p
+    (world_of g.D.ByteLink.state c.args.client.now faults)
+    (world_of g.D.ByteLink.state c.offer.new.client faults) own c.args.session c.args.owed
+    c.args.attempts refl _ _ (ap (λ (k : HttpSession). k.writing.output) c.deref_mut.ensures.value)
+    run _ _ _ refl c.in-Took.ensures.answer (λ long. (c.took.ensures.left long).0)
+    (λ none. (c.took.ensures.whole none).0)
+
+-- it has to be waited for
+pub returns-in-NotReady-clause-run : goal.returns-in-NotReady-clause-run
+returns-in-NotReady-clause-run g c = λ s p own faults run.
+    answer_waits g.L.ByteLink.state g.L.ByteLink.start s p
+    (world_of g.D.ByteLink.state c.args.client.now faults)
+    (world_of g.D.ByteLink.state c.offer.new.client faults) own c.args.session c.args.owed
+    c.args.attempts refl _ _ (ap (λ (k : HttpSession). k.writing.output) c.deref_mut.ensures.value)
+    run _ refl c.in-NotReady.ensures.answer
+
+-- it is silent
+pub returns-in-Silent-clause-run : goal.returns-in-Silent-clause-run
+returns-in-Silent-clause-run g c = λ s p own faults run.
+    answer_silent g.L.ByteLink.state g.L.ByteLink.start s p
+    (world_of g.D.ByteLink.state c.args.client.now faults)
+    (world_of g.D.ByteLink.state c.offer.new.client faults) own c.args.session c.args.owed
+    c.args.attempts refl _ _ (ap (λ (k : HttpSession). k.writing.output) c.deref_mut.ensures.value)
+    run _ refl c.in-Silent.ensures.answer
+
+-- the write failed
+pub returns-in-Failed-clause-run : goal.returns-in-Failed-clause-run
+returns-in-Failed-clause-run g c = λ s p own faults run.
+    rw (c.ended.ensures.phase, c.outcome_failed.ensures)
+    (answer_fails g.L.ByteLink.state g.L.ByteLink.start s p
+    (world_of g.D.ByteLink.state c.args.client.now faults)
+    (world_of g.D.ByteLink.state c.offer.new.client faults) own c.args.session c.args.owed
+    c.args.attempts refl _ _ (ap (λ (k : HttpSession). k.writing.output) c.deref_mut.ensures.value)
+    run c.in-Failed.fault c.in-Failed.ensures.answer)
+
+-- memory was wanted
+pub returns-in-OutOfMemory-clause-run : goal.returns-in-OutOfMemory-clause-run
+returns-in-OutOfMemory-clause-run g c = λ s p own faults run.
+    rw c.ended-in-OutOfMemory.ensures.phase
+    (answer_memory g.L.ByteLink.state g.L.ByteLink.start s p
+    (world_of g.D.ByteLink.state c.args.client.now faults)
+    (world_of g.D.ByteLink.state c.offer.new.client faults) own c.args.session c.args.owed
+    c.args.attempts refl _ _ (ap (λ (k : HttpSession). k.writing.output) c.deref_mut.ensures.value)
+    run c.in-OutOfMemory.ensures.answer)
+
+-- it went on because the link took bytes
+pub returns-in-Took-clause-cause : goal.returns-in-Took-clause-cause
+returns-in-Took-clause-cause g c = λ faults.
+    moved_or_ended {C = g.row.C.Denot} g.L.ByteLink.state g.L.ByteLink.start
+    (world_of g.D.ByteLink.state c.args.client.now faults)
+    (world_of g.D.ByteLink.state c.offer.new.client faults)
+    (Answer c.args.session c.args.owed c.args.attempts) c.took.result.phase c.took.result.step
+    c.took.ensures.step
+    (λ is. taken_of _ _ _ _ _
+    (rw (sym c.deref_mut.ensures.value) at c.requires) c.in-Took.ensures.answer)

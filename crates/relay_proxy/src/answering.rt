@@ -1,0 +1,148 @@
+//! The generated answer of a request, and what was queued before it: written to the client (RFC
+//! 9110, section 15).
+ghost use Rattle.std.specs.Prelude.{◌≡◌, ◌⊎◌, ◌<◌, ℕ, List, [], length};
+ghost use Rattle.relay_attempt.specs.Passed.{Passed};
+ghost use Rattle.relay_session.specs.Response.{pending, MayWrite, WritesPending};
+ghost use Rattle.relay_proxy.specs.Owed.{outcome_owed};
+ghost use Rattle.relay_proxy.specs.Passed.{Start};
+ghost use Rattle.relay_proxy.specs.Phases.{RunSoFar};
+ghost use Rattle.relay_proxy.specs.Refusals.{attempts_in};
+ghost use Rattle.relay_proxy.specs.Stock.{items_held};
+ghost use Rattle.relay_proxy.specs.Turn.{world_of, DoesWork, is_over, is_end, links_held, AdvancesOn, HasCause};
+ghost use Rattle.relay_proxy.specs.Uses.{ClientUses};
+
+use crate::machine::{Next, Phase, RunStep};
+use crate::outcome::Outcome;
+use crate::owed::Owed;
+use crate::record::AttemptList;
+use crate::work::Work;
+use relay_h1::Connection;
+use relay_links::{ByteLink, Put};
+use relay_session::HttpSession;
+use relay_tasks::Pause;
+
+/// One write of what waits for the client. Where nothing does, the request ends.
+pub(crate) fn write_answer<D: ByteLink, U: Drop, L: ByteLink, C>(
+    client: &mut Connection<D, U>,
+    session: Box<HttpSession>,
+    owed: Owed,
+    attempts: AttemptList,
+) -> Next<L, C>
+    ensures run { (s : Start) (p : Passed) (own : List _) (faults : ℕ)
+        → RunSoFar {C = C} L.state L.start s p (world_of D.state client.old faults) own
+        (Phase.Answer session owed attempts)
+        → AdvancesOn L.state L.start s (world_of D.state client.new faults) own
+        result.phase }
+    ensures cause { (faults : ℕ) → HasCause {C = C} L.state L.start
+        (world_of D.state client.old faults) (world_of D.state client.new faults)
+        (Phase.Answer session owed attempts) result.phase result.step }
+    ensures work { DoesWork result.step result.work }
+    ensures over { is_over result.phase ≡ is_end result.step }
+    ensures unlinked { links_held L.state L.start result.phase ≡ 0 }
+    ensures no_items { items_held L.start result.phase ≡ [] }
+    ensures attempts { attempts_in result.phase ≡ attempts }
+    ensures uses { ClientUses result.work.used (D.state client.old.link) (D.state client.new.link) }
+    ensures kept { client.new.kept ≡ client.old.kept }
+    ensures client_start { D.start client.new.link ≡ D.start client.old.link }
+{
+    if !session.has_pending() {
+        return ended(owed.outcome(), attempts, Work::ENDED);
+    }
+    write_on(client, session, owed, attempts)
+}
+
+/// One write of what waits for the client: one byte at least.
+fn write_on<D: ByteLink, U: Drop, L: ByteLink, C>(
+    client: &mut Connection<D, U>,
+    session: Box<HttpSession>,
+    owed: Owed,
+    attempts: AttemptList,
+) -> Next<L, C>
+    requires { 0 < length (pending session.value.writing.output) }
+    ensures run { (s : Start) (p : Passed) (own : List _) (faults : ℕ)
+        → RunSoFar {C = C} L.state L.start s p (world_of D.state client.old faults) own
+        (Phase.Answer session owed attempts)
+        → AdvancesOn L.state L.start s (world_of D.state client.new faults) own
+        result.phase }
+    ensures cause { (faults : ℕ) → HasCause {C = C} L.state L.start
+        (world_of D.state client.old faults) (world_of D.state client.new faults)
+        (Phase.Answer session owed attempts) result.phase result.step }
+    ensures work { DoesWork result.step result.work }
+    ensures over { is_over result.phase ≡ is_end result.step }
+    ensures unlinked { links_held L.state L.start result.phase ≡ 0 }
+    ensures no_items { items_held L.start result.phase ≡ [] }
+    ensures attempts { attempts_in result.phase ≡ attempts }
+    ensures uses { ClientUses result.work.used (D.state client.old.link) (D.state client.new.link) }
+    ensures kept { client.new.kept ≡ client.old.kept }
+    ensures client_start { D.start client.new.link ≡ D.start client.old.link }
+{
+    let mut session = session;
+    match offer(&mut session, client) {
+        Put::Took(_) => took(session, owed, attempts),
+        Put::NotReady => Next {
+            phase: Phase::Answer(session, owed, attempts),
+            step: RunStep::Waited(Pause::NotReady),
+            work: Work::USED,
+        },
+        Put::Silent => Next {
+            phase: Phase::Answer(session, owed, attempts),
+            step: RunStep::Waited(Pause::Silent),
+            work: Work::NONE,
+        },
+        Put::Failed(fault) => ended(owed.outcome_failed(fault), attempts, Work::USED),
+        Put::OutOfMemory => ended(Outcome::OutOfMemory, attempts, Work::USED),
+    }
+}
+
+/// The client took some: more waits, or the answer was written whole.
+fn took<L, C>(session: Box<HttpSession>, owed: Owed, attempts: AttemptList) -> Next<L, C>
+    ensures left { 0 < length (pending session.value.writing.output)
+        → (result.phase ≡ Phase.Answer session owed attempts) × (result.step ≡ RunStep.Moved) }
+    ensures whole { pending session.value.writing.output ≡ []
+        → (result.phase ≡ Phase.Ended (outcome_owed owed) attempts)
+        × (result.step ≡ RunStep.Ended) }
+    ensures step { (result.step ≡ RunStep.Moved) ⊎ (result.step ≡ RunStep.Ended) }
+    ensures attempts { attempts_in result.phase ≡ attempts }
+    ensures work { result.work ≡ Work.USED }
+{
+    if session.has_pending() {
+        return Next {
+            phase: Phase::Answer(session, owed, attempts),
+            step: RunStep::Moved,
+            work: Work::USED,
+        };
+    }
+    ended(owed.outcome(), attempts, Work::USED)
+}
+
+/// A request that has ended, with no link to hand back.
+fn ended<L, C>(outcome: Outcome, attempts: AttemptList, work: Work) -> Next<L, C>
+    ensures phase { result.phase ≡ Phase.Ended outcome attempts }
+    ensures step { result.step ≡ RunStep.Ended }
+    ensures work { result.work ≡ work }
+{
+    Next {
+        phase: Phase::Ended(outcome, attempts),
+        step: RunStep::Ended,
+        work,
+    }
+}
+
+/// Offers what waits to the client, once. A session knows nothing of the value that the connection
+/// keeps, so that is set aside.
+fn offer<D: ByteLink, U: Drop>(session: &mut HttpSession, client: &mut Connection<D, U>) -> Put
+    requires { MayWrite session.old.writing.output }
+    ensures answer { WritesPending session.old.writing.output (D.state client.old.link)
+        (D.state client.new.link) result session.new.writing.output }
+    ensures ahead { client.new.ahead ≡ client.old.ahead }
+    ensures kept { client.new.kept ≡ client.old.kept }
+    ensures client_start { D.start client.new.link ≡ D.start client.old.link }
+{
+    let kept = client.take_kept();
+    let put = session.write_pending(client);
+    let _ = client.take_kept();
+    if let Some(value) = kept {
+        client.set_kept(value);
+    }
+    put
+}
