@@ -72,7 +72,7 @@ joins own rest all more joined =
     (IsPermutation-sym ((own ++ rest) ++ more) ((own ++ more) ++ rest) (add_last own more rest))
     (IsPermutation-append_left more (own ++ rest) all joined)
 
-module _ {L C : Type 0} (state : L → LinkState) (start_at : L → LinkStart) where
+module _ {L : Type 0} (state : L → LinkState) (start_at : L → LinkStart) where
   -- a client is owed an answer at a higher count too
   owes_later : (s : Start) (p : Passed) (link : LinkState) (ahead : List ℕ) (f g : ℕ)
       (own : List (Returned L)) (owed : Owed) (text : List ℕ) → f ≤ g
@@ -107,6 +107,7 @@ module _ {L C : Type 0} (state : L → LinkState) (start_at : L → LinkStart) w
     made = answers.made;
   }
 
+module _ {L C : Type 0} (state : L → LinkState) (start_at : L → LinkStart) where
   -- what has passed in a phase that goes on stands at a higher count of the connector's faults
   at_later : (s : Start) (p : Passed) (link : LinkState) (ahead : List ℕ) (f g : ℕ)
       (phase : Phase L C) → is_over phase ≡ false → f ≤ g
@@ -134,8 +135,8 @@ module _ {L C : Type 0} (state : L → LinkState) (start_at : L → LinkStart) w
   at_later s p link ahead f g (Close l lease keep outcome) going more_faults at =
       absurd (true≢false going)
   at_later s p link ahead f g (Answer session owed attempts) going more_faults at =
-      answers_later s p link ahead f g [] session.value.writing.output owed attempts more_faults
-      at
+      answers_later state start_at s p link ahead f g [] session.value.writing.output owed
+      attempts more_faults at
   at_later s p link ahead f g (Ended outcome attempts) going more_faults at =
       absurd (true≢false going)
 
@@ -167,8 +168,8 @@ module _ {L C : Type 0} (state : L → LinkState) (start_at : L → LinkStart) w
   holds_later s p link ahead f g (r ∷ own) (Close l lease keep outcome) going more_faults holds =
       absurd holds
   holds_later s p link ahead f g (r ∷ own) (Answer session owed attempts) going more_faults holds =
-      answers_later s p link ahead f g (r ∷ own) session.value.writing.output owed attempts
-      more_faults holds
+      answers_later state start_at s p link ahead f g (r ∷ own) session.value.writing.output owed
+      attempts more_faults holds
   holds_later s p link ahead f g (r ∷ own) (Ended outcome attempts) going more_faults holds =
       absurd (true≢false going)
 
