@@ -97,8 +97,8 @@ impl<L, C> Phase<L, C> {
     {
         match self {
             Phase::ReadHead => true,
-            Phase::Refuse(_, _) | Phase::Connect(_, _) | Phase::Relay(_) => false,
-            Phase::Close(_, _, _, _) | Phase::Ended(_, _) => false,
+            Phase::Connect(_, _) | Phase::Relay(_) | Phase::Fail(_, _, _, _) => false,
+            Phase::Close(_, _, _, _) | Phase::Answer(_, _, _) | Phase::Ended(_, _) => false,
         }
     }
 

@@ -2,7 +2,7 @@
 use Rattle.std.proofs.Common.{◌≡◌, Bool, true, false, ◌&&◌, true≢false, refl, sym}
 use Rattle.relay_proxy.specs.Turn.{is_reading_head, is_over}
 use Rattle.relay_proxy.specs.declared.machine.Phase.{Phase}
-use Rattle.relay_proxy.specs.declared.machine.Phase.TheVariants.{ReadHead, Refuse, Connect, Relay, Close, Ended}
+use Rattle.relay_proxy.specs.declared.machine.Phase.TheVariants.{ReadHead, Connect, Relay, Fail, Close, Answer, Ended}
 use Rattle.relay_server.specs.Idle.{is_idle}
 use Rattle.relay_server.specs.Serving.{Visit}
 
@@ -10,10 +10,11 @@ use Rattle.relay_server.specs.Serving.{Visit}
 reads_on : {L C : Type 0} (phase : Phase L C) (empty : Bool)
     → (is_reading_head phase && empty) ≡ true → is_over phase ≡ false
 reads_on ReadHead empty idle = refl
-reads_on (Refuse answer error) empty idle = absurd (true≢false (sym idle))
+reads_on (Fail l lease session error) empty idle = absurd (true≢false (sym idle))
 reads_on (Connect context session) empty idle = absurd (true≢false (sym idle))
 reads_on (Relay a) empty idle = absurd (true≢false (sym idle))
 reads_on (Close l lease keep outcome) empty idle = absurd (true≢false (sym idle))
+reads_on (Answer session owed attempts) empty idle = absurd (true≢false (sym idle))
 reads_on (Ended outcome attempts) empty idle = absurd (true≢false (sym idle))
 
 -- the request of an idle connection has not ended

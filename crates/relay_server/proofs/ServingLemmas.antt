@@ -11,16 +11,21 @@ use Rattle.relay_links.specs.Link.{LinkState, LinkStart}
 use Rattle.relay_links.specs.Told.{more}
 use Rattle.relay_links.specs.declared.Returned.{Returned}
 use Rattle.relay_attempt.specs.Passed.{Passed}
+use Rattle.relay_session.specs.declared.writing.Outgoing.{Outgoing}
+use Rattle.relay_proxy.specs.Owed.{Owes, IsAnswering}
 use Rattle.relay_proxy.specs.Passed.{World, Start}
 use Rattle.relay_proxy.specs.Phases.{RunSoFar, IsCalm, PhaseHolds, IsAt}
 use Rattle.relay_proxy.specs.Request.{StepsOn, ComesToEnd, ended_after}
 use Rattle.relay_proxy.specs.Turn.{world_with, world_of, is_over, links_held}
 use Rattle.relay_proxy.specs.declared.machine.Phase.{Phase}
-use Rattle.relay_proxy.specs.declared.machine.Phase.TheVariants.{ReadHead, Refuse, Connect, Relay, Close, Ended}
+use Rattle.relay_proxy.specs.declared.machine.Phase.TheVariants.{ReadHead, Connect, Relay, Fail, Close, Answer, Ended}
 use Rattle.relay_proxy.specs.declared.outcome.Outcome.{Outcome}
 use Rattle.relay_proxy.specs.declared.outcome.Outcome.TheVariants.{NoRequest, Refused, Served, TurnLimit, OutOfMemory}
 use Rattle.relay_proxy.specs.declared.outcome.Processed.{Processed}
+use Rattle.relay_proxy.specs.declared.owed.Owed.{Owed}
+use Rattle.relay_proxy.specs.declared.owed.Owed.TheVariants as due
 use Rattle.relay_proxy.specs.declared.proxy.HttpProxy.{HttpProxy}
+use Rattle.relay_proxy.specs.declared.record.AttemptRecord.{AttemptRecord}
 use Rattle.relay_server.specs.Serving.{Books, books, CountRises, Visit, HaveEnded, EndedRequest, all_held, AreUnderWay, Serves, EndsOne, ServesOn}
 use Rattle.relay_server.specs.Serving.AreEnded.{none, one_more}
 
@@ -67,15 +72,49 @@ joins own rest all more joined =
     (IsPermutation-sym ((own ++ rest) ++ more) ((own ++ more) ++ rest) (add_last own more rest))
     (IsPermutation-append_left more (own ++ rest) all joined)
 
+module _ {L : Type 0} (state : L → LinkState) (start_at : L → LinkStart) where
+  -- a client is owed an answer at a higher count too
+  owes_later : (s : Start) (p : Passed) (link : LinkState) (ahead : List ℕ) (f g : ℕ)
+      (own : List (Returned L)) (owed : Owed) (text : List ℕ) → f ≤ g
+      → Owes state start_at s p (world_with link ahead f) own owed text
+      → Owes state start_at s p (world_with link ahead g) own owed text
+  owes_later s p link ahead f g [] (due.Refused error) text more_faults owes = owes
+  owes_later s p link ahead f g [] (due.Served e) text more_faults owes = (
+    record {
+      fault = owes.0.fault;
+      kind = owes.0.kind;
+      error = owes.0.error;
+      rose = λ last. omega (arith, owes.0.rose (omega (arith, last, more_faults)), more_faults);
+      head = owes.0.head;
+      accepted = owes.0.accepted;
+      unsent = owes.0.unsent;
+    },
+    owes.1,
+  )
+  owes_later s p link ahead f g (r ∷ own) (due.Refused error) text more_faults owes = owes
+  owes_later s p link ahead f g (r ∷ own) (due.Served e) text more_faults owes = owes
+
+  -- it is given the answer at a higher count too
+  answers_later : (s : Start) (p : Passed) (link : LinkState) (ahead : List ℕ) (f g : ℕ)
+      (own : List (Returned L)) (output : Outgoing) (owed : Owed)
+      (attempts : List AttemptRecord) → f ≤ g
+      → IsAnswering state start_at s p (world_with link ahead f) own output owed attempts
+      → IsAnswering state start_at s p (world_with link ahead g) own output owed attempts
+  answers_later s p link ahead f g own output owed attempts more_faults answers = record {
+    text = answers.text;
+    owes = owes_later s p link ahead f g own owed answers.text more_faults answers.owes;
+    waits = answers.waits;
+    made = answers.made;
+  }
+
 module _ {L C : Type 0} (state : L → LinkState) (start_at : L → LinkStart) where
-  -- what has passed in a phase that goes on does not hang on the connector's count of faults
+  -- what has passed in a phase that goes on stands at a higher count of the connector's faults
   at_later : (s : Start) (p : Passed) (link : LinkState) (ahead : List ℕ) (f g : ℕ)
-      (phase : Phase L C) → is_over phase ≡ false
+      (phase : Phase L C) → is_over phase ≡ false → f ≤ g
       → IsAt state start_at s p (world_with link ahead f) phase
       → IsAt state start_at s p (world_with link ahead g) phase
-  at_later s p link ahead f g ReadHead going at = at
-  at_later s p link ahead f g (Refuse answer error) going at = at
-  at_later s p link ahead f g (Connect context session) going at = record {
+  at_later s p link ahead f g ReadHead going more_faults at = at
+  at_later s p link ahead f g (Connect context session) going more_faults at = record {
     head = at.head;
     accepted = at.accepted;
     is_head = at.is_head;
@@ -83,39 +122,55 @@ module _ {L C : Type 0} (state : L → LinkState) (start_at : L → LinkStart) w
     written = at.written;
     unsent = at.unsent;
   }
-  at_later s p link ahead f g (Relay a) going at = record {
+  at_later s p link ahead f g (Relay a) going more_faults at = record {
     leased = at.leased;
     head = at.head;
     relayable = at.relayable;
     under_way = at.under_way;
   }
-  at_later s p link ahead f g (Close l lease keep outcome) going at = absurd (true≢false going)
-  at_later s p link ahead f g (Ended outcome attempts) going at = absurd (true≢false going)
+  at_later s p link ahead f g (Fail l lease session error) going more_faults at = (
+    at.0,
+    record { failed = at.1.failed; waits = at.1.waits },
+  )
+  at_later s p link ahead f g (Close l lease keep outcome) going more_faults at =
+      absurd (true≢false going)
+  at_later s p link ahead f g (Answer session owed attempts) going more_faults at =
+      answers_later state start_at s p link ahead f g [] session.value.writing.output owed
+      attempts more_faults at
+  at_later s p link ahead f g (Ended outcome attempts) going more_faults at =
+      absurd (true≢false going)
 
-  -- nor do the faults of the client's link
+  -- nor do the faults of the client's link hang on it
   calm_later : (s : Start) (link : LinkState) (ahead : List ℕ) (f g : ℕ) (phase : Phase L C)
       → IsCalm state start_at s (world_with link ahead f) phase
       → IsCalm state start_at s (world_with link ahead g) phase
   calm_later s link ahead f g ReadHead calm = calm
-  calm_later s link ahead f g (Refuse answer error) calm = calm
   calm_later s link ahead f g (Connect context session) calm = calm
   calm_later s link ahead f g (Relay a) calm = calm
+  calm_later s link ahead f g (Fail l lease session error) calm = calm
   calm_later s link ahead f g (Close l lease keep outcome) calm = calm
+  calm_later s link ahead f g (Answer session owed attempts) calm = calm
   calm_later s link ahead f g (Ended outcome attempts) calm = calm
 
   -- what has passed, by the links that were handed back
   holds_later : (s : Start) (p : Passed) (link : LinkState) (ahead : List ℕ) (f g : ℕ)
-      (own : List (Returned L)) (phase : Phase L C) → is_over phase ≡ false
+      (own : List (Returned L)) (phase : Phase L C) → is_over phase ≡ false → f ≤ g
       → PhaseHolds state start_at s p (world_with link ahead f) own phase
       → PhaseHolds state start_at s p (world_with link ahead g) own phase
-  holds_later s p link ahead f g [] phase going holds =
-      at_later s p link ahead f g phase going holds
-  holds_later s p link ahead f g (r ∷ own) ReadHead going holds = absurd holds
-  holds_later s p link ahead f g (r ∷ own) (Refuse answer error) going holds = absurd holds
-  holds_later s p link ahead f g (r ∷ own) (Connect context session) going holds = absurd holds
-  holds_later s p link ahead f g (r ∷ own) (Relay a) going holds = absurd holds
-  holds_later s p link ahead f g (r ∷ own) (Close l lease keep outcome) going holds = absurd holds
-  holds_later s p link ahead f g (r ∷ own) (Ended outcome attempts) going holds =
+  holds_later s p link ahead f g [] phase going more_faults holds =
+      at_later s p link ahead f g phase going more_faults holds
+  holds_later s p link ahead f g (r ∷ own) ReadHead going more_faults holds = absurd holds
+  holds_later s p link ahead f g (r ∷ own) (Connect context session) going more_faults holds =
+      absurd holds
+  holds_later s p link ahead f g (r ∷ own) (Relay a) going more_faults holds = absurd holds
+  holds_later s p link ahead f g (r ∷ own) (Fail l lease session error) going more_faults holds =
+      absurd holds
+  holds_later s p link ahead f g (r ∷ own) (Close l lease keep outcome) going more_faults holds =
+      absurd holds
+  holds_later s p link ahead f g (r ∷ own) (Answer session owed attempts) going more_faults holds =
+      answers_later state start_at s p link ahead f g (r ∷ own) session.value.writing.output owed
+      attempts more_faults holds
+  holds_later s p link ahead f g (r ∷ own) (Ended outcome attempts) going more_faults holds =
       absurd (true≢false going)
 
   -- a request goes on while calls of the connector fail for others
@@ -135,7 +190,7 @@ module _ {L C : Type 0} (state : L → LinkState) (start_at : L → LinkStart) w
     untouched = run.untouched;
     going = run.going;
     calm = calm_later s link ahead f g phase run.calm;
-    holds = holds_later s p link ahead f g own phase going run.holds;
+    holds = holds_later s p link ahead f g own phase going more_faults run.holds;
   }
 
 module _ {L : Type 0} (state : L → LinkState) (start_at : L → LinkStart) where
