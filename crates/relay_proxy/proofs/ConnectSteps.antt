@@ -1,5 +1,5 @@
 -- Turns of the connector: the attempt's exchange begins over the link that it gave, or does not.
-use Rattle.std.proofs.Common.{◌≡◌, ◌≢◌, ℕ, ◌≤◌, Bool, false, List, [], ◌∷◌, ◌++◌, Option, Some, None, refl, sym, ap, subst, ◌∙◌, inl, inr, arith}
+use Rattle.std.proofs.Common.{◌≡◌, ◌≢◌, ℕ, ◌≤◌, Bool, false, List, [], ◌++◌, Option, Some, None, refl, sym, ap, subst, ◌∙◌, inl, inr, arith}
 use Rattle.std.specs.Global.{Box}
 use Rattle.relay_tasks.specs.declared.error.Error.{Error}
 use Rattle.relay_tasks.specs.declared.error.ErrorSource.TheVariants.{Internal, Upstream}
@@ -7,7 +7,6 @@ use Rattle.relay_tasks.specs.declared.error.Fail.{Fail}
 use Rattle.relay_tasks.specs.declared.error.Fail.TheVariants as fail
 use Rattle.relay_tasks.specs.declared.context.Context.TheVariants.{BadFraming}
 use Rattle.relay_tasks.specs.declared.Fault.{Fault}
-use Rattle.relay_tasks.specs.declared.Peer.{Peer}
 use Rattle.relay_tasks.specs.Error.{IsMemoryOr}
 use Rattle.relay_tasks.specs.Head.{RequestHead}
 use Rattle.relay_links.specs.Connector.{IsConnectFault}
@@ -300,15 +299,18 @@ module _ {L C : Type 0} (state : L → LinkState) (start_at : L → LinkStart) w
       untouched = run.untouched;
       going = no_limit;
       calm = tt;
-      holds = (run.holds.unsent, inr (record {
-        e = e;
-        unconnected = unconnected s p w failed context session fault e rose kind is run;
-        part = record {
-          rest = generated 502;
-          joined = ap (λ (xs : List ℕ). xs ++ generated 502) run.holds.written;
-        };
-        is_record = made;
-      }));
+      holds = (
+        run.holds.unsent,
+        inr (record {
+          e = e;
+          unconnected = unconnected s p w failed context session fault e rose kind is run;
+          part = record {
+            rest = generated 502;
+            joined = ap (λ (xs : List ℕ). xs ++ generated 502) run.holds.written;
+          };
+          is_record = made;
+        }),
+      );
     };
   }
 

@@ -1,11 +1,11 @@
 -- Turns before a link is asked for: the client's head comes, is accepted, or is refused.
-use Rattle.std.proofs.Common.{◌≡◌, ℕ, ◌<◌, Bool, true, false, not, ◌&&◌, List, [], ◌∷◌, ◌++◌, length, take, drop, Option, Some, None, refl, le_refl, ◌≢◌, sym, ap, subst, ◌∙◌, inl, inr, arith, length-append, append_assoc, append-nil}
+use Rattle.std.proofs.Common.{◌≡◌, ℕ, ◌<◌, Bool, true, false, not, ◌&&◌, List, [], ◌∷◌, ◌++◌, length, take, drop, Option, Some, None, refl, le_refl, ◌≢◌, sym, ap, subst, ◌∙◌, inl, inr, arith, append_assoc, append-nil}
 use Rattle.std.specs.Global.{Box}
 use Rattle.relay_tasks.specs.declared.Error.{Error}
 use Rattle.relay_tasks.specs.declared.ErrorSource.TheVariants.{Downstream}
 use Rattle.relay_tasks.specs.declared.Fault.{Fault}
 use Rattle.relay_tasks.specs.Head.{RequestHead}
-use Rattle.relay_links.specs.Link.{LinkState, LinkStart, GivesBytes, EndsRead, FailsRead, FailsWrite, WantsMemory}
+use Rattle.relay_links.specs.Link.{LinkState, LinkStart, GivesBytes, EndsRead, FailsRead}
 use Rattle.relay_links.specs.Told.{Since}
 use Rattle.relay_links.proofs.SinceLemmas.{Since-start}
 use Rattle.http.specs.declared.Version.{Version}
@@ -44,9 +44,8 @@ use Rattle.relay_proxy.specs.declared.owed.Owed.TheVariants as owed
 use Rattle.relay_proxy.specs.declared.record.AttemptRecord.{AttemptRecord}
 use Rattle.relay_proxy.proofs.AnswerSteps.{answer_on}
 use Rattle.relay_h1.proofs.VerdictLemmas.{HasRequest-IsOpen}
-use Rattle.relay_proxy.proofs.OpenHead.{turns_down_open}
 use Rattle.relay_peer.proofs.FaultLemmas.{Grew, grew_same, grew_none, more_none, added_last, since_none}
-use Rattle.relay_proxy.proofs.Tells.{Rose-le, came_more, written_more, client_gave, client_took, client_still, take_whole, take_rest}
+use Rattle.relay_proxy.proofs.Tells.{Rose-le, came_more, client_gave, client_still}
 
 -- a request whose body ends with its head is one whose body is done from the first on
 done_at_first : (f : Framing) → is_done (first_state f) ≡ ends_with_head f

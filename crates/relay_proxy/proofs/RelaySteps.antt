@@ -10,7 +10,6 @@ use Rattle.http.specs.declared.version.Http.{Http}
 use Rattle.http.specs.declared.version.Http.TheVariants.{Http09, Http10, Http11, H2, H3}
 use Rattle.http.specs.declared.version.TheConstants.Version.{HTTP_11}
 use Rattle.relay_tasks.specs.Head.{RequestHead}
-use Rattle.relay_tasks.specs.declared.error.Error.{Error}
 use Rattle.relay_tasks.specs.declared.error.Fail.{Fail}
 use Rattle.relay_tasks.specs.declared.error.Fail.TheVariants as fail
 use Rattle.relay_tasks.specs.declared.took.Pause.{Pause}

@@ -286,7 +286,7 @@ module _ {L C : Type 0} (state : L → LinkState) (start_at : L → LinkStart) w
     where
       unclosed : (b : Bool) → is_closing next ≡ b → is_closing next ≡ false
       unclosed false is = is
-      unclosed true is = elim (waits is) [ | inl m ↦ absurd (cc) | inr m ↦ absurd (cc) ]
+      unclosed true is = elim (waits is) [ inl m ↦ absurd (cc) | inr m ↦ absurd (cc) ]
   settled_cause w x phase next settled step.Ended before after does over waits cause = tt
 
   -- a request whose attempt is not recorded was refused nothing, so far

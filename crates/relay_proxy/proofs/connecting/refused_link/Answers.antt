@@ -1,6 +1,5 @@
 -- The attempt is recorded, and the client is given 502, or memory was wanted for that.
-use Rattle.std.proofs.Common.{◌≡◌, ◌∙◌, ap, refl, sym}
-use Rattle.relay_session.specs.declared.session.HttpSession.{HttpSession}
+use Rattle.std.proofs.Common.{refl}
 use Rattle.relay_proxy.proofs.Tells.{sided}
 use Rattle.relay_proxy.proofs.ConnectSteps.{not_connected, not_answered, connecting_answer}
 use Rattle.relay_proxy.proofs.connecting.refused_link.Goals as goal

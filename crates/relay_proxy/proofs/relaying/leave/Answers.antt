@@ -1,8 +1,4 @@
 -- The link goes back with what the failed exchange left.
-use Rattle.std.proofs.Common.{◌≡◌, refl, sym, ap, subst}
-use Rattle.relay_session.specs.declared.session.HttpSession.{HttpSession}
-use Rattle.relay_tasks.specs.declared.error.Fail.{Fail}
-use Rattle.relay_proxy.specs.Leaving.{LeavesBy}
 use Rattle.relay_proxy.proofs.FailSteps.{left_memory}
 use Rattle.relay_proxy.proofs.relaying.leave.Goals as goal
 

@@ -1,5 +1,4 @@
 -- The client is owed the answer to the error, and its link goes back.
-use Rattle.std.proofs.Common.{◌≡◌, ◌<◌, length, refl, sym, ap, ◌∙◌}
 use Rattle.relay_proxy.proofs.FailSteps.{leaves_part, left_memory, left_over, left_owing, none_waits, some_waits}
 use Rattle.relay_proxy.proofs.relaying.owe.Goals as goal
 

@@ -1,6 +1,6 @@
 -- A turn of a phase that does not relay. One that does not ask the connector leaves its count of
 -- faults as it was.
-use Rattle.std.proofs.Common.{[], refl, sym, ◌∙◌, inl, inr, true≢false, append-nil}
+use Rattle.std.proofs.Common.{[], refl, sym, ◌∙◌, inr, true≢false, append-nil}
 use Rattle.relay_proxy.specs.Turn.{world_of}
 use Rattle.relay_proxy.proofs.RefusalLemmas.{none_added, none_unmade}
 use Rattle.relay_proxy.proofs.TakenLemmas.{takes_nothing, one_out, no_offers}
