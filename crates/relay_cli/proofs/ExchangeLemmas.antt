@@ -63,7 +63,7 @@ unlinked_sent s p w (ended.Refused error) (inl answered) = sym answered.unsent.s
 unlinked_sent s p w (ended.Refused error) (inr (inl alone)) = sym alone.unsent.sent
 unlinked_sent s p w (ended.Refused error) (inr (inr fault)) = sym fault.unsent.sent
 unlinked_sent s p w (ended.Served None reuse) ends = absurd ends
-unlinked_sent s p w (ended.Served (Some e) reuse) ends = sym ends.0.unsent.sent
+unlinked_sent s p w (ended.Served (Some e) reuse) ends = sym ends.0.unconnected.unsent.sent
 unlinked_sent s p w ended.TurnLimit ends = sym ends.sent
 unlinked_sent s p w ended.OutOfMemory ends = sym ends.sent
 

@@ -18,7 +18,6 @@ use Rattle.relay_proxy.specs.Endings.{EndsWith, IsNoRequest, IsInOrder, is_nothi
 use Rattle.relay_proxy.specs.Passed.{World, Start, start_of, nothing}
 use Rattle.relay_proxy.specs.Refusals.{faults_for}
 use Rattle.relay_proxy.specs.Taken.{AreNext, Takes, offers_for}
-use Rattle.relay_proxy.specs.declared.outcome.Outcome.{Outcome}
 use Rattle.relay_proxy.specs.declared.outcome.Processed.{Processed}
 use Rattle.relay_links.specs.ScriptEntries.{gets_failed}
 use Rattle.relay_links.specs.ListSchedule.{branches_left}
@@ -78,21 +77,21 @@ never_none script request b bytes items begins run none =
     at_end)
 
 -- the one link of a script's connector is offered, so no run tells of a refused one
-never_refused : (own : List (Returned ScriptLink)) (outcome : Outcome) (fault : Fault)
-    (offer : Option LinkItems) (left : Option (List Offer)) → faults_for own outcome ≡ fault ∷ []
-    → Takes (Some (Ok offer ∷ [])) (offers_for script_start own outcome) left → ⊥
-never_refused [] outcome fault offer None is takes = takes
-never_refused [] outcome fault offer (Some left) is takes =
+never_refused : (own : List (Returned ScriptLink)) (attempts : List AttemptRecord) (fault : Fault)
+    (offer : Option LinkItems) (left : Option (List Offer)) → faults_for own attempts ≡ fault ∷ []
+    → Takes (Some (Ok offer ∷ [])) (offers_for script_start own attempts) left → ⊥
+never_refused [] attempts fault offer None is takes = takes
+never_refused [] attempts fault offer (Some left) is takes =
     let next : AreNext (Err fault ∷ []) (Ok offer ∷ []) left =
     subst (λ (fs : List Fault). AreNext (map Err fs) (Ok offer ∷ []) left) is takes in
     cc
-never_refused (r ∷ own) outcome fault offer left is takes = cc
+never_refused (r ∷ own) attempts fault offer left is takes = cc
 
 -- no run of a script says that its connector gave no link
 pub is_linked : (script : ScriptSpec) (request : RequestSpec) (run : IsRun script request)
-    → (fault : Fault) → faults_for run.run.own run.processed.outcome ≡ fault ∷ [] → ⊥
+    → (fault : Fault) → faults_for run.run.own run.processed.history.attempts ≡ fault ∷ [] → ⊥
 is_linked script request run fault is =
-    never_refused run.run.own run.processed.outcome fault _ run.left is run.run.offered
+    never_refused run.run.own run.processed.history.attempts fault _ run.left is run.run.offered
 
 drop_all : {X : Type 0} (xs : List X) → drop (length xs) xs ≡ []
 drop_all xs = drop_of_length-le xs (omega arith)
@@ -143,10 +142,10 @@ always_limit script client connector schedule processed fresh offered named outc
           };
           order = is_nothing refl refl;
           untouched = λ _. refl;
-          ends = rw (outcome, attempts) (record { got = refl; sent = refl }, refl);
+          ends = rw (outcome, attempts) (record { got = refl; sent = refl }, inl refl);
         };
-        refused = rw outcome refl;
-        offered = rw outcome refl;
+        refused = rw attempts refl;
+        offered = rw attempts refl;
         uses = record {
           client = 0;
           upstream = 0;
