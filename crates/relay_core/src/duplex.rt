@@ -285,7 +285,7 @@ impl Duplex {
             → branch ≡ Branch.UpRead → result ≡ Step.Moved
             → Brings self.old self.new (U.link up.old) (U.link up.new) }
 
-        // The branch asks its link, and what it moved is that link's or a task, or it called a hook.
+        // The branch asks its link, and what it moved is that link's, a task or a call of a hook.
         ensures links { BranchUses branch result (D.link client.old) (D.link client.new)
             (U.link up.old) (U.link up.new) }
         ensures gains { (s : Origin) (p : DownPast) (q : UpPast)
