@@ -5,7 +5,7 @@
 --   ends_served, ends_part      how a request ends that owes an answer, or owed one
 --   answer_took .. answer_memory    what each answer of a write makes of the run so far
 use Rattle.std.specs.Global.{Box}
-use Rattle.std.proofs.Common.{◌≡◌, ◌≢◌, ◌⊎◌, ℕ, ◌<◌, Bool, false, List, [], ◌∷◌, ◌++◌, length, take, drop, Option, None, Some, refl, sym, ap, subst, ◌∙◌, inl, inr, arith, append-nil, length-append}
+use Rattle.std.proofs.Common.{◌≡◌, ◌≢◌, ◌⊎◌, ℕ, ◌<◌, false, List, [], ◌∷◌, ◌++◌, length, take, Option, Some, refl, sym, ap, subst, ◌∙◌, inl, inr, arith, append-nil, length-append}
 use Rattle.relay_tasks.specs.declared.Error.{Error}
 use Rattle.relay_tasks.specs.declared.Fault.{Fault}
 use Rattle.relay_links.specs.Count.{Rose}
@@ -28,8 +28,8 @@ use Rattle.relay_attempt.proofs.FailLemmas.{blames_still, written_to}
 use Rattle.relay_valid.specs.Valid.{IsValid}
 use Rattle.relay_valid.proofs.ValidLemmas.{never_fails}
 use Rattle.relay_proxy.specs.Answer.{owed_text, past_at, WaitsOf}
-use Rattle.relay_proxy.specs.Endings.{IsInOrder, IsGiven, IsHalfRefused, IsPart, IsPartOrNone, HasFailed, owed_by, EndsWith, fault_error}
-use Rattle.relay_proxy.specs.Owed.{Owes, HasAttempts, IsAnswering, IsHalfGiven, outcome_owed, outcome_failed}
+use Rattle.relay_proxy.specs.Endings.{IsInOrder, IsGiven, IsHalfRefused, IsPart, IsPartOrNone, HasFailed, owed_by, EndsWith}
+use Rattle.relay_proxy.specs.Owed.{Owes, HasAttempts, IsAnswering, outcome_owed, outcome_failed}
 use Rattle.relay_proxy.specs.Passed.{World, Start, origin_of, asked, TellsClient}
 use Rattle.relay_proxy.specs.Phases.{PhaseHolds, RunSoFar}
 use Rattle.relay_proxy.specs.Turn.{AdvancesOn, HasTaken, HasMoved, HasCause}
@@ -285,8 +285,7 @@ module _ {L : Type 0} (state : L → LinkState) (start_at : L → LinkStart) whe
   ends_part s p w (r ∷ []) (Refused error) text attempts owes part made = absurd made
   ends_part s p w (r ∷ []) (Served e) text attempts owes part made =
       let some : IsFrontOf p.written (owed_by owes.0) =
-      subst (λ (t : List ℕ). IsFrontOf p.written t) owes.1 part in
-      (
+      subst (λ (t : List ℕ). IsFrontOf p.written t) owes.1 part in (
         record {
           tells = made.tells;
           peer = made.peer;

@@ -1,5 +1,5 @@
 -- Turns of the connector: the attempt's exchange begins over the link that it gave, or does not.
-use Rattle.std.proofs.Common.{◌≡◌, ◌≢◌, ℕ, ◌≤◌, Bool, false, List, [], ◌∷◌, ◌++◌, Option, Some, None, refl, sym, ap, subst, ◌∙◌, inl, inr, arith}
+use Rattle.std.proofs.Common.{◌≡◌, ◌≢◌, ℕ, ◌≤◌, Bool, false, List, [], ◌++◌, Option, Some, None, refl, sym, ap, subst, ◌∙◌, inl, inr, arith}
 use Rattle.std.specs.Global.{Box}
 use Rattle.relay_tasks.specs.declared.error.Error.{Error}
 use Rattle.relay_tasks.specs.declared.error.ErrorSource.TheVariants.{Internal, Upstream}
@@ -7,7 +7,6 @@ use Rattle.relay_tasks.specs.declared.error.Fail.{Fail}
 use Rattle.relay_tasks.specs.declared.error.Fail.TheVariants as fail
 use Rattle.relay_tasks.specs.declared.context.Context.TheVariants.{BadFraming}
 use Rattle.relay_tasks.specs.declared.Fault.{Fault}
-use Rattle.relay_tasks.specs.declared.Peer.{Peer}
 use Rattle.relay_tasks.specs.Error.{IsMemoryOr}
 use Rattle.relay_tasks.specs.Head.{RequestHead}
 use Rattle.relay_links.specs.Connector.{IsConnectFault}
@@ -88,6 +87,15 @@ memory_alone : (error : Error) (why : Fail) (found : Option Framing) (framing : 
 memory_alone error fail.OutOfMemory found framing causes refused framed = refl
 memory_alone error (fail.Error e) found framing causes refused framed =
     absurd (not_missing framing found (refused (ap (λ (x : Error). fail.Error x) causes)) framed)
+
+-- what the client's link tells stands where the connector gave none
+unconnected_tells : (s : Start) (p : Passed) (w : World) (failed : ℕ)
+    → w.connect_faults ≤ last_count → Rose w.connect_faults failed → TellsClient s p w
+    → TellsClient s p (world_with w.client w.ahead failed)
+unconnected_tells s p w failed fits rose tells =
+    client_still s p w (world_with w.client w.ahead failed)
+    (Rose-le w.connect_faults failed fits rose) refl refl (omega arith)
+    (grew_same w.client w.client refl) tells
 
 -- what passed of an exchange under way, by the mark of its link
 pub part_relayed : (s : Start) (p : Passed) (head : RequestHead) (reused : Bool)
@@ -251,15 +259,6 @@ module _ {L C : Type 0} (state : L → LinkState) (start_at : L → LinkStart) w
     unsent = run.holds.unsent;
   }
 
-  -- nor did the client's link say anything
-  unconnected_tells : (s : Start) (p : Passed) (w : World) (failed : ℕ)
-      → w.connect_faults ≤ last_count → Rose w.connect_faults failed → TellsClient s p w
-      → TellsClient s p (world_with w.client w.ahead failed)
-  unconnected_tells s p w failed fits rose tells =
-      client_still s p w (world_with w.client w.ahead failed)
-      (Rose-le w.connect_faults failed fits rose) refl refl (omega arith)
-      (grew_same w.client w.client refl) tells
-
   -- the client is owed an answer for that
   pub not_connected : (s : Start) (p : Passed) (w : World) (failed : ℕ) (context : C)
       (session session' : Box HttpSession) (fault : Fault) (e : Error)
@@ -300,15 +299,18 @@ module _ {L C : Type 0} (state : L → LinkState) (start_at : L → LinkStart) w
       untouched = run.untouched;
       going = no_limit;
       calm = tt;
-      holds = (run.holds.unsent, inr (record {
-        e = e;
-        unconnected = unconnected s p w failed context session fault e rose kind is run;
-        part = record {
-          rest = generated 502;
-          joined = ap (λ (xs : List ℕ). xs ++ generated 502) run.holds.written;
-        };
-        is_record = made;
-      }));
+      holds = (
+        run.holds.unsent,
+        inr (record {
+          e = e;
+          unconnected = unconnected s p w failed context session fault e rose kind is run;
+          part = record {
+            rest = generated 502;
+            joined = ap (λ (xs : List ℕ). xs ++ generated 502) run.holds.written;
+          };
+          is_record = made;
+        }),
+      );
     };
   }
 

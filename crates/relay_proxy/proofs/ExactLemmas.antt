@@ -15,6 +15,7 @@ use Rattle.relay_valid.specs.Unfit.{IsUnfit}
 use Rattle.relay_valid.specs.Valid.{AsksFor, AnswersWith, IsValid}
 use Rattle.relay_valid.proofs.AskedLemmas.{asks_head, asks_unrefused, valid_over}
 use Rattle.relay_valid.proofs.UnfitLemmas.{relayed_fit}
+use Rattle.relay_proxy.specs.Answer.{past_at}
 use Rattle.relay_proxy.specs.Relayable.{IsConnect, IsRelayable}
 use Rattle.relay_proxy.specs.Passed.{World, Start, origin_of, asked}
 use Rattle.relay_proxy.specs.Endings as endings
@@ -95,7 +96,7 @@ exact_no_request s p w (Refused error) ends none ended =
         has_nothing unrelayable.has none
 exact_no_request s p w (Served None reuse) ends none ended = absurd ends
 exact_no_request s p w (Served (Some e) reuse) ends none ended =
-    absurd (has_nothing ends.0.accepted.has none)
+    absurd (has_nothing ends.0.unconnected.accepted.has none)
 exact_no_request s p w TurnLimit ends none ended = inl (inl refl)
 exact_no_request s p w OutOfMemory ends none ended = inl (inr refl)
 
@@ -150,8 +151,9 @@ exact_refused s p w (Refused told) ends answer error down whole =
     ]
 exact_refused s p w (Served None reuse) ends answer error down whole = absurd ends
 exact_refused s p w (Served (Some e) reuse) ends answer error down whole =
-    absurd (turns_down_other ends.0.head ends.0.accepted.framing ends.0.accepted.len down
-    ends.0.accepted.has ends.0.accepted.relayable.method)
+    let u = ends.0.unconnected in
+    absurd (turns_down_other u.head u.accepted.framing u.accepted.len down u.accepted.has
+    u.accepted.relayable.method)
 exact_refused s p w TurnLimit ends answer error down whole = inl (inl refl)
 exact_refused s p w OutOfMemory ends answer error down whole = inl (inr refl)
 
@@ -196,7 +198,7 @@ exact_unrelayed s p w (Refused told) ends e cause =
         unrelayable.has open_head
 exact_unrelayed s p w (Served None reuse) ends e cause = absurd ends
 exact_unrelayed s p w (Served (Some told) reuse) ends e cause =
-    absurd (relayed_or_not ends.0.head ends.0.accepted cause)
+    absurd (relayed_or_not ends.0.unconnected.head ends.0.unconnected.accepted cause)
 exact_unrelayed s p w TurnLimit ends e cause = inl (inl refl)
 exact_unrelayed s p w OutOfMemory ends e cause = inl (inr refl)
 
@@ -221,24 +223,25 @@ failed_head s p head reused (order.FailsFor.by_refusal o refused) =
 
 -- the head of a request that had a link, and was not left unfinished
 linked_head : (s : Start) (p : Passed) (w : World) (link : LinkState) (start : LinkStart)
-    (keep : Bool) (outcome : Outcome) → EndsLinked s p w link start keep outcome
-    → IsUnfinished outcome ⊎ ((head : RequestHead) × IsAccepted s p head)
-linked_head s p w link start keep NoRequest ends = absurd ends
-linked_head s p w link start keep (Refused error) ends = absurd ends
-linked_head s p w link start keep (Served None reuse) ends =
+    (keep : Bool) (told : Option Error) (outcome : Outcome)
+    → EndsLinked s p w link start keep told outcome → IsUnfinished outcome ⊎ ((head : RequestHead) × IsAccepted s p head)
+linked_head s p w link start keep told NoRequest ends = absurd ends
+linked_head s p w link start keep told (Refused error) ends = absurd ends
+linked_head s p w link start keep told (Served None reuse) ends =
     let asks = ends.relayed.order.asks in
     inr (
       ends.head,
       record { framing = asks.framing; len = asks.len; has = asks.has; relayable = ends.relayable },
     )
-linked_head s p w link start keep (Served (Some e) reuse) ends =
-    let own = failed_head s p ends.head start.reused ends.why in
+linked_head s p w link start keep told (Served (Some e) reuse) ends =
+    let f = ends.failed in
+    let own = failed_head s (past_at p f.before) f.head start.reused f.why in
     inr (
-      ends.head,
-      record { framing = own.framing; len = own.len; has = own.has; relayable = ends.relayable },
+      f.head,
+      record { framing = own.framing; len = own.len; has = own.has; relayable = f.relayable },
     )
-linked_head s p w link start keep TurnLimit ends = inl (inl refl)
-linked_head s p w link start keep OutOfMemory ends = inl (inr refl)
+linked_head s p w link start keep told TurnLimit ends = inl (inl refl)
+linked_head s p w link start keep told OutOfMemory ends = inl (inr refl)
 
 -- two heads of the client's bytes are one
 one_head : {s : Start} {p : Passed} {a b : RequestHead}
@@ -248,22 +251,22 @@ one_head {s} {p} {a} {b} x y =
 
 -- an unfit response is missed, where the request is finished
 exact_unfit : (s : Start) (p : Passed) (w : World) (link : LinkState) (start : LinkStart)
-    (keep : Bool) (outcome : Outcome) → EndsLinked s p w link start keep outcome
-    → (head : RequestHead) → IsAccepted s p head → IsUnfit head.method false p.got link.ended
+    (keep : Bool) (told : Option Error) (outcome : Outcome)
+    → EndsLinked s p w link start keep told outcome → (head : RequestHead) → IsAccepted s p head → IsUnfit head.method false p.got link.ended
     → IsUnfinished outcome ⊎ IsMissed outcome
-exact_unfit s p w link start keep NoRequest ends head accepted unfit = absurd ends
-exact_unfit s p w link start keep (Refused error) ends head accepted unfit = absurd ends
-exact_unfit s p w link start keep (Served None reuse) ends head accepted unfit =
+exact_unfit s p w link start keep told NoRequest ends head accepted unfit = absurd ends
+exact_unfit s p w link start keep told (Refused error) ends head accepted unfit = absurd ends
+exact_unfit s p w link start keep told (Served None reuse) ends head accepted unfit =
     let asks = ends.relayed.order.asks in
     let own : IsAccepted s p ends.head =
     record { framing = asks.framing; len = asks.len; has = asks.has; relayable = ends.relayable } in
     absurd (relayed_fit (origin_of s ends.head start.reused) p link start ends.relayed
     (subst (λ (h : RequestHead). IsUnfit h.method false p.got link.ended) (one_head accepted own)
     unfit))
-exact_unfit s p w link start keep (Served (Some e) reuse) ends head accepted unfit =
+exact_unfit s p w link start keep told (Served (Some e) reuse) ends head accepted unfit =
     inr (e, ap (λ (b : Bool). Served (Some e) b) ends.stays)
-exact_unfit s p w link start keep TurnLimit ends head accepted unfit = inl (inl refl)
-exact_unfit s p w link start keep OutOfMemory ends head accepted unfit = inl (inr refl)
+exact_unfit s p w link start keep told TurnLimit ends head accepted unfit = inl (inl refl)
+exact_unfit s p w link start keep told OutOfMemory ends head accepted unfit = inl (inr refl)
 
 -- ---- valid exchanges
 
@@ -307,31 +310,32 @@ whole_unlinked s p w (Refused error) ends head relayable asks client connector =
     ])
 whole_unlinked s p w (Served None reuse) ends head relayable asks client connector = absurd ends
 whole_unlinked s p w (Served (Some e) reuse) ends head relayable asks client connector =
-    absurd (connector ends.0.rose)
+    absurd (connector ends.0.unconnected.rose)
 whole_unlinked s p w TurnLimit ends head relayable asks client connector = inl (inl refl)
 whole_unlinked s p w OutOfMemory ends head relayable asks client connector = inl (inr refl)
 
 -- a valid request that had a link is served, where it is finished and no fault was met
 whole_linked : (s : Start) (p : Passed) (w : World) (link : LinkState) (start : LinkStart)
-    (keep : Bool) (outcome : Outcome) → EndsLinked s p w link start keep outcome
-    → (head : RequestHead) → AsksFor (origin_of s head false) p w.client
+    (keep : Bool) (told : Option Error) (outcome : Outcome)
+    → EndsLinked s p w link start keep told outcome → (head : RequestHead) → AsksFor (origin_of s head false) p w.client
     → AnswersWith head.method false p link → ¬ (Rose s.faults w.client.faults)
     → ¬ (Rose start.faults link.faults)
     → IsUnfinished outcome ⊎ ((reuse : Bool) × (outcome ≡ Served None reuse))
-whole_linked s p w link start keep NoRequest ends head asks answers client faults = absurd ends
-whole_linked s p w link start keep (Refused error) ends head asks answers client faults =
+whole_linked s p w link start keep told NoRequest ends head asks answers client faults = absurd ends
+whole_linked s p w link start keep told (Refused error) ends head asks answers client faults =
     absurd ends
-whole_linked s p w link start keep (Served None reuse) ends head asks answers client faults =
+whole_linked s p w link start keep told (Served None reuse) ends head asks answers client faults =
     inr (reuse, refl)
-whole_linked s p w link start keep (Served (Some e) reuse) ends head asks answers client faults =
-    let own = failed_head s p ends.head start.reused ends.why in
+whole_linked s p w link start keep told (Served (Some e) reuse) ends head asks answers client faults =
+    let f = ends.failed in
+    let own = failed_head s (past_at p f.before) f.head start.reused f.why in
     absurd (ends.invalid
     (subst (λ (h : RequestHead). IsValid (origin_of s h start.reused) p w.client link start)
-    (sym (asks_head (origin_of s head false) p w.client ends.head own.framing own.len asks own.has))
+    (sym (asks_head (origin_of s head false) p w.client f.head own.framing own.len asks own.has))
     (valid_over (origin_of s head false) p w.client link start start.reused asks answers client
     faults)))
-whole_linked s p w link start keep TurnLimit ends head asks answers client faults = inl (inl refl)
-whole_linked s p w link start keep OutOfMemory ends head asks answers client faults = inl (inr refl)
+whole_linked s p w link start keep told TurnLimit ends head asks answers client faults = inl (inl refl)
+whole_linked s p w link start keep told OutOfMemory ends head asks answers client faults = inl (inr refl)
 
 -- lists of one and of none
 one_not_none : {R : Type 0} {r : R} → [] ≡ r ∷ [] → ⊥
@@ -355,11 +359,11 @@ module _ {L : Type 0} (state : L → LinkState) (start_at : L → LinkStart) whe
   }
 
   -- a request that had this link
-  exact_linked : (s : Start) (p : Passed) (w : World) (r : Returned L) (outcome : Outcome)
-      → EndsLinked s p w (state r.link) (start_at r.link) r.keep outcome
+  exact_linked : (s : Start) (p : Passed) (w : World) (r : Returned L) (told : Option Error)
+      (outcome : Outcome) → EndsLinked s p w (state r.link) (start_at r.link) r.keep told outcome
       → IsExact state start_at s p w (r ∷ []) outcome
-  exact_linked s p w r outcome ends =
-      let own = linked_head s p w (state r.link) (start_at r.link) r.keep outcome ends in
+  exact_linked s p w r told outcome ends =
+      let own = linked_head s p w (state r.link) (start_at r.link) r.keep told outcome ends in
       record {
         no_request = λ none ended. elim own as (λ _. IsUnfinished outcome ⊎ (outcome ≡ NoRequest)) [
           | inl unfinished ↦ inl unfinished
@@ -377,11 +381,11 @@ module _ {L : Type 0} (state : L → LinkState) (start_at : L → LinkStart) whe
               | inr one ↦ absurd (relayed_or_not one.0 one.1 cause)
             ];
         unfit = λ q head one accepted unfit.
-            exact_unfit s p w (state r.link) (start_at r.link) r.keep outcome ends head accepted
+            exact_unfit s p w (state r.link) (start_at r.link) r.keep told outcome ends head accepted
             (subst (λ (x : Returned L). IsUnfit head.method false p.got (state x.link).ended)
             (sym (same_one one)) unfit);
         whole = λ head relayable asks answers faultless.
-            whole_linked s p w (state r.link) (start_at r.link) r.keep outcome ends head asks
+            whole_linked s p w (state r.link) (start_at r.link) r.keep told outcome ends head asks
             (answers r refl) faultless.client (faultless.link r refl);
       }
 
@@ -390,5 +394,5 @@ module _ {L : Type 0} (state : L → LinkState) (start_at : L → LinkStart) whe
       (attempts : List AttemptRecord) (outcome : Outcome)
       → IsEnded state start_at s p w own attempts outcome → IsExact state start_at s p w own outcome
   exact_of s p w [] attempts outcome ended = exact_unlinked s p w outcome ended.ends.0
-  exact_of s p w (r ∷ []) attempts outcome ended = exact_linked s p w r outcome ended.ends.ends
+  exact_of s p w (r ∷ []) attempts outcome ended = exact_linked s p w r ended.ends.attempt.error outcome ended.ends.ends
   exact_of s p w (r ∷ q ∷ rest) attempts outcome ended = absurd ended.ends

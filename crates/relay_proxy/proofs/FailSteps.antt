@@ -4,7 +4,8 @@
 --   leaves_part                what passed is a part of one exchange
 --   left_memory .. left_owing  the phase that follows
 use Rattle.std.specs.Global.{Box}
-use Rattle.std.proofs.Common.{◌≡◌, ◌≢◌, ℕ, ◌<◌, Bool, false, List, [], ◌∷◌, ◌++◌, length, Option, None, Some, refl, sym, ap, subst, ◌∙◌, inl, inr, arith, append-nil, append_assoc}
+use Rattle.std.proofs.Common.{◌≡◌, ◌≢◌, ℕ, ◌<◌, Bool, true, false, not, List, [], ◌∷◌, ◌++◌, length, Some, refl, sym, ap, subst, ◌∙◌, inl, inr, arith, append-nil, append_assoc}
+use Rattle.std.specs.Prelude.{◌==◌}
 use Rattle.relay_tasks.specs.Head.{RequestHead}
 use Rattle.relay_tasks.specs.declared.Error.{Error}
 use Rattle.relay_tasks.specs.declared.Fault.{Fault}
@@ -12,7 +13,7 @@ use Rattle.relay_tasks.specs.declared.task.HttpTask.{HttpTask}
 use Rattle.relay_links.specs.Count.{Rose}
 use Rattle.relay_links.specs.Link.{LinkState, LinkStart}
 use Rattle.relay_session.specs.Asked.{request_of}
-use Rattle.relay_session.specs.Response.{Holds, HoldsOn, IsText, pending}
+use Rattle.relay_session.specs.Response.{HoldsOn, IsText, pending}
 use Rattle.relay_session.specs.TaskWire.{Sent, wire}
 use Rattle.relay_session.specs.declared.session.HttpSession.{HttpSession}
 use Rattle.relay_session.specs.declared.task_text.Place.{Place}
@@ -20,20 +21,16 @@ use Rattle.relay_session.specs.declared.task_text.Place.TheVariants as place
 use Rattle.relay_session.specs.declared.task_text.Request.{Request}
 use Rattle.relay_session.specs.declared.writing.Outgoing.{Outgoing}
 use Rattle.relay_session.specs.declared.writing.Outgoing.TheVariants as outgoing
-use Rattle.relay_session.specs.declared.writing.Writing.{Writing}
-use Rattle.relay_core.specs.Past.{Origin}
 use Rattle.relay_peer.specs.Body.{IsFrontOf}
-use Rattle.relay_attempt.specs.Order as exchange
-use Rattle.relay_attempt.specs.Order.{order_of, text_of}
+use Rattle.relay_attempt.specs.Order.{order_of}
 use Rattle.relay_attempt.specs.Passed.{Passed}
-use Rattle.relay_proxy.specs.Answer.{answer_for, owed_text, past_at, QueuesAnswer, WaitsOf}
+use Rattle.relay_proxy.specs.Answer.{answer_for, owed_text, QueuesAnswer, WaitsOf}
 use Rattle.relay_proxy.specs.Endings.{IsInOrder, IsGiven, IsPartRelayed, HasFailed, owed_by, EndsLinked, error_of}
 use Rattle.relay_proxy.specs.Leaving.{LeavesSession}
-use Rattle.relay_proxy.specs.Passed.{World, Start, origin_of, asked, TellsClient}
-use Rattle.relay_proxy.specs.Phases.{IsLeased, RunSoFar}
+use Rattle.relay_proxy.specs.Passed.{World, Start, TellsClient}
+use Rattle.relay_proxy.specs.Phases.{IsLeased}
 use Rattle.relay_proxy.specs.Turn.{Advances}
 use Rattle.relay_proxy.specs.declared.machine.Lease.{Lease}
-use Rattle.relay_proxy.specs.declared.machine.Phase.{Phase}
 use Rattle.relay_proxy.specs.declared.machine.Phase.TheVariants.{Fail, Close}
 use Rattle.relay_proxy.specs.declared.outcome.Outcome.{Outcome}
 use Rattle.relay_proxy.specs.declared.outcome.Outcome.TheVariants as outcome
@@ -103,7 +100,7 @@ leaves_part s p client link start session e l =
     record { head = l.head; relayable = l.relayable; order = order_of l.why }
 
 -- the exchange failed, and so much is owed to its client
-failed_of : (s : Start) (p : Passed) (client link : LinkState) (start : LinkStart)
+abbrev failed_of : (s : Start) (p : Passed) (client link : LinkState) (start : LinkStart)
     (session : HttpSession) (e : Error) → LeavesSession s p client link start session e
     → HasFailed s p client link start e
 failed_of s p client link start session e l =
@@ -129,6 +126,18 @@ waits_of s p client text output (Queued.opened left is joined) some = record {
 }
 waits_of s p client text output (Queued.lost fault is rose front) some =
     absurd (omega (arith, some, ap length (ap pending is)))
+
+-- nothing waits where the session says so
+pub none_waits : (waits : Bool) (xs : List ℕ) → waits ≡ not (length xs == 0) → waits ≡ false
+    → xs ≡ []
+none_waits waits [] is none = refl
+none_waits waits (x ∷ xs) is none = grind (arith, is, none)
+
+-- and something where it says that
+pub some_waits : (waits : Bool) (xs : List ℕ) → waits ≡ not (length xs == 0) → waits ≡ true
+    → 0 < length xs
+some_waits waits [] is some = grind (arith, is, some)
+some_waits waits (x ∷ xs) is some = omega arith
 
 -- ---- the phase that follows
 
@@ -194,13 +203,16 @@ module _ {L C : Type 0} (state : L → LinkState) (start_at : L → LinkStart)
             untouched = λ open_head. absurd (exchange_open s p part.head _ _ part.order open_head);
             going = tt;
             calm = tt;
-            holds = (leased, record {
-              failed = failed;
-              waits = subst (λ (h : HttpSession).
-                  WaitsOf h.writing.output p.written (owed_by failed)) (sym is)
-                  (waits_of s p w.client (owed_by failed) session'.writing.output
-                  (queued_by s p w.client (state link) (start_at link) session session' e l queues)
-                  some);
-            });
+            holds = (
+              leased,
+              record {
+                failed = failed;
+                waits = subst (λ (h : HttpSession).
+                    WaitsOf h.writing.output p.written (owed_by failed)) (sym is)
+                    (waits_of s p w.client (owed_by failed) session'.writing.output
+                    (queued_by s p w.client (state link) (start_at link) session session' e l queues)
+                    some);
+              },
+            );
           };
         }

@@ -1,16 +1,16 @@
 -- Turns before a link is asked for: the client's head comes, is accepted, or is refused.
-use Rattle.std.proofs.Common.{◌≡◌, ℕ, ◌<◌, Bool, true, false, not, ◌&&◌, List, [], ◌∷◌, ◌++◌, length, take, drop, Option, Some, None, refl, le_refl, ◌≢◌, sym, ap, subst, ◌∙◌, inl, inr, arith, length-append, append_assoc, append-nil}
+use Rattle.std.proofs.Common.{◌≡◌, ℕ, ◌<◌, Bool, true, false, not, ◌&&◌, List, [], ◌∷◌, ◌++◌, length, take, drop, Option, Some, None, refl, le_refl, ◌≢◌, sym, ap, subst, ◌∙◌, inl, inr, arith, append_assoc, append-nil}
 use Rattle.std.specs.Global.{Box}
 use Rattle.relay_tasks.specs.declared.Error.{Error}
 use Rattle.relay_tasks.specs.declared.ErrorSource.TheVariants.{Downstream}
 use Rattle.relay_tasks.specs.declared.Fault.{Fault}
 use Rattle.relay_tasks.specs.Head.{RequestHead}
-use Rattle.relay_links.specs.Link.{LinkState, LinkStart, GivesBytes, EndsRead, FailsRead, FailsWrite, WantsMemory}
+use Rattle.relay_links.specs.Link.{LinkState, LinkStart, GivesBytes, EndsRead, FailsRead}
 use Rattle.relay_links.specs.Told.{Since}
 use Rattle.relay_links.proofs.SinceLemmas.{Since-start}
 use Rattle.http.specs.declared.Version.{Version}
 use Rattle.relay_h1.specs.BodyReader.{first_state, is_done}
-use Rattle.relay_h1.specs.ClientHead.{is_http_10, is_informational, is_sent_to}
+use Rattle.relay_h1.specs.ClientHead.{is_sent_to}
 use Rattle.relay_h1.specs.Wire.{generated}
 use Rattle.relay_h1.specs.Verdict.{HasRequest, IsOpen}
 use Rattle.relay_h1.specs.declared.framing.Framing.{Framing}
@@ -44,9 +44,8 @@ use Rattle.relay_proxy.specs.declared.owed.Owed.TheVariants as owed
 use Rattle.relay_proxy.specs.declared.record.AttemptRecord.{AttemptRecord}
 use Rattle.relay_proxy.proofs.AnswerSteps.{answer_on}
 use Rattle.relay_h1.proofs.VerdictLemmas.{HasRequest-IsOpen}
-use Rattle.relay_proxy.proofs.OpenHead.{turns_down_open}
 use Rattle.relay_peer.proofs.FaultLemmas.{Grew, grew_same, grew_none, more_none, added_last, since_none}
-use Rattle.relay_proxy.proofs.Tells.{Rose-le, came_more, written_more, client_gave, client_took, client_still, take_whole, take_rest}
+use Rattle.relay_proxy.proofs.Tells.{Rose-le, came_more, client_gave, client_still}
 
 -- a request whose body ends with its head is one whose body is done from the first on
 done_at_first : (f : Framing) → is_done (first_state f) ≡ ends_with_head f
@@ -122,13 +121,14 @@ unread_sent status reading.Head old none answers =
     ap (λ (r : Request). is_sent_to r.version status) (answers [])
 unread_sent status (reading.Body begun) old none answers = cc
 
+-- what is not both is not
+not_both : (b : Bool) → not (b && false) ≡ true
+not_both true = refl
+not_both false = refl
+
 -- 502 is sent to each client
 pub sent_502 : (version : Version) → is_sent_to version 502 ≡ true
-sent_502 version = by (is_http_10 version)
-  where
-    by : (b : Bool) → not (b && is_informational 502) ≡ true
-    by true = refl
-    by false = refl
+sent_502 version = not_both _
 
 -- how it ends where the client ended with these bytes of its head
 ended_unlinked : (s : Start) (p : Passed) (x : World) (bytes : List ℕ) → bytes ≡ asked s p

@@ -7,7 +7,7 @@ use Rattle.relay_links.specs.Connector.{IsConnectFault, connect_fault}
 use Rattle.relay_links.specs.Link.{LinkState, LinkStart}
 use Rattle.relay_links.specs.Told.{Gains}
 use Rattle.relay_links.proofs.GainsLemmas.{Gains-nothing}
-use Rattle.relay_proxy.specs.Refusals.{faults_before}
+use Rattle.relay_proxy.specs.Refusals.{attempts_in, faults_before}
 use Rattle.relay_proxy.specs.Turn.{links_held}
 use Rattle.relay_proxy.specs.declared.machine.Phase.{Phase}
 use Rattle.relay_proxy.specs.declared.machine.Phase.TheVariants.{ReadHead, Connect, Relay, Fail, Close, Answer, Ended}
@@ -39,3 +39,8 @@ none_before_link state start_at (Fail link lease session error) held = refl
 none_before_link state start_at (Close link lease keep outcome) held = refl
 none_before_link state start_at (Answer session owed attempts) held = cc
 none_before_link state start_at (Ended outcome attempts) held = cc
+
+-- nor was one that made no attempt
+pub none_unmade : {L C : Type 0} (phase : Phase L C) → attempts_in phase ≡ []
+    → faults_before [] phase ≡ []
+none_unmade phase none = rw none refl

@@ -10,7 +10,6 @@ use Rattle.http.specs.declared.version.Http.{Http}
 use Rattle.http.specs.declared.version.Http.TheVariants.{Http09, Http10, Http11, H2, H3}
 use Rattle.http.specs.declared.version.TheConstants.Version.{HTTP_11}
 use Rattle.relay_tasks.specs.Head.{RequestHead}
-use Rattle.relay_tasks.specs.declared.error.Error.{Error}
 use Rattle.relay_tasks.specs.declared.error.Fail.{Fail}
 use Rattle.relay_tasks.specs.declared.error.Fail.TheVariants as fail
 use Rattle.relay_tasks.specs.declared.took.Pause.{Pause}
@@ -28,21 +27,21 @@ use Rattle.relay_core.specs.declared.step.Step.TheVariants as step
 use Rattle.relay_core.specs.Uses as core_uses
 use Rattle.relay_exchange.specs.declared.exchange.Turn.{Turn}
 use Rattle.relay_attempt.specs.Exchange as exchange_meets
-use Rattle.relay_attempt.specs.Exchange.{AreTold, IsUnderWay, IsFinished, Turns}
+use Rattle.relay_attempt.specs.Exchange.{AreTold, ComesTo, FailsWith, IsUnderWay, IsFinished, Turns}
 use Rattle.relay_attempt.specs.Head.{link_of, may_keep}
 use Rattle.relay_attempt.specs.Order as exchange
-use Rattle.relay_attempt.specs.Order.{Leaves, FailsFor}
+use Rattle.relay_attempt.specs.Order.{Leaves}
 use Rattle.relay_attempt.specs.Passed.{Passed}
 use Rattle.relay_attempt.specs.declared.h1_exchange.H1Exchange.{H1Exchange}
-use Rattle.relay_valid.proofs.ValidLemmas.{never_fails}
 use Rattle.relay_proxy.specs.Relayable.{IsRelayable}
-use Rattle.relay_proxy.specs.Endings.{IsClientReusable, IsRelayedWhole, IsInOrder, EndsLinked, outcome_of}
+use Rattle.relay_proxy.specs.Endings.{IsClientReusable, IsRelayedWhole, IsInOrder, EndsLinked, error_of}
+use Rattle.relay_proxy.specs.Leaving.{LeavesBy}
 use Rattle.relay_proxy.specs.Passed.{World, Start, origin_of, asked, TellsClient}
 use Rattle.relay_proxy.specs.Phases.{IsLeased, RunSoFar}
 use Rattle.relay_proxy.specs.Relaying.{turned, TurnsOver, TurnsWithin}
 use Rattle.relay_proxy.specs.Reuse.{lets_ask, client_reusable}
 use Rattle.relay_proxy.specs.Turn.{world_with, Advances, HasMoved, HasWaited, MeetsSilence, held_state}
-use Rattle.relay_proxy.specs.Uses.{BothUse, ExchangeMoved, LinkUses, PhaseUses, TurnCounts, TurnUses, ups, work_by}
+use Rattle.relay_proxy.specs.Uses.{BothUse, ExchangeMoved, LinkUses, OwesAnswer, PhaseUses, TurnCounts, TurnUses, ups, work_by}
 use Rattle.relay_proxy.proofs.ConnectSteps.{part_relayed}
 use Rattle.relay_proxy.proofs.OpenHead.{exchange_open}
 use Rattle.relay_proxy.proofs.CountLemmas.{both_counts}
@@ -174,13 +173,6 @@ module _ {L : Type 0} (state : L → LinkState) (start_at : L → LinkStart) whe
 
 -- ---- how an exchange ends
 
--- a failure tells what was in order
-order_of : (o : Origin) (p : Passed) (client link : LinkState) (start : LinkStart) (e : Error)
-    → FailsFor o p client link start e → exchange.IsInOrder o p link.ended
-order_of o p client link start e (FailsFor.by_client order blames) = order
-order_of o p client link start e (FailsFor.by_peer order lost blames) = order
-order_of o p client link start e (FailsFor.by_refusal order refused) = order
-
 module _ {L : Type 0} (state : L → LinkState) (start_at : L → LinkStart) where
   -- a finished exchange relayed its request whole
   relayed_whole : (s : Start) (p : Passed) (w : World) (head : RequestHead) (x : H1Exchange L)
@@ -270,7 +262,7 @@ module _ {L C : Type 0} (state : L → LinkState) (start_at : L → LinkStart) w
       (state (link_of x)) (start_at (link_of x))
       → IsInOrder s q → ¬ (IsOpen (asked s q)) → outcome ≢ TurnLimit
       → EndsLinked s q (world_with client ahead v.connect_faults) (state (link_of x))
-      (start_at (link_of x)) keep outcome
+      (start_at (link_of x)) keep (error_of outcome) outcome
       → RunSoFar {C = C} state start_at s q (world_with client ahead v.connect_faults) []
       (Close (link_of x) a.value.lease keep outcome)
   closing s p q v client ahead a x keep outcome run told order ended_head going ends = record {
@@ -313,50 +305,51 @@ module _ {L C : Type 0} (state : L → LinkState) (start_at : L → LinkStart) w
             finished);
       }
 
+  -- what a turn that failed left
+  record LeavesOff (s : Start) (w : World) (a : Box (Attempt L C)) (x : H1Exchange L) (why : Fail)
+      : Type 0 where
+    passed : Passed
+    tells : TellsClient s passed w
+    held : IsLeased passed (state (link_of x)) (start_at (link_of x)) a.value.lease
+    left : LeavesBy s passed w.client (state (link_of x)) (start_at (link_of x))
+        x.exchange.down.session why
+
   -- a turn that failed
   fails : (s : Start) (p : Passed) (v : World) (client : LinkState) (ahead : List ℕ)
       (a : Box (Attempt L C)) (x : H1Exchange L) (why : Fail)
       (run : RunSoFar state start_at s p v [] (Relay a))
       → Turns state start_at (origin_of s run.holds.head a.value.lease.reused) client ahead x
       (step.Failed why)
-      → Advances {C = C} state start_at s (world_with client ahead v.connect_faults)
-      (Close (link_of x) a.value.lease false (outcome_of why))
-  fails s p v client ahead a x fail.OutOfMemory run turns = record {
+      → LeavesOff s (world_with client ahead v.connect_faults) a x why
+  fails s p v client ahead a x why run turns = record {
     passed = turns.passed;
-    run = closing s p turns.passed v client ahead a x _ _ run turns.told
-        (IsInOrder.is_exchange run.holds.head _ _ run.holds.relayable turns.comes_to)
-        (λ open_head. exchange_open s turns.passed run.holds.head _ _ turns.comes_to open_head)
-        (λ same. cc) (
-          inl (part_relayed s turns.passed run.holds.head a.value.lease.reused _ _
-              run.holds.relayable turns.told.reused turns.comes_to),
-          refl,
-        );
+    tells = tells_client state start_at s run.holds.head a.value.lease.reused p turns.passed v
+        client _ _ ahead run.tells turns.told;
+    held = leased state start_at s run.holds.head p turns.passed client _ _ _ _ a.value.lease
+        run.holds.leased turns.told;
+    left = by why turns.comes_to;
   }
-  fails s p v client ahead a x (fail.Error e) run turns =
-      let head = run.holds.head in
-      let told = turns.told in
-      let start = start_at (link_of x) in
-      let failed = subst
-      (λ (reused : Bool). FailsFor (origin_of s head reused) turns.passed client
-      (state (link_of x)) start e)
-      (sym told.reused) turns.comes_to in
-      let order =
-      order_of (origin_of s head start.reused) turns.passed client _ start e failed in
-      record {
-        passed = turns.passed;
-        run = closing s p turns.passed v client ahead a x _ _ run told
-            (IsInOrder.is_exchange head _ _ run.holds.relayable order)
-            (λ open_head. exchange_open s turns.passed head _ _ order open_head) (λ same. cc)
-            (record {
-              head = head;
-              relayable = run.holds.relayable;
-              why = failed;
-              invalid = λ valid. never_fails (origin_of s head start.reused) turns.passed client
-                  (state (link_of x)) start e failed valid;
-              not_kept = refl;
-              stays = refl;
-            });
-      }
+    where
+      by : (f : Fail)
+          → ComesTo state start_at (origin_of s run.holds.head a.value.lease.reused) turns.passed
+          client ahead x (step.Failed f)
+          → LeavesBy s turns.passed client (state (link_of x)) (start_at (link_of x))
+          x.exchange.down.session f
+      by fail.OutOfMemory order =
+          part_relayed s turns.passed run.holds.head a.value.lease.reused _ _ run.holds.relayable
+          turns.told.reused order
+      by (fail.Error e) fails =
+          let own = subst
+          (λ (reused : Bool). FailsWith state start_at (origin_of s run.holds.head reused)
+          turns.passed client x e) (sym turns.told.reused) fails in
+          record {
+            head = run.holds.head;
+            relayable = run.holds.relayable;
+            why = own.why;
+            answers = own.answers;
+            holds = own.holds;
+            broken = λ fault is. (own.broken fault is).0;
+          }
 
 -- ---- a turn of a phase that relays
 
@@ -442,24 +435,27 @@ module _ {L C : Type 0} (state : L → LinkState) (start_at : L → LinkStart)
         (finishes state start_at s p w x.client x.ahead within.attempt y own
         (own_turn s p step.Finished own is) (within.turns.calm (ap says_failed is))))
 
-    -- a turn that failed, whose attempt is then to be closed
+    -- a turn that failed, and what follows
     pub failed_within : (why : Fail) → did.step ≡ step.Failed why
         → x.connect_faults ≡ w.connect_faults → (end : Phase L C)
-        → ((a : Box (Attempt L C)) → next ≡ Relay a
-        → end ≡ Close (link_of a.value.exchange) a.value.lease false (outcome_of why))
+        → ((a : Box (Attempt L C)) (s : Start) (p : Passed) (z : World) → next ≡ Relay a
+        → TellsClient s p z
+        → IsLeased p (state (link_of a.value.exchange)) (start_at (link_of a.value.exchange))
+        a.value.lease
+        → LeavesBy s p z.client (state (link_of a.value.exchange))
+        (start_at (link_of a.value.exchange)) a.value.exchange.exchange.down.session why
+        → Advances {C = C} state start_at s z end)
         → (s : Start) (p : Passed) → RunSoFar state start_at s p w [] phase
         → Advances {C = C} state start_at s x end
-    failed_within why is same end closes s p run =
+    failed_within why is same end follows s p run =
         let own = own_run s p run in
         let y = within.exchange in
-        let closed : Phase L C =
-        Close (link_of y) within.attempt.value.lease false (outcome_of why) in
-        subst (λ (k : Phase L C). Advances {C = C} state start_at s x k)
-        (sym (closes (turned within.attempt y) within.stands))
-        (subst (λ (n : ℕ). Advances {C = C} state start_at s (world_with x.client x.ahead n) closed)
+        let left = fails state start_at s p w x.client x.ahead within.attempt y why own
+        (own_turn s p (step.Failed why) own is) in
+        subst (λ (n : ℕ). Advances {C = C} state start_at s (world_with x.client x.ahead n) end)
         (sym same)
-        (fails state start_at s p w x.client x.ahead within.attempt y why own
-        (own_turn s p (step.Failed why) own is)))
+        (follows (turned within.attempt y) s left.passed
+        (world_with x.client x.ahead w.connect_faults) within.stands left.tells left.held left.left)
 
     -- what is shown of both attempts is shown of both phases
     of_both : (P : Phase L C → Phase L C → Type 0)
@@ -494,7 +490,14 @@ module _ {L C : Type 0} (state : L → LinkState) (start_at : L → LinkStart)
     pub moved_cause : did.step ≡ step.Moved → HasMoved {C = C} state start_at w x phase next
     moved_cause did_move =
         subst (λ (k : Phase L C). HasMoved {C = C} state start_at w x k next) (sym within.was)
-        (did.branch, moved_by did_move within.attempt within.was)
+        (inl (did.branch, moved_by did_move within.attempt within.was))
+
+    -- one that failed and owes its client an answer
+    pub failed_cause : (end : Phase L C) → OwesAnswer end
+        → HasMoved {C = C} state start_at w x phase end
+    failed_cause end owes =
+        subst (λ (k : Phase L C). HasMoved {C = C} state start_at w x k end) (sym within.was)
+        (inr owes)
 
     -- the uses of a turn, where the link stands so behind it
     uses_at : (n : ℕ) (end : Phase L C)
@@ -659,22 +662,24 @@ module _ {L C : Type 0} (state : L → LinkState) (start_at : L → LinkStart)
 
     pub failed_uses_within : (why : Fail) → did.step ≡ step.Failed why → (end : Phase L C)
         → ((a : Box (Attempt L C)) → next ≡ Relay a
-        → end ≡ Close (link_of a.value.exchange) a.value.lease false (outcome_of why))
+        → held_state state end ≡ Some (state (link_of a.value.exchange)))
         → TurnUses (if asked then 1 else 0) w.client x.client (held_state state phase)
         (λ link. held_state state end ≡ Some link)
-    failed_uses_within why is end closes =
-        uses_at (if asked then 1 else 0) end (ap (λ (k : Phase L C). held_state state k)
-        (closes (turned within.attempt within.exchange) within.stands)) (failed_both why is)
+    failed_uses_within why is end held =
+        uses_at (if asked then 1 else 0) end
+        (held (turned within.attempt within.exchange) within.stands) (failed_both why is)
 
     pub failed_counts_within : (why : Fail) → did.step ≡ step.Failed why → (end : Phase L C)
-        → ((a : Box (Attempt L C)) → next ≡ Relay a
-        → end ≡ Close (link_of a.value.exchange) a.value.lease false (outcome_of why))
+        → ((a : Box (Attempt L C)) (n : ℕ) → next ≡ Relay a
+        → LinkUses state start_at n (link_of a.value.exchange)
+        → PhaseUses state start_at n [] end)
         → (a : Box (Attempt L C)) (n : ℕ) → phase ≡ Relay a
         → LinkUses state start_at n (link_of a.value.exchange)
         → TurnCounts state start_at n w.client x.client (if asked then 1 else 0) [] end
-    failed_counts_within why is end closes =
-        counts_at (if asked then 1 else 0) end (end_asked end _ _ _
-        (closes (turned within.attempt within.exchange) within.stands)) (failed_both why is)
+    failed_counts_within why is end last =
+        counts_at (if asked then 1 else 0) end
+        (λ k had. last (turned within.attempt within.exchange) k within.stands had)
+        (failed_both why is)
 
     -- a turn that waited waits because a link answered so
     pub waited_cause : did.step ≡ step.Waited NotReady

@@ -1,37 +1,45 @@
 -- A step takes the run so far on, and the end adds up what it says.
 use Rattle.std.specs.Global.{Box}
-use Rattle.std.proofs.Common.{◌≡◌, ◌≢◌, ℕ, ◌+◌, min, Bool, true, false, List, [], ◌∷◌, ◌++◌, Option, None, Some, Ok, Err, map, true≢false, refl, sym, ap, subst, ◌∙◌, inl, inr, append_assoc, append-nil}
+use Rattle.std.proofs.Common.{◌≡◌, ◌≢◌, ℕ, ◌+◌, min, Bool, true, false, List, [], ◌∷◌, ◌++◌, Option, None, Some, Ok, Err, map, true≢false, ◌⊎◌, refl, sym, ap, subst, ◌∙◌, inl, inr, append_assoc, append-nil}
 use Rattle.relay_links.specs.Connector.{Offer}
 use Rattle.relay_links.specs.Count.{last_count}
 use Rattle.relay_links.specs.Link.{LinkState, LinkStart, LinkItems}
 use Rattle.relay_links.specs.Told.{more, Gains}
 use Rattle.relay_links.specs.declared.Returned.{Returned}
+use Rattle.relay_session.specs.declared.session.HttpSession.{HttpSession}
+use Rattle.relay_tasks.specs.declared.Error.{Error}
 use Rattle.relay_tasks.specs.declared.Fault.{Fault}
 use Rattle.relay_h1.specs.Verdict.{IsOpen}
 use Rattle.relay_attempt.specs.Exchange.{IsUnderWay}
 use Rattle.relay_attempt.specs.Passed.{Passed}
 use Rattle.relay_attempt.specs.Head.{link_of}
 use Rattle.relay_proxy.specs.Passed.{World, Start, origin_of, IsUnsent}
-use Rattle.relay_proxy.specs.Endings.{EndsLinked, EndsUnlinked, AttemptsUnlinked, EndsReturned, EndsWith}
+use Rattle.relay_proxy.specs.Endings.{owed_by, error_of, IsErrorOf, EndsLinked, EndsUnlinked, AttemptsUnlinked, EndsReturned, EndsWith}
+use Rattle.relay_proxy.specs.Owed.{IsGivenBack, IsAnswering, IsHalfGiven}
 use Rattle.relay_proxy.specs.Taken.{Takes, offers_for, offers_before, offers_of_turn}
-use Rattle.relay_proxy.specs.Phases.{IsLeased, IsGoing, IsRelaying, RunSoFar}
-use Rattle.relay_proxy.specs.Refusals.{faults_for, faults_before, faults_of_turn}
+use Rattle.relay_proxy.specs.Phases.{IsLeased, IsFailing, IsGoing, IsRelaying, RunSoFar}
+use Rattle.relay_proxy.specs.Refusals.{faults_for, attempts_in, faults_before, faults_of_turn}
+use Rattle.relay_proxy.specs.Relaying.{is_answering, is_closing}
 use Rattle.relay_proxy.specs.Request.{StepsOn}
 use Rattle.relay_proxy.specs.Stock.{items_back}
-use Rattle.relay_proxy.specs.Turn.{Advances, HasCause, IsStalled, is_over, is_end}
-use Rattle.relay_proxy.specs.Uses.{LinkUses, OwnUses, PhaseUses, TurnCounts}
-use Rattle.relay_proxy.specs.Closing.{Hands, HandsBack, Settles, GivesUp, Finishes, IsQuietExchange, IsQuiet, Rests, TurnOf, Ends}
+use Rattle.relay_proxy.specs.Turn.{Advances, HasMoved, HasCause, HandsOn, IsStalled, is_over, is_end, is_reading_head}
+use Rattle.relay_proxy.specs.Uses.{LinkUses, OwesAnswer, OwnUses, PhaseUses, TurnCounts}
+use Rattle.relay_proxy.specs.Closing.{Hands, HandsBack, Settles, GivesUp, GivesFailedUp, GivesAnswerUp, AnswersOn, Finishes, IsQuietExchange, IsQuiet, Rests, TurnOf, Ends}
 use Rattle.relay_proxy.proofs.ConnectSteps.{part_relayed}
-use Rattle.relay_proxy.proofs.HeadSteps.{half_answered}
+use Rattle.relay_proxy.proofs.AnswerSteps.{answering_of, ends_part, waits_front, waits_left}
+use Rattle.relay_proxy.proofs.TurnLemmas.{unlinked_open, unlinked_items, answer_offers}
+use Rattle.relay_proxy.proofs.UseLemmas.{owes_settled}
 use Rattle.relay_proxy.specs.declared.finish.Ending.{Ending}
 use Rattle.relay_proxy.specs.declared.machine.Attempt.{Attempt}
 use Rattle.relay_proxy.specs.declared.machine.Lease.{Lease}
 use Rattle.relay_proxy.specs.declared.machine.Phase.{Phase}
-use Rattle.relay_proxy.specs.declared.machine.Phase.TheVariants.{ReadHead, Refuse, Connect, Relay, Close, Ended}
+use Rattle.relay_proxy.specs.declared.machine.Phase.TheVariants.{ReadHead, Connect, Relay, Fail, Close, Answer, Ended}
 use Rattle.relay_proxy.specs.declared.machine.RunStep.{RunStep}
 use Rattle.relay_proxy.specs.declared.machine.RunStep.TheVariants as step
 use Rattle.relay_proxy.specs.declared.outcome.Outcome.{Outcome}
-use Rattle.relay_proxy.specs.declared.outcome.Outcome.TheVariants.{TurnLimit}
+use Rattle.relay_proxy.specs.declared.outcome.Outcome.TheVariants.{NoRequest, Refused, Served, TurnLimit, OutOfMemory}
+use Rattle.relay_proxy.specs.declared.owed.Owed.{Owed}
+use Rattle.relay_proxy.specs.declared.owed.Owed.TheVariants as owed
 use Rattle.relay_proxy.specs.declared.record.AttemptRecord.{AttemptRecord}
 
 -- a list that gained nothing
@@ -45,26 +53,77 @@ pub more-more : {X : Type 0} (told : Option (List X)) (xs ys : List X)
 more-more None xs ys = refl
 more-more (Some ts) xs ys = ap Some (append_assoc ts xs ys)
 
+-- the error of a record is that of its outcome
+own_error : (end : Outcome) (told : Option Error) → told ≡ error_of end → IsErrorOf told end
+own_error NoRequest told is = is
+own_error (Refused error) told is = is
+own_error (Served error reuse) told is = is
+own_error TurnLimit told is = tt
+own_error OutOfMemory told is = tt
+
 module _ {L : Type 0} (state : L → LinkState) (start_at : L → LinkStart) where
   -- an attempt whose link went back ends as it did while the link was held
   returned_ends : (s : Start) (p : Passed) (w : World) (link : L) (lease : Lease) (keep : Bool)
       (outcome : Outcome) (r : Returned L) (attempts : List AttemptRecord)
       → IsLeased p (state link) (start_at link) lease → Hands link lease keep outcome r attempts
-      → EndsLinked s p w (state link) (start_at link) keep outcome
+      → EndsLinked s p w (state link) (start_at link) keep (error_of outcome) outcome
       → EndsReturned state start_at s p w r attempts outcome
   returned_ends s p w link lease keep outcome r attempts leased hands ends = record {
     tells = rw hands.is_link leased.tells;
     peer = hands.peer ∙ leased.peer;
-    ends = rw (hands.is_link, hands.kept) ends;
     attempt = hands.attempt;
     attempts_are = hands.attempts_are;
     is_record = record {
       peer = hands.asked;
       reused = rw hands.is_link (hands.reused ∙ sym leased.reused);
       kept = hands.record_kept ∙ sym hands.kept;
-      error = hands.error;
     };
+    error = own_error outcome hands.attempt.error hands.error;
+    ends = rw (hands.is_link, hands.kept, hands.error) ends;
   }
+
+  -- the link of an attempt that failed went back, and its client is owed an answer
+  given_back : (p : Passed) (link : L) (lease : Lease) (e : Error) (r : Returned L)
+      (attempts : List AttemptRecord) → IsLeased p (state link) (start_at link) lease
+      → Hands link lease false (Served (Some e) false) r attempts
+      → IsGivenBack state start_at p r attempts e
+  given_back p link lease e r attempts leased hands = record {
+    tells = rw hands.is_link leased.tells;
+    peer = hands.peer ∙ leased.peer;
+    not_kept = hands.kept;
+    attempt = hands.attempt;
+    attempts_are = hands.attempts_are;
+    is_record = record {
+      peer = hands.asked;
+      reused = rw hands.is_link (hands.reused ∙ sym leased.reused);
+      kept = hands.record_kept ∙ sym hands.kept;
+    };
+    error = hands.error;
+  }
+
+  -- what it owes is that of the link that went back
+  owes_back : (s : Start) (p : Passed) (w : World) (link : L) (lease : Lease) (e : Error)
+      (r : Returned L) (attempts : List AttemptRecord) (session : HttpSession)
+      → IsLeased p (state link) (start_at link) lease
+      → Hands link lease false (Served (Some e) false) r attempts
+      → IsFailing state start_at s p w link session e
+      → IsAnswering state start_at s p w (r ∷ []) session.writing.output (owed.Served e) attempts
+  owes_back s p w link lease e r attempts session leased hands failing =
+      let back : IsFailing state start_at s p w r.link session e =
+      subst (λ (l : L). IsFailing state start_at s p w l session e) (sym hands.is_link) failing in
+      record {
+        text = owed_by back.failed;
+        owes = (back.failed, refl);
+        waits = back.waits;
+        made = given_back p link lease e r attempts leased hands;
+      }
+
+  -- where the client takes no more of what it is owed
+  quiet_answer : (s : Start) (p : Passed) (w : World) (own : List (Returned L))
+      → IsHalfGiven state start_at s p w own → w.client.silent_on_write ≡ true
+      → IsQuiet state start_at s p w own
+  quiet_answer s p w [] half silent = inr (half, silent)
+  quiet_answer s p w (r ∷ own) half silent = inr (half, silent)
 
 module _ {L C : Type 0} (state : L → LinkState) (start_at : L → LinkStart) where
   -- what a turn counted is what its step counts, where the link of both phases was asked as often
@@ -110,8 +169,28 @@ module _ {L C : Type 0} (state : L → LinkState) (start_at : L → LinkStart) w
       → RunSoFar state start_at s p w [] next → Settled s p w next settled before after
   settle_run s p w ReadHead settled before after does run =
       stays s p w ReadHead settled before after does.0 does.1 run
-  settle_run s p w (Refuse answer e) settled before after does run =
-      stays s p w (Refuse answer e) settled before after does.0 does.1 run
+  settle_run s p w (Answer session owed attempts) settled before after does run =
+      stays s p w (Answer session owed attempts) settled before after does.0 does.1 run
+  settle_run s p w (Fail link lease session e) settled before after does run = record {
+    handed = does.2.entry ∷ [];
+    gained = does.2.gained;
+    run = subst (λ (n : Phase L C). RunSoFar state start_at s p w (does.2.entry ∷ []) n)
+        (sym does.1) (record {
+          tells = run.tells;
+          order = run.order;
+          untouched = run.untouched;
+          going = tt;
+          calm = tt;
+          holds = owes_back state start_at s p w link lease e does.2.entry does.0 session.value
+              run.holds.0 does.2.hands run.holds.1;
+        });
+    refused = ap (λ (n : Phase L C). faults_before (does.2.entry ∷ []) n) (sym does.1);
+    offered = ap (λ (l : L). Ok (start_at l).items ∷ []) (sym does.2.hands.is_link)
+        ∙ ap (λ (n : Phase L C). offers_before start_at (does.2.entry ∷ []) n) (sym does.1);
+    uses = λ n uses. subst
+        (λ (k : Phase L C). PhaseUses state start_at n (does.2.entry ∷ []) k) (sym does.1)
+        (subst (λ (l : L). LinkUses state start_at n l) (sym does.2.hands.is_link) uses);
+  }
   settle_run s p w (Connect context session) settled before after does run =
       stays s p w (Connect context session) settled before after does.0 does.1 run
   settle_run s p w (Relay a) settled before after does run =
@@ -139,45 +218,92 @@ module _ {L C : Type 0} (state : L → LinkState) (start_at : L → LinkStart) w
   settle_run s p w (Ended outcome attempts) settled before after does run =
       stays s p w (Ended outcome attempts) settled before after does.0 does.1 run
 
-  -- a phase that has not ended stays
+  -- a phase from which no link goes back stays
   settles_same : (next settled : Phase L C) (before after : Option (List (Returned L)))
-      → Settles next before after settled → is_over next ≡ false → settled ≡ next
-  settles_same ReadHead settled before after does going = does.0
-  settles_same (Refuse answer e) settled before after does going = does.0
-  settles_same (Connect context session) settled before after does going = does.0
-  settles_same (Relay a) settled before after does going = does.0
-  settles_same (Close link lease keep outcome) settled before after does going =
+      → Settles next before after settled → is_closing next ≡ false
+      → (settled ≡ next) × (after ≡ before)
+  settles_same ReadHead settled before after does shut = does
+  settles_same (Connect context session) settled before after does shut = does
+  settles_same (Relay a) settled before after does shut = does
+  settles_same (Fail link lease session e) settled before after does shut =
+      absurd (true≢false shut)
+  settles_same (Close link lease keep outcome) settled before after does shut =
+      absurd (true≢false shut)
+  settles_same (Answer session owed attempts) settled before after does shut = does
+  settles_same (Ended outcome attempts) settled before after does shut = does
+
+  -- one that has not ended stays so, or its client is owed an answer then
+  settles_live : (next settled : Phase L C) (before after : Option (List (Returned L)))
+      → Settles next before after settled → is_over next ≡ false
+      → (settled ≡ next) ⊎ (OwesAnswer next × OwesAnswer settled)
+  settles_live ReadHead settled before after does going = inl does.0
+  settles_live (Connect context session) settled before after does going = inl does.0
+  settles_live (Relay a) settled before after does going = inl does.0
+  settles_live (Fail link lease session e) settled before after does going =
+      inr (tt, owes_settled state start_at (Fail link lease session e) settled before after does tt)
+  settles_live (Close link lease keep outcome) settled before after does going =
       absurd (true≢false going)
-  settles_same (Ended outcome attempts) settled before after does going =
+  settles_live (Answer session owed attempts) settled before after does going = inl does.0
+  settles_live (Ended outcome attempts) settled before after does going =
       absurd (true≢false going)
+
+  -- a turn that moved and owes the client an answer moved whatever it owes it by
+  owes_moved : (w x : World) (phase next settled : Phase L C) → OwesAnswer next
+      → OwesAnswer settled → HasMoved state start_at w x phase next
+      → HasMoved state start_at w x phase settled
+  owes_moved w x ReadHead next settled owes owes' moved = inr (owing settled owes')
+    where
+      owing : (k : Phase L C) → OwesAnswer k → is_reading_head k ≡ false
+      owing ReadHead o = absurd o
+      owing (Connect context session) o = refl
+      owing (Relay a) o = refl
+      owing (Fail link lease session e) o = refl
+      owing (Close link lease keep outcome) o = refl
+      owing (Answer session owed attempts) o = refl
+      owing (Ended outcome attempts) o = refl
+  owes_moved w x (Connect context session) next settled owes owes' moved = inr owes'
+  owes_moved w x (Relay a) next settled owes owes' moved = inr owes'
+  owes_moved w x (Fail link lease session e) next settled owes owes' moved = owes'
+  owes_moved w x (Close link lease keep outcome) next settled owes owes' moved = absurd moved
+  owes_moved w x (Answer session owed attempts) next settled owes owes' moved = moved
+  owes_moved w x (Ended outcome attempts) next settled owes owes' moved = absurd moved
 
   -- the cause of a turn is that of the step
   pub settled_cause : (w x : World) (phase next settled : Phase L C) (did : RunStep)
       (before after : Option (List (Returned L))) → Settles next before after settled
-      → is_over next ≡ is_end did → HasCause state start_at w x phase next did
+      → is_over next ≡ is_end did → HandsOn next did
+      → HasCause state start_at w x phase next did
       → HasCause state start_at w x phase settled did
-  settled_cause w x phase next settled step.Moved before after does over cause =
-      subst (λ (n : Phase L C). HasCause state start_at w x phase n step.Moved)
-      (sym (settles_same next settled before after does over)) cause
-  settled_cause w x phase next settled (step.Waited pause) before after does over cause =
+  settled_cause w x phase next settled step.Moved before after does over waits cause =
+      elim (settles_live next settled before after does over) [
+        | inl same ↦ subst (λ (n : Phase L C). HasCause state start_at w x phase n step.Moved)
+            (sym same) cause
+        | inr owes ↦ owes_moved w x phase next settled owes.0 owes.1 cause
+      ]
+  settled_cause w x phase next settled (step.Waited pause) before after does over waits cause =
       subst (λ (n : Phase L C). HasCause state start_at w x phase n (step.Waited pause))
-      (sym (settles_same next settled before after does over)) cause
-  settled_cause w x phase next settled step.Ended before after does over cause = tt
+      (sym (settles_same next settled before after does (unclosed (is_closing next) refl)).0) cause
+    where
+      unclosed : (b : Bool) → is_closing next ≡ b → is_closing next ≡ false
+      unclosed false is = is
+      unclosed true is = elim (waits is) [ inl m ↦ absurd (cc) | inr m ↦ absurd (cc) ]
+  settled_cause w x phase next settled step.Ended before after does over waits cause = tt
 
-  -- a request that has not ended was refused nothing, so far
-  live_unrefused : (phase next : Phase L C) → is_over phase ≡ false
+  -- a request whose attempt is not recorded was refused nothing, so far
+  live_unrefused : (phase next : Phase L C) → is_over phase ≡ false → is_answering phase ≡ false
       → faults_before [] phase ++ faults_of_turn phase next ≡ faults_before [] next
-  live_unrefused ReadHead next live = refl
-  live_unrefused (Refuse answer e) next live = refl
-  live_unrefused (Connect context session) next live = refl
-  live_unrefused (Relay a) next live = refl
-  live_unrefused (Close link lease keep outcome) next live = absurd (true≢false live)
-  live_unrefused (Ended outcome attempts) next live = absurd (true≢false live)
+  live_unrefused ReadHead next live mute = refl
+  live_unrefused (Connect context session) next live mute = refl
+  live_unrefused (Relay a) next live mute = refl
+  live_unrefused (Fail link lease session e) next live mute = refl
+  live_unrefused (Close link lease keep outcome) next live mute = absurd (true≢false live)
+  live_unrefused (Answer session owed attempts) next live mute = absurd (true≢false mute)
+  live_unrefused (Ended outcome attempts) next live mute = absurd (true≢false live)
 
   -- a turn of a request that has not ended, settled, is a step
   live_on : (s : Start) (p : Passed) (x : World) (phase next settled : Phase L C)
       (before mid after : Option (List (Returned L))) (told_before told_after : Option (List Fault))
-      (had has : Option (List Offer)) → is_over phase ≡ false
+      (had has : Option (List Offer)) → is_over phase ≡ false → is_answering phase ≡ false
       → Advances state start_at s x next → mid ≡ before → Settles next mid after settled
       → Gains told_before (faults_of_turn phase next) told_after
       → Takes had (offers_of_turn start_at phase next) has
@@ -188,7 +314,7 @@ module _ {L C : Type 0} (state : L → LinkState) (start_at : L → LinkStart) w
       → TurnCounts state start_at n client x.client used [] next)
       → StepsOn state start_at s p x [] before after told_before told_after had has client counted
       counts phase settled
-  live_on s p x phase next settled before mid after told_before told_after had has live turn kept
+  live_on s p x phase next settled before mid after told_before told_after had has live mute turn kept
       does told takes carries client counted counts used adds uses =
       let done = settle_run s turn.passed x next settled mid after does turn.run in
       record {
@@ -199,7 +325,7 @@ module _ {L C : Type 0} (state : L → LinkState) (start_at : L → LinkStart) w
         refused = record {
           faults = faults_of_turn phase next;
           gained = told;
-          are = live_unrefused phase next live ∙ done.refused;
+          are = live_unrefused phase next live mute ∙ done.refused;
         };
         offered = record {
           taken = offers_of_turn start_at phase next;
@@ -243,8 +369,8 @@ module _ {L C : Type 0} (state : L → LinkState) (start_at : L → LinkStart) w
         refused = record {
           faults = [];
           gained = told;
-          are = append-nil (faults_for own outcome)
-              ∙ ap (λ (rs : List (Returned L)). faults_for rs outcome) (sym (append-nil own))
+          are = append-nil (faults_for own attempts)
+              ∙ ap (λ (rs : List (Returned L)). faults_for rs attempts) (sym (append-nil own))
               ∙ ap (λ (k : Phase L C). faults_before (own ++ []) k) (sym stayed.0);
         };
         offered = record {
@@ -303,12 +429,67 @@ module _ {L C : Type 0} (state : L → LinkState) (start_at : L → LinkStart) w
         rested = λ over. refl;
       }
 
+  -- a turn of a phase that answers, settled, is a step
+  answer_step : (s : Start) (p : Passed) (own : List (Returned L)) (x : World)
+      (session : Box HttpSession) (owes : Owed) (attempts : List AttemptRecord)
+      (next settled : Phase L C) (before mid after : Option (List (Returned L)))
+      (told_before told_after : Option (List Fault)) (had has : Option (List Offer))
+      → AnswersOn state start_at s x own attempts next → mid ≡ before
+      → Settles next mid after settled → Gains told_before [] told_after → Takes had [] has
+      → (client : LinkState) (counted counts used : ℕ) → counts ≡ min (counted + used) last_count
+      → ((n : ℕ) → PhaseUses {C = C} state start_at n own (Answer session owes attempts)
+      → TurnCounts state start_at n client x.client used own next)
+      → StepsOn state start_at s p x own before after told_before told_after had has client counted
+      counts (Answer session owes attempts) settled
+  answer_step s p own x session owes attempts next settled before mid after told_before told_after
+      had has turn kept does told takes client counted counts used adds uses =
+      let stayed = settles_same next settled mid after does
+      (unlinked_open state start_at next turn.unlinked) in
+      let none = unlinked_items state start_at next turn.unlinked in
+      record {
+        passed = turn.advances.passed;
+        handed = [];
+        gained = stayed.1 ∙ kept ∙ more-nil before;
+        run = subst
+            (λ (rs : List (Returned L)). RunSoFar state start_at s turn.advances.passed x rs settled)
+            (sym (append-nil own))
+            (subst (λ (k : Phase L C). RunSoFar state start_at s turn.advances.passed x own k)
+            (sym stayed.0) turn.advances.run);
+        refused = record {
+          faults = [];
+          gained = told;
+          are = append-nil (faults_for own attempts)
+              ∙ ap (λ (rs : List (Returned L)). faults_for rs attempts) (sym (append-nil own))
+              ∙ ap (λ (l : List AttemptRecord). faults_for (own ++ []) l)
+              (sym (ap (λ (k : Phase L C). attempts_in k) stayed.0 ∙ turn.same));
+        };
+        offered = record {
+          taken = [];
+          takes = takes;
+          are = append-nil (offers_before {C = C} start_at own (Answer session owes attempts))
+              ∙ answer_offers start_at own session owes attempts next none turn.same
+              ∙ ap (λ (k : Phase L C). offers_before start_at own k) (sym stayed.0)
+              ∙ ap (λ (rs : List (Returned L)). offers_before start_at rs settled)
+              (sym (append-nil own));
+        };
+        uses = λ n had. record {
+          used = used;
+          turn = settled_counts n client x.client used own (own ++ []) next settled
+              (λ k asked. subst (λ (rs : List (Returned L)). PhaseUses state start_at k rs settled)
+              (sym (append-nil own))
+              (subst (λ (q : Phase L C). PhaseUses state start_at k own q) (sym stayed.0) asked))
+              (uses n had);
+          adds = adds;
+        };
+        rested = λ over. absurd (true≢false (sym over));
+      }
+
   -- a step takes the run so far on
   pub step_on : (s : Start) (p : Passed) (own : List (Returned L)) (w x : World)
       (phase next settled : Phase L C) (did : RunStep)
       (before mid after : Option (List (Returned L))) (told_before told_after : Option (List Fault))
       (had has : Option (List Offer))
-      → (RunSoFar state start_at s p w [] phase → TurnOf state start_at s x phase next)
+      → (RunSoFar state start_at s p w own phase → TurnOf state start_at s x own phase next)
       → Rests w x phase next did → mid ≡ before → Settles next mid after settled
       → Gains told_before (faults_of_turn phase next) told_after
       → Takes had (offers_of_turn start_at phase next) has
@@ -323,47 +504,47 @@ module _ {L C : Type 0} (state : L → LinkState) (start_at : L → LinkStart) w
       counts phase settled
   step_on s p [] w x ReadHead next settled did before mid after t u h k
       turn rests kept does told takes carries run c i j o adds uses =
-      live_on s p x ReadHead next settled before mid after t u h k refl (turn run)
-      kept does told takes (carries refl) c i j o adds uses
-  step_on s p [] w x (Refuse answer e) next settled did before mid after t u h k
-      turn rests kept does told takes carries run c i j o adds uses =
-      live_on s p x (Refuse answer e) next settled before mid after t u h k refl (turn run)
-      kept does told takes (carries refl) c i j o adds uses
+      live_on s p x ReadHead next settled before mid after t u h k refl refl
+      (turn run) kept does told takes (carries refl) c i j o adds uses
   step_on s p [] w x (Connect context session) next settled did before mid after t u h k
       turn rests kept does told takes carries run c i j o adds uses =
-      live_on s p x (Connect context session) next settled before mid after t u h k refl (turn run)
-      kept does told takes (carries refl) c i j o adds uses
+      live_on s p x (Connect context session) next settled before mid after t u h k refl refl
+      (turn run) kept does told takes (carries refl) c i j o adds uses
   step_on s p [] w x (Relay a) next settled did before mid after t u h k
       turn rests kept does told takes carries run c i j o adds uses =
-      live_on s p x (Relay a) next settled before mid after t u h k refl (turn run)
-      kept does told takes (carries refl) c i j o adds uses
+      live_on s p x (Relay a) next settled before mid after t u h k refl refl
+      (turn run) kept does told takes (carries refl) c i j o adds uses
+  step_on s p [] w x (Fail link lease session e) next settled did before mid after t u h k
+      turn rests kept does told takes carries run c i j o adds uses =
+      live_on s p x (Fail link lease session e) next settled before mid after t u h k refl refl
+      (turn run) kept does told takes (carries refl) c i j o adds uses
   step_on s p [] w x (Close link lease keep outcome) next settled did before mid after t u h k
       turn rests kept does told takes carries run c i j o adds uses =
       closed_on s p w x link lease keep outcome next settled did before mid after t u h k rests
       kept does told takes run c i j o adds uses
-  step_on s p [] w x (Ended outcome attempts) next settled did before mid after t u h k
-      turn rests kept does told takes carries run c i j o adds uses =
-      ended_on s p [] w x outcome attempts next settled did before mid after t u h k rests kept
-      does told takes run c i j o adds uses
-  step_on s p (r ∷ own) w x ReadHead next settled did before mid after t u h k
-      turn rests kept does told takes carries run c i j o adds uses =
+  step_on s p (r ∷ own) w x ReadHead next settled did before mid after t u
+      h k turn rests kept does told takes carries run c i j o adds uses =
       absurd run.holds
-  step_on s p (r ∷ own) w x (Refuse answer e) next settled did before mid after t u h k
-      turn rests kept does told takes carries run c i j o adds uses =
+  step_on s p (r ∷ own) w x (Connect context session) next settled did before mid after t u
+      h k turn rests kept does told takes carries run c i j o adds uses =
       absurd run.holds
-  step_on s p (r ∷ own) w x (Connect context session) next settled did before mid after t u h k
-      turn rests kept does told takes carries run c i j o adds uses =
+  step_on s p (r ∷ own) w x (Relay a) next settled did before mid after t u
+      h k turn rests kept does told takes carries run c i j o adds uses =
       absurd run.holds
-  step_on s p (r ∷ own) w x (Relay a) next settled did before mid after t u h k
-      turn rests kept does told takes carries run c i j o adds uses =
+  step_on s p (r ∷ own) w x (Fail link lease session e) next settled did before mid after t u
+      h k turn rests kept does told takes carries run c i j o adds uses =
       absurd run.holds
   step_on s p (r ∷ own) w x (Close link lease keep outcome) next settled did before mid after t u
       h k turn rests kept does told takes carries run c i j o adds uses =
       absurd run.holds
-  step_on s p (r ∷ own) w x (Ended outcome attempts) next settled did before mid after t u h k
+  step_on s p own w x (Answer session owes attempts) next settled did before mid after t u h k
       turn rests kept does told takes carries run c i j o adds uses =
-      ended_on s p (r ∷ own) w x outcome attempts next settled did before mid after t u h k rests
-      kept does told takes run c i j o adds uses
+      answer_step s p own x session owes attempts next settled before mid after t u h k (turn run)
+      kept does told takes c i j o adds uses
+  step_on s p own w x (Ended outcome attempts) next settled did before mid after t u h k
+      turn rests kept does told takes carries run c i j o adds uses =
+      ended_on s p own w x outcome attempts next settled did before mid after t u h k rests kept
+      does told takes run c i j o adds uses
 
   -- an attempt in which all that can be done asks a silent link
   quiet_over : (s : Start) (p : Passed) (w : World) (a : Box (Attempt L C))
@@ -385,7 +566,7 @@ module _ {L C : Type 0} (state : L → LinkState) (start_at : L → LinkStart) w
       (outcome : Outcome) → ending.outcome ≡ outcome
       → HandsBack link lease keep outcome before after ending.attempts
       → RunSoFar state start_at s p w [] phase → IsLeased p (state link) (start_at link) lease
-      → EndsLinked s p w (state link) (start_at link) keep outcome
+      → EndsLinked s p w (state link) (start_at link) keep (error_of outcome) outcome
       → (IsStalled state start_at w phase → IsQuietExchange state start_at s p w link)
       → faults_before [] phase ≡ []
       → offers_before start_at [] phase ≡ Ok (start_at link).items ∷ []
@@ -409,8 +590,8 @@ module _ {L C : Type 0} (state : L → LinkState) (start_at : L → LinkStart) w
         offered = ap (λ (l : L). Ok (start_at l).items ∷ []) back.hands.is_link ∙ sym holds;
         uses = λ n asked. subst (λ (l : L). LinkUses state start_at n l)
             (sym back.hands.is_link) (linked n asked);
-        quiet = λ limit still. subst (λ (l : L). IsQuietExchange state start_at s p w l)
-            (sym back.hands.is_link) (stalled still);
+        quiet = λ limit still. inl (subst (λ (l : L). IsQuietExchange state start_at s p w l)
+            (sym back.hands.is_link) (stalled still));
       }
 
   -- a request that had no link gave up
@@ -428,11 +609,12 @@ module _ {L C : Type 0} (state : L → LinkState) (start_at : L → LinkStart) w
       tells = run.tells;
       order = run.order;
       untouched = run.untouched;
-      ends = subst (λ (o : Outcome). EndsUnlinked s p w o × AttemptsUnlinked ending.attempts o)
-          (sym gives.limit) (unsent, gives.none);
+      ends = subst
+          (λ (o : Outcome). EndsUnlinked s p w o × AttemptsUnlinked s p w ending.attempts o)
+          (sym gives.limit) (unsent, inl gives.none);
     };
-    refused = ap (λ (o : Outcome). faults_for {L = L} [] o) gives.limit ∙ sym none;
-    offered = ap (λ (o : Outcome). offers_for start_at [] o) gives.limit ∙ sym bare;
+    refused = ap (λ (l : List AttemptRecord). faults_for {L = L} [] l) gives.none ∙ sym none;
+    offered = ap (λ (l : List AttemptRecord). offers_for start_at [] l) gives.none ∙ sym bare;
     uses = asked;
     quiet = λ limit still. stalled still;
   }
@@ -458,16 +640,93 @@ module _ {L C : Type 0} (state : L → LinkState) (start_at : L → LinkStart) w
           (subst (λ (rs : List (Returned L)). EndsWith state start_at s p w rs attempts outcome)
           (sym (append-nil own)) ends));
     };
-    refused = ap (λ (o : Outcome). faults_for (own ++ []) o) is
-        ∙ ap (λ (rs : List (Returned L)). faults_for rs outcome) (append-nil own);
-    offered = ap (λ (o : Outcome). offers_for start_at (own ++ []) o) is
-        ∙ ap (λ (rs : List (Returned L)). offers_for start_at rs outcome) (append-nil own)
-        ∙ ap (λ (xs : List (Option LinkItems)). map Ok xs ++ map Err (faults_for own outcome))
+    refused = ap (λ (l : List AttemptRecord). faults_for (own ++ []) l) same
+        ∙ ap (λ (rs : List (Returned L)). faults_for rs attempts) (append-nil own);
+    offered = ap (λ (l : List AttemptRecord). offers_for start_at (own ++ []) l) same
+        ∙ ap (λ (rs : List (Returned L)). offers_for start_at rs attempts) (append-nil own)
+        ∙ ap (λ (xs : List (Option LinkItems)). map Ok xs ++ map Err (faults_for own attempts))
         (sym (append-nil (items_back start_at own)));
     uses = λ n asked. subst (λ (rs : List (Returned L)). OwnUses state start_at n rs)
         (sym (append-nil own)) asked;
     quiet = λ limit never. absurd never;
   }
+
+  -- a request whose exchange failed gave up before its link went back
+  failed_end : (s : Start) (p : Passed) (w : World) (link : L) (lease : Lease)
+      (session : Box HttpSession) (e : Error) (before after : Option (List (Returned L)))
+      (ending : Ending) → GivesFailedUp link lease e before after ending
+      → RunSoFar {C = C} state start_at s p w [] (Fail link lease session e)
+      → Ends {C = C} state start_at s p w [] before after (Fail link lease session e) ending
+  failed_end s p w link lease session e before after ending gives run =
+      let back = owes_back state start_at s p w link lease e gives.back.entry ending.attempts
+      session.value run.holds.0 gives.back.hands run.holds.1 in
+      record {
+        handed = gives.back.entry ∷ [];
+        gained = gives.back.gained;
+        ended = record {
+          tells = run.tells;
+          order = run.order;
+          untouched = run.untouched;
+          ends = subst
+              (λ (o : Outcome).
+              EndsReturned state start_at s p w gives.back.entry ending.attempts o)
+              (sym gives.limit)
+              (ends_part state start_at s p w (gives.back.entry ∷ []) (owed.Served e) back.text
+              ending.attempts back.owes (waits_front _ _ _ back.waits) back.made).0;
+        };
+        refused = refl;
+        offered = ap (λ (l : L). Ok (start_at l).items ∷ []) gives.back.hands.is_link;
+        uses = λ n asked. subst (λ (l : L). LinkUses state start_at n l)
+            (sym gives.back.hands.is_link) asked;
+        quiet = λ limit never. absurd never;
+      }
+
+  -- a request that owes its client an answer gave up
+  answered_end : (s : Start) (p : Passed) (w : World) (own : List (Returned L))
+      (session : Box HttpSession) (owes : Owed) (attempts : List AttemptRecord)
+      (before after : Option (List (Returned L))) (ending : Ending)
+      → GivesAnswerUp attempts before after ending
+      → RunSoFar {C = C} state start_at s p w own (Answer session owes attempts)
+      → Ends {C = C} state start_at s p w own before after (Answer session owes attempts) ending
+  answered_end s p w own session owes attempts before after ending gives run =
+      let holds = answering_of state start_at s p w own session owes attempts run in
+      let front = waits_front _ _ _ holds.waits in
+      let ends = (ends_part state start_at s p w own owes holds.text attempts holds.owes front
+      holds.made).0 in
+      record {
+        handed = [];
+        gained = gives.same ∙ more-nil before;
+        ended = record {
+          tells = run.tells;
+          order = run.order;
+          untouched = run.untouched;
+          ends = subst
+              (λ (o : Outcome). EndsWith state start_at s p w (own ++ []) ending.attempts o)
+              (sym gives.limit)
+              (subst
+              (λ (l : List AttemptRecord). EndsWith state start_at s p w (own ++ []) l TurnLimit)
+              (sym gives.made)
+              (subst (λ (rs : List (Returned L)). EndsWith state start_at s p w rs attempts TurnLimit)
+              (sym (append-nil own)) ends));
+        };
+        refused = ap (λ (l : List AttemptRecord). faults_for (own ++ []) l) gives.made
+            ∙ ap (λ (rs : List (Returned L)). faults_for rs attempts) (append-nil own);
+        offered = ap (λ (l : List AttemptRecord). offers_for start_at (own ++ []) l) gives.made
+            ∙ ap (λ (rs : List (Returned L)). offers_for start_at rs attempts) (append-nil own)
+            ∙ ap (λ (xs : List (Option LinkItems)). map Ok xs ++ map Err (faults_for own attempts))
+            (sym (append-nil (items_back start_at own)));
+        uses = λ n asked. subst (λ (rs : List (Returned L)). OwnUses state start_at n rs)
+            (sym (append-nil own)) asked;
+        quiet = λ limit silent. subst (λ (rs : List (Returned L)). IsQuiet state start_at s p w rs)
+            (sym (append-nil own))
+            (quiet_answer state start_at s p w own (record {
+              owed = owes;
+              text = holds.text;
+              owes = holds.owes;
+              part = front;
+              left = waits_left _ _ _ holds.waits;
+            }) silent);
+      }
 
   -- the end of a request, wherever it stands
   pub end_of : (s : Start) (p : Passed) (own : List (Returned L)) (w : World) (phase : Phase L C)
@@ -478,9 +737,6 @@ module _ {L C : Type 0} (state : L → LinkState) (start_at : L → LinkStart) w
       unlinked_end s p w ReadHead before after ending does run run.holds.unsent
       (λ h. inl (subst (λ (xs : List ℕ). IsOpen xs) run.holds.whole h.0, h.1)) refl refl
       (λ n asked. asked)
-  end_of s p [] w (Refuse answer e) before after ending does run =
-      unlinked_end s p w (Refuse answer e) before after ending does run run.holds.unsent
-      (λ h. inr (half_answered s p answer e run.holds, h)) refl refl (λ n asked. asked)
   end_of s p [] w (Connect context session) before after ending does run =
       unlinked_end s p w (Connect context session) before after ending does run run.holds.unsent
       (λ h. absurd h) refl refl (λ n asked. asked)
@@ -495,10 +751,15 @@ module _ {L C : Type 0} (state : L → LinkState) (start_at : L → LinkStart) w
   end_of s p [] w (Close link lease keep outcome) before after ending does run =
       linked_end s p w (Close link lease keep outcome) link lease keep before after ending outcome
       does.0 does.1 run run.holds.0 run.holds.1 (λ h. absurd h) refl refl (λ n asked. asked)
+  end_of s p [] w (Fail link lease session e) before after ending does run =
+      failed_end s p w link lease session e before after ending does run
   end_of s p [] w (Ended outcome attempts) before after ending does run =
       ended_end s p w [] outcome attempts before after ending run.holds does.0 does.1 does.2 run
+  end_of s p own w (Answer session owes attempts) before after ending does run =
+      answered_end s p w own session owes attempts before after ending does run
   end_of s p (r ∷ own) w ReadHead before after ending does run = absurd run.holds
-  end_of s p (r ∷ own) w (Refuse answer e) before after ending does run = absurd run.holds
+  end_of s p (r ∷ own) w (Fail link lease session e) before after ending does run =
+      absurd run.holds
   end_of s p (r ∷ own) w (Connect context session) before after ending does run = absurd run.holds
   end_of s p (r ∷ own) w (Relay a) before after ending does run = absurd run.holds
   end_of s p (r ∷ own) w (Close link lease keep outcome) before after ending does run =
@@ -512,7 +773,10 @@ module _ {L C : Type 0} (state : L → LinkState) (start_at : L → LinkStart) w
       → IsGoing state start_at phase → Finishes phase before after ending → is_over phase ≡ true
       → ending.outcome ≢ TurnLimit
   over_end ReadHead before after ending going does over = absurd (true≢false (sym over))
-  over_end (Refuse answer e) before after ending going does over = absurd (true≢false (sym over))
+  over_end (Fail link lease session e) before after ending going does over =
+      absurd (true≢false (sym over))
+  over_end (Answer session owes attempts) before after ending going does over =
+      absurd (true≢false (sym over))
   over_end (Connect context session) before after ending going does over =
       absurd (true≢false (sym over))
   over_end (Relay a) before after ending going does over = absurd (true≢false (sym over))

@@ -12,7 +12,7 @@ use Rattle.relay_session.specs.declared.session.HttpSession.{HttpSession}
 use Rattle.relay_proxy.specs.Passed.{World, Start, origin_of}
 use Rattle.relay_proxy.specs.Phases.{RunSoFar}
 use Rattle.relay_proxy.specs.Uses.{ClientUses, LinkUses, OwnUses, PhaseUses, TurnCounts}
-use Rattle.relay_proxy.specs.Refusals.{faults_of_turn}
+use Rattle.relay_proxy.specs.Refusals.{attempts_in, faults_of_turn}
 use Rattle.relay_proxy.specs.Relaying.{is_relaying, is_closing}
 use Rattle.relay_proxy.specs.Stock.{items_held}
 use Rattle.relay_proxy.specs.Taken.{offers_before, offers_of_turn}
@@ -25,6 +25,8 @@ use Rattle.relay_proxy.specs.declared.machine.Attempt.{Attempt}
 use Rattle.relay_proxy.specs.declared.machine.Phase.{Phase}
 use Rattle.relay_proxy.specs.declared.machine.Phase.TheVariants.{ReadHead, Connect, Relay, Fail, Close, Answer, Ended}
 use Rattle.relay_proxy.specs.declared.machine.RunStep.{RunStep}
+use Rattle.relay_proxy.specs.declared.owed.Owed.{Owed}
+use Rattle.relay_proxy.specs.declared.record.AttemptRecord.{AttemptRecord}
 use Rattle.relay_proxy.specs.declared.work.Work.{Work}
 
 module _ {L C : Type 0} (state : L → LinkState) (start_at : L → LinkStart) where
@@ -85,7 +87,7 @@ module _ {L C : Type 0} (state : L → LinkState) (start_at : L → LinkStart) w
   relaying_unrefused (Fail link lease session error) next is held = absurd (true≢false (sym is))
   relaying_unrefused (Answer session owed attempts) next is held = absurd (true≢false (sym is))
   relaying_unrefused (Connect context session) next is held = absurd (true≢false (sym is))
-  relaying_unrefused (Relay a) next is held = refl
+  relaying_unrefused (Relay a) next is held = none_before_link state start_at next held
   relaying_unrefused (Close link lease keep outcome) next is held = absurd (true≢false (sym is))
   relaying_unrefused (Ended outcome attempts) next is held = absurd (true≢false (sym is))
 
@@ -240,3 +242,44 @@ open_settles (Connect context session) told is = (refl, refl)
 open_settles (Relay a) told is = (refl, refl)
 open_settles (Close link lease keep outcome) told is = absurd (true≢false is)
 open_settles (Ended outcome attempts) told is = (refl, refl)
+
+-- a phase that holds no link has none to hand back
+pub unlinked_open : {L C : Type 0} (state : L → LinkState) (start_at : L → LinkStart)
+    (phase : Phase L C) → links_held state start_at phase ≡ 0 → is_closing phase ≡ false
+unlinked_open state start_at ReadHead none = refl
+unlinked_open state start_at (Connect context session) none = refl
+unlinked_open state start_at (Relay a) none = refl
+unlinked_open state start_at (Fail link lease session error) none = cc
+unlinked_open state start_at (Close link lease keep outcome) none = cc
+unlinked_open state start_at (Answer session owed attempts) none = refl
+unlinked_open state start_at (Ended outcome attempts) none = refl
+
+-- nor has one that relays
+pub relaying_open : {L C : Type 0} (phase : Phase L C) → is_relaying phase ≡ true
+    → is_closing phase ≡ false
+relaying_open ReadHead is = refl
+relaying_open (Connect context session) is = refl
+relaying_open (Relay a) is = refl
+relaying_open (Fail link lease session error) is = absurd (true≢false (sym is))
+relaying_open (Close link lease keep outcome) is = absurd (true≢false (sym is))
+relaying_open (Answer session owed attempts) is = refl
+relaying_open (Ended outcome attempts) is = refl
+
+-- a phase that holds no link has the items of none
+pub unlinked_items : {L C : Type 0} (state : L → LinkState) (start_at : L → LinkStart)
+    (phase : Phase L C) → links_held state start_at phase ≡ 0 → items_held start_at phase ≡ []
+unlinked_items state start_at ReadHead none = refl
+unlinked_items state start_at (Connect context session) none = refl
+unlinked_items state start_at (Relay a) none = cc
+unlinked_items state start_at (Fail link lease session error) none = cc
+unlinked_items state start_at (Close link lease keep outcome) none = cc
+unlinked_items state start_at (Answer session owed attempts) none = refl
+unlinked_items state start_at (Ended outcome attempts) none = refl
+
+-- what was taken before an answer was, before the next phase
+pub answer_offers : {L C : Type 0} (start_at : L → LinkStart) (own : List (Returned L))
+    (session : Box HttpSession) (owed : Owed) (attempts : List AttemptRecord) (next : Phase L C)
+    → items_held start_at next ≡ [] → attempts_in next ≡ attempts
+    → offers_before {C = C} start_at own (Answer session owed attempts)
+    ≡ offers_before start_at own next
+answer_offers start_at own session owed attempts next none same = rw (none, sym same) refl

@@ -12,21 +12,22 @@ use Rattle.relay_attempt.specs.Passed.{Passed}
 use Rattle.relay_proxy.specs.Passed.{World, Start, start_of, nothing}
 use Rattle.relay_proxy.specs.Taken.{Takes, offers_before}
 use Rattle.relay_proxy.specs.Phases.{RunSoFar}
-use Rattle.relay_proxy.specs.Refusals.{faults_before}
+use Rattle.relay_proxy.specs.Refusals.{attempts_in, faults_for, faults_before}
+use Rattle.relay_proxy.specs.Stock.{items_held}
 use Rattle.relay_proxy.specs.Request.{is_stop, Counts, StepsOn, ComesToEnd, Processes}
 use Rattle.relay_proxy.specs.Turn.{IsStalled, HasCause, links_held, is_over, is_end}
 use Rattle.relay_proxy.specs.Uses.{PhaseUses, OwnUses, StepCounts, CountsAll, ups}
 use Rattle.relay_proxy.specs.declared.machine.Machine.{Machine}
 use Rattle.relay_proxy.specs.declared.machine.Phase.{Phase}
-use Rattle.relay_proxy.specs.declared.machine.Phase.TheVariants.{ReadHead, Refuse, Connect, Relay, Close, Ended}
 use Rattle.relay_proxy.specs.declared.machine.RunStep.{RunStep}
 use Rattle.relay_proxy.specs.declared.machine.RunStep.TheVariants as step
 use Rattle.relay_proxy.specs.declared.outcome.Outcome.TheVariants.{TurnLimit}
 use Rattle.relay_proxy.specs.declared.outcome.Processed.{Processed}
+use Rattle.relay_proxy.specs.declared.record.AttemptRecord.{AttemptRecord}
 use Rattle.relay_proxy.proofs.StepLemmas.{more-nil, more-more}
 use Rattle.relay_proxy.proofs.CountLemmas.{ups_twice, min_twice}
 use Rattle.relay_proxy.proofs.ExactLemmas.{exact_of}
-use Rattle.relay_proxy.proofs.TurnLemmas.{unlinked_asked}
+use Rattle.relay_proxy.proofs.TurnLemmas.{unlinked_asked, unlinked_items}
 use Rattle.relay_proxy.proofs.TakenLemmas.{takes_nothing, takes_twice}
 
 -- a step after which the call goes on is counted
@@ -97,24 +98,10 @@ module _ {L C : Type 0} (state : L → LinkState) (start_at : L → LinkStart) w
     pub uses : UsesSoFar first w.client own m.phase m.work.used
     pub counted : m.turns ≡ turns
 
-  -- a request that has not ended was refused nothing
-  none_before : (phase : Phase L C) → is_over phase ≡ false → faults_before [] phase ≡ []
-  none_before ReadHead going = refl
-  none_before (Refuse answer e) going = refl
-  none_before (Connect context session) going = refl
-  none_before (Relay a) going = refl
-  none_before (Close link lease keep outcome) going = refl
-  none_before (Ended outcome attempts) going = absurd (true≢false going)
-
-  -- and where it holds no link it took nothing
-  none_taken : (phase : Phase L C) → is_over phase ≡ false
-      → links_held state start_at phase ≡ 0 → offers_before start_at [] phase ≡ []
-  none_taken ReadHead going none = refl
-  none_taken (Refuse answer e) going none = refl
-  none_taken (Connect context session) going none = refl
-  none_taken (Relay a) going none = cc
-  none_taken (Close link lease keep outcome) going none = absurd (true≢false going)
-  none_taken (Ended outcome attempts) going none = absurd (true≢false going)
+  -- a request without an attempt, that holds no link, took nothing
+  none_taken : (phase : Phase L C) → attempts_in phase ≡ [] → items_held start_at phase ≡ []
+      → offers_before start_at [] phase ≡ []
+  none_taken phase none bare = rw (none, bare) refl
 
   -- a request that was just begun
   pub begun : (w x : World) (before now : Option (List (Returned L)))
@@ -122,10 +109,10 @@ module _ {L C : Type 0} (state : L → LinkState) (start_at : L → LinkStart) w
       (first : LinkState) (m : Machine L C) → now ≡ before
       → told_now ≡ told_before → has ≡ had
       → RunSoFar state start_at (start_of w) nothing x [] m.phase
-      → is_over m.phase ≡ false → links_held state start_at m.phase ≡ 0 → m.turns ≡ 0
+      → attempts_in m.phase ≡ [] → links_held state start_at m.phase ≡ 0 → m.turns ≡ 0
       → x.client ≡ first → m.work.used ≡ 0
       → IsUnderWay (start_of w) x before now told_before told_now had has first m 0
-  begun w x before now told_before told_now had has first m same told kept run going unlinked none
+  begun w x before now told_before told_now had has first m same told kept run unmade unlinked none
       is unused =
       record {
         passed = nothing;
@@ -133,9 +120,9 @@ module _ {L C : Type 0} (state : L → LinkState) (start_at : L → LinkStart) w
         gained = same ∙ more-nil before;
         run = run;
         refused = subst (λ (fs : List Fault). Gains told_before fs told_now)
-            (sym (none_before m.phase going)) (Gains-nothing told_before told_now told);
+            (sym (ap (λ (l : List AttemptRecord). faults_for {L = L} [] l) unmade)) (Gains-nothing told_before told_now told);
         offered = takes_nothing (offers_before start_at [] m.phase) had has
-            (none_taken m.phase going unlinked) kept;
+            (none_taken m.phase unmade (unlinked_items state start_at m.phase unlinked)) kept;
         uses = record {
           client = 0;
           upstream = 0;

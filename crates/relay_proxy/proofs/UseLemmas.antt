@@ -22,7 +22,8 @@ use Rattle.relay_proxy.specs.Closing.{Settles}
 use Rattle.relay_proxy.specs.Passed.{World, Start}
 use Rattle.relay_proxy.specs.Phases.{IsRelaying, RunSoFar}
 use Rattle.relay_proxy.specs.Turn.{held_state}
-use Rattle.relay_proxy.specs.Uses.{BothUse, Measured, MovedBy, OwesAnswer, StandsBehind, TurnUses, work_by}
+use Rattle.relay_proxy.specs.Uses.{BothUse, Measured, MovedBy, MovesOn, OwesAnswer, StandsBehind, TurnUses, work_by}
+use Rattle.relay_proxy.specs.Work.{added_work}
 use Rattle.relay_proxy.specs.declared.work.Work.{Work}
 use Rattle.relay_proxy.specs.declared.uses.Uses.{Uses}
 use Rattle.relay_proxy.specs.declared.machine.Attempt.{Attempt}
@@ -226,3 +227,12 @@ module _ {L C : Type 0} (state : L → LinkState) (start_at : L → LinkStart) w
       inl (moved_settled w x work a next settled before after does moves)
   settled_moves w x work a next settled before after does (inr owes) =
       inr (owes_settled next settled before after does owes)
+
+  -- with what was counted before, and after it
+  pub moves_on : (before after turn : Work) (w x : World) (a : H1Exchange L) (next : Phase L C)
+      → after ≡ added_work before turn
+      → MovedBy state start_at w x turn a next ⊎ OwesAnswer next
+      → MovesOn state start_at w x before after a next ⊎ OwesAnswer next
+  moves_on before after turn w x a next adds (inl moves) =
+      inl (record { work = turn; moves = moves; adds = adds })
+  moves_on before after turn w x a next adds (inr owes) = inr owes

@@ -40,12 +40,12 @@ attempts_in (Ended outcome attempts) = attempts
 abbrev pub faults_before : {L C : Type 0} → List (Returned L) → Phase L C → List Fault
 faults_before own phase = faults_for own (attempts_in phase)
 
--- the faults of a turn: before there is a link those before the next phase, and then none
+-- the faults of a turn: those before the next phase, and none once the attempt is recorded
 abbrev pub faults_of_turn : {L C : Type 0} → Phase L C → Phase L C → List Fault
 faults_of_turn ReadHead next = faults_before [] next
 faults_of_turn (Connect context session) next = faults_before [] next
-faults_of_turn (Relay a) next = []
-faults_of_turn (Fail link lease session error) next = []
+faults_of_turn (Relay a) next = faults_before [] next
+faults_of_turn (Fail link lease session error) next = faults_before [] next
 faults_of_turn (Close link lease keep outcome) next = []
 faults_of_turn (Answer session owed attempts) next = []
 faults_of_turn (Ended outcome attempts) next = []

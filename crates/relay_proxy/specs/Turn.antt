@@ -12,6 +12,7 @@ use Rattle.relay_attempt.specs.Passed.{Passed}
 use Rattle.relay_attempt.specs.Head.{link_of}
 use Rattle.relay_proxy.specs.Passed.{World, Start}
 use Rattle.relay_proxy.specs.Phases.{RunSoFar}
+use Rattle.relay_proxy.specs.Relaying.{is_closing}
 use Rattle.relay_proxy.specs.Uses.{ExchangeMoved, OwesAnswer}
 use Rattle.relay_proxy.specs.Work.{total_work}
 use Rattle.relay_proxy.specs.declared.machine.Phase.{Phase}
@@ -138,6 +139,10 @@ module _ {L C : Type 0} (state : L → LinkState) (start_at : L → LinkStart) w
   HasCause w x phase next (step.Waited NotReady) = HasWaited w x phase next
   HasCause w x phase next (step.Waited Silent) = MeetsSilence w x phase next
   HasCause w x phase next step.Ended = Unit {0}
+
+-- a turn behind which a link is to be handed back moved, or it ended the request
+abbrev pub HandsOn : {L C : Type 0} → Phase L C → RunStep → Type 0
+HandsOn next did = is_closing next ≡ true → (did ≡ step.Moved) ⊎ (did ≡ step.Ended)
 
 -- a turn did its work; a request that has ended does none
 abbrev pub WorksIn : {L C : Type 0} → Phase L C → RunStep → Work → Type 0

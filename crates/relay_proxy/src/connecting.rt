@@ -1,5 +1,5 @@
 //! The connector: asked once for a link, over which the request's one attempt then goes.
-ghost use Rattle.std.specs.Prelude.{◌≡◌, ◌+◌, ◌≤◌, [], ◌∷◌, ℕ, List, Some, IfSome, false};
+ghost use Rattle.std.specs.Prelude.{◌≡◌, ◌⊎◌, ◌+◌, ◌≤◌, [], ◌∷◌, ℕ, List, Some, IfSome, false};
 ghost use Rattle.std.specs.Global.{Box};
 ghost use Rattle.relay_links.specs.Connector.{IsConnectFault, connect_fault};
 ghost use Rattle.relay_links.specs.Count.{last_count, Rose};
@@ -72,6 +72,7 @@ pub(crate) fn connect<K: Connector, C: Drop>(
         result.phase result.step }
     ensures work { DoesWork result.step result.work }
     ensures unused { result.work.used ≡ 0 }
+    ensures step { (result.step ≡ RunStep.Moved) ⊎ (result.step ≡ RunStep.Ended) }
     ensures over { is_over result.phase ≡ is_end result.step }
     ensures out { K.out connector.new
         ≡ K.out connector.old + links_held K.Byte.state K.Byte.start result.phase }
@@ -115,6 +116,7 @@ fn refused_link<L: ByteLink, C>(
         → Advances {C = C} L.state L.start s (world_with w.client w.ahead failed) result.phase }
     ensures cause { (w x : World) (context : C) → HasCause {C = C} L.state L.start w x
         (Phase.Connect context session) result.phase result.step }
+    ensures step { (result.step ≡ RunStep.Moved) ⊎ (result.step ≡ RunStep.Ended) }
     ensures over { is_over result.phase ≡ is_end result.step }
     ensures unlinked { links_held L.state L.start result.phase ≡ 0 }
     ensures no_items { items_held L.start result.phase ≡ [] }
@@ -173,6 +175,7 @@ fn begin<L: ByteLink, C: Drop>(
         result.phase result.step }
     ensures work { DoesWork result.step result.work }
     ensures unused { result.work.used ≡ 0 }
+    ensures step { (result.step ≡ RunStep.Moved) ⊎ (result.step ≡ RunStep.Ended) }
     ensures over { is_over result.phase ≡ is_end result.step }
     ensures linked { links_held L.state L.start result.phase ≡ 1 }
     ensures items { items_held L.start result.phase ≡ (L.start link).items ∷ [] }
@@ -206,6 +209,7 @@ fn hold<L: ByteLink, C: Drop>(alloc: Global, attempt: Attempt<L, C>) -> Next<L, 
         → HasCause L.state L.start w x (Phase.Connect context session) result.phase result.step }
     ensures work { DoesWork result.step result.work }
     ensures unused { result.work.used ≡ 0 }
+    ensures step { (result.step ≡ RunStep.Moved) ⊎ (result.step ≡ RunStep.Ended) }
     ensures over { is_over result.phase ≡ is_end result.step }
     ensures linked { links_held L.state L.start result.phase ≡ 1 }
     ensures items { items_held L.start result.phase

@@ -5,6 +5,7 @@ ghost use Rattle.relay_links.specs.Count.{Rose};
 ghost use Rattle.relay_attempt.specs.Passed.{Passed};
 ghost use Rattle.relay_proxy.specs.Passed.{Start, start_of, nothing};
 ghost use Rattle.relay_proxy.specs.Phases.{RunSoFar};
+ghost use Rattle.relay_proxy.specs.Refusals.{attempts_in};
 ghost use Rattle.relay_proxy.specs.Request.{is_stop, ended_after, Counts, StepsOn, ComesToEnd, Processes};
 ghost use Rattle.relay_proxy.specs.Stock.{items_held, all_items};
 ghost use Rattle.relay_proxy.specs.Turn.{world_of, held_state, links_held, is_reading_head, is_over, is_end, HasCause};
@@ -123,6 +124,7 @@ impl<SV: ProxyHttp, K: Connector, P: Purger> HttpProxy<SV, K, P> {
         ensures going { is_over result.machine.phase ≡ false }
         ensures no_link { links_held K.Byte.state K.Byte.start result.machine.phase ≡ 0 }
         ensures no_items { items_held K.Byte.start result.machine.phase ≡ [] }
+        ensures no_attempts { attempts_in result.machine.phase ≡ [] }
         ensures kept { result.kept ≡ kept }
         ensures client { client.new ≡ client.old }
     {

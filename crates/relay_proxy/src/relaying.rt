@@ -9,13 +9,13 @@ ghost use Rattle.relay_core.specs.Past.{Origin};
 ghost use Rattle.relay_attempt.specs.Exchange.{IsUnderWay, Turns, MeetsSilence, Asks, HasMoved};
 ghost use Rattle.relay_attempt.specs.Head.{link_of, may_keep};
 ghost use Rattle.relay_attempt.specs.Passed.{Passed};
-ghost use Rattle.relay_proxy.specs.Leaving.{LeavesBy};
+ghost use Rattle.relay_proxy.specs.Leaving.{LeavesBy, LeavesSession};
 ghost use Rattle.relay_proxy.specs.Passed.{World, Start, TellsClient};
 ghost use Rattle.relay_proxy.specs.Phases.{IsLeased, RunSoFar};
 ghost use Rattle.relay_proxy.specs.Relaying.{is_relaying, TurnsOver, TurnsWithin};
 ghost use Rattle.relay_proxy.specs.Reuse.{client_reusable, lets_ask_again};
 ghost use Rattle.relay_proxy.specs.Stock.{items_held};
-ghost use Rattle.relay_proxy.specs.Turn.{world_of, DoesWork, is_over, is_end, held_state, links_held, Advances, HasCause};
+ghost use Rattle.relay_proxy.specs.Turn.{world_of, DoesWork, is_over, is_end, held_state, links_held, Advances, HandsOn, HasCause};
 ghost use Rattle.relay_proxy.specs.Uses.{LinkUses, MovedBy, OwesAnswer, PhaseUses, TurnCounts, TurnUses};
 ghost use Rattle.relay_proxy.specs.Work.{total_work};
 
@@ -31,7 +31,7 @@ use relay_exchange::Turn;
 use relay_h1::{Connection, closes};
 use relay_links::{ByteLink, Schedule};
 use relay_session::HttpSession;
-use relay_tasks::{Fail, Pause};
+use relay_tasks::{Error, Fail, Pause};
 use std::alloc::Global;
 
 /// What one turn of an exchange came to, and whether a count of uses of both links rose in it.
@@ -55,6 +55,7 @@ pub(crate) fn relay<D: ByteLink, U: Drop, L: ByteLink, H: Schedule, C: Drop>(
     ensures cause { (faults : ℕ) → HasCause {C = C} L.state L.start
         (world_of D.state client.old faults) (world_of D.state client.new faults) phase.old
         phase.new result.step }
+    ensures hands_on { HandsOn phase.new result.step }
     ensures work { DoesWork result.step result.work }
     ensures uses { (s : Origin) (p : Passed) (a : Box (Attempt L C)) → phase.old ≡ Phase.Relay a
         → IsUnderWay L.state L.start s p (D.state client.old.link) client.old.ahead
@@ -189,11 +190,36 @@ fn leave<L: ByteLink, C>(
     ensures items { items_held L.start result.phase ≡ (L.start link).items ∷ [] }
     ensures work { result.work ≡ work }
 {
+    match why {
+        Fail::OutOfMemory => closed(link, lease, Outcome::OutOfMemory, work),
+        Fail::Error(error) => owe(alloc, session, link, lease, error, work),
+    }
+}
+
+/// The same of an exchange that failed with that error: the answer to it is queued.
+fn owe<L: ByteLink, C>(
+    alloc: Global,
+    session: HttpSession,
+    link: L,
+    lease: Lease,
+    error: Error,
+    work: Work,
+) -> Next<L, C>
+    ensures run { (s : Start) (p : Passed) (w : World) → TellsClient s p w
+        → IsLeased p (L.state link) (L.start link) lease
+        → LeavesSession s p w.client (L.state link) (L.start link) session error
+        → Advances {C = C} L.state L.start s w result.phase }
+    ensures owes { result.step ≡ RunStep.Moved → OwesAnswer result.phase }
+    ensures step { (result.step ≡ RunStep.Moved) ⊎ (result.step ≡ RunStep.Ended) }
+    ensures held { held_state L.state result.phase ≡ Some (L.state link) }
+    ensures last { (n : ℕ) → LinkUses L.state L.start n link
+        → PhaseUses L.state L.start n [] result.phase }
+    ensures over { is_over result.phase ≡ is_end result.step }
+    ensures linked { links_held L.state L.start result.phase ≡ 1 }
+    ensures items { items_held L.start result.phase ≡ (L.start link).items ∷ [] }
+    ensures work { result.work ≡ work }
+{
     let mut session = session;
-    let error = match why {
-        Fail::OutOfMemory => return closed(link, lease, Outcome::OutOfMemory, work),
-        Fail::Error(error) => error,
-    };
     let Ok(()) = queue_answer(&mut session, error) else {
         return closed(link, lease, Outcome::OutOfMemory, work);
     };

@@ -11,7 +11,7 @@ ghost use Rattle.relay_proxy.specs.Phases.{RunSoFar};
 ghost use Rattle.relay_proxy.specs.Refusals.{faults_of_turn};
 ghost use Rattle.relay_proxy.specs.Relaying.{is_relaying};
 ghost use Rattle.relay_proxy.specs.Stock.{items_held, all_items};
-ghost use Rattle.relay_proxy.specs.Turn.{world_of, held_state, links_held, is_over, is_end, WorksIn, HasCause};
+ghost use Rattle.relay_proxy.specs.Turn.{world_of, held_state, links_held, is_over, is_end, WorksIn, HandsOn, HasCause};
 ghost use Rattle.relay_proxy.specs.Uses.{MovedBy, OwesAnswer, PhaseUses, TurnCounts, TurnUses};
 
 use crate::answering::write_answer;
@@ -46,6 +46,7 @@ pub(crate) fn take_turn<SV: ProxyHttp, K: Connector, D: ByteLink, U: Drop, H: Sc
         (world_of D.state client.old (K.fault_count connector.old))
         (world_of D.state client.new (K.fault_count connector.new))
         phase.old phase.new result.step }
+    ensures hands_on { HandsOn phase.new result.step }
     ensures rests { Rests (world_of D.state client.old (K.fault_count connector.old))
         (world_of D.state client.new (K.fault_count connector.new)) phase.old phase.new
         result.step }
@@ -113,6 +114,7 @@ fn move_on<SV: ProxyHttp, K: Connector, D: ByteLink, U: Drop>(
         (world_of D.state client.old (K.fault_count connector.old))
         (world_of D.state client.new (K.fault_count connector.new))
         phase.old phase.new result.step }
+    ensures hands_on { HandsOn phase.new result.step }
     ensures rests { Rests (world_of D.state client.old (K.fault_count connector.old))
         (world_of D.state client.new (K.fault_count connector.new)) phase.old phase.new
         result.step }

@@ -1,5 +1,5 @@
 -- Each answer of the one write is a turn of the answer.
-use Rattle.std.proofs.Common.{◌≡◌, ◌<◌, List, ℕ, [], length, refl, ap, ◌∙◌, sym}
+use Rattle.std.proofs.Common.{refl, ap, sym}
 use Rattle.relay_session.specs.declared.session.HttpSession.{HttpSession}
 use Rattle.relay_proxy.specs.Turn.{world_of}
 use Rattle.relay_proxy.specs.declared.machine.Phase.TheVariants.{Answer}

@@ -4,7 +4,6 @@ use Rattle.relay_tasks.specs.declared.Fault.{Fault}
 use Rattle.relay_links.specs.Connector.{Offer}
 use Rattle.relay_proxy.specs.Taken.{Takes}
 use Rattle.relay_proxy.specs.Turn.{world_with}
-use Rattle.relay_proxy.proofs.ConnectSteps.{not_connected}
 use Rattle.relay_proxy.proofs.TakenLemmas.{takes_link, takes_fault, held_offers}
 use Rattle.relay_proxy.proofs.RefusalLemmas.{none_added, one_added, none_before_link, is_its_fault}
 use Rattle.relay_proxy.proofs.connecting.connect.Goals as goal
@@ -19,12 +18,10 @@ returns-in-Ok-get-clause-run g c = λ s p client ahead run.
 -- where it gave none the request ends with its fault
 pub returns-in-Err-clause-run : goal.returns-in-Err-clause-run
 returns-in-Err-clause-run g c = λ s p client ahead run.
-    rw c.refused_link.ensures.phase
-    (not_connected g.K.Byte.ByteLink.state g.K.Byte.ByteLink.start s p
+    c.refused_link.ensures.run s p
     (world_with client ahead (g.K.Connector.fault_count c.args.connector.now))
-    (g.K.Connector.fault_count c.get.new.self) c.args.context c.args.session
-    c.asked_peer-peer.result c.in-Err.fault c.get.ensures.fits.0 c.in-Err.ensures.rose
-    c.in-Err.ensures.fault c.asked_peer-peer.ensures run)
+    (g.K.Connector.fault_count c.get.new.self) c.args.context c.get.ensures.fits.0
+    c.in-Err.ensures.rose c.in-Err.ensures.fault c.asked_peer-peer.ensures run
 
 -- the link that was given was the first of the offers
 pub returns-in-Ok-get-clause-offers : goal.returns-in-Ok-get-clause-offers
@@ -39,7 +36,7 @@ returns-in-Ok-get-clause-offers g c =
 -- and so was the fault of one that was refused
 pub returns-in-Err-clause-offers : goal.returns-in-Err-clause-offers
 returns-in-Err-clause-offers g c =
-    rw c.refused_link.ensures.phase
+    rw (c.refused_link.ensures.no_items, c.refused_link.ensures.told)
     (subst (λ (f : Fault).
     Takes (g.K.Connector.stock c.args.connector.now) (Err f ∷ [])
     (g.K.Connector.stock c.get.new.self))
@@ -62,8 +59,15 @@ returns-in-Ok-get-clause-refusals g c =
 -- one that was not given is one refusal more
 pub returns-in-Err-clause-refusals : goal.returns-in-Err-clause-refusals
 returns-in-Err-clause-refusals g c =
-    rw c.refused_link.ensures.phase (one_added c.in-Err.fault _ _ c.in-Err.ensures.fault
+    rw c.refused_link.ensures.told (one_added c.in-Err.fault _ _ c.in-Err.ensures.fault
     c.in-Err.ensures.refused)
+
+-- where none was given the cause is that of the refusal
+pub returns-in-Err-clause-cause : goal.returns-in-Err-clause-cause
+returns-in-Err-clause-cause g c = λ client ahead.
+    c.refused_link.ensures.cause
+    (world_with client ahead (g.K.Connector.fault_count c.args.connector.now))
+    (world_with client ahead (g.K.Connector.fault_count c.get.new.self)) c.args.context
 
 -- a link that was given was not asked yet
 pub returns-in-Ok-get-clause-fresh : goal.returns-in-Ok-get-clause-fresh

@@ -1,9 +1,10 @@
 -- Each answer of the exchange's turn is a turn of the request.
-use Rattle.std.proofs.Common.{◌≡◌, refl, ap, ◌∙◌}
+use Rattle.std.proofs.Common.{◌≡◌, refl, ap, ◌∙◌, inl, inr}
 use Rattle.relay_tasks.specs.declared.took.Pause.TheVariants.{NotReady, Silent}
 use Rattle.relay_core.specs.declared.step.Step.TheVariants as step
 use Rattle.relay_proxy.specs.Turn.{world_of}
-use Rattle.relay_proxy.proofs.RelaySteps.{moved_within, waited_within, finished_within, failed_within, moved_by, moved_cause, waited_cause, silent_cause, moved_uses_within, waited_uses_within, silent_uses_within, finished_uses_within, failed_uses_within, moved_counts_within, waited_counts_within, silent_counts_within, finished_counts_within, failed_counts_within}
+use Rattle.relay_proxy.proofs.AnswerSteps.{moved_or_ended}
+use Rattle.relay_proxy.proofs.RelaySteps.{moved_within, waited_within, finished_within, failed_within, moved_by, moved_cause, failed_cause, waited_cause, silent_cause, moved_uses_within, waited_uses_within, silent_uses_within, finished_uses_within, failed_uses_within, moved_counts_within, waited_counts_within, silent_counts_within, finished_counts_within, failed_counts_within}
 use Rattle.relay_proxy.proofs.relaying.relay.Goals as goal
 
 -- the exchange moved
@@ -73,11 +74,11 @@ returns-in-Failed-clause-run g c = λ s p faults run.
     failed_within g.L.ByteLink.state g.L.ByteLink.start
     (world_of g.D.ByteLink.state c.args.client.now faults)
     (world_of g.D.ByteLink.state c.turn_within-asked.new.client faults) _ _ _ _
-    c.turn_within-asked.ensures.turns _ c.in-Failed.is refl _ c.close_failed.ensures.closes s p run
+    c.turn_within-asked.ensures.turns _ c.in-Failed.is refl _ c.leave_failed.ensures.run s p run
 
 -- and its work is that of the branch
 pub returns-in-Moved-clause-moves : goal.returns-in-Moved-clause-moves
-returns-in-Moved-clause-moves g c = λ faults a is did. record {
+returns-in-Moved-clause-moves g c = λ faults a is did. inl (record {
   branch = c.turn_within-asked.result.turn.branch;
   moved = moved_by g.L.ByteLink.state g.L.ByteLink.start
       (world_of g.D.ByteLink.state c.args.client.now faults)
@@ -85,7 +86,23 @@ returns-in-Moved-clause-moves g c = λ faults a is did. record {
       c.turn_within-asked.ensures.turns c.in-Moved.is a is;
   asked = c.turn_within-asked.result.asked;
   counted = c.work_of.ensures.exact;
-}
+})
+
+-- one that failed owes its client an answer where it moved
+pub returns-in-Failed-clause-moves : goal.returns-in-Failed-clause-moves
+returns-in-Failed-clause-moves g c = λ faults a is did. inr (c.leave_failed.ensures.owes did)
+
+-- and that is its cause
+pub returns-in-Failed-clause-cause : goal.returns-in-Failed-clause-cause
+returns-in-Failed-clause-cause g c = λ faults.
+    moved_or_ended {C = g.row.C.Denot} g.L.ByteLink.state g.L.ByteLink.start
+    (world_of g.D.ByteLink.state c.args.client.now faults)
+    (world_of g.D.ByteLink.state c.turn_within-asked.new.client faults) c.args.phase.now
+    c.leave_failed.new.phase c.leave_failed.result.step c.leave_failed.ensures.step
+    (λ did. failed_cause g.L.ByteLink.state g.L.ByteLink.start
+    (world_of g.D.ByteLink.state c.args.client.now faults)
+    (world_of g.D.ByteLink.state c.turn_within-asked.new.client faults) _ _ _ _
+    c.turn_within-asked.ensures.turns c.leave_failed.new.phase (c.leave_failed.ensures.owes did))
 
 -- its uses are those of the branch
 pub returns-in-Moved-clause-uses : goal.returns-in-Moved-clause-uses
@@ -128,11 +145,11 @@ returns-in-Finished-clause-uses g c = λ s p a is under.
 -- one that failed asked one or none
 pub returns-in-Failed-clause-uses : goal.returns-in-Failed-clause-uses
 returns-in-Failed-clause-uses g c = λ s p a is under.
-    rw c.close_failed.ensures.used
+    rw c.leave_failed.ensures.used
     (failed_uses_within g.L.ByteLink.state g.L.ByteLink.start
     (world_of g.D.ByteLink.state c.args.client.now 0)
     (world_of g.D.ByteLink.state c.turn_within-asked.new.client 0) _ _ _ _
-    c.turn_within-asked.ensures.turns _ c.in-Failed.is _ c.close_failed.ensures.closes)
+    c.turn_within-asked.ensures.turns _ c.in-Failed.is _ c.leave_failed.ensures.held)
 
 -- what was counted went up by that
 pub returns-in-Moved-clause-counts : goal.returns-in-Moved-clause-counts
@@ -175,8 +192,8 @@ returns-in-Finished-clause-counts g c = λ s p a n is under had.
 -- by one or none at a failure
 pub returns-in-Failed-clause-counts : goal.returns-in-Failed-clause-counts
 returns-in-Failed-clause-counts g c = λ s p a n is under had.
-    rw c.close_failed.ensures.used
+    rw c.leave_failed.ensures.used
     (failed_counts_within g.L.ByteLink.state g.L.ByteLink.start
     (world_of g.D.ByteLink.state c.args.client.now 0)
     (world_of g.D.ByteLink.state c.turn_within-asked.new.client 0) _ _ _ _
-    c.turn_within-asked.ensures.turns _ c.in-Failed.is _ c.close_failed.ensures.closes a n is had)
+    c.turn_within-asked.ensures.turns _ c.in-Failed.is _ c.leave_failed.ensures.last a n is had)

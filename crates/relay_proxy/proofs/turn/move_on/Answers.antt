@@ -1,29 +1,51 @@
 -- A turn of a phase that does not relay. One that does not ask the connector leaves its count of
 -- faults as it was.
-use Rattle.std.proofs.Common.{refl, sym, ◌∙◌, inr}
-use Rattle.relay_proxy.proofs.RefusalLemmas.{none_added}
+use Rattle.std.proofs.Common.{[], refl, sym, ◌∙◌, inr, true≢false, append-nil}
+use Rattle.relay_proxy.specs.Turn.{world_of}
+use Rattle.relay_proxy.proofs.RefusalLemmas.{none_added, none_unmade}
 use Rattle.relay_proxy.proofs.TakenLemmas.{takes_nothing, one_out, no_offers}
-use Rattle.relay_proxy.proofs.TurnLemmas.{head_counts, still_counts, connect_counts}
+use Rattle.relay_proxy.proofs.TurnLemmas.{head_turn, connect_turn, head_counts, still_counts, connect_counts, unlinked_open, answer_offers}
 use Rattle.relay_proxy.proofs.turn.move_on.Goals as goal
 
 -- a turn that reads the head is a turn
 pub returns-in-ReadHead-clause-turn : goal.returns-in-ReadHead-clause-turn
 returns-in-ReadHead-clause-turn g c =
-    rw (c.go_on.ensures.phase, sym c.replace.ensures.value ∙ c.in-ReadHead.is) (λ s p run.
-    c.read_head.ensures.run s p (g.K.Connector.fault_count c.args.connector.now) run)
+    rw (c.go_on.ensures.phase, sym c.replace.ensures.value ∙ c.in-ReadHead.is) (λ s p own run.
+    head_turn g.K.Byte.ByteLink.state g.K.Byte.ByteLink.start s p
+    (world_of g.D.ByteLink.state c.args.client.now
+    (g.K.Connector.fault_count c.args.connector.now))
+    (world_of g.D.ByteLink.state c.read_head.new.client
+    (g.K.Connector.fault_count c.args.connector.now)) own c.read_head.result.phase run
+    (λ first. c.read_head.ensures.run s p (g.K.Connector.fault_count c.args.connector.now) first))
 
--- a write of the refusal is a turn
-pub returns-in-Refuse-clause-turn : goal.returns-in-Refuse-clause-turn
-returns-in-Refuse-clause-turn g c =
-    rw (c.go_on-in-Refuse.ensures.phase, sym c.replace.ensures.value ∙ c.in-Refuse.is) (λ s p run.
-    c.write_refusal.ensures.run s p (g.K.Connector.fault_count c.args.connector.now) run)
+-- a write of the answer is a turn
+pub returns-in-Answer-clause-turn : goal.returns-in-Answer-clause-turn
+returns-in-Answer-clause-turn g c =
+    rw (c.go_on-in-Answer.ensures.phase, sym c.replace.ensures.value ∙ c.in-Answer.is)
+    (λ s p own run. record {
+      advances = c.write_answer.ensures.run s p own
+          (g.K.Connector.fault_count c.args.connector.now) run;
+      same = c.write_answer.ensures.attempts;
+      unlinked = c.write_answer.ensures.unlinked;
+    })
+
+-- and so is one whose link is to go back
+pub returns-in-Fail-clause-turn : goal.returns-in-Fail-clause-turn
+returns-in-Fail-clause-turn g c =
+    rw (c.go_on-in-Fail.ensures.phase, sym c.replace.ensures.value ∙ c.in-Fail.is)
+    (λ s p own run. record { passed = p; run = run })
 
 -- a turn that asks the connector is a turn
 pub returns-in-Connect-clause-turn : goal.returns-in-Connect-clause-turn
 returns-in-Connect-clause-turn g c =
-    rw (c.go_on-in-Connect.ensures.phase, sym c.replace.ensures.value ∙ c.in-Connect.is) (λ s p run.
-    c.connect.ensures.run s p (g.D.ByteLink.state c.args.client.now.link) c.args.client.now.ahead
-    run)
+    rw (c.go_on-in-Connect.ensures.phase, sym c.replace.ensures.value ∙ c.in-Connect.is)
+    (λ s p own run. connect_turn g.K.Byte.ByteLink.state g.K.Byte.ByteLink.start s p
+    (world_of g.D.ByteLink.state c.args.client.now
+    (g.K.Connector.fault_count c.args.connector.now))
+    (world_of g.D.ByteLink.state c.args.client.now
+    (g.K.Connector.fault_count c.connect.new.connector)) own _ _ c.connect.result.phase run
+    (λ first. c.connect.ensures.run s p (g.D.ByteLink.state c.args.client.now.link)
+    c.args.client.now.ahead first))
 
 -- the link that the connector gave was the first of those that were left
 pub returns-in-Connect-clause-stock : goal.returns-in-Connect-clause-stock
@@ -38,15 +60,35 @@ returns-in-ReadHead-clause-cause g c =
     rw (c.go_on.ensures.phase, c.go_on.ensures.step, sym c.replace.ensures.value ∙ c.in-ReadHead.is)
     (c.read_head.ensures.cause (g.K.Connector.fault_count c.args.connector.now))
 
--- the cause of a turn that writes the refusal
-pub returns-in-Refuse-clause-cause : goal.returns-in-Refuse-clause-cause
-returns-in-Refuse-clause-cause g c =
+-- the cause of a turn that writes the answer
+pub returns-in-Answer-clause-cause : goal.returns-in-Answer-clause-cause
+returns-in-Answer-clause-cause g c =
     rw (
-      c.go_on-in-Refuse.ensures.phase,
-      c.go_on-in-Refuse.ensures.step,
-      sym c.replace.ensures.value ∙ c.in-Refuse.is,
+      c.go_on-in-Answer.ensures.phase,
+      c.go_on-in-Answer.ensures.step,
+      sym c.replace.ensures.value ∙ c.in-Answer.is,
     )
-    (c.write_refusal.ensures.cause (g.K.Connector.fault_count c.args.connector.now))
+    (c.write_answer.ensures.cause (g.K.Connector.fault_count c.args.connector.now))
+
+-- a turn that reads the head hands no link back
+pub returns-in-ReadHead-clause-hands_on : goal.returns-in-ReadHead-clause-hands_on
+returns-in-ReadHead-clause-hands_on g c =
+    rw (c.go_on.ensures.phase, c.go_on.ensures.step) (λ closing. absurd (true≢false
+    (sym closing ∙ unlinked_open g.K.Byte.ByteLink.state g.K.Byte.ByteLink.start
+    c.read_head.result.phase c.read_head.ensures.unlinked)))
+
+-- nor does one that writes the answer
+pub returns-in-Answer-clause-hands_on : goal.returns-in-Answer-clause-hands_on
+returns-in-Answer-clause-hands_on g c =
+    rw (c.go_on-in-Answer.ensures.phase, c.go_on-in-Answer.ensures.step)
+    (λ closing. absurd (true≢false
+    (sym closing ∙ unlinked_open g.K.Byte.ByteLink.state g.K.Byte.ByteLink.start
+    c.write_answer.result.phase c.write_answer.ensures.unlinked)))
+
+-- one that asks the connector moved or ended
+pub returns-in-Connect-clause-hands_on : goal.returns-in-Connect-clause-hands_on
+returns-in-Connect-clause-hands_on g c =
+    rw c.go_on-in-Connect.ensures.step (λ closing. c.connect.ensures.step)
 
 -- the cause of a turn that asks the connector
 pub returns-in-Connect-clause-cause : goal.returns-in-Connect-clause-cause
@@ -62,13 +104,7 @@ returns-in-Connect-clause-cause g c =
 pub returns-in-ReadHead-clause-refusals : goal.returns-in-ReadHead-clause-refusals
 returns-in-ReadHead-clause-refusals g c =
     rw (c.go_on.ensures.phase, sym c.replace.ensures.value ∙ c.in-ReadHead.is)
-    (none_added _ _ _ c.read_head.ensures.unrefused refl)
-
--- nor does one that writes the refusal
-pub returns-in-Refuse-clause-refusals : goal.returns-in-Refuse-clause-refusals
-returns-in-Refuse-clause-refusals g c =
-    rw (c.go_on-in-Refuse.ensures.phase, sym c.replace.ensures.value ∙ c.in-Refuse.is)
-    (none_added _ _ _ c.write_refusal.ensures.unrefused refl)
+    (none_added _ _ _ (none_unmade c.read_head.result.phase c.read_head.ensures.no_attempts) refl)
 
 -- a turn that asks the connector adds its refusals
 pub returns-in-Connect-clause-refusals : goal.returns-in-Connect-clause-refusals
@@ -81,14 +117,16 @@ pub returns-in-ReadHead-clause-offers : goal.returns-in-ReadHead-clause-offers
 returns-in-ReadHead-clause-offers g c =
     rw (c.go_on.ensures.phase, sym c.replace.ensures.value ∙ c.in-ReadHead.is)
     (takes_nothing _ _ _ (no_offers g.K.Byte.ByteLink.start c.read_head.result.phase
-    c.read_head.ensures.no_items c.read_head.ensures.unrefused) refl)
+    c.read_head.ensures.no_items
+    (none_unmade c.read_head.result.phase c.read_head.ensures.no_attempts)) refl)
 
--- nor does one that writes the refusal
-pub returns-in-Refuse-clause-offers : goal.returns-in-Refuse-clause-offers
-returns-in-Refuse-clause-offers g c =
-    rw (c.go_on-in-Refuse.ensures.phase, sym c.replace.ensures.value ∙ c.in-Refuse.is)
-    (takes_nothing _ _ _ (no_offers g.K.Byte.ByteLink.start c.write_refusal.result.phase
-    c.write_refusal.ensures.no_items c.write_refusal.ensures.unrefused) refl)
+-- what was taken before an answer stays so
+pub returns-in-Answer-clause-carries : goal.returns-in-Answer-clause-carries
+returns-in-Answer-clause-carries g c =
+    rw (c.go_on-in-Answer.ensures.phase, sym c.replace.ensures.value ∙ c.in-Answer.is) (λ live.
+    append-nil _ ∙ answer_offers g.K.Byte.ByteLink.start [] c.in-Answer.session c.in-Answer.owed
+    c.in-Answer.attempts c.write_answer.result.phase
+    c.write_answer.ensures.no_items c.write_answer.ensures.attempts)
 
 -- a turn that asks the connector takes what the next phase took
 pub returns-in-Connect-clause-offers : goal.returns-in-Connect-clause-offers
@@ -110,6 +148,20 @@ returns-in-Close-clause-uses g c =
       inr (refl, record { client_same = refl; upstream_same = refl }),
     ))
 
+-- nor does one whose link is to go back
+pub returns-in-Fail-clause-uses : goal.returns-in-Fail-clause-uses
+returns-in-Fail-clause-uses g c =
+    rw (
+      c.go_on-in-Fail.ensures.phase,
+      c.go_on-in-Fail.ensures.work,
+      sym c.replace.ensures.value ∙ c.in-Fail.is,
+    )
+    (λ s p own run. (
+      g.K.Byte.ByteLink.state c.in-Fail.link,
+      refl,
+      inr (refl, record { client_same = refl; upstream_same = refl }),
+    ))
+
 -- a turn that reads the head counts the client's uses
 pub returns-in-ReadHead-clause-counts : goal.returns-in-ReadHead-clause-counts
 returns-in-ReadHead-clause-counts g c =
@@ -118,17 +170,17 @@ returns-in-ReadHead-clause-counts g c =
     c.read_head.result.work.used _ _ own c.read_head.result.phase c.read_head.ensures.uses
     c.read_head.ensures.unlinked had)
 
--- and so does one that writes the refusal
-pub returns-in-Refuse-clause-counts : goal.returns-in-Refuse-clause-counts
-returns-in-Refuse-clause-counts g c =
+-- and so does one that writes the answer
+pub returns-in-Answer-clause-counts : goal.returns-in-Answer-clause-counts
+returns-in-Answer-clause-counts g c =
     rw (
-      c.go_on-in-Refuse.ensures.phase,
-      c.go_on-in-Refuse.ensures.work,
-      sym c.replace.ensures.value ∙ c.in-Refuse.is,
+      c.go_on-in-Answer.ensures.phase,
+      c.go_on-in-Answer.ensures.work,
+      sym c.replace.ensures.value ∙ c.in-Answer.is,
     )
     (λ s p own n run had. head_counts g.K.Byte.ByteLink.state g.K.Byte.ByteLink.start n
-    c.write_refusal.result.work.used _ _ own c.write_refusal.result.phase
-    c.write_refusal.ensures.uses c.write_refusal.ensures.unlinked had)
+    c.write_answer.result.work.used _ _ own c.write_answer.result.phase
+    c.write_answer.ensures.uses c.write_answer.ensures.unlinked had)
 
 -- one that asks the connector counts none
 pub returns-in-Connect-clause-counts : goal.returns-in-Connect-clause-counts
@@ -149,6 +201,17 @@ returns-in-Close-clause-counts g c =
       c.go_on-in-Close.ensures.phase,
       c.go_on-in-Close.ensures.work,
       sym c.replace.ensures.value ∙ c.in-Close.is,
+    )
+    (λ s p own n run had. still_counts g.K.Byte.ByteLink.state g.K.Byte.ByteLink.start n 0 _ own _
+    refl had)
+
+-- or whose link is to go back
+pub returns-in-Fail-clause-counts : goal.returns-in-Fail-clause-counts
+returns-in-Fail-clause-counts g c =
+    rw (
+      c.go_on-in-Fail.ensures.phase,
+      c.go_on-in-Fail.ensures.work,
+      sym c.replace.ensures.value ∙ c.in-Fail.is,
     )
     (λ s p own n run had. still_counts g.K.Byte.ByteLink.state g.K.Byte.ByteLink.start n 0 _ own _
     refl had)

@@ -9,12 +9,14 @@ use Rattle.relay_proxy.proofs.turn.take_turn.Goals as goal
 -- a turn of the attempt is a turn
 pub returns-then-is_relaying-clause-turn : goal.returns-then-is_relaying-clause-turn
 returns-then-is_relaying-clause-turn g c =
-    λ s p run.
-    relaying_turn g.K.Byte.ByteLink.state g.K.Byte.ByteLink.start s
-    (world_of g.D.ByteLink.state c.relay.new.client
+    λ s p own run.
+    relaying_turn g.K.Byte.ByteLink.state g.K.Byte.ByteLink.start s p
+    (world_of g.D.ByteLink.state c.args.client.now
     (g.K.Connector.fault_count c.args.connector.now))
-    c.args.phase.now c.relay.new.phase (sym c.is_relaying.ensures ∙ c.if-is_relaying.true)
-    (c.relay.ensures.run s p (g.K.Connector.fault_count c.args.connector.now) run)
+    (world_of g.D.ByteLink.state c.relay.new.client
+    (g.K.Connector.fault_count c.args.connector.now)) own
+    c.args.phase.now c.relay.new.phase (sym c.is_relaying.ensures ∙ c.if-is_relaying.true) run
+    (λ first. c.relay.ensures.run s p (g.K.Connector.fault_count c.args.connector.now) first)
 
 -- its cause is that of the attempt
 pub returns-then-is_relaying-clause-cause : goal.returns-then-is_relaying-clause-cause

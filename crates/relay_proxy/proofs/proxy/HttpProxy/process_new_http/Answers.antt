@@ -17,7 +17,7 @@ loop-turn-init g c =
           (world_of g.D.ByteLink.state c.begin-machine.new.client faults) _ _ _ _ _ _ _
           c.begin-machine.result.machine refl refl refl
           (rw c.take_kept-kept.ensures.after at c.begin-machine.ensures.run)
-          c.begin-machine.ensures.going c.begin-machine.ensures.no_link
+          c.begin-machine.ensures.no_attempts c.begin-machine.ensures.no_link
           c.begin-machine.ensures.no_turns
           (rw (c.begin-machine.ensures.client, c.take_kept-kept.ensures.after) refl)
           c.begin-machine.ensures.unused,

@@ -2,7 +2,7 @@
 use Rattle.std.proofs.Common.{ap}
 use Rattle.relay_proxy.specs.declared.work.Work.{Work}
 use Rattle.relay_proxy.proofs.StepLemmas.{step_on, settled_cause}
-use Rattle.relay_proxy.proofs.UseLemmas.{settled_moves, settled_uses}
+use Rattle.relay_proxy.proofs.UseLemmas.{moves_on, settled_moves, settled_uses}
 use Rattle.relay_proxy.proofs.proxy.HttpProxy.step.Goals as goal
 
 -- a turn that was settled is a step
@@ -11,7 +11,7 @@ returns-clause-steps g c = λ s p own run.
     rw (c.settle.ensures.faults, c.settle.ensures.refusals, c.settle.ensures.offers)
     (step_on g.K.Byte.ByteLink.state g.K.Byte.ByteLink.start s p own _ _
     c.args.machine.now.machine.phase c.take_turn-step.new.phase c.settle.new.phase
-    c.take_turn-step.result.step _ _ _ _ _ _ _ (c.take_turn-step.ensures.turn s p)
+    c.take_turn-step.result.step _ _ _ _ _ _ _ (c.take_turn-step.ensures.turn s p own)
     c.take_turn-step.ensures.rests c.take_turn-step.ensures.returned c.settle.ensures.settles
     c.take_turn-step.ensures.refusals c.take_turn-step.ensures.offers
     c.take_turn-step.ensures.carries run (g.D.ByteLink.state c.args.client.now.link)
@@ -26,7 +26,7 @@ returns-clause-cause g c =
     (settled_cause g.K.Byte.ByteLink.state g.K.Byte.ByteLink.start _ _
     c.args.machine.now.machine.phase c.take_turn-step.new.phase c.settle.new.phase
     c.take_turn-step.result.step _ _ c.settle.ensures.settles c.take_turn-step.ensures.over
-    c.take_turn-step.ensures.cause)
+    c.take_turn-step.ensures.hands_on c.take_turn-step.ensures.cause)
 
 -- its uses are those of the turn
 pub returns-clause-uses : goal.returns-clause-uses
@@ -42,11 +42,11 @@ returns-clause-uses g c = λ s p own run. (
 
 -- and what it moved in an exchange
 pub returns-clause-moves : goal.returns-clause-moves
-returns-clause-moves g c = λ a is did. record {
-  work = c.take_turn-step.result.work;
-  moves = rw c.settle.ensures.faults
-      (settled_moves g.K.Byte.ByteLink.state g.K.Byte.ByteLink.start _ _
-      c.take_turn-step.result.work a.value.exchange c.take_turn-step.new.phase
-      c.settle.new.phase _ _ c.settle.ensures.settles (c.take_turn-step.ensures.moves a is did));
-  adds = c.plus-machine.ensures.sum;
-}
+returns-clause-moves g c = λ a is did.
+    moves_on g.K.Byte.ByteLink.state g.K.Byte.ByteLink.start c.args.machine.now.machine.work
+    _ c.take_turn-step.result.work _ _ a.value.exchange c.settle.new.phase
+    c.plus-machine.ensures.sum
+    (rw c.settle.ensures.faults
+    (settled_moves g.K.Byte.ByteLink.state g.K.Byte.ByteLink.start _ _
+    c.take_turn-step.result.work a.value.exchange c.take_turn-step.new.phase
+    c.settle.new.phase _ _ c.settle.ensures.settles (c.take_turn-step.ensures.moves a is did)))
