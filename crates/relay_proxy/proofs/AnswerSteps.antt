@@ -534,7 +534,8 @@ module _ {L C : Type 0} (state : L → LinkState) (start_at : L → LinkStart)
         (grew_same w.client x.client silent.same) run.tells)
 
     -- the write failed
-    pub answer_fails : (fault : Fault) → WritesPending output w.client x.client (put.Failed fault) left
+    pub answer_fails : (fault : Fault)
+        → WritesPending output w.client x.client (put.Failed fault) left
         → AdvancesOn {C = C} state start_at s x own (Ended (outcome_failed owed fault) attempts)
     answer_fails fault writes =
         answer_over state start_at s (past_at p p.written) x own owed holds.text attempts

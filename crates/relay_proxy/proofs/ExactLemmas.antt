@@ -224,7 +224,8 @@ failed_head s p head reused (order.FailsFor.by_refusal o refused) =
 -- the head of a request that had a link, and was not left unfinished
 linked_head : (s : Start) (p : Passed) (w : World) (link : LinkState) (start : LinkStart)
     (keep : Bool) (told : Option Error) (outcome : Outcome)
-    → EndsLinked s p w link start keep told outcome → IsUnfinished outcome ⊎ ((head : RequestHead) × IsAccepted s p head)
+    → EndsLinked s p w link start keep told outcome
+    → IsUnfinished outcome ⊎ ((head : RequestHead) × IsAccepted s p head)
 linked_head s p w link start keep told NoRequest ends = absurd ends
 linked_head s p w link start keep told (Refused error) ends = absurd ends
 linked_head s p w link start keep told (Served None reuse) ends =
@@ -252,7 +253,8 @@ one_head {s} {p} {a} {b} x y =
 -- an unfit response is missed, where the request is finished
 exact_unfit : (s : Start) (p : Passed) (w : World) (link : LinkState) (start : LinkStart)
     (keep : Bool) (told : Option Error) (outcome : Outcome)
-    → EndsLinked s p w link start keep told outcome → (head : RequestHead) → IsAccepted s p head → IsUnfit head.method false p.got link.ended
+    → EndsLinked s p w link start keep told outcome → (head : RequestHead) → IsAccepted s p head
+    → IsUnfit head.method false p.got link.ended
     → IsUnfinished outcome ⊎ IsMissed outcome
 exact_unfit s p w link start keep told NoRequest ends head accepted unfit = absurd ends
 exact_unfit s p w link start keep told (Refused error) ends head accepted unfit = absurd ends
@@ -317,7 +319,8 @@ whole_unlinked s p w OutOfMemory ends head relayable asks client connector = inl
 -- a valid request that had a link is served, where it is finished and no fault was met
 whole_linked : (s : Start) (p : Passed) (w : World) (link : LinkState) (start : LinkStart)
     (keep : Bool) (told : Option Error) (outcome : Outcome)
-    → EndsLinked s p w link start keep told outcome → (head : RequestHead) → AsksFor (origin_of s head false) p w.client
+    → EndsLinked s p w link start keep told outcome → (head : RequestHead)
+    → AsksFor (origin_of s head false) p w.client
     → AnswersWith head.method false p link → ¬ (Rose s.faults w.client.faults)
     → ¬ (Rose start.faults link.faults)
     → IsUnfinished outcome ⊎ ((reuse : Bool) × (outcome ≡ Served None reuse))
@@ -326,7 +329,8 @@ whole_linked s p w link start keep told (Refused error) ends head asks answers c
     absurd ends
 whole_linked s p w link start keep told (Served None reuse) ends head asks answers client faults =
     inr (reuse, refl)
-whole_linked s p w link start keep told (Served (Some e) reuse) ends head asks answers client faults =
+whole_linked s p w link start keep told (Served (Some e) reuse) ends head asks answers client
+    faults =
     let f = ends.failed in
     let own = failed_head s (past_at p f.before) f.head start.reused f.why in
     absurd (ends.invalid
@@ -334,8 +338,10 @@ whole_linked s p w link start keep told (Served (Some e) reuse) ends head asks a
     (sym (asks_head (origin_of s head false) p w.client f.head own.framing own.len asks own.has))
     (valid_over (origin_of s head false) p w.client link start start.reused asks answers client
     faults)))
-whole_linked s p w link start keep told TurnLimit ends head asks answers client faults = inl (inl refl)
-whole_linked s p w link start keep told OutOfMemory ends head asks answers client faults = inl (inr refl)
+whole_linked s p w link start keep told TurnLimit ends head asks answers client faults =
+    inl (inl refl)
+whole_linked s p w link start keep told OutOfMemory ends head asks answers client faults =
+    inl (inr refl)
 
 -- lists of one and of none
 one_not_none : {R : Type 0} {r : R} → [] ≡ r ∷ [] → ⊥
@@ -381,7 +387,8 @@ module _ {L : Type 0} (state : L → LinkState) (start_at : L → LinkStart) whe
               | inr one ↦ absurd (relayed_or_not one.0 one.1 cause)
             ];
         unfit = λ q head one accepted unfit.
-            exact_unfit s p w (state r.link) (start_at r.link) r.keep told outcome ends head accepted
+            exact_unfit s p w (state r.link) (start_at r.link) r.keep told outcome ends head
+            accepted
             (subst (λ (x : Returned L). IsUnfit head.method false p.got (state x.link).ended)
             (sym (same_one one)) unfit);
         whole = λ head relayable asks answers faultless.
@@ -394,5 +401,6 @@ module _ {L : Type 0} (state : L → LinkState) (start_at : L → LinkStart) whe
       (attempts : List AttemptRecord) (outcome : Outcome)
       → IsEnded state start_at s p w own attempts outcome → IsExact state start_at s p w own outcome
   exact_of s p w [] attempts outcome ended = exact_unlinked s p w outcome ended.ends.0
-  exact_of s p w (r ∷ []) attempts outcome ended = exact_linked s p w r ended.ends.attempt.error outcome ended.ends.ends
+  exact_of s p w (r ∷ []) attempts outcome ended =
+      exact_linked s p w r ended.ends.attempt.error outcome ended.ends.ends
   exact_of s p w (r ∷ q ∷ rest) attempts outcome ended = absurd ended.ends

@@ -172,7 +172,8 @@ module _ {L C : Type 0} (state : L → LinkState) (start_at : L → LinkStart)
         → LeavesSession s p w.client (state link) (start_at link) session e
         → QueuesAnswer session.writing.output e session.writing session'.writing
         → pending session'.writing.output ≡ []
-        → Advances {C = C} state start_at s w (Close link lease false (outcome.Served (Some e) false))
+        → Advances {C = C} state start_at s w
+        (Close link lease false (outcome.Served (Some e) false))
     left_over session session' e l queues none =
         let failed = failed_of s p w.client (state link) (start_at link) session e l in
         over (outcome.Served (Some e) false)
@@ -181,7 +182,8 @@ module _ {L C : Type 0} (state : L → LinkState) (start_at : L → LinkStart)
           failed = failed;
           invalid = failed_invalid s p w.client (state link) (start_at link) e failed;
           answered = given_all s p w (owed_by failed) session'.writing.output
-              (queued_by s p w.client (state link) (start_at link) session session' e l queues) none;
+              (queued_by s p w.client (state link) (start_at link) session session' e l queues)
+              none;
           not_kept = refl;
           stays = refl;
         })
@@ -210,7 +212,8 @@ module _ {L C : Type 0} (state : L → LinkState) (start_at : L → LinkStart)
                 waits = subst (λ (h : HttpSession).
                     WaitsOf h.writing.output p.written (owed_by failed)) (sym is)
                     (waits_of s p w.client (owed_by failed) session'.writing.output
-                    (queued_by s p w.client (state link) (start_at link) session session' e l queues)
+                    (queued_by s p w.client (state link) (start_at link) session session' e l
+                    queues)
                     some);
               },
             );

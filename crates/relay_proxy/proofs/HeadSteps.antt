@@ -151,7 +151,8 @@ ended_unlinked s p x (b ∷ bytes) is open_head ended written unsent =
     apart same = cc
 
 -- no attempt was made then
-ended_attempts : (s : Start) (p : Passed) (x : World) (bytes : List ℕ) (attempts : List AttemptRecord) → attempts ≡ []
+ended_attempts : (s : Start) (p : Passed) (x : World) (bytes : List ℕ)
+    (attempts : List AttemptRecord) → attempts ≡ []
     → AttemptsUnlinked s p x attempts (ended_outcome bytes)
 ended_attempts s p x [] attempts none = none
 ended_attempts s p x (b ∷ bytes) attempts none = none

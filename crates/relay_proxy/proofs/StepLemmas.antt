@@ -314,8 +314,8 @@ module _ {L C : Type 0} (state : L → LinkState) (start_at : L → LinkStart) w
       → TurnCounts state start_at n client x.client used [] next)
       → StepsOn state start_at s p x [] before after told_before told_after had has client counted
       counts phase settled
-  live_on s p x phase next settled before mid after told_before told_after had has live mute turn kept
-      does told takes carries client counted counts used adds uses =
+  live_on s p x phase next settled before mid after told_before told_after had has live mute turn
+      kept does told takes carries client counted counts used adds uses =
       let done = settle_run s turn.passed x next settled mid after does turn.run in
       record {
         passed = turn.passed;
@@ -451,7 +451,8 @@ module _ {L C : Type 0} (state : L → LinkState) (start_at : L → LinkStart) w
         handed = [];
         gained = stayed.1 ∙ kept ∙ more-nil before;
         run = subst
-            (λ (rs : List (Returned L)). RunSoFar state start_at s turn.advances.passed x rs settled)
+            (λ (rs : List (Returned L)).
+            RunSoFar state start_at s turn.advances.passed x rs settled)
             (sym (append-nil own))
             (subst (λ (k : Phase L C). RunSoFar state start_at s turn.advances.passed x own k)
             (sym stayed.0) turn.advances.run);
@@ -706,7 +707,8 @@ module _ {L C : Type 0} (state : L → LinkState) (start_at : L → LinkStart) w
               (subst
               (λ (l : List AttemptRecord). EndsWith state start_at s p w (own ++ []) l TurnLimit)
               (sym gives.made)
-              (subst (λ (rs : List (Returned L)). EndsWith state start_at s p w rs attempts TurnLimit)
+              (subst
+              (λ (rs : List (Returned L)). EndsWith state start_at s p w rs attempts TurnLimit)
               (sym (append-nil own)) ends));
         };
         refused = ap (λ (l : List AttemptRecord). faults_for (own ++ []) l) gives.made

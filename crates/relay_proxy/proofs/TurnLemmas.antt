@@ -124,8 +124,10 @@ module _ {L C : Type 0} (state : L → LinkState) (start_at : L → LinkStart) w
       → ((o : Origin) (q : Passed) (a : Box (Attempt L C)) → phase ≡ Relay a
       → IsUnderWay state start_at o q w.client w.ahead a.value.exchange → T) → T
   relaying_uses s p own w ReadHead T is run uses = absurd (true≢false (sym is))
-  relaying_uses s p own w (Fail link lease session error) T is run uses = absurd (true≢false (sym is))
-  relaying_uses s p own w (Answer session owed attempts) T is run uses = absurd (true≢false (sym is))
+  relaying_uses s p own w (Fail link lease session error) T is run uses =
+      absurd (true≢false (sym is))
+  relaying_uses s p own w (Answer session owed attempts) T is run uses =
+      absurd (true≢false (sym is))
   relaying_uses s p own w (Connect context session) T is run uses = absurd (true≢false (sym is))
   relaying_uses s p own w (Relay a) T is run uses =
       let relays = relaying_of state start_at s p w own a run in

@@ -120,7 +120,8 @@ module _ {L C : Type 0} (state : L → LinkState) (start_at : L → LinkStart) w
         gained = same ∙ more-nil before;
         run = run;
         refused = subst (λ (fs : List Fault). Gains told_before fs told_now)
-            (sym (ap (λ (l : List AttemptRecord). faults_for {L = L} [] l) unmade)) (Gains-nothing told_before told_now told);
+            (sym (ap (λ (l : List AttemptRecord). faults_for {L = L} [] l) unmade))
+            (Gains-nothing told_before told_now told);
         offered = takes_nothing (offers_before start_at [] m.phase) had has
             (none_taken m.phase unmade (unlinked_items state start_at m.phase unlinked)) kept;
         uses = record {

@@ -141,8 +141,8 @@ module _ {L : Type 0} (state : L → LinkState) (start_at : L → LinkStart) whe
     pub silent : SilentIn state start_at w.client exchange
 
   -- all that a request asks is silent: without a link the client, that is to give more of an open
-  -- head or to take more of a generated answer; with one the exchange, or the client that is to take
-  -- more of what it is owed
+  -- head or to take more of a generated answer; with one the exchange, or the client that is to
+  -- take more of what it is owed
   abbrev pub IsQuiet : Start → Passed → World → List (Returned L) → Type 0
   IsQuiet s p w [] =
       (IsOpen (asked s p) × (w.client.silent_on_read ≡ true))

@@ -317,8 +317,8 @@ pub record IsRecordOf (a : AttemptRecord) (start : LinkStart) (keep : Bool) : Ty
   pub reused : a.reused ≡ start.reused
   pub kept : a.kept ≡ keep
 
--- the error of that record, by the outcome: its own; where the request was not brought to an end, it
--- is that with which the exchange had failed, if it had
+-- the error of that record, by the outcome: its own; where the request was not brought to an end,
+-- that with which the exchange had failed, if it had
 abbrev pub IsErrorOf : Option Error → Outcome → Type 0
 IsErrorOf told NoRequest = told ≡ None
 IsErrorOf told (Refused error) = told ≡ error

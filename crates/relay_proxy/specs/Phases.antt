@@ -67,7 +67,8 @@ module _ {L C : Type 0} (state : L → LinkState) (start_at : L → LinkStart) w
   IsAt s p w (Connect context session) = IsConnecting s p w session.value
   IsAt s p w (Relay a) = IsRelaying s p w a.value
   IsAt s p w (Fail link lease session error) =
-      IsLeased p (state link) (start_at link) lease × IsFailing state start_at s p w link session.value error
+      IsLeased p (state link) (start_at link) lease
+      × IsFailing state start_at s p w link session.value error
   IsAt s p w (Close link lease keep outcome) =
       IsLeased p (state link) (start_at link) lease
       × EndsLinked s p w (state link) (start_at link) keep (error_of outcome) outcome

@@ -32,8 +32,8 @@ impl Owed {
         }
     }
 
-    /// The outcome of a request where a write of its answer failed so. An attempt that failed before
-    /// keeps its own error.
+    /// The outcome of a request where a write of its answer failed so. An attempt that failed
+    /// before keeps its own error.
     pub(crate) fn outcome_failed(self, fault: Fault) -> Outcome
         ensures { result ≡ outcome_failed self fault }
     {
