@@ -21,6 +21,7 @@ use Rattle.relay_session.specs.declared.writing.Outgoing.{Outgoing}
 use Rattle.relay_session.specs.declared.writing.Outgoing.TheVariants as outgoing
 use Rattle.relay_core.specs.Past.{Origin}
 use Rattle.relay_peer.specs.Body.{IsFrontOf}
+use Rattle.relay_peer.specs.Faults.{IsLast}
 use Rattle.relay_peer.proofs.FaultLemmas.{added_last, grew_none, grew_same, more_none}
 use Rattle.relay_attempt.specs.Order.{FailsFor, WrittenTo, order_of}
 use Rattle.relay_attempt.specs.Passed.{Passed}
@@ -28,7 +29,7 @@ use Rattle.relay_attempt.proofs.FailLemmas.{blames_still, written_to}
 use Rattle.relay_valid.specs.Valid.{IsValid}
 use Rattle.relay_valid.proofs.ValidLemmas.{never_fails}
 use Rattle.relay_proxy.specs.Answer.{owed_text, past_at, WaitsOf}
-use Rattle.relay_proxy.specs.Endings.{IsInOrder, IsGiven, IsHalfRefused, IsPart, IsPartOrNone, HasFailed, owed_by, EndsWith}
+use Rattle.relay_proxy.specs.Endings.{IsInOrder, IsGiven, FailsToWrite, IsHalfRefused, IsPart, IsPartOrNone, HasFailed, owed_by, EndsWith}
 use Rattle.relay_proxy.specs.Owed.{Owes, HasAttempts, IsAnswering, outcome_owed, outcome_failed}
 use Rattle.relay_proxy.specs.Passed.{World, Start, origin_of, asked, TellsClient}
 use Rattle.relay_proxy.specs.Phases.{PhaseHolds, RunSoFar}
@@ -562,6 +563,18 @@ module _ {L C : Type 0} (state : L → LinkState) (start_at : L → LinkStart)
         front : IsFrontOf p.written holds.text
         front = waits_front _ _ _ holds.waits
 
+        last : IsLast s.write_faults x.client.write_faults fault
+        last = added_last s.write_faults w.client.write_faults x.client.write_faults
+            run.tells.fault_lists.writes fault fails.write_faults run.tells.fault_lists.written
+
+        failed : FailsToWrite s x.client
+        failed = record {
+          fault = fault;
+          kind = fails.kind;
+          rose = rose;
+          among = (last.0, [], last.1);
+        }
+
         by : (l : List (Returned L)) (o : Owed)
             → Owes state start_at s (past_at p p.written) x l o holds.text
             → HasAttempts state start_at (past_at p p.written) l o attempts
@@ -573,9 +586,7 @@ module _ {L C : Type 0} (state : L → LinkState) (start_at : L → LinkStart)
             rose = rose;
             place = inr (record {
               kind = fails.kind;
-              told = added_last s.write_faults w.client.write_faults x.client.write_faults
-                  run.tells.fault_lists.writes fault fails.write_faults
-                  run.tells.fault_lists.written;
+              told = last;
               unfinished = record {
                 answer = holds.text;
                 error = error;
@@ -591,7 +602,7 @@ module _ {L C : Type 0} (state : L → LinkState) (start_at : L → LinkStart)
         by (r ∷ l) (Refused error) owes made = absurd owes
         by l (Served e) owes made =
             ends_served state start_at s (past_at p p.written) x l e holds.text attempts owes
-            (inr (rose, front)) made
+            (inr (failed, front)) made
 
     -- the client's link found no memory
     pub answer_memory : WritesPending output w.client x.client put.OutOfMemory left

@@ -10,7 +10,6 @@ use Rattle.relay_tasks.specs.Head.{RequestHead}
 use Rattle.relay_tasks.specs.declared.Error.{Error}
 use Rattle.relay_tasks.specs.declared.Fault.{Fault}
 use Rattle.relay_tasks.specs.declared.task.HttpTask.{HttpTask}
-use Rattle.relay_links.specs.Count.{Rose}
 use Rattle.relay_links.specs.Link.{LinkState, LinkStart}
 use Rattle.relay_session.specs.Asked.{request_of}
 use Rattle.relay_session.specs.Response.{HoldsOn, IsText, pending}
@@ -25,7 +24,7 @@ use Rattle.relay_peer.specs.Body.{IsFrontOf}
 use Rattle.relay_attempt.specs.Order.{order_of}
 use Rattle.relay_attempt.specs.Passed.{Passed}
 use Rattle.relay_proxy.specs.Answer.{answer_for, owed_text, QueuesAnswer, WaitsOf}
-use Rattle.relay_proxy.specs.Endings.{IsInOrder, IsGiven, IsPartRelayed, HasFailed, owed_by, EndsLinked, error_of}
+use Rattle.relay_proxy.specs.Endings.{IsInOrder, IsGiven, FailsToWrite, IsPartRelayed, HasFailed, owed_by, EndsLinked, error_of}
 use Rattle.relay_proxy.specs.Leaving.{LeavesSession}
 use Rattle.relay_proxy.specs.Passed.{World, Start, TellsClient}
 use Rattle.relay_proxy.specs.Phases.{IsLeased}
@@ -45,7 +44,7 @@ data Queued (s : Start) (written text : List ℕ) (client : LinkState) (output :
     : Type 0 where
   opened : (left : List ℕ) → output ≡ outgoing.Open left → written ++ left ≡ text
       → Queued s written text client output
-  lost : (fault : Fault) → output ≡ outgoing.Broken fault → Rose s.faults client.faults
+  lost : (fault : Fault) → output ≡ outgoing.Broken fault → FailsToWrite s client
       → IsFrontOf written text → Queued s written text client output
 
 -- the answer behind tasks whose text is known
@@ -112,7 +111,7 @@ given_all : (s : Start) (p : Passed) (w : World) (text : List ℕ) (output : Out
 given_all s p w text output (Queued.opened left is joined) none =
     let empty : left ≡ [] = sym (ap pending is) ∙ none in
     inl (sym (append-nil p.written) ∙ ap (λ (xs : List ℕ). p.written ++ xs) (sym empty) ∙ joined)
-given_all s p w text output (Queued.lost fault is rose front) none = inr (rose, front)
+given_all s p w text output (Queued.lost fault is fails front) none = inr (fails, front)
 
 -- where something waits it is the rest
 waits_of : (s : Start) (p : Passed) (client : LinkState) (text : List ℕ) (output : Outgoing)
@@ -124,7 +123,7 @@ waits_of s p client text output (Queued.opened left is joined) some = record {
   some = subst (λ (xs : List ℕ). 0 < length xs) (ap pending is) some;
   joined = joined;
 }
-waits_of s p client text output (Queued.lost fault is rose front) some =
+waits_of s p client text output (Queued.lost fault is fails front) some =
     absurd (omega (arith, some, ap length (ap pending is)))
 
 -- nothing waits where the session says so

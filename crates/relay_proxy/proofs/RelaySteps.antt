@@ -348,7 +348,14 @@ module _ {L C : Type 0} (state : L → LinkState) (start_at : L → LinkStart) w
             why = own.why;
             answers = own.answers;
             holds = own.holds;
-            broken = λ fault is. (own.broken fault is).0;
+            broken = λ fault is.
+                let fails = own.broken fault is in
+                record {
+                  fault = fault;
+                  kind = fails.1.kind;
+                  rose = fails.0;
+                  among = fails.1.among;
+                };
           }
 
 -- ---- a turn of a phase that relays

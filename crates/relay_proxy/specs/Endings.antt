@@ -25,7 +25,7 @@ use Rattle.relay_h1.specs.declared.framing.Framing.{Framing}
 use Rattle.relay_session.specs.Reading.{IsWhole}
 use Rattle.relay_core.specs.Past.{Origin}
 use Rattle.relay_peer.specs.Body.{IsFrontOf, body_of}
-use Rattle.relay_peer.specs.Faults.{IsLast}
+use Rattle.relay_peer.specs.Faults.{IsAmong, IsLast}
 use Rattle.relay_sides.specs.Filtered.{asks_to_close}
 use Rattle.relay_attempt.specs.Order as exchange
 use Rattle.relay_attempt.specs.Order.{FailsFor, order_of, IsRelayed, HasEnded, MayServe}
@@ -158,10 +158,18 @@ pub record IsClientFault (s : Start) (p : Passed) (w : World) (error : Option Er
   pub place : FailsInHead s p w fault ⊎ FailsInRefusal s p w fault
   pub unsent : IsUnsent p
 
+-- a write of the client's link failed since the request began: its fault is among those that the
+-- link tells of its writes
+pub record FailsToWrite (s : Start) (client : LinkState) : Type 0 where
+  pub fault : Fault
+  pub kind : IsWriteFault fault
+  pub rose : Rose s.faults client.faults
+  pub among : IsAmong s.write_faults client.write_faults fault
+
 -- the client was given all of the text, or a write of its link failed and it was given the front
 abbrev pub IsGiven : Start → Passed → World → List ℕ → Type 0
 IsGiven s p w text =
-    (p.written ≡ text) ⊎ (Rose s.faults w.client.faults × IsFrontOf p.written text)
+    (p.written ≡ text) ⊎ (FailsToWrite s w.client × IsFrontOf p.written text)
 
 -- the connector gave no link
 pub record IsUnconnected (s : Start) (p : Passed) (w : World) (e : Error) : Type 0 where

@@ -5,7 +5,6 @@ use Rattle.relay_tasks.specs.declared.Error.{Error}
 use Rattle.relay_tasks.specs.declared.error.Fail.{Fail}
 use Rattle.relay_tasks.specs.declared.error.Fail.TheVariants as fail
 use Rattle.relay_tasks.specs.declared.Fault.{Fault}
-use Rattle.relay_links.specs.Count.{Rose}
 use Rattle.relay_links.specs.Link.{LinkState, LinkStart}
 use Rattle.relay_session.specs.Asked.{request_of}
 use Rattle.relay_session.specs.Response.{Holds}
@@ -13,12 +12,13 @@ use Rattle.relay_session.specs.declared.session.HttpSession.{HttpSession}
 use Rattle.relay_session.specs.declared.writing.Outgoing.TheVariants as outgoing
 use Rattle.relay_attempt.specs.Order.{FailsFor, order_of}
 use Rattle.relay_attempt.specs.Passed.{Passed}
-use Rattle.relay_proxy.specs.Endings.{IsPartRelayed}
+use Rattle.relay_proxy.specs.Endings.{FailsToWrite, IsPartRelayed}
 use Rattle.relay_proxy.specs.Passed.{Start, origin_of}
 use Rattle.relay_proxy.specs.Relayable.{IsRelayable}
 
 -- an exchange failed with that error, and left that session: it answers the request, with the tasks
--- that were queued, of whose text so much was written; where a write failed, the client's link did
+-- that were queued, of whose text so much was written; where it keeps the fault of a write, a write
+-- of the client's link failed
 pub record LeavesSession (s : Start) (p : Passed) (client link : LinkState) (start : LinkStart)
     (session : HttpSession) (e : Error) : Type 0 where
   pub head : RequestHead
@@ -27,7 +27,7 @@ pub record LeavesSession (s : Start) (p : Passed) (client link : LinkState) (sta
   pub answers : session.writing.request ≡ request_of head
   pub holds : Holds session.writing ((order_of why).batched ++ (order_of why).closing) p.written
   pub broken : (fault : Fault) → session.writing.output ≡ outgoing.Broken fault
-      → Rose s.faults client.faults
+      → FailsToWrite s client
 
 -- what a failure leaves: a part of the exchange where memory was wanted, or that
 abbrev pub LeavesBy : Start → Passed → LinkState → LinkState → LinkStart → HttpSession → Fail
