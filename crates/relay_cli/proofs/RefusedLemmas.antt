@@ -142,7 +142,8 @@ always_limit script client connector schedule processed fresh offered named outc
           };
           order = is_nothing refl refl;
           untouched = λ _. refl;
-          ends = rw (outcome, attempts) (record { got = refl; sent = refl }, inl refl);
+          ends = rw (outcome, attempts)
+              (record { got = refl; sent = refl }, inl (refl, inl refl));
         };
         refused = rw attempts refl;
         offered = rw attempts refl;

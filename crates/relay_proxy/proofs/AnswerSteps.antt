@@ -274,7 +274,8 @@ module _ {L : Type 0} (state : L → LinkState) (start_at : L → LinkStart) whe
       → EndsWith state start_at s p w own attempts outcome.TurnLimit
       × EndsWith state start_at s p w own attempts outcome.OutOfMemory
   ends_part s p w [] (Refused error) text attempts owes part made =
-      ((owes.1, inl made), (owes.1, inl made))
+      let some = inr (text, error, owes.0, part) in
+      ((owes.1, inl (made, some)), (owes.1, inl (made, some)))
   ends_part s p w [] (Served e) text attempts owes part made =
       let half : IsHalfRefused s p w attempts = record {
         e = e;

@@ -598,12 +598,12 @@ module _ {L C : Type 0} (state : L → LinkState) (start_at : L → LinkStart) w
   -- a request that had no link gave up
   unlinked_end : (s : Start) (p : Passed) (w : World) (phase : Phase L C)
       (before after : Option (List (Returned L))) (ending : Ending) → GivesUp before after ending
-      → RunSoFar state start_at s p w [] phase → IsUnsent p
+      → RunSoFar state start_at s p w [] phase → IsUnsent p → p.written ≡ []
       → (IsStalled state start_at w phase → IsQuiet state start_at s p w [])
       → faults_before [] phase ≡ [] → offers_before start_at [] phase ≡ []
       → ((n : ℕ) → PhaseUses state start_at n [] phase → OwnUses state start_at n [])
       → Ends state start_at s p w [] before after phase ending
-  unlinked_end s p w phase before after ending gives run unsent stalled none bare asked = record {
+  unlinked_end s p w phase before after ending gives run unsent empty stalled none bare asked = record {
     handed = [];
     gained = gives.same ∙ more-nil before;
     ended = record {
@@ -612,7 +612,7 @@ module _ {L C : Type 0} (state : L → LinkState) (start_at : L → LinkStart) w
       untouched = run.untouched;
       ends = subst
           (λ (o : Outcome). EndsUnlinked s p w o × AttemptsUnlinked s p w ending.attempts o)
-          (sym gives.limit) (unsent, inl gives.none);
+          (sym gives.limit) (unsent, inl (gives.none, inl empty));
     };
     refused = ap (λ (l : List AttemptRecord). faults_for {L = L} [] l) gives.none ∙ sym none;
     offered = ap (λ (l : List AttemptRecord). offers_for start_at [] l) gives.none ∙ sym bare;
@@ -736,12 +736,12 @@ module _ {L C : Type 0} (state : L → LinkState) (start_at : L → LinkStart) w
       → Finishes phase before after ending → RunSoFar state start_at s p w own phase
       → Ends state start_at s p w own before after phase ending
   end_of s p [] w ReadHead before after ending does run =
-      unlinked_end s p w ReadHead before after ending does run run.holds.unsent
+      unlinked_end s p w ReadHead before after ending does run run.holds.unsent run.holds.written
       (λ h. inl (subst (λ (xs : List ℕ). IsOpen xs) run.holds.whole h.0, h.1)) refl refl
       (λ n asked. asked)
   end_of s p [] w (Connect context session) before after ending does run =
       unlinked_end s p w (Connect context session) before after ending does run run.holds.unsent
-      (λ h. absurd h) refl refl (λ n asked. asked)
+      run.holds.written (λ h. absurd h) refl refl (λ n asked. asked)
   end_of s p [] w (Relay a) before after ending does run =
       linked_end s p w (Relay a) (link_of a.value.exchange) a.value.lease false before after
       ending TurnLimit does.limit does.back run run.holds.leased (

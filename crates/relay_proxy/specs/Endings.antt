@@ -351,14 +351,24 @@ pub record IsHalfRefused (s : Start) (p : Passed) (w : World) (attempts : List A
   pub part : IsFrontOf p.written (generated 502)
   pub is_record : IsFailedRecord attempts e
 
+-- what the client was given of a request that made no attempt, where it was not brought to an end:
+-- nothing, or the front of the answer to a head that is turned down
+abbrev pub IsPartRefused : Start → Passed → Type 0
+IsPartRefused s p =
+    (p.written ≡ [])
+    ⊎ ((answer : List ℕ) × (error : Option Error) × IsTurnedDown (asked s p) answer error
+    × IsFrontOf p.written answer)
+
 -- the attempts of a request that had no link: one where the connector gave none
 abbrev pub AttemptsUnlinked : Start → Passed → World → List AttemptRecord → Outcome → Type 0
 AttemptsUnlinked s p w attempts NoRequest = attempts ≡ []
 AttemptsUnlinked s p w attempts (Refused error) = attempts ≡ []
 AttemptsUnlinked s p w attempts (Served None reuse) = ⊥
 AttemptsUnlinked s p w attempts (Served (Some e) reuse) = IsFailedRecord attempts e
-AttemptsUnlinked s p w attempts TurnLimit = (attempts ≡ []) ⊎ IsHalfRefused s p w attempts
-AttemptsUnlinked s p w attempts OutOfMemory = (attempts ≡ []) ⊎ IsHalfRefused s p w attempts
+AttemptsUnlinked s p w attempts TurnLimit =
+    ((attempts ≡ []) × IsPartRefused s p) ⊎ IsHalfRefused s p w attempts
+AttemptsUnlinked s p w attempts OutOfMemory =
+    ((attempts ≡ []) × IsPartRefused s p) ⊎ IsHalfRefused s p w attempts
 
 module _ {L : Type 0} (state : L → LinkState) (start_at : L → LinkStart) where
   -- how a request ends that handed back this link
