@@ -48,6 +48,7 @@ use Rattle.relay_sides.specs.declared.filtered.Filtered.{Filtered}
 use Rattle.relay_peer.specs.declared.peer_side.PeerSide.{PeerSide}
 use Rattle.relay_sides.proofs.ClientPast.{open_is_whole}
 use Rattle.relay_sides.proofs.FilterLemmas.{inside_of}
+use Rattle.relay_attempt.specs.Agrees.{Agrees}
 use Rattle.relay_attempt.specs.Exchange.{DownHolds, UpHolds, Blames, BlamesInside, down_state, core_of, IsFinished, FailsWith}
 use Rattle.relay_exchange.specs.Exchange.{may_keep_at}
 use Rattle.relay_attempt.specs.Head.{link_of, may_keep}
@@ -93,11 +94,11 @@ neither true kept none = absurd (cc)
 same_head : (a b : RequestHead) → Some a ≡ Some b → a ≡ b
 same_head a b same = cc
 
--- the peer's side answers for the error, by the head that the client asked with
+-- the peer's side answers for the error, by the head that is sent
 own_blames : {L : Type 0} (state : L → LinkState) (start_at : L → LinkStart) (s : Origin)
     (q : UpPast) (up : Filtered (PeerSide L)) → UpHolds state start_at up s q → (e : Error)
     → BlamesInside state start_at up.inner s q e
-    → PeerBlames (start_at up.inner.client.link) (state up.inner.client.link) s.head s.asked q e
+    → PeerBlames (start_at up.inner.client.link) (state up.inner.client.link) s.sent s.asked q e
 own_blames state start_at s q up h e blames =
     let u = h.holds.peer in
     subst (λ (a : RequestHead).
@@ -109,10 +110,11 @@ module _ {L : Type 0} (state : L → LinkState) (start_at : L → LinkStart)
     (down : ClientSide) (up : Filtered (PeerSide L)) (duplex : Duplex)
     (so_far : SoFar (DownHolds link ahead down s) (UpHolds state start_at up s)
     (Blames state start_at up s) (core_of state start_at duplex down up) p q)
+    (agrees : Agrees s.head s.sent)
   where
     -- what passed is in order
     abbrev in_order : IsInOrder s (passed_by p q) (state up.inner.client.link).ended
-    in_order = order_so_far state start_at s p q link ahead down up duplex so_far
+    in_order = order_so_far state start_at s p q link ahead down up duplex so_far agrees
 
     -- why the exchange failed with that error, over what is in order here
     record FailsHere (e : Error) : Type 0 where
@@ -149,7 +151,7 @@ module _ {L : Type 0} (state : L → LinkState) (start_at : L → LinkStart)
     peer_holds = so_far.up.holds.peer
 
     -- the tasks that came
-    abbrev tasks_are : AreTasks s.head.method s.asked (state up.inner.client.link).ended q.got
+    abbrev tasks_are : AreTasks s.sent.method s.asked (state up.inner.client.link).ended q.got
         (so_far.up.given ++ so_far.up.withheld) up.inner.client.response
     tasks_are = tasks_own s (start_at up.inner.client.link) (state up.inner.client.link) up q
         so_far.up
@@ -165,11 +167,11 @@ module _ {L : Type 0} (state : L → LinkState) (start_at : L → LinkStart)
 
     -- an end among the batched tasks is one among all that were handed on
     given_ends : list_any is_end p.batched ≡ true
-        → IsEndGiven s.head.method so_far.up.given p.batched
+        → IsEndGiven s.sent.method so_far.up.given p.batched
     given_ends ends =
         let u = so_far.up in
-        end_given s.head.method u.given p.batched front.rest (front.joined ∙ u.is_read)
-        (given_ends_last s.head.method s.asked (state up.inner.client.link).ended q.got u.given
+        end_given s.sent.method u.given p.batched front.rest (front.joined ∙ u.is_read)
+        (given_ends_last s.sent.method s.asked (state up.inner.client.link).ended q.got u.given
         u.withheld up.inner.client.response tasks_are)
         ends
 
@@ -177,7 +179,7 @@ module _ {L : Type 0} (state : L → LinkState) (start_at : L → LinkStart)
     over_behind : (list_any is_end p.batched ≡ true) ⊎ (down.done ≡ true)
         → is_over (wire (request_of s.head) place.NoHead p.batched).place ≡ true
     over_behind (inl ends) =
-        over_by_end s (state up.inner.client.link).ended q.got q.read in_order.are_of
+        over_by_end s agrees.method (state up.inner.client.link).ended q.got q.read in_order.are_of
         (headed s (start_at up.inner.client.link) (state up.inner.client.link) up q so_far.up)
         p.batched front ends
     over_behind (inr done) =
@@ -186,12 +188,12 @@ module _ {L : Type 0} (state : L → LinkState) (start_at : L → LinkStart)
 
     -- the response has come whole, with an end among the tasks or where it is done
     whole_by : (list_any is_end p.batched ≡ true) ⊎ (down.done ≡ true)
-        → (n : ℕ) × Tasks s.head.method s.asked q.got (state up.inner.client.link).ended
+        → (n : ℕ) × Tasks s.sent.method s.asked q.got (state up.inner.client.link).ended
         (says (told_of in_order.are_of.given) (ended n))
     whole_by (inl ends) = in_order.are_of.whole (given_ends ends).found
     whole_by (inr done) =
-        over_is_whole s.head s.asked (state up.inner.client.link).ended q.got q.read in_order.are_of
-        p.batched
+        over_is_whole s.head s.sent.method agrees.method s.asked
+        (state up.inner.client.link).ended q.got q.read in_order.are_of p.batched
         front.rest (sym front.joined) (over_behind (inr done))
 
     -- and it is over behind all that was queued
@@ -233,7 +235,7 @@ module _ {L : Type 0} (state : L → LinkState) (start_at : L → LinkStart)
 
     -- and the request was sent whole
     sent_all : duplex.send_error ≡ None → Finishes (core_of state start_at duplex down up) p q
-        → q.sent ≡ sent_wire (sent_as s.head p.put)
+        → q.sent ≡ sent_wire (sent_as s.sent p.put)
     sent_all none finishes =
         sym (append-nil q.sent)
         ∙ ap (λ (l : List ℕ). q.sent ++ l)
@@ -241,12 +243,12 @@ module _ {L : Type 0} (state : L → LinkState) (start_at : L → LinkStart)
         ∙ so_far.up.holds.peer.so_far.text
         ∙ ap sent_wire (so_far.up.holds.peer.queued.unlost (finishes.unlost none))
         ∙ ap (λ (h : RequestHead). sent_wire (sent_as h q.taken)) so_far.up.holds.peer.own
-        ∙ ap (λ (l : List HttpTask). sent_wire (sent_as s.head l)) (finishes.taken none)
+        ∙ ap (λ (l : List HttpTask). sent_wire (sent_as s.sent l)) (finishes.taken none)
 
     -- and so did its body
     sends_whole : duplex.send_error ≡ None → Finishes (core_of state start_at duplex down up) p q
         → SendsWhole s (passed_by p q) (state up.inner.client.link).ended
-        (order_so_far state start_at s p q link ahead down up duplex so_far)
+        (order_so_far state start_at s p q link ahead down up duplex so_far agrees)
     sends_whole none finishes =
         let c = so_far.down.client in
         let done = finishes.request_ended none in
@@ -270,8 +272,9 @@ module _ {L : Type 0} (state : L → LinkState) (start_at : L → LinkStart)
         ap (list_any is_end) (sym front.joined) ∙ any_left is_end p.batched front.rest ends
     read_ends (inr done) =
         ap (list_any is_end) in_order.are_of.are
-        ∙ handed_any s.head.method in_order.are_of.given
-        ∙ over_has_end s.head s.asked (state up.inner.client.link).ended q.got q.read
+        ∙ handed_any s.sent.method in_order.are_of.given
+        ∙ over_has_end s.head s.sent.method agrees.method s.asked
+        (state up.inner.client.link).ended q.got q.read
         in_order.are_of so_far.up.withheld up.inner.client.response tasks_are heads_here p.batched
         front.rest (sym front.joined) (over_behind (inr done))
 
@@ -290,11 +293,11 @@ module _ {L : Type 0} (state : L → LinkState) (start_at : L → LinkStart)
     -- the peer's side answers for no request that ends short
     never_kept : (e : Error) → Blames state start_at up s q e → e ≡ short_request → ⊥
     never_kept e (filtered.BlamesOver.by_inner blames) short =
-        never_short s (passed_by p q) (state up.inner.client.link).ended
+        never_short s agrees (passed_by p q) (state up.inner.client.link).ended
         (state up.inner.client.link) (start_at up.inner.client.link) in_order q.lost e
         (own_blames state start_at s q up so_far.up e blames) short
     never_kept e (filtered.BlamesOver.by_refusal is) short =
-        never_refused_short s.head.method s.asked q.got e
+        never_refused_short s.sent.method s.asked q.got e
         (refused_for s (start_at up.inner.client.link) (state up.inner.client.link) up q so_far.up e
         is) short
 
@@ -319,7 +322,7 @@ module _ {L : Type 0} (state : L → LinkState) (start_at : L → LinkStart)
     -- the peer's side answers for it
     write_blamed : (e : Error)
         → IsOnlyFault (start_at up.inner.client.link) (state up.inner.client.link) e
-        → PeerBlames (start_at up.inner.client.link) (state up.inner.client.link) s.head s.asked
+        → PeerBlames (start_at up.inner.client.link) (state up.inner.client.link) s.sent s.asked
         (order.up_past in_order q.lost) e
     write_blamed e w =
         peer.PeerBlames.link_failed w.fault w.is w.rose
@@ -329,11 +332,12 @@ module _ {L : Type 0} (state : L → LinkState) (start_at : L → LinkStart)
     request_by : (error : Option Error) → duplex.send_error ≡ error
         → Finishes (core_of state start_at duplex down up) p q
         → (SendsWhole s (passed_by p q) (state up.inner.client.link).ended
-        (order_so_far state start_at s p q link ahead down up duplex so_far)
+        (order_so_far state start_at s p q link ahead down up duplex so_far agrees)
         × ((state up.inner.client.link).faults ≡ (start_at up.inner.client.link).faults))
         ⊎ ((e : Error) × (lost : Bool)
-        × PeerBlames (start_at up.inner.client.link) (state up.inner.client.link) s.head s.asked
-        (order.up_past (order_so_far state start_at s p q link ahead down up duplex so_far) lost) e
+        × PeerBlames (start_at up.inner.client.link) (state up.inner.client.link) s.sent s.asked
+        (order.up_past (order_so_far state start_at s p q link ahead down up duplex so_far agrees)
+        lost) e
         × IsOnlyFault (start_at up.inner.client.link) (state up.inner.client.link) e)
     request_by None none finishes =
         inl (sends_whole none finishes, peer_holds.calm (calm none finishes))
@@ -381,15 +385,15 @@ module _ {L : Type 0} (state : L → LinkState) (start_at : L → LinkStart)
         let stands = subst (λ (x : Sent). Stands x up.inner.client.request.request)
         (u.queued.unlost (finishes.unlost none)
         ∙ ap (λ (h : RequestHead). sent_as h q.taken) u.own
-        ∙ ap (λ (ts : List HttpTask). sent_as s.head ts) (finishes.taken none)) u.so_far.stands in
-        let whole = ended_stands s.head p.put up.inner.client.request.request c.framing
-        (framing_is s.head c.framing
-        (own_request s p link ahead down.session c).let_in.framed) stands
+        ∙ ap (λ (ts : List HttpTask). sent_as s.sent ts) (finishes.taken none)) u.so_far.stands in
+        let whole = ended_stands s.sent p.put up.inner.client.request.request c.framing
+        (framing_is s.sent c.framing
+        (agrees.framing ∙ (own_request s p link ahead down.session c).let_in.framed)) stands
         (c.whole (finishes.request_ended none)) in
         let over : reading.is_over up.inner.client.response.place ≡ true =
         sym tasks_are.ended
         ∙ any_left is_end so_far.up.given so_far.up.withheld
-        (sym (handed_any s.head.method so_far.up.given)
+        (sym (handed_any s.sent.method so_far.up.given)
         ∙ ap (list_any is_end) (sym in_order.are_of.are)
         ∙ ends) in
         and_both (core.may_keep duplex.kind duplex) _
@@ -398,11 +402,11 @@ module _ {L : Type 0} (state : L → LinkState) (start_at : L → LinkStart)
         duplex.upstream_request_done duplex.upstream_response_done finishes.unfailed
         (ap (λ (e : Option Error). is_none e) none) (finishes.done none) (response_done ends))
         (and_both (may_keep_writing up.inner.client.request) _
-        (kept_writing s.head up.inner.client.request
+        (kept_writing s.sent up.inner.client.request
         (u.is_head ∙ ap (λ (h : RequestHead). Some h) u.own) serves.asks whole
         (none_left none finishes))
         (and_both (may_keep_reading up.inner.client.response) _
-        (kept_reading s.head.method s.asked (state up.inner.client.link).ended q.got
+        (kept_reading s.sent.method s.asked (state up.inner.client.link).ended q.got
         (told_of in_order.are_of.given) (told_of (so_far.up.given ++ so_far.up.withheld))
         up.inner.client.response.place up.inner.client.response.ahead tasks_are.so_far.at over
         serves.response)
@@ -416,7 +420,7 @@ module _ {L : Type 0} (state : L → LinkState) (start_at : L → LinkStart)
 
     -- what the client's side leaves of its request, and the peer's side of its response
     pub leaves_of : (keeps : Bool) (n : ℕ)
-        → Tasks s.head.method s.asked q.got (state up.inner.client.link).ended
+        → Tasks s.sent.method s.asked q.got (state up.inner.client.link).ended
         (says (told_of in_order.are_of.given) (ended n))
         → (keeps ≡ true → may_keep_client up.inner.client ≡ true)
         → Leaves s (passed_by p q) (state up.inner.client.link).ended in_order ahead
@@ -445,14 +449,14 @@ module _ {L : Type 0} (state : L → LinkState) (start_at : L → LinkStart)
         may_serve kept =
             let u = peer_holds in
             let parts = kept_parts up.inner.client kept in
-            let sent = sent_whole u.sending q.sent up.inner.client.request s.head
+            let sent = sent_whole u.sending q.sent up.inner.client.request s.sent
             (u.is_head ∙ ap (λ (h : RequestHead). Some h) u.own) u.so_far parts.0 in
             record {
               pieces = sent.pieces;
               request = sent.request;
               complete = sent.complete;
               asks = sent.asks;
-              response = read_whole s.head.method s.asked (state up.inner.client.link).ended q.got
+              response = read_whole s.sent.method s.asked (state up.inner.client.link).ended q.got
                   (told_of so_far.up.given) (told_of (so_far.up.given ++ so_far.up.withheld))
                   up.inner.client.response n tasks_are.so_far parts.1 whole;
             }
@@ -470,8 +474,8 @@ module _ {L : Type 0} (state : L → LinkState) (start_at : L → LinkStart)
             let c = so_far.down.client in
             let own = (HasRequest-unique (given_to s p) head s.head framing c.framing len c.len has
             (own_request s p link ahead down.session c)).0 in
-            absurd (never_refused s.head s.asked (state up.inner.client.link).ended q.got q.read
-            in_order.are_of
+            absurd (never_refused s.head s.sent.method agrees.method s.asked
+            (state up.inner.client.link).ended q.got q.read in_order.are_of
             first (behind ++ r.rest) at
             (r.came ∙ sym (append_assoc p.batched r.left r.rest)
             ∙ ap (λ (l : List HttpTask). l ++ r.rest) is
@@ -522,27 +526,29 @@ module _ {L : Type 0} (state : L → LinkState) (start_at : L → LinkStart) whe
       → SoFar (DownHolds link ahead x.exchange.down s) (UpHolds state start_at x.exchange.up s)
       (Blames state start_at x.exchange.up s)
       (core_of state start_at x.exchange.duplex x.exchange.down x.exchange.up) p q
+      → Agrees s.head s.sent
       → Finishes (core_of state start_at x.exchange.duplex x.exchange.down x.exchange.up) p q
       → IsFinished state start_at s (passed_by p q) ahead x
-  finished_of s p q link ahead x is f finishes =
+  finished_of s p q link ahead x is f agrees finishes =
       let down = x.exchange.down in
       let up = x.exchange.up in
       let duplex = x.exchange.duplex in
-      let relayed = relayed_of state start_at s p q link ahead down up duplex f finishes in
+      let relayed = relayed_of state start_at s p q link ahead down up duplex f agrees finishes in
       let c = f.down.client in
       let client_keeps : may_keep x ≡ true → may_keep_client up.inner.client ≡ true =
       λ kept. and_right (may_keep_at x.exchange.stage duplex) _ kept in
       record {
         relayed = relayed;
-        is_head = c.is_head ∙ ap (λ (h : RequestHead). Some h) c.own;
-        leaves = leaves_of state start_at s p q link ahead down up duplex f (may_keep x) relayed.n
-            relayed.whole client_keeps;
+        answers = answers_own s p link ahead down.session c;
+        leaves = leaves_of state start_at s p q link ahead down up duplex f agrees (may_keep x)
+            relayed.n relayed.whole client_keeps;
         faultless = λ kept.
             f.up.holds.peer.calm (kept_unfailed up.inner.client (client_keeps kept));
         keeps = λ serves faultless.
             subst (λ (at : Stage). may_keep_at at duplex && may_keep_client up.inner.client ≡ true)
             (sym is)
-            (keeps_of state start_at s p q link ahead down up duplex f finishes serves faultless);
+            (keeps_of state start_at s p q link ahead down up duplex f agrees finishes serves
+            faultless);
       }
 
   -- an exchange that failed, and the session of its client that this leaves
@@ -551,15 +557,15 @@ module _ {L : Type 0} (state : L → LinkState) (start_at : L → LinkStart) whe
       → SoFar (DownHolds link ahead x.exchange.down s) (UpHolds state start_at x.exchange.up s)
       (Blames state start_at x.exchange.up s)
       (core_of state start_at x.exchange.duplex x.exchange.down x.exchange.up) p q
-      → (e : Error)
+      → Agrees s.head s.sent → (e : Error)
       → HasReason (λ r e. ClientBlames s r link e) (λ r left e. ClientRefuses s r link left e)
       (λ r e. ClientBlames s r link e ⊎ CannotEnd s r e) (Blames state start_at x.exchange.up s)
       (down_state x.exchange.down) p q e
       → FailsWith state start_at s (passed_by p q) link x e
-  fails_with s p q link ahead x f e reason =
+  fails_with s p q link ahead x f agrees e reason =
       let down = x.exchange.down in
       let fails = fails_here state start_at s p q link ahead down x.exchange.up x.exchange.duplex f
-      e reason in
+      agrees e reason in
       record {
         why = fails.why;
         answers = answers_own s p link ahead down.session f.down.client;

@@ -33,6 +33,7 @@ use Rattle.relay_peer.proofs.ExactLemmas.{Tasks-unique}
 use Rattle.relay_session.specs.Asked.{method_of, asks_of, request_of}
 use Rattle.relay_session.specs.Response.{is_over}
 use Rattle.relay_session.specs.TaskWire.{Sent, framing_of, shown, piece_sent, piece_refusal, framed_head_sent, framed_head_refusal, head_sent, head_refusal, task_sent, refusal, wire, or_later, first_refusal}
+use Rattle.relay_session.specs.declared.task_text.Asks.{Asks}
 use Rattle.relay_session.specs.declared.task_text.Place.{Place}
 use Rattle.relay_session.specs.declared.task_text.Place.TheVariants as place
 use Rattle.relay_session.specs.declared.task_text.Request.{Request}
@@ -158,14 +159,16 @@ handed_status method ends head = on (lacks_framing method ends head)
     on true = refl
     on false = refl
 
--- the client's framing is that of the head, as its version takes it
-client_framed : (head : RequestHead) (response : ResponseHead) (g : Framing)
-    → response_framing head.method false response ≡ Some g
+-- the client's framing is that of the head, as its version takes it, where the method that was sent
+-- asks as the client's does
+client_framed : (head : RequestHead) (method : List ℕ) → asks_of method ≡ asks_of head.method
+    → (response : ResponseHead) (g : Framing) → response_framing method false response ≡ Some g
     → client_framing (method_of (asks_of head.method)) head.version false response
     ≡ Some (framing_for (is_http_10 head.version) g)
 unfolding client_framing
-client_framed head response g is =
-    same_framing head.method head.version false response
+client_framed head method alike response g is =
+    ap (λ (a : Asks). client_framing (method_of a) head.version false response) (sym alike)
+    ∙ same_framing method head.version false response
     ∙ ap (λ (f : Option Framing). option_map (framing_for (is_http_10 head.version)) f) is
 
 -- ---- what is left of a body
@@ -443,8 +446,9 @@ neither false b none = (refl, none)
 -- ---- the response
 
 module _
-    (head : RequestHead) (upgrade closed : Bool) (got : List ℕ) (tasks : List HttpTask)
-    (are : AreOf head.method upgrade closed got tasks)
+    (head : RequestHead) (method : List ℕ) (alike : asks_of method ≡ asks_of head.method)
+    (upgrade closed : Bool) (got : List ℕ) (tasks : List HttpTask)
+    (are : AreOf method upgrade closed got tasks)
   where
     -- whether the client is of HTTP/1.0
     abbrev old : Bool
@@ -458,7 +462,7 @@ module _
     record IsFinal (final : ResponseHead) (f : Framing) : Type 0 where
       pub told : all.final ≡ Some final
       pub len : ℕ
-      pub has : HasFinal head.method upgrade got all.informed final f len
+      pub has : HasFinal method upgrade got all.informed final f len
 
     -- where the response stands behind what was told: no final head, or what it leaves of the body
     -- behind the bytes that were told, or the end, which is among the tasks
@@ -522,12 +526,12 @@ module _
     -- what the bytes say of the response, by its final head
     all_said : (final : ResponseHead) (f : Framing) (is : IsFinal final f) (text : BodyText)
         → Body f (drop is.len got) text
-        → Tasks head.method upgrade got closed
+        → Tasks method upgrade got closed
         (text_of all.informed (Some final) text.bytes
         (mark_of f is.len (length got) closed text.mark))
     all_said final f is text said =
         subst
-        (λ (k : ℕ). Tasks head.method upgrade got closed
+        (λ (k : ℕ). Tasks method upgrade got closed
         (text_of all.informed (Some final) text.bytes
         (mark_of f k (length got) closed text.mark)))
         (sym is.has.ends)
@@ -543,7 +547,7 @@ module _
         let text = of_length k (drop there.len got) in
         let whole = are.whole ends in
         let said = all_said final (framing.Length k) there text refl in
-        let one = Tasks-unique head.method upgrade got closed (says all (ended whole.0))
+        let one = Tasks-unique method upgrade got closed (says all (ended whole.0))
         (text_of all.informed (Some final) text.bytes
         (mark_of (framing.Length k) there.len (length got) closed text.mark)) whole.1 said in
         ended_length k whole.0 there.len (length got) closed (drop there.len got) all.body
@@ -565,9 +569,9 @@ module _
 
     -- a task is not refused, and where the response stands behind it
     record Steps (told : ToldResponse) (at : Place) (one : HttpTask) : Type 0 where
-      pub passes : refusal (request_of head) at (handed head.method one) ≡ None
+      pub passes : refusal (request_of head) at (handed method one) ≡ None
       pub stands : Stands (with_task told one)
-          (task_sent (request_of head) at (handed head.method one)).place
+          (task_sent (request_of head) at (handed method one)).place
 
     -- where it stands behind a piece, which may be the last
     stands_behind : (told : ToldResponse) (at : Place) (ends : Bool) (rest : Framing)
@@ -596,19 +600,19 @@ module _
         let found = are.final given in_all in
         let f = found.0 in
         let is : IsFinal given f = record { told = in_all; len = found.1; has = found.2 } in
-        let over = hands_over head.method ends given f
-        (framed_plain head.method upgrade given f
+        let over = hands_over method ends given f
+        (framed_plain method upgrade given f
         (neither (given.status == 101) (list_any is_switch rest) left.stays).0
-        (came_framed head.method upgrade (drop is.has.place got) given f is.has.own is.has.has)) in
+        (came_framed method upgrade (drop is.has.place got) given f is.has.own is.has.has)) in
         let g = over.g in
-        let out = handed_head head.method ends given in
+        let out = handed_head method ends given in
         let goes = final_goes (request_of head) out ends
         (behind_piece ends (after_piece (framing_for old g) []))
-        (ap is_informational (handed_status head.method ends given) ∙ final)
+        (ap is_informational (handed_status method ends given) ∙ final)
         (framed_goes (client_head (method_of (asks_of head.method)) head.version false out) ends
         (framing_for old g)
         (client_framing (method_of (asks_of head.method)) head.version false out)
-        (client_framed head out g over.framed)
+        (client_framed head method alike out g over.framed)
         (λ last. subst
         (λ (l : List ℕ). is_short (after_piece (framing_for old g) l) ≡ false) bare
         (end_fits told one rest left given f g is over.comes last))) in
@@ -625,9 +629,9 @@ module _
         → told.body ≡ [] → is_informational given.status ≡ true
         → Steps told place.NoHead (task.Header given ends)
     informs_steps told given ends none bare informs =
-        let out = handed_head head.method ends given in
+        let out = handed_head method ends given in
         let goes = informing_goes (request_of head) out ends
-        (ap is_informational (handed_status head.method ends given) ∙ informs) in
+        (ap is_informational (handed_status method ends given) ∙ informs) in
         record {
           passes = goes.passes;
           stands = subst (λ (t : ToldResponse).
@@ -734,9 +738,9 @@ module _
 
     -- none of a front of them is refused, and where the response stands behind it
     record Walks (told : ToldResponse) (at : Place) (front rest : List HttpTask) : Type 0 where
-      pub passes : first_refusal (request_of head) at (map (handed head.method) front) ≡ None
+      pub passes : first_refusal (request_of head) at (map (handed method) front) ≡ None
       pub stands : Stands (told_behind told front)
-          (wire (request_of head) at (map (handed head.method) front)).place
+          (wire (request_of head) at (map (handed method) front)).place
       pub left : Left (told_behind told front) rest
 
     -- every front is so, from wherever the response stands
@@ -746,12 +750,12 @@ module _
     walks told at [] rest left stands = record { passes = refl; stands = stands; left = left }
     walks told at (one ∷ front) rest left stands =
         let first = steps told at one (front ++ rest) left stands in
-        let next = (task_sent (request_of head) at (handed head.method one)).place in
+        let next = (task_sent (request_of head) at (handed method one)).place in
         let later = walks (with_task told one) next front rest
         (one_less told one (front ++ rest) left) first.stands in
         record {
           passes = ap (λ (o : Option Error). or_later o
-              (first_refusal (request_of head) next (map (handed head.method) front)))
+              (first_refusal (request_of head) next (map (handed method) front)))
               first.passes ∙ later.passes;
           stands = later.stands;
           left = later.left;
@@ -761,7 +765,7 @@ module _
     record SendsFront (front rest : List HttpTask) : Type 0 where
       pub told : ToldResponse
       pub next : List HttpTask
-      pub are_next : map (handed head.method) next ≡ rest
+      pub are_next : map (handed method) next ≡ rest
       pub passes : first_refusal (request_of head) place.NoHead front ≡ None
       pub stands : Stands told (wire (request_of head) place.NoHead front).place
       pub left : Left told next
@@ -769,7 +773,7 @@ module _
     -- from the first task on
     sends_front : (front rest : List HttpTask) → tasks ≡ front ++ rest → SendsFront front rest
     sends_front front rest same =
-        let parts = parts_of head.method are.given front rest (sym are.are ∙ same) in
+        let parts = parts_of method are.given front rest (sym are.are ∙ same) in
         let walk = walks untold place.NoHead parts.first parts.next
         (subst (λ (l : List HttpTask). Left untold l) parts.joined all_left)
         (none_yet refl refl refl) in
@@ -799,7 +803,7 @@ module _
         → ⊥
     never_refused front behind at same e refused =
         let there = sends_front front (at ∷ behind) same in
-        let next = heads_of head.method there.next at behind there.are_next in
+        let next = heads_of method there.next at behind there.are_next in
         let stands = (wire (request_of head) place.NoHead front).place in
         let step = steps there.told stands next.one next.behind
         (subst (λ (l : List HttpTask). Left there.told l) next.is there.left) there.stands in
@@ -814,7 +818,7 @@ module _
 
     -- what was told of the response, with its end
     abbrev IsTold : Type 0
-    IsTold = (n : ℕ) × Tasks head.method upgrade got closed (says all (ended n))
+    IsTold = (n : ℕ) × Tasks method upgrade got closed (says all (ended n))
 
     -- what the bytes say is what was told
     is_told : (final : ResponseHead) (f : Framing) (is : IsFinal final f) (text : BodyText) (n : ℕ)
@@ -822,7 +826,7 @@ module _
         → mark_of f is.len (length got) closed text.mark ≡ ended n → IsTold
     is_told final f is text n said bytes mark = (
       n,
-      subst (λ (t : ResponseText). Tasks head.method upgrade got closed t)
+      subst (λ (t : ResponseText). Tasks method upgrade got closed t)
           (same_text all.informed (Some final) all.final text.bytes all.body
           (mark_of f is.len (length got) closed text.mark) (ended n) (sym is.told) bytes mark)
           (all_said final f is text said),
@@ -881,7 +885,7 @@ module _
     -- where the text of a front of the tasks is over, the response has come whole
     pub over_is_whole : (front rest : List HttpTask) → tasks ≡ front ++ rest
         → is_over (wire (request_of head) place.NoHead front).place ≡ true
-        → (n : ℕ) × Tasks head.method upgrade got closed (says (told_of are.given) (ended n))
+        → (n : ℕ) × Tasks method upgrade got closed (says (told_of are.given) (ended n))
     over_is_whole front rest same over =
         let there = sends_front front rest same in
         over_told there.told there.next (wire (request_of head) place.NoHead front).place there.left
@@ -933,7 +937,7 @@ module _
 
     -- where the text of a front of the tasks is over, the end of the response was handed on
     pub over_has_end : (withheld : List HttpTask) (client : ResponseReading)
-        → AreTasks head.method upgrade closed got (are.given ++ withheld) client → AreHeads withheld
+        → AreTasks method upgrade closed got (are.given ++ withheld) client → AreHeads withheld
         → (front rest : List HttpTask) → tasks ≡ front ++ rest
         → is_over (wire (request_of head) place.NoHead front).place ≡ true
         → list_any is_end are.given ≡ true
@@ -942,7 +946,7 @@ module _
         elim (over_by there.told there.next (wire (request_of head) place.NoHead front).place
         there.left there.stands over) [
           | inl ends ↦ ends
-          | inr full ↦ full_has_end head.method upgrade closed got are.given withheld client
+          | inr full ↦ full_has_end method upgrade closed got are.given withheld client
               full.final
               full.form full.is.len reads heads full.is.told full.is.has full.full
         ]

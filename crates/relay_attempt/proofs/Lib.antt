@@ -10,3 +10,5 @@ pub mod TurnLemmas
 pub mod WholeLemmas
 pub mod ServeLemmas
 pub mod FailLemmas
+pub mod WithinLemmas
+pub mod BoundLemmas

@@ -8,6 +8,7 @@
 --   attempt_so_far   from SoFar: that attempt
 --   order_so_far     so its order
 use Rattle.std.proofs.Common.{◌≡◌, ℕ, ◌-◌, Bool, true, false, ◌⊎◌, List, [], ◌∷◌, ◌++◌, length, drop, map, refl, sym, ap, subst, ◌∙◌, append-nil, inl, inr, Option, Some, None}
+use Rattle.std.specs.Prelude.{IsSome}
 use Rattle.std.specs.List.{list_any}
 use Rattle.relay_tasks.specs.declared.error.Error.{Error}
 use Rattle.relay_tasks.specs.declared.error.Fail.TheVariants as fail
@@ -29,7 +30,7 @@ use Rattle.relay_h1.proofs.BodyReaderLemmas.{SoFar-reads}
 use Rattle.relay_h1.proofs.VerdictLemmas.{HasRequest-unique}
 use Rattle.relay_peer.specs.RequestWriting.{sent_wire}
 use Rattle.relay_peer.specs.ResponseReading.{says}
-use Rattle.relay_session.specs.Asked.{request_of}
+use Rattle.relay_session.specs.Asked.{asks_of, request_of}
 use Rattle.relay_session.specs.Reading.{head_of, RequestSoFar, IsWhole}
 use Rattle.relay_session.specs.Response.{is_over}
 use Rattle.relay_session.specs.TaskWire.{first_refusal, wire}
@@ -54,6 +55,7 @@ use Rattle.relay_peer.proofs.FrontLemmas.{front_then}
 use Rattle.relay_sides.proofs.FilterLemmas.{inside_of}
 use Rattle.relay_sides.proofs.RefusalLemmas.{stopped_for, withheld_heads}
 use Rattle.relay_peer.proofs.TaskLemmas.{ended_whole}
+use Rattle.relay_attempt.specs.Agrees.{Agrees}
 use Rattle.relay_attempt.specs.Attempt.{DownHalf, IsAttempt, UpHalf}
 use Rattle.relay_attempt.specs.Exchange.{DownHolds, UpHolds, Blames, down_state, core_of, AreTold}
 use Rattle.relay_attempt.specs.Order.{ArePieces, AreOf, IsInOrder}
@@ -71,7 +73,7 @@ passed_by p q =
 -- ---- the request
 
 -- any bytes say something of a body
-some_text : (at : State) (bytes : List ℕ) → (text : BodyText) × Reads at bytes text
+pub some_text : (at : State) (bytes : List ℕ) → (text : BodyText) × Reads at bytes text
 some_text state.ChunkLine bytes = Chunked-total body.ChunkedPlace.at_line bytes
 some_text (state.Chunk left) bytes = Chunked-total (body.ChunkedPlace.in_chunk left) bytes
 some_text state.ChunkEnd bytes = Chunked-total body.ChunkedPlace.behind_chunk bytes
@@ -98,11 +100,11 @@ pub record SaysFront (framing : Framing) (bytes given_out : List ℕ) : Type 0 w
 
 -- what was given out of a body is the front of what the bytes say
 front_said : (given given_out ahead : List ℕ) (now : Reading) (head : RequestHead)
-    (framing : Framing) (len : ℕ) → head_of now ≡ Some head
+    (framing : Framing) (len : ℕ) → IsSome (head_of now)
     → RequestSoFar given given_out ahead now → HasRequest given head framing len
     → SaysFront framing (drop len given) given_out
-front_said given given_out ahead reading.Head head framing len is so_far has = absurd (cc)
-front_said given given_out ahead (reading.Body request) head framing len is so_far has =
+front_said given given_out ahead reading.Head head framing len some so_far has = absurd (cc)
+front_said given given_out ahead (reading.Body request) head framing len some so_far has =
     let rest = some_text request.body ahead in
     let bytes = drop so_far.len given in
     record {
@@ -130,8 +132,8 @@ module _
   where
     -- the bytes of the client say its body
     said : SaysFront c.framing (drop c.len (given_to s p)) c.body
-    said = front_said (given_to s p) c.body ahead session.reading c.head c.framing c.len c.is_head
-        c.request c.has
+    said = front_said (given_to s p) c.body ahead session.reading c.head c.framing c.len
+        c.has_head c.request c.has
 
     -- the pieces are those of the client's body
     pub pieces_said : EndsLast p.put → ArePieces c.framing (drop c.len (given_to s p)) p.put
@@ -177,7 +179,7 @@ module _
 module _
     {L : Type 0} (s : Origin) (start : LinkStart) (link : LinkState) (side : Filtered (PeerSide L))
     (q : UpPast)
-    (h : IsFiltered (λ r. IsPeerSide s start link side.inner r) s.head.method side.of_head
+    (h : IsFiltered (λ r. IsPeerSide s start link side.inner r) s.sent.method side.of_head
     side.closes side.stopped side.told side.inner.told q)
   where
     -- the past of the side over the link: what it gave was handed on, or withheld
@@ -186,7 +188,7 @@ module _
     peer_inside = h.holds.peer
 
     -- what was sent is the front of what the pieces are sent as
-    pub sent_front : IsFrontOf q.sent (sent_wire (sent_as s.head q.taken))
+    pub sent_front : IsFrontOf q.sent (sent_wire (sent_as s.sent q.taken))
     sent_front =
         let u = peer_inside in
         subst (λ (h : RequestHead). IsFrontOf q.sent (sent_wire (sent_as h q.taken))) u.own
@@ -194,8 +196,8 @@ module _
         (record { rest = side.inner.client.request.unsent; joined = u.so_far.text })
         u.queued.front)
 
-    -- the tasks that came, handed on and withheld, for the method of the client
-    pub tasks_own : AreTasks s.head.method s.asked link.ended q.got (h.given ++ h.withheld)
+    -- the tasks that came, handed on and withheld, for the method that was sent
+    pub tasks_own : AreTasks s.sent.method s.asked link.ended q.got (h.given ++ h.withheld)
         side.inner.client.response
     tasks_own =
         subst (λ (a : RequestHead).
@@ -205,20 +207,20 @@ module _
     -- what is withheld are heads
     pub heads_withheld : AreHeads h.withheld
     heads_withheld =
-        withheld_heads s.head.method s.asked link.ended q.got h.given h.withheld
+        withheld_heads s.sent.method s.asked link.ended q.got h.given h.withheld
         side.inner.client.response side.stopped tasks_own h.is_withheld
 
     -- the error for which the side stopped is that of a head that is refused
     pub refused_for : (e : Error) → side.stopped ≡ Some (fail.Error e)
-        → RefusesHead s.head.method s.asked q.got e
+        → RefusesHead s.sent.method s.asked q.got e
     refused_for e is =
-        stopped_for s.head.method s.asked link.ended q.got h.given h.withheld
+        stopped_for s.sent.method s.asked link.ended q.got h.given h.withheld
         side.inner.client.response side.stopped e tasks_own h.is_withheld is
 
     -- the tasks are those of the response
-    abbrev pub tasks_of : AreOf s.head.method s.asked link.ended q.got q.read
+    abbrev pub tasks_of : AreOf s.sent.method s.asked link.ended q.got q.read
     tasks_of =
-        let method = s.head.method in
+        let method = s.sent.method in
         let client = side.inner.client in
         record {
           given = h.given;
@@ -250,7 +252,7 @@ module _
     pub headed : list_any is_end h.given ≡ true
         → (head : ResponseHead) × ((told_of h.given).final ≡ Some head)
     headed ends =
-        let method = s.head.method in
+        let method = s.sent.method in
         let client = side.inner.client in
         let said = ended_whole method s.asked q.got link.ended h.given client.response
         (given_all method s.asked link.ended q.got h.given h.withheld client.response tasks_own
@@ -321,8 +323,9 @@ end_given method given batched rest joined last ends =
     }
 
 module _
-    (s : Origin) (closed : Bool) (got : List ℕ) (read : List HttpTask)
-    (are_of : AreOf s.head.method s.asked closed got read)
+    (s : Origin) (alike : asks_of s.sent.method ≡ asks_of s.head.method) (closed : Bool)
+    (got : List ℕ) (read : List HttpTask)
+    (are_of : AreOf s.sent.method s.asked closed got read)
     (headed : list_any is_end are_of.given ≡ true
     → (head : ResponseHead) × ((told_of are_of.given).final ≡ Some head))
     (batched : List HttpTask) (front : IsFrontOf batched read)
@@ -330,13 +333,14 @@ module _
     -- none of the tasks that were queued is refused
     pub batched_passes : first_refusal (request_of s.head) place.NoHead batched ≡ None
     batched_passes =
-        front_passes s.head s.asked closed got read are_of batched front.rest (sym front.joined)
+        front_passes s.head s.sent.method alike s.asked closed got read are_of batched front.rest
+        (sym front.joined)
 
     -- with an end among the tasks the response is over
     pub over_by_end : list_any is_end batched ≡ true
         → is_over (wire (request_of s.head) place.NoHead batched).place ≡ true
     over_by_end ends =
-        let method = s.head.method in
+        let method = s.sent.method in
         let end = end_given method are_of.given batched front.rest (front.joined ∙ are_of.are)
         are_of.ends_last ends in
         let final = headed end.found in
@@ -400,7 +404,7 @@ down_half s p link ahead session done finished broken h = record {
 -- what the peer's side holds is its half
 abbrev pub up_half : {L : Type 0} (s : Origin) (start : LinkStart) (link : LinkState)
     (side : Filtered (PeerSide L)) (q : UpPast)
-    → IsFiltered (λ r. IsPeerSide s start link side.inner r) s.head.method side.of_head side.closes
+    → IsFiltered (λ r. IsPeerSide s start link side.inner r) s.sent.method side.of_head side.closes
     side.stopped side.told side.inner.told q → UpHalf s start link q
 up_half s start link side q h = record {
   got = h.holds.peer.got;
@@ -414,10 +418,11 @@ up_half s start link side q h = record {
 
 -- ---- the order
 
--- the halves of an attempt, each of which took the front of what the other put, are in order
+-- the halves of an attempt, each of which took the front of what the other put, are in order, where
+-- both heads agree
 module _
-    (s : Origin) (client link : LinkState) (start : LinkStart) (side : DownState)
-    (plain : side.upgraded ≡ false)
+    (s : Origin) (agrees : Agrees s.head s.sent) (client link : LinkState) (start : LinkStart)
+    (side : DownState) (plain : side.upgraded ≡ false)
     (a : IsAttempt (DownHalf s client side.response_done) (UpHalf s start link) side)
   where
     -- the tasks that were queued are a front of those that were read
@@ -452,8 +457,8 @@ module _
       batched = a.p.batched;
       first_batched = first_batched;
       closing = a.p.closing;
-      passes = all_pass s link.ended a.q.got a.q.read a.is_up.are_of a.is_up.headed a.p.batched
-          first_batched a.p.closing a.is_down.plain_end late;
+      passes = all_pass s agrees.method link.ended a.q.got a.q.read a.is_up.are_of a.is_up.headed
+          a.p.batched first_batched a.p.closing a.is_down.plain_end late;
       closes_late = late;
       written = a.is_down.is_written;
     }
@@ -493,8 +498,9 @@ module _ {L : Type 0} (state : L → LinkState) (start_at : L → LinkStart)
         (attempt_of (DownHolds link ahead down s) (UpHolds state start_at up s)
         (Blames state start_at up s) (core_of state start_at duplex down up) p q so_far)
 
-    -- so it is in order
-    abbrev pub order_so_far : IsInOrder s (passed_by p q) (state up.inner.client.link).ended
-    order_so_far =
-        order_of s link (state up.inner.client.link) (start_at up.inner.client.link)
+    -- so it is in order, where both heads agree
+    abbrev pub order_so_far : Agrees s.head s.sent
+        → IsInOrder s (passed_by p q) (state up.inner.client.link).ended
+    order_so_far agrees =
+        order_of s agrees link (state up.inner.client.link) (start_at up.inner.client.link)
         (down_state down) refl attempt_so_far

@@ -36,6 +36,7 @@ use Rattle.relay_sides.specs.Filtered.{RefusesHead}
 use Rattle.relay_sides.specs.Filtered as filtered
 use Rattle.relay_peer.specs.Peer.{PeerBlames}
 use Rattle.relay_peer.specs.Peer as peer
+use Rattle.relay_attempt.specs.Agrees.{Agrees}
 use Rattle.relay_attempt.specs.Order.{IsInOrder, up_past}
 use Rattle.relay_attempt.specs.Passed.{Passed}
 use Rattle.relay_attempt.proofs.UnshortLemmas.{request_unshort}
@@ -43,21 +44,21 @@ use Rattle.relay_attempt.proofs.UnshortLemmas.{request_unshort}
 -- ---- no request ends short
 
 -- the side never answers for a request that ends short: a request in order does not
-pub never_short : (s : Origin) (p : Passed) (closed : Bool) (link : LinkState)
-    (start : LinkStart) (order : IsInOrder s p closed) (lost : Bool) (e : Error)
-    → PeerBlames start link s.head s.asked (up_past order lost) e → e ≡ short_request → ⊥
-never_short s p closed link start order lost e
+pub never_short : (s : Origin) → Agrees s.head s.sent → (p : Passed) (closed : Bool)
+    (link : LinkState) (start : LinkStart) (order : IsInOrder s p closed) (lost : Bool) (e : Error)
+    → PeerBlames start link s.sent s.asked (up_past order lost) e → e ≡ short_request → ⊥
+never_short s agrees p closed link start order lost e
     (peer.PeerBlames.link_failed fault is rose answered) same =
     let wrong = ap (λ (x : Error). x.context) (sym is ∙ same) in cc
-never_short s p closed link start order lost e (peer.PeerBlames.is_cut_off told gone is reads)
-    same =
+never_short s agrees p closed link start order lost e
+    (peer.PeerBlames.is_cut_off told gone is reads) same =
     let wrong = ap (λ (x : Error). x.etype) (sym is ∙ same) in cc
-never_short s p closed link start order lost e
+never_short s agrees p closed link start order lost e
     (peer.PeerBlames.is_broken why closed_then came told is front reads for) same =
     let wrong = ap (λ (x : Error). x.etype) (sym is ∙ same) in cc
-never_short s p closed link start order lost e
+never_short s agrees p closed link start order lost e
     (peer.PeerBlames.is_short_request front pieces first found joined short is) same =
-    clash _ short (request_unshort s p closed order front pieces first found joined)
+    clash _ short (request_unshort s agrees p closed order front pieces first found joined)
 
 -- a head is refused for another error
 pub never_refused_short : (method : List ℕ) (upgrade : Bool) (got : List ℕ) (e : Error)

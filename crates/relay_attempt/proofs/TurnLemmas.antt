@@ -5,11 +5,13 @@ use Rattle.relay_tasks.specs.declared.error.Fail.{Fail}
 use Rattle.relay_tasks.specs.declared.error.Fail.TheVariants as fail
 use Rattle.relay_links.specs.Link.{LinkState, LinkStart}
 use Rattle.relay_core.specs.Past.{Origin, DownPast, UpPast}
+use Rattle.relay_core.specs.Table.{State}
 use Rattle.relay_core.specs.declared.step.Step.{Step}
 use Rattle.relay_core.specs.declared.step.Step.TheVariants as step
 use Rattle.relay_sides.specs.Client.{ClientBlames, ClientRefuses, CannotEnd}
 use Rattle.relay_exchange.specs.Exchange as over
 use Rattle.relay_exchange.specs.declared.exchange.Stage.TheVariants as stage
+use Rattle.relay_attempt.specs.Agrees.{Agrees}
 use Rattle.relay_attempt.specs.Exchange.{DownHolds, UpHolds, Blames, IsUnderWay, Turns, ComesTo, down_state, core_of}
 use Rattle.relay_attempt.specs.Head.{link_of, IsRefusedFor}
 use Rattle.relay_attempt.specs.declared.h1_exchange.H1Exchange.{H1Exchange}
@@ -43,15 +45,17 @@ refused_as {T} {L} link why error same =
 
 module _ {L : Type 0} (state : L → LinkState) (start_at : L → LinkStart) where
   -- an exchange that is under way between both sides is, over all that passed
-  pub under_way : (s : Origin) (p : DownPast) (q : UpPast) (link : LinkState) (ahead : List ℕ)
+  abbrev pub under_way : (s : Origin) (p : DownPast) (q : UpPast) (link : LinkState)
+      (ahead : List ℕ)
       (x : H1Exchange L)
       → over.IsUnderWay (DownHolds link ahead x.exchange.down s)
       (UpHolds state start_at x.exchange.up s) (Blames state start_at x.exchange.up s)
       (core_of state start_at x.exchange.duplex x.exchange.down x.exchange.up) p q
-      → IsUnderWay state start_at s (passed_by p q) link ahead x
-  under_way s p q link ahead x under = record {
+      → Agrees s.head s.sent → IsUnderWay state start_at s (passed_by p q) link ahead x
+  under_way s p q link ahead x under agrees = record {
     order = order_so_far state start_at s p q link ahead x.exchange.down x.exchange.up
-        x.exchange.duplex under.so_far;
+        x.exchange.duplex under.so_far agrees;
+    agrees = agrees;
     down = p;
     up = q;
     came = refl;
@@ -63,15 +67,15 @@ module _ {L : Type 0} (state : L → LinkState) (start_at : L → LinkStart) whe
 
   -- what a turn between both sides is, over all that passed
   pub turned : (s : Origin) (link : LinkState) (ahead : List ℕ) (before : DownPast)
-      (up_before : UpPast) (x : H1Exchange L) (result : Step)
+      (up_before : UpPast) (was : State) (x : H1Exchange L) (result : Step)
       → (result ≡ step.Finished → x.exchange.stage ≡ stage.Bodies)
       → over.Turns (DownHolds link ahead x.exchange.down s) (λ p e. ClientBlames s p link e)
       (λ p left e. ClientRefuses s p link left e)
       (λ p e. ClientBlames s p link e ⊎ CannotEnd s p e) (UpHolds state start_at x.exchange.up s)
-      (Blames state start_at x.exchange.up s) before up_before
+      (Blames state start_at x.exchange.up s) before up_before was
       (core_of state start_at x.exchange.duplex x.exchange.down x.exchange.up) result
-      → Turns state start_at s link ahead x result
-  turned s link ahead before up_before x result bodies went = record {
+      → Agrees s.head s.sent → Turns state start_at s link ahead x result
+  turned s link ahead before up_before was x result bodies went agrees = record {
     passed = passed_by went.p went.q;
     told = told_of_attempt state start_at s link (state (link_of x)) (start_at (link_of x))
         (down_state x.exchange.down)
@@ -84,7 +88,7 @@ module _ {L : Type 0} (state : L → LinkState) (start_at : L → LinkStart) whe
           → IsUnderWay state start_at s (passed_by went.p went.q) link ahead x
       on goes_on =
           under_way s went.p went.q link ahead x
-          (record { so_far = went.so_far; goes_on = goes_on })
+          (record { so_far = went.so_far; goes_on = goes_on }) agrees
 
       comes : (result : Step) → (result ≡ step.Finished → x.exchange.stage ≡ stage.Bodies)
           → over.ComesTo (λ p e. ClientBlames s p link e)
@@ -97,9 +101,9 @@ module _ {L : Type 0} (state : L → LinkState) (start_at : L → LinkStart) whe
       comes (step.Waited pause) bodies goes_on = on goes_on
       comes step.Finished bodies finishes =
           finished_of state start_at s went.p went.q link ahead x (bodies refl) went.so_far
-          (finishes refl)
+          agrees (finishes refl)
       comes (step.Failed (fail.Error e)) bodies why =
-          fails_with state start_at s went.p went.q link ahead x went.so_far e why
+          fails_with state start_at s went.p went.q link ahead x went.so_far agrees e why
       comes (step.Failed fail.OutOfMemory) bodies free =
           order_so_far state start_at s went.p went.q link ahead x.exchange.down x.exchange.up
-          x.exchange.duplex went.so_far
+          x.exchange.duplex went.so_far agrees

@@ -20,6 +20,7 @@ use Rattle.relay_peer.specs.RequestWriting.{body_framing}
 use Rattle.relay_core.specs.Past.{Origin}
 use Rattle.relay_peer.specs.Body.{IsFrontOf, body_of}
 use Rattle.relay_peer.proofs.FrontLemmas.{front_then}
+use Rattle.relay_attempt.specs.Agrees.{Agrees}
 use Rattle.relay_attempt.specs.Order.{IsInOrder}
 use Rattle.relay_attempt.specs.Passed.{Passed, asked}
 
@@ -100,12 +101,13 @@ pub framing_is : (head : RequestHead) (given : Framing) → request_framing head
 unfolding body_framing
 framing_is head given framed = ap (λ (f : Option Framing). unwrap_or f framing.Empty) framed
 
--- a request in order does not end short
-pub request_unshort : (s : Origin) (p : Passed) (closed : Bool) (order : IsInOrder s p closed)
-    (front : List HttpTask) (pieces : List (List ℕ)) → IsFrontOf front order.taken
+-- a request in order does not end short, where both heads agree
+pub request_unshort : (s : Origin) → Agrees s.head s.sent → (p : Passed) (closed : Bool)
+    (order : IsInOrder s p closed) (front : List HttpTask) (pieces : List (List ℕ))
+    → IsFrontOf front order.taken
     → list_any is_end front ≡ true → concat pieces ≡ body_of front
-    → is_short (after_pieces (body_framing s.head) pieces) ≡ false
-request_unshort s p closed order front pieces first found joined =
+    → is_short (after_pieces (body_framing s.sent) pieces) ≡ false
+request_unshort s agrees p closed order front pieces first found joined =
     let said = order.are_pieces in
     let among = front_then front order.taken order.pieces first order.first_taken in
     let none = said.ends_last front among.rest (sym among.joined) found in
@@ -114,7 +116,7 @@ request_unshort s p closed order front pieces first found joined =
     let whole = said.whole (subst (λ (l : List HttpTask). list_any is_end l ≡ true) same found) in
     let bytes = drop order.asks.len (asked s p) in
     ap (λ (f : Framing). is_short (after_pieces f pieces))
-    (framing_is s.head order.asks.framing order.asks.has.let_in.framed)
+    (framing_is s.sent order.asks.framing (agrees.framing ∙ order.asks.has.let_in.framed))
     ∙ whole_unshort order.asks.framing bytes (body_of order.pieces) whole.0 pieces
     (subst (λ (t : BodyText). Body order.asks.framing bytes t) whole.1 said.says)
     (joined ∙ ap body_of same)

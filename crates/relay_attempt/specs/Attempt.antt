@@ -65,13 +65,13 @@ pub record DownHalf (o : Origin) (client : LinkState) (done : Bool) (p : DownPas
 
 -- the upstream's half, over a link of HTTP/1: the tasks that it gave are those of the response that
 -- its bytes say, which ends behind a final head; what was sent is the front of the text of the head
--- and of the pieces that it was given
+-- that is sent and of the pieces that it was given
 pub record UpHalf (o : Origin) (start : LinkStart) (link : LinkState) (q : UpPast) : Type 0 where
   pub got : Since [] start.given link.given q.got
   pub sent : Since [] start.taken link.taken q.sent
   pub faults : start.faults ≤ link.faults
   pub reused : start.reused ≡ o.reused
-  pub are_of : AreOf o.head.method o.asked link.ended q.got q.read
+  pub are_of : AreOf o.sent.method o.asked link.ended q.got q.read
   pub headed : list_any is_end are_of.given ≡ true
       → (head : ResponseHead) × ((told_of are_of.given).final ≡ Some head)
-  pub is_sent : IsFrontOf q.sent (sent_wire (sent_as o.head q.taken))
+  pub is_sent : IsFrontOf q.sent (sent_wire (sent_as o.sent q.taken))

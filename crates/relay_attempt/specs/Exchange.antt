@@ -10,7 +10,7 @@ use Rattle.relay_links.specs.Told.{Since}
 use Rattle.relay_links.specs.declared.branch.Branch.{Branch}
 use Rattle.relay_peer.specs.RequestWriting.{head_in}
 use Rattle.relay_session.specs.Asked.{request_of}
-use Rattle.relay_session.specs.Reading.{head_of, is_body_done}
+use Rattle.relay_session.specs.Reading.{is_body_done}
 use Rattle.relay_session.specs.Response.{Holds}
 use Rattle.relay_session.specs.declared.writing.Outgoing.TheVariants as outgoing
 use Rattle.relay_core.specs.Down.{DownState}
@@ -32,6 +32,7 @@ use Rattle.relay_peer.specs.declared.peer_side.PeerSide.{PeerSide}
 use Rattle.relay_exchange.specs.Exchange.{IsSilentLink}
 use Rattle.relay_exchange.specs.Exchange as over
 use Rattle.relay_attempt.specs.declared.h1_exchange.H1Exchange.{H1Exchange}
+use Rattle.relay_attempt.specs.Agrees.{Agrees}
 use Rattle.relay_attempt.specs.Head.{link_of, may_keep}
 use Rattle.relay_attempt.specs.Order.{IsInOrder, FailsFor, order_of, IsRelayed, Leaves, MayServe}
 use Rattle.relay_attempt.specs.Passed.{Passed}
@@ -51,7 +52,7 @@ module _ {L : Type 0} (state : L → LinkState) (start_at : L → LinkStart) whe
   UpHolds side s q =
       IsFiltered
       (λ r. IsPeerSide s (start_at side.inner.client.link) (state side.inner.client.link)
-      side.inner r) s.head.method side.of_head side.closes side.stopped side.told side.inner.told q
+      side.inner r) s.sent.method side.of_head side.closes side.stopped side.told side.inner.told q
 
   -- the side over the link answers for the error
   abbrev pub BlamesInside : PeerSide L → Origin → UpPast → Error → Type 0
@@ -70,10 +71,11 @@ module _ {L : Type 0} (state : L → LinkState) (start_at : L → LinkStart) whe
       (state_over (peer.state_of up.inner) up.upgraded up.stopped up.told)
 
   -- the exchange so far, over all that passed: what was sent and written is in order, and it is
-  -- under way between both sides
+  -- under way between both sides, with a head that agrees with the client's
   pub record IsUnderWay (s : Origin) (p : Passed) (link : LinkState) (ahead : List ℕ)
       (x : H1Exchange L) : Type 0 where
     pub order : IsInOrder s p (state (link_of x)).ended
+    pub agrees : Agrees s.head s.sent
     pub down : DownPast
     pub up : UpPast
     pub came : down.came ≡ p.came
@@ -95,10 +97,10 @@ module _ {L : Type 0} (state : L → LinkState) (start_at : L → LinkStart) whe
     pub reused : start.reused ≡ s.reused
     pub client_tells : TellsSince s.read_faults s.write_faults link
 
-  -- both directions were relayed, which leaves both links so
+  -- both directions were relayed, which leaves both links so, and a session that answers the request
   pub record IsFinished (s : Origin) (p : Passed) (ahead : List ℕ) (x : H1Exchange L) : Type 0 where
     pub relayed : IsRelayed s p (state (link_of x)) (start_at (link_of x))
-    pub is_head : head_of x.exchange.down.session.reading ≡ Some s.head
+    pub answers : x.exchange.down.session.writing.request ≡ request_of s.head
     pub leaves : Leaves s p (state (link_of x)).ended relayed.order ahead
         (is_body_done x.exchange.down.session.reading) x.exchange.up.closes (may_keep x)
     -- a link of which a call failed is not kept

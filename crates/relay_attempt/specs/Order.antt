@@ -78,19 +78,20 @@ pub record AreOf
 
 -- ---- both
 
--- what was sent is the front of the text of the client's head and of pieces of its body, from the
--- first on, with the end only where the body has ended. What was written is the front of the text
--- of the first of the tasks that the peer's bytes are, none of which is refused; an end is asked
--- for behind them only where one is among them, or where the response is over behind them
+-- what was sent is the front of the text of the head that is sent and of pieces of the client's
+-- body, from the first on, with the end only where the body has ended. What was written is the
+-- front of the text of the first of the tasks that the peer's bytes are, none of which is refused;
+-- an end is asked for behind them only where one is among them, or where the response is over
+-- behind them
 pub record IsInOrder (s : Origin) (p : Passed) (closed : Bool) : Type 0 where
   pub asks : Asks s p
   pub pieces : List HttpTask
   pub are_pieces : ArePieces asks.framing (drop asks.len (asked s p)) pieces
   pub taken : List HttpTask
   pub first_taken : IsFrontOf taken pieces
-  pub sent : IsFrontOf p.sent (sent_wire (sent_as s.head taken))
+  pub sent : IsFrontOf p.sent (sent_wire (sent_as s.sent taken))
   pub read : List HttpTask
-  pub are_of : AreOf s.head.method s.asked closed p.got read
+  pub are_of : AreOf s.sent.method s.asked closed p.got read
   pub batched : List HttpTask
   pub first_batched : IsFrontOf batched read
   pub closing : List HttpTask
@@ -139,9 +140,9 @@ pub data FailsFor
   by_client : (order : IsInOrder s p link.ended)
       → ClientBlames s (down_past order) client e → FailsFor s p client link start e
   by_peer : (order : IsInOrder s p link.ended) (lost : Bool)
-      → PeerBlames start link s.head s.asked (up_past order lost) e
+      → PeerBlames start link s.sent s.asked (up_past order lost) e
       → FailsFor s p client link start e
-  by_refusal : (order : IsInOrder s p link.ended) → RefusesHead s.head.method s.asked p.got e
+  by_refusal : (order : IsInOrder s p link.ended) → RefusesHead s.sent.method s.asked p.got e
       → FailsFor s p client link start e
 
 -- the order of what passed, by why the exchange failed
@@ -172,7 +173,7 @@ pub record SendsWhole (s : Origin) (p : Passed) (closed : Bool) (order : IsInOrd
   pub body : Body order.asks.framing (drop order.asks.len (asked s p))
       (ended_text (body_of order.pieces) n)
   pub ended : HasEnded order
-  pub sent : p.sent ≡ sent_wire (sent_as s.head order.pieces)
+  pub sent : p.sent ≡ sent_wire (sent_as s.sent order.pieces)
 
 -- the response has come whole, and its text was written whole, no read of the peer's link having
 -- failed, where it tells the faults of its reads. And the request was sent whole, no call of that
@@ -181,12 +182,12 @@ pub record SendsWhole (s : Origin) (p : Passed) (closed : Bool) (order : IsInOrd
 pub record IsRelayed (s : Origin) (p : Passed) (link : LinkState) (start : LinkStart) : Type 0 where
   pub order : IsInOrder s p link.ended
   pub n : ℕ
-  pub whole : Tasks s.head.method s.asked p.got link.ended
+  pub whole : Tasks s.sent.method s.asked p.got link.ended
       (says (told_of order.are_of.given) (ended n))
   pub over : is_over (text_of order).place ≡ true
   pub written : p.written ≡ (text_of order).text
   pub request : (SendsWhole s p link.ended order × (link.faults ≡ start.faults))
-      ⊎ ((e : Error) × (lost : Bool) × PeerBlames start link s.head s.asked (up_past order lost) e
+      ⊎ ((e : Error) × (lost : Bool) × PeerBlames start link s.sent s.asked (up_past order lost) e
       × IsOnlyFault start link e)
   pub reads : Since [] start.read_faults link.read_faults []
 
@@ -196,10 +197,10 @@ pub record IsRelayed (s : Origin) (p : Passed) (link : LinkState) (start : LinkS
 pub record MayServe (s : Origin) (p : Passed) (closed : Bool) (order : IsInOrder s p closed)
     : Type 0 where
   pub pieces : List (List ℕ)
-  pub request : p.sent ≡ request_text s.head ++ body_text (body_framing s.head) pieces
-  pub complete : is_short (after_pieces (body_framing s.head) pieces) ≡ false
-  pub asks : closes s.head.fields ≡ false
-  pub response : IsReadWhole s.head.method s.asked closed p.got (told_of order.are_of.given)
+  pub request : p.sent ≡ request_text s.sent ++ body_text (body_framing s.sent) pieces
+  pub complete : is_short (after_pieces (body_framing s.sent) pieces) ≡ false
+  pub asks : closes s.sent.fields ≡ false
+  pub response : IsReadWhole s.sent.method s.asked closed p.got (told_of order.are_of.given)
 
 -- what a finished exchange leaves: whether its request has ended, the bytes of the client behind
 -- it, whether the response that was handed on asks to close, and whether the peer's link may be

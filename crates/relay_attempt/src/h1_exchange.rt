@@ -9,6 +9,8 @@ ghost use Rattle.relay_core.specs.Asked.{WaitRose};
 ghost use Rattle.relay_core.specs.Causes.{says_failed};
 ghost use Rattle.relay_core.specs.Past.{Origin};
 ghost use Rattle.relay_sides.specs.Client.{BeginsBehind};
+ghost use Rattle.relay_attempt.specs.Agrees.{Agrees};
+ghost use Rattle.relay_attempt.specs.Bound.{CountsOn, HasCounted};
 ghost use Rattle.relay_attempt.specs.Passed.{Passed};
 ghost use Rattle.relay_attempt.specs.Head.{IsRefusedFor, link_of, may_keep};
 ghost use Rattle.relay_attempt.specs.Attempt.{DownHalf, IsAttempt, UpHalf};
@@ -37,7 +39,8 @@ pub struct Unbegun<L> {
 
 impl<L: ByteLink> H1Exchange<L> {
     /// An exchange for the session's request over that link, which was just handed out. `head` is
-    /// the head that is sent.
+    /// the head that is sent, which may differ from the client's: what is said of what passes holds
+    /// where both agree on how request and response are framed.
     ///
     /// `InvalidHTTPHeader` of the source `Internal`, about `BadFraming`: exactly where
     /// `request_framing` refuses the head. Then, and where memory is wanted, the link comes back,
@@ -49,8 +52,8 @@ impl<L: ByteLink> H1Exchange<L> {
         head: RequestHeader,
     ) -> std::result::Result<H1Exchange<L>, Unbegun<L>>
         ensures begins { IfOk result (λ x. (s : Origin) (came : List ℕ) (client : LinkState)
-            (ahead : List ℕ) (reused : Bool) → head ≡ s.head → s.asked ≡ false
-            → BeginsBehind s came client ahead session
+            (ahead : List ℕ) (reused : Bool) → head ≡ s.sent → Agrees s.head s.sent
+            → s.asked ≡ false → BeginsBehind s came client ahead session
             → IsHandedOut (L.state link) (L.start link) reused → s.reused ≡ reused
             → IsUnderWay L.state L.start s
             (record { came = came; written = []; got = []; sent = [] }) client ahead x) }
@@ -117,6 +120,13 @@ impl<L: ByteLink> H1Exchange<L> {
             → result.step ≡ Step.Moved
             → HasMoved L.state L.start result.branch (F.state client.old) (F.state client.new)
             self.old self.new }
+        // What was counted of it goes on with what the turn moved: the tasks are no more than twice
+        // the bytes that both links gave, and each end came once.
+        ensures counts { (s : Origin) (tasks ends : ℕ)
+            → HasCounted L.state L.start tasks ends s (F.state client.old) (F.ahead client.old)
+            self.old
+            → CountsOn L.state L.start tasks ends s (F.state client.new) (F.ahead client.new)
+            self.old self.new result.step }
         // A turn that does not fail leaves the count of the client's faults.
         ensures calm { says_failed result.step ≡ false
             → (F.state client.new).faults ≡ (F.state client.old).faults }

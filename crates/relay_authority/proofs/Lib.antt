@@ -2,8 +2,10 @@ pub mod AttemptLemmas
 pub mod AuthorityLemmas
 pub mod EntryLemmas
 pub mod HostLemmas
+pub mod KeptLemmas
 pub mod Laws
 pub mod MovedTarget
+pub mod OneAnswer
 pub mod PathLemmas
 pub mod Settling
 pub mod StageLemmas

@@ -5,6 +5,7 @@ pub mod Entry
 pub mod Framing
 pub mod Heads
 pub mod Http2
+pub mod Kept
 pub mod Sent
 pub mod Stage
 pub mod Table

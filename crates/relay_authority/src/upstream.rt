@@ -1,7 +1,9 @@
 //! The head that an attempt sends, by its upstream and its client: what is done to a copy of the
 //! client's head before the hook that may change it, and behind it (RFC 9112, section 3.2; RFC
 //! 9113, section 8.3.1).
+ghost use Rattle.std.specs.Prelude.{◌≡◌, IfOk, IsTrue};
 ghost use Rattle.relay_authority.specs.Attempt.{SettlesH1, SettlesH2};
+ghost use Rattle.relay_authority.specs.Kept.{KeepsFields, SaysFraming};
 ghost use Rattle.relay_authority.specs.Stage.{Gives, Makes, OnSide, Unless};
 ghost use Rattle.relay_authority.specs.Upstream.{FramesBody, ReadyHead, SentH1, SentH2, SentHead};
 
@@ -59,7 +61,10 @@ pub fn sent_head(
     upstream: Upstream,
     client: Client,
 ) -> Result<RequestHeader>
-    ensures { Makes (SentHead upstream client asked.now filtered) result }
+    ensures table { Makes (SentHead upstream client asked.now filtered) result }
+    // Over HTTP/1 a head that says how its body is framed keeps all but its target and its Host.
+    ensures kept { IfOk result (λ sent. upstream ≡ Upstream.H1
+        → (IsTrue client.has_body → SaysFraming filtered) → KeepsFields filtered sent) }
 {
     match upstream {
         Upstream::H1 => sent_h1_head(alloc, filtered, client, has_host(asked)),

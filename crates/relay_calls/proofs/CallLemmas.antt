@@ -22,14 +22,14 @@ use Rattle.relay_calls.proofs.LogLemmas.{Views-same, Walk-append}
 -- ---- whose call it is
 
 -- a call of the application's is allowed by it
-AllowsBy-app : (is_modules : Bool) (app : Standing → LogEntry → Type 0)
+pub AllowsBy-app : (is_modules : Bool) (app : Standing → LogEntry → Type 0)
     (modules : ModuleCall → Type 0) (st : Standing) (e : LogEntry) → is_modules ≡ false → app st e
     → AllowsBy is_modules app modules st e
 AllowsBy-app true app modules st e is_app allowed = absurd (true≢false is_app)
 AllowsBy-app false app modules st e is_app allowed = allowed
 
 -- it may leave all that a call of the modules leaves otherwise
-LeavesIf-app : (is_modules : Bool) (st : Standing) (e : LogEntry) → is_modules ≡ false
+pub LeavesIf-app : (is_modules : Bool) (st : Standing) (e : LogEntry) → is_modules ≡ false
     → LeavesIf is_modules st e
 LeavesIf-app true st e is_app = absurd (true≢false is_app)
 LeavesIf-app false st e is_app = tt
@@ -60,7 +60,7 @@ is_module-hook_of (response_done answer error) = refl
 -- ---- a call of the application's
 
 -- the head that an entry tells, or else the one before, is the head behind the call
-told_head-stands : (touched : Bool) (left before : RequestHead) → (touched ≡ false → left ≡ before)
+pub told_head-stands : (touched : Bool) (left before : RequestHead) → (touched ≡ false → left ≡ before)
     → left ≡ unwrap_or (told_head touched left) before
 told_head-stands true left before untouched = refl
 told_head-stands false left before untouched = untouched refl

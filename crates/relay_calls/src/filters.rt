@@ -5,6 +5,7 @@
 ghost use Rattle.std.specs.Prelude.{◌≡◌, Some, IsSome};
 ghost use Rattle.relay_tasks.specs.declared.log.Item.TheVariants as item;
 ghost use Rattle.relay_session.specs.Reading.{head_of};
+ghost use Rattle.relay_modules.specs.Module.{AllowsMade};
 ghost use Rattle.relay_hooks.specs.Call.{changed, delayed, ended_by};
 ghost use Rattle.relay_hooks.specs.Laws.{KeepsKindUnless};
 ghost use Rattle.relay_calls.specs.Calls.{Calls, Enters};
@@ -35,7 +36,8 @@ pub fn call_request_body_filter<SV: ProxyHttp>(
         session.old.seen (SV.mark_of app.now ctx.old)
         session.new.seen (SV.mark_of app.now ctx.new)) session.old.seen session.new.seen }
     ensures walks { Enters (changed (item.Piece body.new end) result)
-        (λ _. WalksOn (IsAllowed (SV.allows app.now) (SV.Modules.allows session.old.modules))
+        (λ _. WalksOn (IsAllowed (SV.allows app.now)
+        (AllowsMade SV.Modules.allows session.old.modules))
         session.old.seen (SV.mark_of app.now ctx.old)
         session.new.seen (SV.mark_of app.now ctx.new)) session.old.seen session.new.seen }
 {

@@ -1,33 +1,34 @@
--- Attempts reported one after another.
-use Rattle.std.proofs.Common.{◌≡◌, ◌≢◌, inl, inr, Option, None, Ok, subst, ℕ, suc, ◌+◌, List, [], ◌∷◌, ◌++◌, map, drop, Some, refl, sym, ap, ◌∙◌, add-one, append_assoc, drop-cons}
-use Rattle.std.specs.List.{slice_get}
+-- The requests of a run: what each leaves of the script's peers, and what is reported of it.
+use Rattle.std.proofs.Common.{◌≡◌, ◌≢◌, inl, inr, ◌⊎◌, Option, None, Ok, Err, subst, ℕ, zero, suc, ◌+◌, ◌≤◌, List, [], ◌∷◌, ◌++◌, map, drop, take, length, Bool, true, false, IsTrue, Some, refl, sym, ap, ◌∙◌, add-one, append_assoc, append-nil, drop-cons, true≢false}
+use Rattle.std.specs.List.{slice_get, slice_range}
+use Rattle.std.proofs.Math.Seq.{drop-append_seam, take-length}
+use Rattle.std.proofs.lemmas.List.{length-drop}
 use Rattle.std.proofs.lemmas.Option.{slice_get_within, get_or_from_slice_get, same_Some}
+use Rattle.relay_tasks.specs.declared.error.Error.{Error}
+use Rattle.relay_tasks.specs.declared.error.RetryType.{RetryType}
 use Rattle.relay_tasks.specs.declared.fault.Fault.{Fault}
-use Rattle.relay_links.specs.Connector.{Offer, links_of}
-use Rattle.relay_links.specs.Link.{LinkState, LinkStart, LinkItems}
-use Rattle.relay_links.specs.ScriptLink.{script_state, script_start, IsFresh, AnswersBy}
-use Rattle.relay_links.specs.ScriptEntries.{links_returned, gets_failed, faults_answered, offer_of, offers_left}
-use Rattle.relay_links.specs.Told.{Since, told_length, more}
+use Rattle.relay_links.specs.Connector.{Offer, connect_fault}
+use Rattle.relay_links.specs.Link.{LinkItems, LinkStart}
+use Rattle.relay_links.specs.ScriptLink.{script_state, script_start, AnswersBy}
+use Rattle.relay_links.specs.ScriptEntries.{entry_offer, offer_of, next_entries, links_returned, offers_left, faults_answered, gets_failed}
+use Rattle.relay_links.specs.Told.{Since, more}
 use Rattle.relay_links.specs.declared.connector.Returned.{Returned}
-use Rattle.relay_links.specs.declared.read_script.ReadItem.{ReadItem}
-use Rattle.relay_links.specs.declared.write_script.WriteItem.{WriteItem}
 use Rattle.relay_links.specs.declared.script_connector.PeerScript.{PeerScript}
-use Rattle.relay_links.specs.declared.script_connector.ScriptConnector.{ScriptConnector}
 use Rattle.relay_links.specs.declared.script_link.ScriptLink.{ScriptLink}
-use Rattle.relay_links.specs.declared.list_schedule.ListSchedule.{ListSchedule}
-use Rattle.relay_links.specs.ListSchedule.{branches_left}
-use Rattle.relay_proxy.specs.Endings.{EndsUnlinked, EndsWith}
+use Rattle.relay_proxy.specs.Endings.{EndsUnlinked, EndsWith, AttemptsUnlinked, IsFailedRecord, IsFailedAttempt, IsUnsentAttempt}
+use Rattle.relay_proxy.specs.Refusals.{fault_told}
 use Rattle.relay_attempt.specs.Passed.{Passed}
 use Rattle.relay_proxy.specs.Passed.{World, Start, start_of}
 use Rattle.relay_proxy.specs.Request.{Processes}
-use Rattle.relay_proxy.specs.Stock.{items_back, all_items}
-use Rattle.relay_proxy.specs.Turn.{world_with}
+use Rattle.relay_proxy.specs.Taken.{AreNext, offers_for}
 use Rattle.relay_proxy.specs.declared.outcome.Outcome.{Outcome}
 use Rattle.relay_proxy.specs.declared.outcome.Outcome.TheVariants as ended
 use Rattle.relay_proxy.specs.declared.outcome.Processed.{Processed}
 use Rattle.relay_proxy.specs.declared.record.AttemptRecord.{AttemptRecord}
-use Rattle.relay_cli.specs.Exchange.{attempt_report, taken_of, sent_of, FirstStartsWithin, first_world, offers_of, IsConnectorOf, IsRun, AllAnswerBy, reported}
+use Rattle.relay_cli.specs.Exchange.{attempt_report, taken_of, sent_of, FirstStartsWithin, names_of, first_name, peer_offer, offers_of, IsEntryOf, AreEntriesOf, AreLinksOf, Place, world_at, first_place, reported, IsRequest, Follows, AreRun, place_of, IsAt, Begins, Runs, IsRun}
+use Rattle.relay_cli.specs.Report.{RequestSpec, outcome_reuse}
 use Rattle.relay_cli.specs.Script.{PeerSpec, ScriptSpec}
+use Rattle.relay_cli.specs.declared.exchange.Run.{Run}
 
 -- the list from a place on begins with the item there
 drop_at : {A : Type 0} (xs : List A) (n : ℕ) (x : A) → slice_get xs n ≡ Some x
@@ -43,17 +44,138 @@ pub map_more : {A B : Type 0} (f : A → B) (front : List B) (xs : List A) (n : 
 map_more f front xs n x is =
     append_assoc front (f x ∷ []) _ ∙ ap (λ rest. front ++ map f rest) (sym (drop_at xs n x is))
 
--- a list that is told since its start is the list
-since_start : (place : ℕ) (told items : List ℕ) → place ≡ 0 → Since [] place (Some told) items
-    → told ≡ items
-since_start place told items zero_is since =
-    let from : drop 0 told ≡ items = subst (λ (n : ℕ). drop n told ≡ items) zero_is since.1 in from
+-- ---- the peers of a script
 
--- what a fresh link took is nothing
-fresh_taken : (client : ScriptLink) (read : List ReadItem) (write : List WriteItem)
-    → IsFresh client read write
-    → told_length (script_state client).taken ≡ 0
-fresh_taken client read write fresh = ap (λ (s : LinkState). told_length s.taken) fresh.state
+-- what an entry with that mark, or without one, is for
+entry_at : (connect : Option RetryType) (peer : PeerSpec) (link : ScriptLink)
+    → AnswersBy link peer.read peer.write → entry_offer connect link ≡ peer_offer connect peer
+entry_at None peer link by = ap (λ (items : Option LinkItems). Ok items) by
+entry_at (Some retry) peer link by = refl
+
+-- a peer's entry has what the peer offers
+entry_is : (peer : PeerSpec) (entry : PeerScript) → IsEntryOf peer entry
+    → offer_of entry ≡ peer_offer peer.connect peer
+entry_is peer entry is =
+    ap (λ (c : Option RetryType). entry_offer c entry.link) is.connect
+    ∙ entry_at peer.connect peer entry.link is.link.items
+
+-- so the entries of peers have what they offer
+pub offers_are : (peers : List PeerSpec) (entries : List PeerScript) → AreEntriesOf peers entries
+    → map offer_of entries ≡ offers_of peers
+offers_are [] [] are = refl
+offers_are [] (entry ∷ entries) are = absurd are
+offers_are (peer ∷ peers) [] are = absurd are
+offers_are (peer ∷ peers) (entry ∷ entries) are =
+    rw (entry_is peer entry are.0, offers_are peers entries are.1)
+
+-- one more entry is that of one more peer
+pub entries_more : (peers : List PeerSpec) (entries : List PeerScript) (peer : PeerSpec)
+    (entry : PeerScript)
+    → AreEntriesOf peers entries → IsEntryOf peer entry
+    → AreEntriesOf (peers ++ peer ∷ []) (entries ++ entry ∷ [])
+entries_more [] [] peer entry are is = (is, tt)
+entries_more [] (other ∷ entries) peer entry are is = absurd are
+entries_more (other ∷ peers) [] peer entry are is = absurd are
+entries_more (other ∷ peers) (first ∷ entries) peer entry are is =
+    (are.0, entries_more peers entries peer entry are.1 is)
+
+-- one offer was the next of these peers, so those behind it are left
+one_taken : (peers : List PeerSpec) (offer : Offer) (left : List Offer)
+    → AreNext (offer ∷ []) (offers_of peers) left → left ≡ offers_of (drop 1 peers)
+one_taken [] (Ok items) left next = absurd next
+one_taken [] (Err fault) left next = sym next
+one_taken (peer ∷ peers) (Ok items) left next = sym next.1
+one_taken (peer ∷ peers) (Err fault) left next = sym next.1
+
+-- a request without an attempt took none
+none_taken : (peers : List PeerSpec) (attempts : List AttemptRecord) (left : List Offer)
+    → attempts ≡ [] → AreNext (offers_for script_start [] attempts) (offers_of peers) left
+    → left ≡ offers_of (drop (length attempts) peers)
+none_taken peers [] left none next = sym next
+none_taken peers (a ∷ attempts) left none next = cc
+
+-- an error is told of one fault, which was the next of the offers
+fault_taken : (peers : List PeerSpec) (told : Option Error) (e : Error) (left : List Offer)
+    → told ≡ Some e → AreNext (map Err (fault_told told)) (offers_of peers) left
+    → left ≡ offers_of (drop 1 peers)
+fault_taken peers None e left is next = cc
+fault_taken peers (Some found) e left is next =
+    one_taken peers (Err (connect_fault found.retry)) left next
+
+-- one whose attempt was given no link took that fault
+failed_taken : (peers : List PeerSpec) (attempts : List AttemptRecord) (e : Error)
+    (left : List Offer)
+    → IsFailedRecord attempts e
+    → AreNext (offers_for script_start [] attempts) (offers_of peers) left
+    → left ≡ offers_of (drop (length attempts) peers)
+failed_taken peers attempts e left is next =
+    let one : AreNext (offers_for script_start [] (is.attempt ∷ [])) (offers_of peers) left =
+    subst (λ (xs : List AttemptRecord).
+    AreNext (offers_for script_start [] xs) (offers_of peers) left) is.attempts_are next in
+    subst (λ (xs : List AttemptRecord). left ≡ offers_of (drop (length xs) peers))
+    (sym is.attempts_are) (fault_taken peers is.attempt.error e left is.error one)
+
+-- what is left of the peers where no link was handed back, by the outcome
+unlinked_left : (s : Start) (p : Passed) (w : World) (peers : List PeerSpec)
+    (attempts : List AttemptRecord) (outcome : Outcome) (left : List Offer)
+    → AttemptsUnlinked s p w attempts outcome
+    → AreNext (offers_for script_start [] attempts) (offers_of peers) left
+    → left ≡ offers_of (drop (length attempts) peers)
+unlinked_left s p w peers attempts ended.NoRequest left none next =
+    none_taken peers attempts left none next
+unlinked_left s p w peers attempts (ended.Refused error) left none next =
+    none_taken peers attempts left none next
+unlinked_left s p w peers attempts (ended.Served None reuse) left made next = absurd made
+unlinked_left s p w peers attempts (ended.Served (Some e) reuse) left made next =
+    failed_taken peers attempts e left made next
+unlinked_left s p w peers attempts ended.TurnLimit left (inl made) next =
+    none_taken peers attempts left made.0 next
+unlinked_left s p w peers attempts ended.TurnLimit left (inr made) next =
+    failed_taken peers attempts made.e left made.is_record next
+unlinked_left s p w peers attempts ended.OutOfMemory left (inl made) next =
+    none_taken peers attempts left made.0 next
+unlinked_left s p w peers attempts ended.OutOfMemory left (inr made) next =
+    failed_taken peers attempts made.e left made.is_record next
+
+-- a request takes the next peer for its attempt, and leaves the others
+pub left_after : (s : Start) (p : Passed) (w : World) (own : List (Returned ScriptLink))
+    (peers : List PeerSpec) (attempts : List AttemptRecord) (outcome : Outcome) (left : List Offer)
+    → EndsWith script_state script_start s p w own attempts outcome
+    → AreNext (offers_for script_start own attempts) (offers_of peers) left
+    → left ≡ offers_of (drop (length attempts) peers)
+left_after s p w [] peers attempts outcome left ends next =
+    unlinked_left s p w peers attempts outcome left ends.1 next
+left_after s p w (r ∷ []) peers attempts outcome left ends next =
+    subst (λ (xs : List AttemptRecord). left ≡ offers_of (drop (length xs) peers))
+    (sym ends.attempts_are) (one_taken peers (Ok (script_start r.link).items) left next)
+left_after s p w (r ∷ q ∷ rest) peers attempts outcome left ends next = absurd ends
+
+-- a link that a peer offers answers by the peer's items
+answers_at : (connect : Option RetryType) (peer : PeerSpec) (link : ScriptLink)
+    → peer_offer connect peer ≡ Ok (script_start link).items
+    → AnswersBy link peer.read peer.write
+answers_at None peer link is = cc
+answers_at (Some retry) peer link is = cc
+
+-- the link that a request handed back is that of its next peer
+pub links_are : (s : Start) (p : Passed) (w : World) (own : List (Returned ScriptLink))
+    (peers : List PeerSpec) (attempts : List AttemptRecord) (outcome : Outcome) (left : List Offer)
+    → EndsWith script_state script_start s p w own attempts outcome
+    → AreNext (offers_for script_start own attempts) (offers_of peers) left
+    → AreLinksOf peers own
+links_are s p w [] peers attempts outcome left ends next = tt
+links_are s p w (r ∷ []) [] attempts outcome left ends next = absurd next
+links_are s p w (r ∷ []) (peer ∷ peers) attempts outcome left ends next =
+    (answers_at peer.connect peer r.link next.0, tt)
+links_are s p w (r ∷ q ∷ rest) peers attempts outcome left ends next = absurd ends
+
+-- the names of peers that are left are those that are left of the names
+names_left : (n : ℕ) (peers : List PeerSpec) → drop n (names_of peers) ≡ names_of (drop n peers)
+names_left zero peers = refl
+names_left (suc n) [] = refl
+names_left (suc n) (peer ∷ peers) = names_left n peers
+
+-- ---- what is reported
 
 -- a request that had no link sent nothing
 unlinked_sent : (s : Start) (p : Passed) (w : World) (outcome : Outcome)
@@ -83,154 +205,314 @@ starts_within s p w [] records outcome ends = tt
 starts_within s p w (r ∷ []) records outcome ends = ends.tells.sent.0
 starts_within s p w (r ∷ q ∷ rest) records outcome ends = absurd ends
 
--- the links that an unused connector has at the end are those that came back
-own_is : (before after own : List (Returned ScriptLink)) → before ≡ []
-    → Some after ≡ more (Some before) own → after ≡ own
-own_is before after own none gained =
-    same_Some after (before ++ own) gained ∙ ap (λ xs. xs ++ own) none
+-- what stands from a place to the end
+pub range_end : {A : Type 0} (xs : List A) (from : ℕ)
+    → slice_range xs from (length xs) ≡ drop from xs
+range_end xs from =
+    ap (λ n. take n (drop from xs)) (sym (length-drop from xs)) ∙ take-length (drop from xs)
 
--- the link of the peer's entry answers by the peer's items, so the connector has that to hand out
-pub left_is : (peer : PeerSpec) (connector : ScriptConnector) → IsConnectorOf peer connector
-    → offers_left connector ≡ offers_of peer
-left_is peer connector offered =
-    ap (λ (entries : List PeerScript). map offer_of entries) offered.entries
-    ∙ rw offered.connects (ap (λ (i : Option LinkItems). Ok i ∷ []) offered.link.items)
+-- the links that came back in a request are its own, and those behind the ones from before
+pub own_is : (before after own : List (Returned ScriptLink)) → Some after ≡ more (Some before) own
+    → after ≡ before ++ own
+own_is before after own gained = same_Some after (before ++ own) gained
 
--- a request over the links that a script makes, by the values that the code has
-pub runs_script : (made first last : ScriptLink) (connector old : ScriptConnector) (peer : PeerSpec)
-    (first_ahead ahead : List ℕ) (faults : ℕ) (after : List (Returned ScriptLink))
-    (refusals : Option (List Fault)) (left : Option (List Offer)) (turns : ℕ)
-    (processed : Processed)
-    → IsConnectorOf peer connector → first ≡ made → first_ahead ≡ [] → old ≡ connector
-    → Processes script_state script_start
-    (start_of (world_with (script_state first) first_ahead (gets_failed old)))
-    (world_with (script_state last) ahead faults)
-    (Some (links_returned old)) (Some after) (faults_answered old) refusals
-    (Some (offers_left old)) left (script_state first) turns processed
-    → Processes script_state script_start (start_of (first_world made connector))
-    (world_with (script_state last) ahead faults)
-    (Some []) (Some after) (Some []) refusals (Some (offers_of peer)) left (script_state made) turns
-    processed
-runs_script made first last connector old peer first_ahead ahead faults after refusals left turns
-    processed offered is none same run =
-    let world : world_with (script_state first) first_ahead (gets_failed old)
-    ≡ first_world made connector =
-    rw (is, none, same) in
-    let unreturned : links_returned old ≡ [] = rw same offered.returned in
-    let unrefused : faults_answered old ≡ Some [] = rw same offered.refusals in
-    let stocked : offers_left old ≡ offers_of peer = rw same (left_is peer connector offered) in
-    subst (λ (c : LinkState). Processes script_state script_start
-    (start_of (first_world made connector)) (world_with (script_state last) ahead faults)
-    (Some []) (Some after) (Some []) refusals (Some (offers_of peer)) left c turns processed)
-    (ap script_state is)
-    (subst (λ (w : World). Processes script_state script_start (start_of w)
-    (world_with (script_state last) ahead faults)
-    (Some []) (Some after) (Some []) refusals (Some (offers_of peer)) left (script_state first)
-    turns processed) world
-    (subst (λ (rs : List (Returned ScriptLink)). Processes script_state script_start
-    (start_of (world_with (script_state first) first_ahead (gets_failed old)))
-    (world_with (script_state last) ahead faults)
-    (Some rs) (Some after) (Some []) refusals (Some (offers_of peer)) left (script_state first)
-    turns processed) unreturned
-    (subst (λ (told : Option (List Fault)). Processes script_state script_start
-    (start_of (world_with (script_state first) first_ahead (gets_failed old)))
-    (world_with (script_state last) ahead faults)
-    (Some (links_returned old)) (Some after) told refusals (Some (offers_of peer)) left
-    (script_state first) turns processed) unrefused
-    (subst (λ (os : List Offer). Processes script_state script_start
-    (start_of (world_with (script_state first) first_ahead (gets_failed old)))
-    (world_with (script_state last) ahead faults)
-    (Some (links_returned old)) (Some after) (faults_answered old) refusals (Some os) left
-    (script_state first) turns processed) stocked run))))
+pub own_behind : (before after own : List (Returned ScriptLink))
+    → Some after ≡ more (Some before) own → drop (length before) after ≡ own
+own_behind before after own gained =
+    ap (λ rs. drop (length before) rs) (own_is before after own gained)
+    ∙ drop-append_seam before own
 
--- the links that came back, where the connector had one link, are that one
-answer_by : (after : List (Returned ScriptLink)) (left : List (Option LinkItems))
-    (read : List ReadItem) (write : List WriteItem)
-    → items_back script_start after ++ left ≡ Some (record { read = read; write = write }) ∷ []
-    → AllAnswerBy after read write
-answer_by [] left read write all = tt
-answer_by (r ∷ []) left read write all = (cc, tt)
-answer_by (r ∷ q ∷ rest) left read write all = cc
+-- nothing is ahead of a client that goes back
+pub clear_again : (s : Start) (p : Passed) (w : World) (own : List (Returned ScriptLink))
+    (records : List AttemptRecord) (outcome : Outcome)
+    → EndsWith script_state script_start s p w own records outcome
+    → outcome_reuse outcome ≡ true → w.ahead ≡ []
+clear_again s p w own records ended.NoRequest ends back = cc
+clear_again s p w own records (ended.Refused error) ends back = cc
+clear_again s p w [] records (ended.Served None reuse) ends back = absurd ends.0
+clear_again s p w [] records (ended.Served (Some e) reuse) ends back =
+    absurd (true≢false (sym back ∙ ends.0.1))
+clear_again s p w (r ∷ []) records (ended.Served None reuse) ends back =
+    (ends.ends.goes_back.0 back).nothing_ahead
+clear_again s p w (r ∷ []) records (ended.Served (Some e) reuse) ends back =
+    stays e ends.ends back
+  where
+    stays : (e : Error) → IsFailedAttempt s p w (script_state r.link) (script_start r.link) r.keep
+        reuse e
+        ⊎ IsUnsentAttempt s p w (script_state r.link) (script_start r.link) r.keep reuse e
+        → reuse ≡ true → w.ahead ≡ []
+    stays e (inl failed) back = absurd (true≢false (sym back ∙ failed.stays))
+    stays e (inr unsent) back = absurd (true≢false (sym back ∙ unsent.stays))
+clear_again s p w (r ∷ q ∷ rest) records (ended.Served error reuse) ends back = absurd ends
+clear_again s p w own records ended.TurnLimit ends back = cc
+clear_again s p w own records ended.OutOfMemory ends back = cc
 
--- the links that came back from a script's connector are those of its peer
-pub are_peer : (peer : PeerSpec) (connector old : ScriptConnector)
-    (after : List (Returned ScriptLink)) (left : List Offer)
-    → IsConnectorOf peer connector → old ≡ connector
-    → all_items script_start (Some after) [] (Some left)
-    ≡ all_items script_start (Some (links_returned old)) [] (Some (offers_left old))
-    → AllAnswerBy after peer.read peer.write
-are_peer peer connector old after left offered same all =
-    let unreturned : links_returned old ≡ [] = rw same offered.returned in
-    let left_old : offers_left old ≡ offers_of peer =
-    rw same (left_is peer connector offered) in
-    let before : all_items script_start (Some (links_returned old)) [] (Some (offers_left old))
-    ≡ Some (Some (record { read = peer.read; write = peer.write }) ∷ []) =
-    ap (λ (rs : List (Returned ScriptLink)).
-    all_items script_start (Some rs) [] (Some (offers_left old))) unreturned
-    ∙ ap (λ (os : List Offer). Some (links_of os)) left_old in
-    answer_by after (links_of left) peer.read peer.write (same_Some _ _ (all ∙ before))
-
--- a link that starts as one that answers by these items answers by them
-pub still_answers : (first made last : ScriptLink) (read : List ReadItem) (write : List WriteItem)
-    → first ≡ made → IsFresh made read write → script_start last ≡ script_start first
-    → AnswersBy last read write
-still_answers first made last read write is fresh same =
-    ap (λ (s : LinkStart). s.items) same ∙ rw is fresh.items
-
--- what is reported of a request over the links of a script is a run of the script
-pub is_run : (script : ScriptSpec) (made last : ScriptLink) (connector : ScriptConnector)
-    (schedule : ListSchedule) (ahead : List ℕ) (faults : ℕ)
-    (after : List (Returned ScriptLink)) (refusals : Option (List Fault))
-    (left : Option (List Offer)) (processed : Processed)
-    → IsFresh made script.client script.client_write → IsConnectorOf script.peer connector
-    → branches_left schedule ≡ script.schedule
-    → AnswersBy last script.client script.client_write
-    → AllAnswerBy after script.peer.read script.peer.write
-    → Processes script_state script_start (start_of (first_world made connector))
-    (world_with (script_state last) ahead faults)
-    (Some []) (Some after) (Some []) refusals (Some (offers_of script.peer)) left
-    (script_state made) script.turns processed
-    → processed.outcome ≢ ended.OutOfMemory
-    → IsRun script (reported script.peer.name processed last after)
-is_run script made last connector schedule ahead faults after refusals left processed fresh offered
-    named client peer run printable =
-    let own : after ≡ run.own = own_is [] after run.own refl run.gained in
+-- what is reported of a request that the proxy made over the links of a script
+pub is_request : (script : ScriptSpec) (from to : Place) (written : List ℕ)
+    (own : List (Returned ScriptLink)) (processed : Processed)
+    (run : Processes script_state script_start (start_of (world_at from)) (world_at to)
+    (Some from.returned) (Some to.returned) from.refusals to.refusals
+    (Some (offers_of from.peers)) (Some (offers_of to.peers))
+    (script_state from.client) script.turns processed)
+    → to.peers ≡ drop (length processed.history.attempts) from.peers
+    → AnswersBy to.client script.client script.client_write → from.ahead ≡ []
+    → processed.outcome ≢ ended.OutOfMemory → written ≡ run.passed.written → own ≡ run.own
+    → IsRequest script from to
+    (reported (first_name (names_of from.peers)) processed written own)
+is_request script from to written own processed run asked client clear printable is_written is_own =
     record {
-      client = made;
-      fresh = fresh;
-      connector = connector;
-      offered = offered;
-      schedule = schedule;
-      named = named;
-      last = last;
+      processed = processed;
+      run = run;
+      asked = asked;
+      are_links = links_are _ run.passed (world_at to) run.own from.peers
+          processed.history.attempts processed.outcome (offers_of to.peers) run.ended.ends
+          run.offered;
       is_client = client;
-      returned = after;
-      are_peer = peer;
+      clear = clear;
+      printable = printable;
+      outcome = refl;
+      written = is_written;
+      attempts = ap (λ sent. map (attempt_report (first_name (names_of from.peers)) sent)
+          processed.history.attempts)
+          (ap sent_of is_own
+          ∙ sent_is _ run.passed (world_at to) run.own processed.history.attempts
+          processed.outcome run.ended.ends);
+    }
+
+-- what a run made of the next request, by the values that the code has
+pub run_next : (script : ScriptSpec) (peers : List PeerSpec) (old new : Run) (processed : Processed)
+    (turns : ℕ) (name written : List ℕ) (own : List (Returned ScriptLink)) (request : RequestSpec)
+    → script.turns ≡ turns → IsAt script old peers
+    → Processes script_state script_start (start_of (world_at (place_of old peers)))
+    (world_at (place_of new peers))
+    (Some (links_returned old.proxy.connector)) (Some (links_returned new.proxy.connector))
+    (faults_answered old.proxy.connector) (faults_answered new.proxy.connector)
+    (Some (offers_left old.proxy.connector)) (Some (offers_left new.proxy.connector))
+    (script_state old.client.link) turns processed
+    → script_start new.client.link ≡ script_start old.client.link
+    → new.names.items ≡ drop (length processed.history.attempts) old.names.items
+    → processed.outcome ≢ ended.OutOfMemory
+    → name ≡ first_name old.names.items
+    → written ≡ drop (length (taken_of old.client.link)) (taken_of new.client.link)
+    → own ≡ drop (length (links_returned old.proxy.connector)) (links_returned new.proxy.connector)
+    → request ≡ reported name processed written own
+    → Runs script peers old new request
+run_next script peers old new processed turns name written own request many at ran started left
+    printable named wrote back found =
+    record {
+      left = rest;
+      is_request = subst (λ (r : RequestSpec).
+          IsRequest script (place_of old peers) (place_of new rest) r) (sym found)
+          (subst (λ (n : List ℕ). IsRequest script (place_of old peers) (place_of new rest)
+          (reported n processed written own)) (sym named_by)
+          (is_request script (place_of old peers) (place_of new rest) written own processed run refl
+          client at.clear printable (wrote ∙ run.ended.tells.written.1)
+          (back ∙ own_behind (links_returned old.proxy.connector)
+          (links_returned new.proxy.connector) run.own run.gained)));
+      stands = λ again. record {
+        offers = offers;
+        names = left ∙ ap (λ (ns : List (List ℕ)). drop (length processed.history.attempts) ns)
+            at.names ∙ names_left (length processed.history.attempts) peers;
+        client = client;
+        clear = clear_again _ run.passed (world_at (place_of new rest)) run.own
+            processed.history.attempts processed.outcome run.ended.ends
+            (ap (λ (r : RequestSpec). outcome_reuse r.outcome) (sym found) ∙ again);
+      };
+    }
+  where
+    rest : List PeerSpec
+    rest = drop (length processed.history.attempts) peers
+
+    -- with what the peers offer
+    offered : Processes script_state script_start (start_of (world_at (place_of old peers)))
+        (world_at (place_of new rest))
+        (Some (links_returned old.proxy.connector)) (Some (links_returned new.proxy.connector))
+        (faults_answered old.proxy.connector) (faults_answered new.proxy.connector)
+        (Some (offers_of peers)) (Some (offers_left new.proxy.connector))
+        (script_state old.client.link) script.turns processed
+    offered =
+        subst (λ (n : ℕ). Processes script_state script_start
+        (start_of (world_at (place_of old peers))) (world_at (place_of new rest))
+        (Some (links_returned old.proxy.connector)) (Some (links_returned new.proxy.connector))
+        (faults_answered old.proxy.connector) (faults_answered new.proxy.connector)
+        (Some (offers_of peers)) (Some (offers_left new.proxy.connector))
+        (script_state old.client.link) n processed) (sym many)
+        (subst (λ (os : List Offer). Processes script_state script_start
+        (start_of (world_at (place_of old peers))) (world_at (place_of new rest))
+        (Some (links_returned old.proxy.connector)) (Some (links_returned new.proxy.connector))
+        (faults_answered old.proxy.connector) (faults_answered new.proxy.connector)
+        (Some os) (Some (offers_left new.proxy.connector))
+        (script_state old.client.link) turns processed) at.offers ran)
+
+    -- what is left are the peers behind the one that was asked
+    offers : offers_left new.proxy.connector ≡ offers_of rest
+    offers = left_after _ offered.passed (world_at (place_of new rest)) offered.own peers
+        processed.history.attempts processed.outcome (offers_left new.proxy.connector)
+        offered.ended.ends offered.offered
+
+    run : Processes script_state script_start (start_of (world_at (place_of old peers)))
+        (world_at (place_of new rest))
+        (Some (links_returned old.proxy.connector)) (Some (links_returned new.proxy.connector))
+        (faults_answered old.proxy.connector) (faults_answered new.proxy.connector)
+        (Some (offers_of peers)) (Some (offers_of rest))
+        (script_state old.client.link) script.turns processed
+    run = subst (λ (os : List Offer). Processes script_state script_start
+        (start_of (world_at (place_of old peers))) (world_at (place_of new rest))
+        (Some (links_returned old.proxy.connector)) (Some (links_returned new.proxy.connector))
+        (faults_answered old.proxy.connector) (faults_answered new.proxy.connector)
+        (Some (offers_of peers)) (Some os)
+        (script_state old.client.link) script.turns processed) offers offered
+
+    client : AnswersBy new.client.link script.client script.client_write
+    client = ap (λ (s : LinkStart). s.items) started ∙ at.client
+
+    named_by : name ≡ first_name (names_of peers)
+    named_by = named ∙ ap first_name at.names
+
+-- ---- one request behind the other
+
+-- what follows where the client goes back, and where it does not
+follows_back : (back : Bool) (next : Type 0) (rest : List RequestSpec) → back ≡ true → next
+    → Follows back next rest
+follows_back true next rest is runs = runs
+follows_back false next rest is runs = cc
+
+follows_none : (back : Bool) (next : Type 0) → back ≡ false → Follows back next []
+follows_none true next is = cc
+follows_none false next is = refl
+
+-- a request from which the client goes back, and the run behind it
+pub goes_on : (script : ScriptSpec) (most : ℕ) (from to : Place) (request : RequestSpec)
+    (rest : List RequestSpec) → IsRequest script from to request
+    → outcome_reuse request.outcome ≡ true → AreRun script most to rest
+    → AreRun script (suc most) from (request ∷ rest)
+goes_on script most from to request rest is back runs = (
+  to,
+  is,
+  follows_back (outcome_reuse request.outcome) (AreRun script most to rest) rest back runs,
+)
+
+-- a request from which it does not, and none behind it
+pub ends_at : (script : ScriptSpec) (most : ℕ) (from to : Place) (request : RequestSpec)
+    → IsRequest script from to request → outcome_reuse request.outcome ≡ false
+    → AreRun script (suc most) from (request ∷ [])
+ends_at script most from to request is gone =
+    (to, is, follows_none (outcome_reuse request.outcome) (AreRun script most to []) gone)
+
+-- ---- the run between two requests
+
+-- a place at which nothing has passed is the first one
+place_is : (client : ScriptLink) (ahead : List ℕ) (faults : ℕ) (refusals : Option (List Fault))
+    (returned : List (Returned ScriptLink)) (peers : List PeerSpec)
+    → ahead ≡ [] → faults ≡ 0 → refusals ≡ Some [] → returned ≡ []
+    → ◌≡◌ {A = Place} (record {
+      client = client;
       ahead = ahead;
       faults = faults;
       refusals = refusals;
-      left = left;
-      processed = processed;
-      run = run;
-      printable = printable;
-      outcome = refl;
-      written = since_start _ (taken_of last) run.passed.written
-          (fresh_taken made script.client script.client_write fresh) run.ended.tells.written;
-      attempts = ap (λ sent. map (attempt_report script.peer.name sent) processed.history.attempts)
-          (ap sent_of own
-          ∙ sent_is _ run.passed _ run.own processed.history.attempts processed.outcome
-          run.ended.ends);
-    }
+      returned = returned;
+      peers = peers;
+    }) (first_place client peers)
+place_is client ahead faults refusals returned peers clear none unrefused unreturned =
+    rw (clear, none, unrefused, unreturned) refl
 
--- the first link that came back starts within what it took
-pub first_starts_within : (s : Start) (w : World) (before after : List (Returned ScriptLink))
-    (told refusals : Option (List Fault)) (had has : Option (List Offer)) (client : LinkState)
-    (turns : ℕ) (processed : Processed) → before ≡ []
-    → Processes script_state script_start s w (Some before) (Some after) told refusals had has
-    client turns processed
-    → FirstStartsWithin after
-first_starts_within s w before after told refusals had has client turns processed none run =
-    let own : after ≡ run.own = own_is before after run.own none run.gained in
-    subst FirstStartsWithin (sym own)
-    (starts_within s run.passed w run.own processed.history.attempts processed.outcome
-    run.ended.ends)
+-- where a run begins that was made of a script
+first_is : (script : ScriptSpec) (run : Run) → Begins script run
+    → place_of run script.peers ≡ first_place run.client.link script.peers
+first_is script run begins =
+    place_is run.client.link run.client.ahead (gets_failed run.proxy.connector)
+    (faults_answered run.proxy.connector) (links_returned run.proxy.connector) script.peers
+    begins.clear begins.offered.faults begins.offered.refusals begins.offered.returned
+
+-- its first request may begin
+first_at : (script : ScriptSpec) (run : Run) → Begins script run → IsAt script run script.peers
+first_at script run begins = record {
+  offers = offers_are script.peers (next_entries run.proxy.connector) begins.offered.entries;
+  names = begins.names;
+  client = begins.fresh.items;
+  clear = begins.clear;
+}
+
+-- the requests so far, and then any run of those that are left, are a run of the script
+pub record IsUnderWay (script : ScriptSpec) (run : Run) (left : ℕ) (requests : List RequestSpec)
+    : Type 0 where
+  pub begun : Run
+  pub begins : Begins script begun
+  pub peers : List PeerSpec
+  pub at : IsAt script run peers
+  pub goes : (rest : List RequestSpec) → AreRun script left (place_of run peers) rest
+      → AreRun script script.requests (first_place begun.client.link script.peers)
+      (requests ++ rest)
+
+-- before the first request
+pub none_yet : (script : ScriptSpec) (run : Run) (left : ℕ) → left ≡ script.requests
+    → Begins script run → IsUnderWay script run left []
+none_yet script run left all begins = record {
+  begun = run;
+  begins = begins;
+  peers = script.peers;
+  at = first_at script run begins;
+  goes = λ rest runs.
+      subst (λ (from : Place). AreRun script script.requests from rest) (first_is script run begins)
+      (subst (λ (n : ℕ). AreRun script n (place_of run script.peers) rest) all runs);
+}
+
+-- one request more stands behind those so far
+behind : (requests : List RequestSpec) (request : RequestSpec) (rest : List RequestSpec)
+    → requests ++ request ∷ rest ≡ (requests ++ request ∷ []) ++ rest
+behind requests request rest = sym (append_assoc requests (request ∷ []) rest)
+
+-- one request more, from which the client goes back
+pub one_more : (script : ScriptSpec) (old new : Run) (left less : ℕ) (requests : List RequestSpec)
+    (request : RequestSpec) (under : IsUnderWay script old left requests)
+    → Runs script under.peers old new request → outcome_reuse request.outcome ≡ true
+    → left ≡ suc less → IsUnderWay script new less (requests ++ request ∷ [])
+one_more script old new left less requests request under runs back is = record {
+  begun = under.begun;
+  begins = under.begins;
+  peers = runs.left;
+  at = runs.stands back;
+  goes = λ rest next.
+      subst (λ (rs : List RequestSpec). AreRun script script.requests
+      (first_place under.begun.client.link script.peers) rs) (behind requests request rest)
+      (under.goes (request ∷ rest)
+      (subst (λ (n : ℕ). AreRun script n (place_of old under.peers) (request ∷ rest)) (sym is)
+      (goes_on script less (place_of old under.peers) (place_of new runs.left) request rest
+      runs.is_request back next)));
+}
+
+-- a run is over that was made of a script
+is_run : (script : ScriptSpec) (begun : Run) (requests : List RequestSpec) → Begins script begun
+    → AreRun script script.requests (first_place begun.client.link script.peers) requests
+    → IsRun script requests
+is_run script begun requests begins runs = record {
+  client = begun.client.link;
+  fresh = begins.fresh;
+  connector = begun.proxy.connector;
+  offered = begins.offered;
+  schedule = begun.outside.schedule;
+  named = begins.named;
+  runs = runs;
+}
+
+-- it is over with a request from which the client does not go back
+pub last_one : (script : ScriptSpec) (old new : Run) (left less : ℕ) (requests : List RequestSpec)
+    (request : RequestSpec) (under : IsUnderWay script old left requests)
+    → Runs script under.peers old new request → outcome_reuse request.outcome ≡ false
+    → left ≡ suc less → IsRun script (requests ++ request ∷ [])
+last_one script old new left less requests request under runs gone is =
+    is_run script under.begun (requests ++ request ∷ []) under.begins
+    (under.goes (request ∷ [])
+    (subst (λ (n : ℕ). AreRun script n (place_of old under.peers) (request ∷ [])) (sym is)
+    (ends_at script less (place_of old under.peers) (place_of new runs.left) request
+    runs.is_request gone)))
+
+-- it is over once no more requests are allowed
+pub all_run : (script : ScriptSpec) (run : Run) (left : ℕ) (requests : List RequestSpec)
+    → IsUnderWay script run left requests → left ≡ 0 → IsRun script requests
+all_run script run left requests under none =
+    is_run script under.begun requests under.begins
+    (subst (λ (rs : List RequestSpec). AreRun script script.requests
+    (first_place under.begun.client.link script.peers) rs) (append-nil requests)
+    (under.goes []
+    (subst (λ (n : ℕ). AreRun script n (place_of run under.peers) []) (sym none) refl)))

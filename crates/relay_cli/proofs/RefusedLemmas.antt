@@ -1,34 +1,36 @@
--- What a run rules out.
-use Rattle.std.proofs.Common.{◌≡◌, ◌≢◌, ℕ, zero, suc, true, List, [], ◌∷◌, ◌++◌, drop, map, Some, None, Ok, Err, Option, refl, sym, ap, ◌∙◌, subst, inl, inr, length, arith, drop_of_length-le}
+-- What a run of a script rules out.
+use Rattle.std.proofs.Common.{◌≡◌, ◌≢◌, ℕ, zero, suc, ◌+◌, ◌*◌, ◌≤◌, ◌<◌, Bool, true, false, List, [], ◌∷◌, ◌++◌, drop, map, Some, None, Ok, Err, Option, refl, sym, ap, ◌∙◌, subst, inl, inr, length, length-append, arith}
+use Rattle.std.proofs.lemmas.List.{length-drop, length-take}
+use Rattle.std.proofs.lemmas.List.Concat.{flat_map-cons}
 use Rattle.std.proofs.lemmas.Option.{same_Some}
 use Rattle.relay_tasks.specs.declared.fault.Fault.{Fault}
 use Rattle.relay_links.specs.Connector.{Offer}
 use Rattle.relay_links.specs.Link.{LinkState, LinkItems}
 use Rattle.relay_links.specs.ReadScript.{given_of, left_items, script_given, script_left, IsAtEnd}
 use Rattle.relay_links.specs.ReadScript as reads
-use Rattle.relay_links.specs.WriteScript as writes
-use Rattle.relay_links.specs.ScriptLink.{script_state, script_start, IsFresh}
-use Rattle.relay_links.specs.Told.{Since, told_length}
+use Rattle.relay_links.specs.declared.write_script.WriteItem.{WriteItem}
+use Rattle.relay_links.specs.ScriptLink.{script_state, script_start, AnswersBy}
+use Rattle.relay_links.specs.Told.{Since, more, told_length}
 use Rattle.relay_links.specs.declared.connector.Returned.{Returned}
 use Rattle.relay_links.specs.declared.read_script.ReadItem.{ReadItem}
 use Rattle.relay_links.specs.declared.read_script.ReadItem.TheVariants as item
 use Rattle.relay_links.specs.declared.script_link.ScriptLink.{ScriptLink}
 use Rattle.relay_attempt.specs.Passed.{Passed}
-use Rattle.relay_proxy.specs.Endings.{EndsWith, IsNoRequest, IsInOrder, is_nothing}
-use Rattle.relay_proxy.specs.Passed.{World, Start, start_of, nothing}
+use Rattle.relay_proxy.specs.Endings.{EndsWith, IsNoRequest}
+use Rattle.relay_proxy.specs.Bound.{OwnGave, most_sides}
+use Rattle.relay_proxy.specs.Closing.{IsQuiet}
+use Rattle.relay_proxy.proofs.BoundLemmas.{turns_bounded}
+use Rattle.relay_proxy.specs.Passed.{World, Start, start_of}
+use Rattle.relay_links.specs.declared.branch.Branch.{Branch}
 use Rattle.relay_proxy.specs.Refusals.{faults_for}
-use Rattle.relay_proxy.specs.Taken.{AreNext, Takes, offers_for}
-use Rattle.relay_proxy.specs.declared.outcome.Processed.{Processed}
-use Rattle.relay_links.specs.ScriptEntries.{gets_failed}
+use Rattle.relay_proxy.specs.Taken.{AreNext, offers_for}
 use Rattle.relay_links.specs.ListSchedule.{branches_left}
 use Rattle.relay_links.specs.declared.list_schedule.ListSchedule.{ListSchedule}
-use Rattle.relay_links.specs.declared.script_connector.ScriptConnector.{ScriptConnector}
-use Rattle.relay_proxy.specs.Turn.{world_with}
 use Rattle.relay_proxy.specs.declared.outcome.Outcome.TheVariants as ended
 use Rattle.relay_proxy.specs.declared.record.AttemptRecord.{AttemptRecord}
-use Rattle.relay_cli.specs.Exchange.{first_world, offers_of, IsConnectorOf, IsRun}
-use Rattle.relay_cli.specs.Report.{RequestSpec}
-use Rattle.relay_cli.specs.Script.{ScriptSpec}
+use Rattle.relay_cli.specs.Exchange.{peer_offer, offers_of, AreLinksOf, Place, world_at, first_place, IsRequest, Follows, AreRun, IsRun}
+use Rattle.relay_cli.specs.Report.{RequestSpec, outcome_reuse}
+use Rattle.relay_cli.specs.Script.{PeerSpec, ScriptSpec}
 
 -- a request that ended as none had no byte, and its client ended
 none_of : (s : Start) (p : Passed) (w : World) (own : List (Returned ScriptLink))
@@ -48,150 +50,225 @@ gives_first b bytes items (suc at) done given at_end = cc
 items_same : (a b : LinkItems) → Some a ≡ Some b → a.read ≡ b.read
 items_same a b same = ap (λ (x : LinkItems). x.read) (same_Some a b same)
 
--- a script whose client gives bytes first is never reported as no request
-pub never_none : (script : ScriptSpec) (request : RequestSpec) (b : ℕ) (bytes : List ℕ)
-    (items : List ReadItem)
-    → script.client ≡ item.Bytes (b ∷ bytes) ∷ items → IsRun script request
+-- a list with a first item is not empty
+not_empty : {A : Type 0} (x : A) (xs : List A) → x ∷ xs ≡ [] → ⊥
+not_empty x xs is = cc
+
+-- the first request of a run
+record HasFirst (script : ScriptSpec) (from : Place) (request : RequestSpec) : Type 0 where
+  to : Place
+  is : IsRequest script from to request
+
+first_of : (script : ScriptSpec) (most : ℕ) (from : Place) (request : RequestSpec)
+    (rest : List RequestSpec) → AreRun script most from (request ∷ rest)
+    → HasFirst script from request
+first_of script zero from request rest runs = absurd (not_empty request rest runs)
+first_of script (suc most) from request rest runs = record { to = runs.0; is = runs.1 }
+
+-- a script whose client gives bytes first is never reported as no request at once
+pub never_none : (script : ScriptSpec) (request : RequestSpec) (rest : List RequestSpec) (b : ℕ)
+    (bytes : List ℕ) (items : List ReadItem)
+    → script.client ≡ item.Bytes (b ∷ bytes) ∷ items → IsRun script (request ∷ rest)
     → request.outcome ≢ ended.NoRequest
-never_none script request b bytes items begins run none =
-    let s = start_of (first_world run.client run.connector) in
-    let last = run.last in
-    let w = world_with (script_state last) run.ahead run.faults in
-    let outcome : run.processed.outcome ≡ ended.NoRequest = sym run.outcome ∙ none in
-    let ends : EndsWith script_state script_start s run.run.passed w run.run.own
-    run.processed.history.attempts ended.NoRequest =
-    rw outcome at run.run.ended.ends in
-    let no = none_of s run.run.passed w run.run.own run.processed.history.attempts ends in
+never_none script request rest b bytes items begins run none =
+    let from = first_place run.client script.peers in
+    let first = first_of script script.requests from request rest run.runs in
+    let one = first.is in
+    let s = start_of (world_at from) in
+    let w = world_at first.to in
+    let last = first.to.client in
+    let outcome : one.processed.outcome ≡ ended.NoRequest = sym one.outcome ∙ none in
+    let ends : EndsWith script_state script_start s one.run.passed w one.run.own
+    one.processed.history.attempts ended.NoRequest =
+    rw outcome at one.run.ended.ends in
+    let no = none_of s one.run.passed w one.run.own one.processed.history.attempts ends in
     let fresh : told_length (script_state run.client).given ≡ 0 =
     ap (λ (x : LinkState). told_length x.given) run.fresh.state in
-    let came = run.run.ended.tells.came in
+    let came = one.run.ended.tells.came in
     let given : script_given last.reads ≡ [] =
-    subst (λ (n : ℕ). drop n (script_given last.reads) ≡ run.run.passed.came) fresh came.1
+    subst (λ (n : ℕ). drop n (script_given last.reads) ≡ one.run.passed.came) fresh came.1
     ∙ no.no_byte in
     let is : last.reads.items.items ≡ item.Bytes (b ∷ bytes) ∷ items =
-    items_same _ _ run.is_client ∙ begins in
+    items_same _ _ one.is_client ∙ begins in
     let at_end : IsAtEnd (script_left last.reads) = last.at_end no.ended in
     gives_first b bytes items last.reads.at last.reads.done
     (subst (λ (xs : List ReadItem). given_of xs last.reads.at last.reads.done ≡ []) is given)
     (subst (λ (xs : List ReadItem). IsAtEnd (left_items xs last.reads.at last.reads.done)) is
     at_end)
 
--- the one link of a script's connector is offered, so no run tells of a refused one
-never_refused : (own : List (Returned ScriptLink)) (attempts : List AttemptRecord) (fault : Fault)
-    (offer : Option LinkItems) (left : Option (List Offer)) → faults_for own attempts ≡ fault ∷ []
-    → Takes (Some (Ok offer ∷ [])) (offers_for script_start own attempts) left → ⊥
-never_refused [] attempts fault offer None is takes = takes
-never_refused [] attempts fault offer (Some left) is takes =
-    let next : AreNext (Err fault ∷ []) (Ok offer ∷ []) left =
-    subst (λ (fs : List Fault). AreNext (map Err fs) (Ok offer ∷ []) left) is takes in
-    cc
-never_refused (r ∷ own) attempts fault offer left is takes = cc
+-- the next of these peers has that fault in place of a link, or there is none
+abbrev pub IsRefusedBy : List PeerSpec → Fault → Type 0
+IsRefusedBy [] fault = Unit {0}
+IsRefusedBy (peer ∷ peers) fault = peer_offer peer.connect peer ≡ Err fault
 
--- no run of a script says that its connector gave no link
-pub is_linked : (script : ScriptSpec) (request : RequestSpec) (run : IsRun script request)
-    → (fault : Fault) → faults_for run.run.own run.processed.history.attempts ≡ fault ∷ [] → ⊥
-is_linked script request run fault is =
-    never_refused run.run.own run.processed.history.attempts fault _ run.left is run.run.offered
+-- a fault that was next
+refused_next : (peers : List PeerSpec) (fault : Fault) (left : List Offer)
+    → AreNext (Err fault ∷ []) (offers_of peers) left → IsRefusedBy peers fault
+refused_next [] fault left next = tt
+refused_next (peer ∷ peers) fault left next = next.0
 
-drop_all : {X : Type 0} (xs : List X) → drop (length xs) xs ≡ []
-drop_all xs = drop_of_length-le xs (omega arith)
+-- where a request handed no link back, what it took are the faults of its record
+refused_unlinked : (peers : List PeerSpec) (own : List (Returned ScriptLink))
+    (attempts : List AttemptRecord) (fault : Fault) (left : List Offer)
+    → faults_for own attempts ≡ fault ∷ []
+    → AreNext (offers_for script_start own attempts) (offers_of peers) left
+    → IsRefusedBy peers fault
+refused_unlinked peers [] attempts fault left is next =
+    refused_next peers fault left
+    (subst (λ (fs : List Fault). AreNext (map Err fs) (offers_of peers) left) is next)
+refused_unlinked peers (r ∷ own) attempts fault left is next = cc
 
--- what a run does not rule out: that every script is reported as out of turns, since nothing ties
--- the turns taken to what the links answered
-pub always_limit : (script : ScriptSpec) (client : ScriptLink) (connector : ScriptConnector)
-    (schedule : ListSchedule) (processed : Processed)
-    → IsFresh client script.client script.client_write → IsConnectorOf script.peer connector
-    → branches_left schedule ≡ script.schedule
-    → processed.outcome ≡ ended.TurnLimit → processed.history.attempts ≡ []
-    → processed.history.turns_taken ≡ script.turns → processed.history.items_used ≡ 0
-    → IsRun script (record { outcome = ended.TurnLimit; written = []; attempts = [] })
-always_limit script client connector schedule processed fresh offered named outcome attempts turns
-    unused =
-    record {
-      client = client;
-      fresh = fresh;
-      connector = connector;
-      offered = offered;
-      schedule = schedule;
-      named = named;
-      last = client;
-      is_client = fresh.items;
-      returned = [];
-      are_peer = tt;
-      ahead = [];
-      faults = gets_failed connector;
-      refusals = Some [];
-      left = Some (offers_of script.peer);
-      processed = processed;
-      run = record {
-        passed = nothing;
-        own = [];
-        gained = refl;
-        ended = record {
-          tells = record {
-            came = (omega arith, drop_all (script_given client.reads));
-            written = (omega arith, drop_all client.taken.items);
-            faults = omega arith;
-            connect_faults = omega arith;
-            fault_lists = record {
-              reads = [];
-              read = (omega arith, drop_all (reads.script_faults client.reads));
-              writes = [];
-              written = (omega arith, drop_all (writes.script_faults client.writes));
-            };
-          };
-          order = is_nothing refl refl;
-          untouched = λ _. refl;
-          ends = rw (outcome, attempts)
-              (record { got = refl; sent = refl }, inl (refl, inl refl));
-        };
-        refused = rw attempts refl;
-        offered = rw attempts refl;
-        uses = record {
-          client = 0;
-          upstream = 0;
-          client_rose = refl;
-          upstream_rose = refl;
-          all = unused;
-        };
-        exact = rw outcome (record {
-          no_request = λ _ _. inl (inl refl);
-          refused = λ _ _ _ _. inl (inl refl);
-          not_relayed = λ _ _. inl (inl refl);
-          unfit = λ _ _ _ _ _. inl (inl refl);
-          whole = λ _ _ _ _ _. inl (inl refl);
-        });
-        limit = λ _. inl turns;
-      };
-      printable = λ is. cc;
-      outcome = sym outcome;
-      written = refl;
-      attempts = rw attempts refl;
-    }
+-- a request tells that its connector gave no link only where the script says so, or has no peer
+-- left
+pub is_refused : (script : ScriptSpec) (from to : Place) (request : RequestSpec)
+    (one : IsRequest script from to request)
+    → (fault : Fault) → faults_for one.run.own one.processed.history.attempts ≡ fault ∷ []
+    → IsRefusedBy from.peers fault
+is_refused script from to request one fault is =
+    refused_unlinked from.peers one.run.own one.processed.history.attempts fault
+    (offers_of to.peers) is one.run.offered
+
+-- ---- the turns of a run
+
+-- items since a place are no more than what was told
+since_fits : (place : ℕ) (told items : List ℕ) → Since [] place (Some told) items
+    → length items ≤ length told
+since_fits place told items since =
+    omega (arith, length-drop place told, ap (λ (xs : List ℕ). length xs) since.1)
+
+-- the bytes of items are those of the first and of the others
+first_bytes : (first : ReadItem) (items : List ReadItem)
+    → length (reads.all_bytes (first ∷ items))
+    ≡ length (reads.bytes_of first) + length (reads.all_bytes items)
+first_bytes first items =
+    ap (λ (xs : List ℕ). length xs) (flat_map-cons reads.bytes_of first items)
+    ∙ length-append (reads.bytes_of first) (reads.all_bytes items)
+
+-- a script gives no more bytes than its items have
+given_fits : (items : List ReadItem) (at done : ℕ)
+    → length (given_of items at done) ≤ length (reads.all_bytes items)
+given_fits [] at done = omega arith
+given_fits (item ∷ items) zero done =
+    omega (arith, length-take done (reads.bytes_of item), first_bytes item items)
+given_fits (item ∷ items) (suc at) done =
+    let behind = given_fits items at done in
+    omega (
+      arith,
+      behind,
+      length-append (reads.bytes_of item) (given_of items at done),
+      first_bytes item items,
+    )
+
+-- nor does a link that answers by them
+link_fits : (link : ScriptLink) (read : List ReadItem) (write : List WriteItem) (place : ℕ)
+    (items : List ℕ) → AnswersBy link read write
+    → Since [] place (script_state link).given items
+    → length items ≤ length (reads.all_bytes read)
+link_fits link read write place items is since =
+    let fits = given_fits link.reads.items.items link.reads.at link.reads.done in
+    let by = ap (λ (xs : List ReadItem). length (reads.all_bytes xs)) (items_same _ _ is) in
+    omega (arith, since_fits place (script_given link.reads) items since, fits, by)
+
+-- how many bytes the link of the next of these peers gives at most
+abbrev pub next_bytes : List PeerSpec → ℕ
+next_bytes [] = 0
+next_bytes (peer ∷ peers) = length (reads.all_bytes peer.read)
+
+-- the one link that a request handed back, if it did, gives no more
+own_fits : (peers : List PeerSpec) (own : List (Returned ScriptLink)) (got : List ℕ)
+    → AreLinksOf peers own → OwnGave script_state script_start own got
+    → length got ≤ next_bytes peers
+own_fits peers [] got are gave = omega (arith, ap (λ (xs : List ℕ). length xs) gave)
+own_fits [] (r ∷ own) got are gave = absurd are
+own_fits (peer ∷ peers) (r ∷ []) got are gave =
+    link_fits r.link peer.read peer.write (script_start r.link).given got are.0 gave
+own_fits (peer ∷ peers) (r ∷ q ∷ own) got are gave = absurd gave
+
+-- how many bytes the links of a request give at most: all of the client's, and those of its peer
+abbrev pub bytes_in : ScriptSpec → Place → ℕ
+bytes_in script from = length (reads.all_bytes script.client) + next_bytes from.peers
+
+-- a request of a run takes at most as many turns as its links answered, twice the bytes that they
+-- have, and seven
+pub turns_within : (script : ScriptSpec) (from to : Place) (request : RequestSpec)
+    (one : IsRequest script from to request)
+    → one.processed.history.turns_taken
+    ≤ one.processed.history.items_used + 2 * bytes_in script from + most_sides
+turns_within script from to request one =
+    let bound = one.run.bounded in
+    let w = bound.within in
+    let came = link_fits to.client script.client script.client_write _ w.came one.is_client
+    w.client_gave in
+    let got = own_fits from.peers one.run.own w.got one.are_links w.own_gave in
+    let none = ap (λ (xs : List ℕ). length xs) one.clear in
+    let turns = turns_bounded script_state script_start (start_of (world_at from))
+    (script_state to.client) one.run.own one.processed.history bound in
+    omega (arith, turns, came, got, none)
+
+-- so one that was given more turns is reported as out of turns only where all that it asks is
+-- silent
+pub limited : (script : ScriptSpec) (from to : Place) (request : RequestSpec)
+    (one : IsRequest script from to request)
+    → one.processed.history.items_used + 2 * bytes_in script from + most_sides < script.turns
+    → request.outcome ≡ ended.TurnLimit
+    → IsQuiet script_state script_start (start_of (world_at from)) one.run.passed (world_at to)
+    one.run.own
+limited script from to request one many is =
+    elim (one.run.limit (sym one.outcome ∙ is)) [
+      | inl all ↦ absurd (omega (arith, all, many, turns_within script from to request one))
+      | inr quiet ↦ quiet
+    ]
+
+-- ---- the schedule
+
+-- a request of a run stands for each schedule of the script
+request_free : (script : ScriptSpec) (branches : List Branch) (from to : Place)
+    (request : RequestSpec) → IsRequest script from to request
+    → IsRequest (record script { schedule = branches }) from to request
+request_free script branches from to request one = record {
+  processed = one.processed;
+  run = one.run;
+  asked = one.asked;
+  are_links = one.are_links;
+  is_client = one.is_client;
+  clear = one.clear;
+  printable = one.printable;
+  outcome = one.outcome;
+  written = one.written;
+  attempts = one.attempts;
+}
+
+-- what follows a request stands where each run that follows does
+follows_free : (back : Bool) (next other : Type 0) (rest : List RequestSpec) → (next → other)
+    → Follows back next rest → Follows back other rest
+follows_free true next other rest goes follows = goes follows
+follows_free false next other rest goes follows = follows
+
+-- so do the requests of a run
+runs_free : (script : ScriptSpec) (branches : List Branch) (most : ℕ) (from : Place)
+    (requests : List RequestSpec) → AreRun script most from requests
+    → AreRun (record script { schedule = branches }) most from requests
+runs_free script branches zero from requests runs = runs
+runs_free script branches (suc most) from [] runs = absurd runs
+runs_free script branches (suc most) from (request ∷ rest) runs = (
+  runs.0,
+  request_free script branches from runs.0 request runs.1,
+  follows_free (outcome_reuse request.outcome) (AreRun script most runs.0 rest)
+      (AreRun (record script { schedule = branches }) most runs.0 rest) rest
+      (λ next. runs_free script branches most runs.0 rest next) runs.2,
+)
 
 -- the schedule of a run can be any: nothing that a run tells follows from it
-pub schedule_free : (script : ScriptSpec) (request : RequestSpec) (schedule : ListSchedule)
-    → IsRun script request
-    → IsRun (record script { schedule = branches_left schedule }) request
-schedule_free script request schedule run = record {
+pub schedule_free : (script : ScriptSpec) (requests : List RequestSpec) (schedule : ListSchedule)
+    → IsRun script requests
+    → IsRun (record script { schedule = branches_left schedule }) requests
+schedule_free script requests schedule run = record {
   client = run.client;
   fresh = run.fresh;
   connector = run.connector;
   offered = run.offered;
   schedule = schedule;
   named = refl;
-  last = run.last;
-  is_client = run.is_client;
-  returned = run.returned;
-  are_peer = run.are_peer;
-  ahead = run.ahead;
-  faults = run.faults;
-  refusals = run.refusals;
-  left = run.left;
-  processed = run.processed;
-  run = run.run;
-  printable = run.printable;
-  outcome = run.outcome;
-  written = run.written;
-  attempts = run.attempts;
+  runs = runs_free script (branches_left schedule) script.requests
+      (first_place run.client script.peers) requests run.runs;
 }

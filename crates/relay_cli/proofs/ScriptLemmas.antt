@@ -1,12 +1,14 @@
 -- Items read one after another.
-use Rattle.std.proofs.Common.{◌≡◌, ℕ, suc, ◌+◌, ◌<◌, List, [], ◌∷◌, ◌++◌, length, get_or, drop, Option, Some, None, option_map, Bool, true, false, if◌then◌else◌, refl, sym, ap, ◌∙◌, arith, append_assoc, add-one, drop-cons}
+use Rattle.std.proofs.Common.{◌≡◌, ℕ, suc, ◌+◌, ◌<◌, ◌≤◌, nat_le, List, [], ◌∷◌, ◌++◌, length, get_or, drop, Option, Some, None, option_map, Bool, true, false, if◌then◌else◌, refl, sym, ap, ◌∙◌, arith, append_assoc, add-one, drop-cons}
 use Rattle.std.specs.Str.{IsUtf8, is_utf8}
+use Rattle.std.proofs.lemmas.Bool.{lt-leb, le-leb}
 use Rattle.std.proofs.lemmas.Str.{IsUtf8-from_is_utf8, is_utf8-from_IsUtf8}
 use Rattle.serde_json.specs.Data.{Data}
+use Rattle.serde_json.specs.Events.{items_len}
 use Rattle.serde_json.specs.Read.{read}
 use Rattle.serde_json.specs.View.{view, items_view}
 use Rattle.serde_json.specs.declared.value.Value.{Value}
-use Rattle.relay_cli.specs.Script.{each_of, only_peer, peer_of, reads_value}
+use Rattle.relay_cli.specs.Script.{PeerSpec, each_of, list_limit, peer_of, peers_in, reads_value}
 
 -- what was read before, and then what is read
 abbrev pub with_front : {X : Type 0} → List X → Option (List X) → Option (List X)
@@ -44,20 +46,30 @@ item_none reads values i value front within is read =
     rw add-one (drop-cons values i value within ∙ ap (λ v. v ∷ drop (suc i) values) (sym is)) in
     rw (here, read)
 
--- a list of another length than 1 is no peer
-pub only_peer-other : (values : List Value) → (length values ≡ 1 → ⊥)
-    → only_peer (items_view values) ≡ None
-only_peer-other [] other = refl
-only_peer-other (value ∷ []) other = absurd (other refl)
-only_peer-other (value ∷ next ∷ values) other = refl
+-- a list has as many values as it is seen to have
+view_len : (values : List Value) → items_len (items_view values) ≡ length values
+view_len [] = refl
+view_len (value ∷ values) = ap suc (view_len values)
 
--- the only value of a list is the peer
-pub only_peer-one : (values : List Value) (value : Value) → length values ≡ 1
-    → value ≡ get_or values 0 value
-    → only_peer (items_view values) ≡ peer_of (view value)
-only_peer-one [] value one is = cc
-only_peer-one (first ∷ []) value one is = ap (λ v. peer_of (view v)) (sym is)
-only_peer-one (first ∷ next ∷ values) value one is = absurd (omega arith)
+-- by whether a list has few enough values
+peers_at : (few : Bool) (values : List Value)
+    → nat_le (items_len (items_view values)) list_limit ≡ few
+    → peers_in (items_view values)
+    ≡ (if few then each_of peer_of (items_view values) else None)
+peers_at few values is = rw is
+
+-- a list of too many values is no list of peers
+pub peers_many : (values : List Value) → 1024 < length values → peers_in (items_view values) ≡ None
+peers_many values many =
+    peers_at false values (lt-leb (items_len (items_view values)) list_limit
+    (omega (arith, many, view_len values)))
+
+-- one of few enough is that of the peers that they are
+pub peers_few : (values : List Value) → length values ≤ 1024
+    → peers_in (items_view values) ≡ each_of peer_of (items_view values)
+peers_few values few =
+    peers_at true values (le-leb (items_len (items_view values)) list_limit
+    (omega (arith, few, view_len values)))
 
 none_at : (utf8 : Bool) (bytes : List ℕ) → is_utf8 bytes ≡ utf8 → (IsUtf8 bytes → read bytes ≡ None)
     → (if utf8 then read bytes else None) ≡ None

@@ -1,12 +1,11 @@
--- One exchange over scripted links, and what is reported of it.
-use Rattle.std.specs.Prelude.{◌≡◌, ◌≢◌, ℕ, ◌≤◌, List, [], ◌∷◌, length, drop, map, Option, Some, None, Ok, unwrap_or}
+-- The requests of a client over scripted links, one behind the other, and what is reported of them.
+use Rattle.std.specs.Prelude.{◌≡◌, ◌≢◌, ℕ, zero, suc, ◌≤◌, List, [], ◌∷◌, length, drop, map, Bool, true, false, Option, Some, None, Ok, Err, unwrap_or, codes}
+use Rattle.relay_tasks.specs.declared.error.RetryType.{RetryType}
 use Rattle.relay_tasks.specs.declared.fault.Fault.{Fault}
-use Rattle.relay_links.specs.Connector.{Offer}
+use Rattle.relay_links.specs.Connector.{Offer, connect_fault}
 use Rattle.relay_links.specs.ScriptLink.{script_state, script_start, IsFresh, AnswersBy}
 use Rattle.relay_links.specs.declared.connector.Returned.{Returned}
-use Rattle.relay_links.specs.declared.read_script.ReadItem.{ReadItem}
-use Rattle.relay_links.specs.declared.write_script.WriteItem.{WriteItem}
-use Rattle.relay_links.specs.ScriptEntries.{next_entries, links_returned, links_out, gets_failed, faults_answered}
+use Rattle.relay_links.specs.ScriptEntries.{next_entries, links_returned, offers_left, links_out, gets_failed, faults_answered}
 use Rattle.relay_links.specs.declared.script_connector.PeerScript.{PeerScript}
 use Rattle.relay_links.specs.declared.script_connector.ScriptConnector.{ScriptConnector}
 use Rattle.relay_links.specs.declared.script_link.ScriptLink.{ScriptLink}
@@ -14,13 +13,63 @@ use Rattle.relay_links.specs.declared.list_schedule.ListSchedule.{ListSchedule}
 use Rattle.relay_links.specs.ListSchedule.{branches_left}
 use Rattle.relay_proxy.specs.Passed.{World, start_of}
 use Rattle.relay_proxy.specs.Request.{Processes}
-use Rattle.relay_proxy.specs.Turn.{world_with}
 use Rattle.relay_proxy.specs.declared.outcome.Processed.{Processed}
 use Rattle.relay_proxy.specs.declared.outcome.Outcome.TheVariants.{OutOfMemory}
 use Rattle.relay_proxy.specs.declared.record.AttemptRecord.{AttemptRecord}
-use Rattle.relay_cli.specs.Report.{RequestSpec}
+use Rattle.relay_cli.specs.Report.{RequestSpec, outcome_reuse}
 use Rattle.relay_cli.specs.Script.{PeerSpec, ScriptSpec}
+use Rattle.relay_cli.specs.declared.exchange.Run.{Run}
 use Rattle.relay_cli.specs.declared.report.AttemptReport.{AttemptReport}
+
+-- ---- the peers of a script
+
+-- the names of peers
+abbrev pub names_of : List PeerSpec → List (List ℕ)
+names_of peers = map (λ peer. peer.name) peers
+
+-- the name by which an attempt is reported, by those of the peers that were not asked yet: that of
+-- the next one, and a dash past the last one
+abbrev pub first_name : List (List ℕ) → List ℕ
+first_name [] = codes "-"
+first_name (name ∷ names) = name
+
+-- what the connector has for a peer: its link, which answers by its items, or a fault with its mark
+abbrev pub peer_offer : Option RetryType → PeerSpec → Offer
+peer_offer None peer = Ok (Some (record { read = peer.read; write = peer.write }))
+peer_offer (Some retry) peer = Err (connect_fault retry)
+
+-- what it has for these peers, in order
+abbrev pub offers_of : List PeerSpec → List Offer
+offers_of peers = map (λ peer. peer_offer peer.connect peer) peers
+
+-- an entry of a connector is that of the peer
+pub record IsEntryOf (peer : PeerSpec) (entry : PeerScript) : Type 0 where
+  pub name : entry.name ≡ peer.name
+  pub link : IsFresh entry.link peer.read peer.write
+  pub connect : entry.connect ≡ peer.connect
+
+-- the entries are those of the peers, in order
+abbrev pub AreEntriesOf : List PeerSpec → List PeerScript → Type 0
+AreEntriesOf [] [] = Unit {0}
+AreEntriesOf [] (entry ∷ entries) = ⊥
+AreEntriesOf (peer ∷ peers) [] = ⊥
+AreEntriesOf (peer ∷ peers) (entry ∷ entries) = IsEntryOf peer entry × AreEntriesOf peers entries
+
+-- the connector was not asked yet, and has the peers of a script
+pub record IsConnectorOf (peers : List PeerSpec) (connector : ScriptConnector) : Type 0 where
+  pub returned : links_returned connector ≡ []
+  pub out : links_out connector ≡ 0
+  pub faults : gets_failed connector ≡ 0
+  pub refusals : faults_answered connector ≡ Some []
+  pub entries : AreEntriesOf peers (next_entries connector)
+
+-- the links are those of the next peers, in order, and answer by their items
+abbrev pub AreLinksOf : List PeerSpec → List (Returned ScriptLink) → Type 0
+AreLinksOf peers [] = Unit {0}
+AreLinksOf [] (r ∷ own) = ⊥
+AreLinksOf (peer ∷ peers) (r ∷ own) = AnswersBy r.link peer.read peer.write × AreLinksOf peers own
+
+-- ---- what is reported
 
 -- what is reported of an attempt at the peer of that name, whose link took those bytes
 abbrev pub attempt_report : List ℕ → List ℕ → AttemptRecord → AttemptReport
@@ -48,70 +97,124 @@ abbrev pub FirstStartsWithin : List (Returned ScriptLink) → Type 0
 FirstStartsWithin [] = Unit {0}
 FirstStartsWithin (r ∷ rest) = StartsWithin r.link
 
--- each link of the list answers by these items
-abbrev pub AllAnswerBy : List (Returned ScriptLink) → List ReadItem → List WriteItem → Type 0
-AllAnswerBy [] read write = Unit {0}
-AllAnswerBy (r ∷ rest) read write = AnswersBy r.link read write × AllAnswerBy rest read write
-
--- what is reported of a request at the peer of that name
-abbrev pub reported : List ℕ → Processed → ScriptLink → List (Returned ScriptLink) → RequestSpec
-reported name processed client returned = record {
+-- what is reported of a request at the peer of that name, whose client's link took those bytes in
+-- it, and which handed these links back
+abbrev pub reported : List ℕ → Processed → List ℕ → List (Returned ScriptLink) → RequestSpec
+reported name processed written own = record {
   outcome = processed.outcome;
-  written = taken_of client;
-  attempts = map (attempt_report name (sent_of returned)) processed.history.attempts;
+  written = written;
+  attempts = map (attempt_report name (sent_of own)) processed.history.attempts;
 }
 
--- the connector was not asked yet, and hands out one link: that of the peer, which gives and takes
--- as its items say
-pub record IsConnectorOf (peer : PeerSpec) (connector : ScriptConnector) : Type 0 where
-  pub returned : links_returned connector ≡ []
-  pub out : links_out connector ≡ 0
-  pub faults : gets_failed connector ≡ 0
-  pub refusals : faults_answered connector ≡ Some []
-  pub entry : PeerScript
-  pub entries : next_entries connector ≡ entry ∷ []
-  pub name : entry.name ≡ peer.name
-  pub link : IsFresh entry.link peer.read peer.write
-  pub connects : entry.connect ≡ None
+-- ---- a run
 
--- what a script's connector has: one link, which answers by the peer's items
-abbrev pub offers_of : PeerSpec → List Offer
-offers_of peer = Ok (Some (record { read = peer.read; write = peer.write })) ∷ []
-
--- the world at the begin of a script's request: its client's link, with nothing read ahead, and its
--- connector
-abbrev pub first_world : ScriptLink → ScriptConnector → World
-first_world client connector =
-    record { client = script_state client; ahead = []; connect_faults = gets_failed connector }
-
--- a request that ran over the links of a script, and what is reported of it
-pub record IsRun (script : ScriptSpec) (request : RequestSpec) : Type 0 where
-  -- the client's link and the connector as the script makes them
+-- where a run stands between two requests: the client's link, what was read ahead from it, how many
+-- calls of the connector failed, by which faults, the links that came back, and the peers that were
+-- not asked yet
+pub record Place : Type 0 where
   pub client : ScriptLink
-  pub fresh : IsFresh client script.client script.client_write
-  pub connector : ScriptConnector
-  pub offered : IsConnectorOf script.peer connector
-  pub schedule : ListSchedule
-  pub named : branches_left schedule ≡ script.schedule
-  -- the client's link as the request left it, and the links that came back: those of the script
-  pub last : ScriptLink
-  pub is_client : AnswersBy last script.client script.client_write
-  pub returned : List (Returned ScriptLink)
-  pub are_peer : AllAnswerBy returned script.peer.read script.peer.write
-  -- the faults that the connector answered, and what it has left
-  pub refusals : Option (List Fault)
-  pub left : Option (List Offer)
-  -- the request over them, from its begin to its end
   pub ahead : List ℕ
   pub faults : ℕ
+  pub refusals : Option (List Fault)
+  pub returned : List (Returned ScriptLink)
+  pub peers : List PeerSpec
+
+-- the world there
+abbrev pub world_at : Place → World
+world_at at =
+    record { client = script_state at.client; ahead = at.ahead; connect_faults = at.faults }
+
+-- where a run of these peers begins, over that link of the client
+abbrev pub first_place : ScriptLink → List PeerSpec → Place
+first_place client peers = record {
+  client = client;
+  ahead = [];
+  faults = 0;
+  refusals = Some [];
+  returned = [];
+  peers = peers;
+}
+
+-- one request of a run, from one such place to the next, and what is reported of it
+pub record IsRequest (script : ScriptSpec) (from to : Place) (request : RequestSpec) : Type 0 where
   pub processed : Processed
-  pub run : Processes script_state script_start (start_of (first_world client connector))
-      (world_with (script_state last) ahead faults)
-      (Some []) (Some returned) (Some []) refusals (Some (offers_of script.peer)) left
-      (script_state client) script.turns processed
+  -- it ran over the links of the script, from its begin to its end, and asked for its next peer
+  pub run : Processes script_state script_start (start_of (world_at from)) (world_at to)
+      (Some from.returned) (Some to.returned) from.refusals to.refusals
+      (Some (offers_of from.peers)) (Some (offers_of to.peers))
+      (script_state from.client) script.turns processed
+  pub asked : to.peers ≡ drop (length processed.history.attempts) from.peers
+  pub are_links : AreLinksOf from.peers run.own
+  -- the client's link is the script's, and nothing was read ahead from it before
+  pub is_client : AnswersBy to.client script.client script.client_write
+  pub clear : from.ahead ≡ []
   -- what is reported is the outcome and what passed
   pub printable : request.outcome ≢ OutOfMemory
   pub outcome : request.outcome ≡ processed.outcome
   pub written : request.written ≡ run.passed.written
   pub attempts : request.attempts
-      ≡ map (attempt_report script.peer.name run.passed.sent) processed.history.attempts
+      ≡ map (attempt_report (first_name (names_of from.peers)) run.passed.sent)
+      processed.history.attempts
+
+-- what follows a request: the next ones where the client goes back, and else none
+abbrev pub Follows : Bool → Type 0 → List RequestSpec → Type 0
+Follows true next requests = next
+Follows false next requests = requests ≡ []
+
+-- the requests of a run from a place on, at most so many: each follows exactly where the client
+-- went back from the one before
+abbrev pub AreRun : ScriptSpec → ℕ → Place → List RequestSpec → Type 0
+AreRun script zero from requests = requests ≡ []
+AreRun script (suc most) from [] = ⊥
+AreRun script (suc most) from (request ∷ requests) =
+    (to : Place) × IsRequest script from to request
+    × Follows (outcome_reuse request.outcome) (AreRun script most to requests) requests
+
+-- ---- a run that is under way
+
+-- where it stands, with those peers that were not asked yet
+abbrev pub place_of : Run → List PeerSpec → Place
+place_of run peers = record {
+  client = run.client.link;
+  ahead = run.client.ahead;
+  faults = gets_failed run.proxy.connector;
+  refusals = faults_answered run.proxy.connector;
+  returned = links_returned run.proxy.connector;
+  peers = peers;
+}
+
+-- a next request may begin there
+pub record IsAt (script : ScriptSpec) (run : Run) (peers : List PeerSpec) : Type 0 where
+  pub offers : offers_left run.proxy.connector ≡ offers_of peers
+  pub names : run.names.items ≡ names_of peers
+  pub client : AnswersBy run.client.link script.client script.client_write
+  pub clear : run.client.ahead ≡ []
+
+-- the run was made of a script, and no request was begun
+pub record Begins (script : ScriptSpec) (run : Run) : Type 0 where
+  pub fresh : IsFresh run.client.link script.client script.client_write
+  pub clear : run.client.ahead ≡ []
+  pub offered : IsConnectorOf script.peers run.proxy.connector
+  pub names : run.names.items ≡ names_of script.peers
+  pub named : branches_left run.outside.schedule ≡ script.schedule
+
+-- a request was run; where its client goes back, a next one may begin
+pub record Runs (script : ScriptSpec) (peers : List PeerSpec) (old new : Run)
+    (request : RequestSpec) : Type 0 where
+  pub left : List PeerSpec
+  pub is_request : IsRequest script (place_of old peers) (place_of new left) request
+  pub stands : outcome_reuse request.outcome ≡ true → IsAt script new left
+
+-- ---- the whole run
+
+-- requests that ran over the links of a script, and what is reported of them
+pub record IsRun (script : ScriptSpec) (requests : List RequestSpec) : Type 0 where
+  -- the client's link and the connector as the script makes them
+  pub client : ScriptLink
+  pub fresh : IsFresh client script.client script.client_write
+  pub connector : ScriptConnector
+  pub offered : IsConnectorOf script.peers connector
+  pub schedule : ListSchedule
+  pub named : branches_left schedule ≡ script.schedule
+  -- the requests over them, in order
+  pub runs : AreRun script script.requests (first_place client script.peers) requests

@@ -1,5 +1,5 @@
 -- Reports: what the requests of a run came to, as text.
-use Rattle.std.specs.Prelude.{◌≡◌, ℕ, ◌+◌, ◌<◌, ◌/◌, ◌%◌, ◌==◌, ◌&&◌, nat_lt, nat_le, List, [], ◌∷◌, ◌++◌, flat_map, Bool, true, false, if◌then◌else◌, Option, Some, None, codes, decimal}
+use Rattle.std.specs.Prelude.{◌≡◌, ℕ, ◌+◌, ◌<◌, ◌/◌, ◌%◌, ◌==◌, ◌&&◌, nat_lt, nat_le, List, [], ◌∷◌, ◌++◌, map, flat_map, Bool, true, false, if◌then◌else◌, Option, Some, None, codes, decimal}
 use Rattle.relay_tasks.specs.declared.error.Error.{Error}
 use Rattle.relay_tasks.specs.declared.error.ErrorSource.{ErrorSource}
 use Rattle.relay_tasks.specs.declared.error.ErrorSource.TheVariants as source
@@ -21,6 +21,9 @@ pub record RequestSpec : Type 0 where
 
 abbrev pub request_spec : RequestReport → RequestSpec
 request_spec r = record { outcome = r.outcome; written = r.written; attempts = r.attempts.items }
+
+abbrev pub request_specs : List RequestReport → List RequestSpec
+request_specs requests = map request_spec requests
 
 -- a number below 16 as a lower-case digit
 abbrev pub hex_digit : ℕ → ℕ

@@ -28,9 +28,9 @@ status_code status.WordsRefused = 6
 pub record IsReportOf (bytes text : List ℕ) : Type 0 where
   pub script : ScriptSpec
   pub reads : reads_script bytes ≡ Some script
-  pub request : RequestSpec
-  pub runs : IsRun script request
-  pub printed : text ≡ report_of (request ∷ [])
+  pub requests : List RequestSpec
+  pub runs : IsRun script requests
+  pub printed : text ≡ report_of requests
 
 -- what the bytes of a source come to, unless memory ran out: a report, or they spell no script
 abbrev pub Answers : {X : Type 0} → (X → List ℕ) → List ℕ → Result X ScriptError → Type 0

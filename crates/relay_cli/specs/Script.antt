@@ -1,10 +1,10 @@
--- Scripts: the JSON object that says what the client and the peer of a run give.
-use Rattle.std.specs.Prelude.{◌≡◌, ℕ, ◌+◌, ◌^◌, ◌==◌, nat_lt, List, [], ◌∷◌, true, false, if◌then◌else◌, Option, Some, None, option_map, is_some, unwrap_or, Result, Ok, Err, codes}
+-- Scripts: the JSON object that says what the client and the peers of a run give.
+use Rattle.std.specs.Prelude.{◌≡◌, ℕ, ◌+◌, ◌^◌, ◌==◌, nat_lt, nat_le, ◌&&◌, List, [], ◌∷◌, true, false, if◌then◌else◌, map, Option, Some, None, option_map, is_some, unwrap_or, Result, Ok, Err, codes}
 use Rattle.std.specs.Str.{bytes_eq, is_utf8}
 use Rattle.hex.specs.Hex.{decode_of}
 use Rattle.hex.specs.declared.error.FromHexError.{FromHexError}
 use Rattle.serde_json.specs.Data.{Data, number, string, boolean, array, unsigned, Items, no_items, item}
-use Rattle.serde_json.specs.Events.{members_len}
+use Rattle.serde_json.specs.Events.{members_len, items_len}
 use Rattle.serde_json.specs.Find.{get, as_object}
 use Rattle.serde_json.specs.Read.{read as read_text}
 use Rattle.relay_tasks.specs.declared.error.RetryType.{RetryType}
@@ -23,29 +23,38 @@ use Rattle.relay_cli.specs.declared.script.Script.{Script}
 use Rattle.relay_cli.specs.declared.script.ScriptError.{ScriptError}
 use Rattle.relay_cli.specs.declared.script.ScriptError.TheVariants as error
 
--- a peer without where it lies in memory: its name, and what its link gives and takes
+-- a peer without where it lies in memory: its name, what its link gives and takes, and the mark of
+-- the fault that is answered in place of the link, where there is one
 pub record PeerSpec : Type 0 where
   pub name : List ℕ
   pub read : List ReadItem
   pub write : List WriteItem
+  pub connect : Option RetryType
 
--- a script without where it lies in memory: what the client's link gives and takes, the peer, how
--- many turns its request may take, and its schedule
+-- a script without where it lies in memory: what the client's link gives and takes, the peers in
+-- the order in which they are asked, how many requests are run at most, how many turns each may
+-- take, and the schedule over all of them
 pub record ScriptSpec : Type 0 where
   pub client : List ReadItem
   pub client_write : List WriteItem
-  pub peer : PeerSpec
+  pub peers : List PeerSpec
+  pub requests : ℕ
   pub turns : ℕ
   pub schedule : List Branch
 
 abbrev pub peer_spec : PeerEntry → PeerSpec
-peer_spec p = record { name = p.name; read = p.read.items; write = p.write.items }
+peer_spec p =
+    record { name = p.name; read = p.read.items; write = p.write.items; connect = p.connect }
+
+abbrev pub peer_specs : List PeerEntry → List PeerSpec
+peer_specs peers = map peer_spec peers
 
 abbrev pub script_spec : Script → ScriptSpec
 script_spec s = record {
   client = s.client.items;
   client_write = s.client_write.items;
-  peer = peer_spec s.peer;
+  peers = peer_specs s.peers.items;
+  requests = s.requests;
   turns = s.turns;
   schedule = s.schedule.items;
 }
@@ -215,36 +224,65 @@ name_of _ = None
 abbrev pub writes_at : List ℕ → Data → Option (List WriteItem)
 writes_at key value = where_there (get key value) write_items_of (Some [])
 
--- a peer of that name: its `read` and `write`, each of them empty where it is not there
+-- the mark at `connect`: a fault with that mark is answered in place of the peer's link
+abbrev pub connect_of : Data → Option (Option RetryType)
+connect_of value =
+    where_there (get (codes "connect") value) (λ mark. option_map Some (retry_of mark)) (Some None)
+
+-- a peer of that name: its `read` and `write`, each of them empty where it is not there, and its
+-- `connect` or none
 abbrev pub named_peer : Data → List ℕ → Option PeerSpec
 named_peer value name =
     where_there (get (codes "read") value) items_of (Some []) >>= (λ read.
-    option_map (λ write. record { name = name; read = read; write = write })
-    (writes_at (codes "write") value))
+    writes_at (codes "write") value >>= (λ write.
+    option_map (λ connect. record {
+      name = name;
+      read = read;
+      write = write;
+      connect = connect;
+    }) (connect_of value)))
 
--- a peer: an object with `name`, and `read` and `write` or not
+-- how many keys of a peer an object has
+abbrev pub peer_keys : Data → ℕ
+peer_keys value =
+    has (codes "name") value + has (codes "read") value + has (codes "write") value
+    + has (codes "connect") value
+
+-- a peer: an object with `name`, and each of `read`, `write` and `connect` or not
 abbrev pub peer_of : Data → Option PeerSpec
 peer_of value =
-    if key_count value
-    == has (codes "name") value + has (codes "read") value + has (codes "write") value
+    if key_count value == peer_keys value
     then where_there (get (codes "name") value) name_of None >>= named_peer value
     else None
 
--- exactly one peer
-abbrev pub only_peer : Items → Option PeerSpec
-only_peer (item value no_items) = peer_of value
-only_peer _ = None
+-- how many peers a script has at most, and how many requests
+abbrev pub list_limit : ℕ
+list_limit = 1024
 
--- a list of exactly one peer
-abbrev pub one_peer_of : Data → Option PeerSpec
-one_peer_of (array values) = only_peer values
-one_peer_of _ = None
+-- the peers of a list
+abbrev pub peers_in : Items → Option (List PeerSpec)
+peers_in values = if nat_le (items_len values) list_limit then each_of peer_of values else None
+
+-- a list of peers, at most 1,024
+abbrev pub peers_of : Data → Option (List PeerSpec)
+peers_of (array values) = peers_in values
+peers_of _ = None
+
+-- how many requests are run: 1 at least, and at most 1,024
+abbrev pub limit_of : ℕ → Option ℕ
+limit_of n = if nat_le 1 n && nat_le n list_limit then Some n else None
+
+-- how many requests of a script are run at most: what is at `requests`, and one where there is no
+-- such key
+abbrev pub requests_of : Data → Option ℕ
+requests_of value =
+    where_there (get (codes "requests") value) (λ number. count_of number >>= limit_of) (Some 1)
 
 -- how many turns a request may take where its script does not say
 abbrev pub turn_limit : ℕ
 turn_limit = 1000000
 
--- how many turns the request of a script may take: what is at `turns`
+-- how many turns each request of a script may take: what is at `turns`
 abbrev pub turns_of : Data → Option ℕ
 turns_of value = where_there (get (codes "turns") value) count_of (Some turn_limit)
 
@@ -280,28 +318,30 @@ abbrev pub schedule_of : Data → Option (List Branch)
 schedule_of value = where_there (get (codes "schedule") value) branches_of (Some [])
 
 -- a script with those items of the client: its `client_write`, empty where it is not there, its
--- `peers`, its turns and its schedule
+-- `peers`, its requests, its turns and its schedule
 abbrev pub client_script : Data → List ReadItem → Option ScriptSpec
 client_script value items =
     writes_at (codes "client_write") value >>= (λ writes.
-    where_there (get (codes "peers") value) one_peer_of None >>= (λ peer.
+    where_there (get (codes "peers") value) peers_of None >>= (λ peers.
+    requests_of value >>= (λ requests.
     turns_of value >>= (λ turns.
     option_map (λ schedule. record {
       client = items;
       client_write = writes;
-      peer = peer;
+      peers = peers;
+      requests = requests;
       turns = turns;
       schedule = schedule;
-    }) (schedule_of value))))
+    }) (schedule_of value)))))
 
 -- how many keys of a script an object has
 abbrev pub script_keys : Data → ℕ
 script_keys value =
     has (codes "client") value + has (codes "client_write") value + has (codes "peers") value
-    + has (codes "turns") value + has (codes "schedule") value
+    + has (codes "requests") value + has (codes "turns") value + has (codes "schedule") value
 
--- a script: an object with `client` and `peers`, and each of `client_write`, `turns` and `schedule`
--- or not
+-- a script: an object with `client` and `peers`, and each of `client_write`, `requests`, `turns`
+-- and `schedule` or not
 abbrev pub script_of : Data → Option ScriptSpec
 script_of value =
     if key_count value == script_keys value

@@ -1,11 +1,12 @@
-//! One exchange over scripted links: the proxy between the client and the peer of a script.
-ghost use Rattle.std.specs.Prelude.{◌≡◌, ◌↔◌, List, [], map, IsTrue, IfOk};
+//! The requests of a client over scripted links: the proxy between the client and the peers of a
+//! script, one request behind the other while the client goes back (RFC 9112, section 9.3).
+ghost use Rattle.std.specs.Prelude.{◌≡◌, ◌↔◌, ◌≤◌, ◌+◌, List, map, drop, length, IsTrue, IfOk};
 ghost use Rattle.relay_links.specs.ListSchedule.{branches_left};
-ghost use Rattle.relay_cli.specs.Exchange.{attempt_report, taken_of, taken_since, StartsWithin, sent_of, FirstStartsWithin, IsConnectorOf, IsRun, reported};
-ghost use Rattle.relay_cli.specs.Report.{request_spec};
-ghost use Rattle.relay_cli.specs.Script.{peer_spec, script_spec};
+ghost use Rattle.relay_cli.specs.Exchange.{attempt_report, taken_since, StartsWithin, sent_of, FirstStartsWithin, first_name, names_of, AreEntriesOf, IsConnectorOf, IsAt, Begins, Runs, IsRun, reported};
+ghost use Rattle.relay_cli.specs.Report.{request_spec, request_specs};
+ghost use Rattle.relay_cli.specs.Script.{PeerSpec, ScriptSpec, peer_spec, peer_specs, script_spec};
 
-use crate::report::{AttemptReport, RequestReport};
+use crate::report::{AttemptReport, RequestReport, outcome_reuse};
 use crate::script::{PeerEntry, Script};
 use bytes::Bytes;
 use relay_h1::Connection;
@@ -18,39 +19,124 @@ use relay_proxy::{
 };
 use relay_tasks::Purged;
 use std::alloc::{AllocError, Global};
+use std::collections::VecDeque;
 
 /// How the proxy of a script is set up.
 const CONF: ServerConf = ServerConf { max_retries: 2 };
 
-/// Runs the request of a script.
-pub fn run_exchange(alloc: Global, script: Script) -> Result<RequestReport, AllocError>
-    ensures { IfOk result (λ request. IsRun (script_spec script) (request_spec request)) }
+/// How an attempt is named for which no peer of the script was left.
+const NO_NAME: &[u8] = b"-";
+
+/// A run under way: the proxy over the peers of a script, the client, what the proxy asks beside
+/// its links, and the names of the peers that were not asked yet.
+#[derive(Drop)]
+struct Run {
+    proxy: HttpProxy<NoHooks, ScriptConnector, MemoryPurger>,
+    client: Connection<ScriptLink, ()>,
+    outside: Outside<ListSchedule, ShutdownAt, CountDelay>,
+    names: VecDeque<Bytes>,
+}
+
+/// Runs the requests of a script, as many as it allows: the next one begins where the client goes
+/// back.
+pub fn run_exchanges(alloc: Global, script: Script) -> Result<Vec<RequestReport>, AllocError>
+    ensures { IfOk result (λ requests. IsRun (script_spec script) (request_specs requests.items)) }
 {
-    let Script {
-        client,
-        client_write,
-        peer,
-        turns,
-        schedule,
-    } = script;
-    let name = peer.name.clone()?;
-    let connector = connector_of(alloc, peer)?;
-    let link = ScriptLink::new(alloc, client, client_write);
-    let mut client = Connection::new(alloc, link);
-    let purger = MemoryPurger::new(alloc, Purged::NotFound);
-    let mut proxy = HttpProxy::new(alloc, NoHooks, CONF, connector, purger);
-    let mut outside = outside_of(schedule);
-    let processed = proxy.process_new_http(&mut client, &mut outside, turns);
-    if wants_memory(processed.outcome) {
-        return Err(AllocError);
+    let turns = script.turns;
+    let mut left = script.requests;
+    let mut run = Run::new(alloc, script)?;
+    let mut requests = Vec::new(alloc);
+    while left > 0 {
+        let request = run.next(alloc, turns)?;
+        let goes_back = outcome_reuse(request.outcome);
+        requests.push(request)?;
+        if !goes_back {
+            return Ok(requests);
+        }
+        left -= 1;
     }
-    request_report(
-        alloc,
-        &name,
-        &processed,
-        client.link(),
-        proxy.connector().returned(),
-    )
+    Ok(requests)
+}
+
+impl Run {
+    /// A run of a script, before its first request.
+    fn new(alloc: Global, script: Script) -> Result<Run, AllocError>
+        ensures { IfOk result (Begins (script_spec script)) }
+    {
+        let Script {
+            client,
+            client_write,
+            peers,
+            requests: _,
+            turns: _,
+            schedule,
+        } = script;
+        let names = peer_names(alloc, &peers)?;
+        let connector = connector_of(alloc, peers)?;
+        let link = ScriptLink::new(alloc, client, client_write);
+        let purger = MemoryPurger::new(alloc, Purged::NotFound);
+        Ok(Run {
+            proxy: HttpProxy::new(alloc, NoHooks, CONF, connector, purger),
+            client: Connection::new(alloc, link),
+            outside: outside_of(schedule),
+            names,
+        })
+    }
+
+    /// Runs the next request of the client, and reports it.
+    fn next(&mut self, alloc: Global, turns: u64) -> Result<RequestReport, AllocError>
+        ensures { (script : ScriptSpec) (peers : List PeerSpec) → script.turns ≡ turns
+            → IsAt script self.old peers
+            → IfOk result (λ request. Runs script peers self.old self.new (request_spec request)) }
+    {
+        let taken = self.client.link().taken().len();
+        let back = self.proxy.connector().returned().len();
+        let processed = self
+            .proxy
+            .process_new_http(&mut self.client, &mut self.outside, turns);
+        if wants_memory(processed.outcome) {
+            return Err(AllocError);
+        }
+        let name = next_name(&self.names)?;
+        leave_names(&mut self.names, processed.history.attempts.len());
+        request_report(
+            alloc,
+            &name,
+            &processed,
+            &self.client.link().taken()[taken..],
+            &self.proxy.connector().returned()[back..],
+        )
+    }
+}
+
+/// The name of the next peer, and a dash where none is left.
+fn next_name(names: &VecDeque<Bytes>) -> Result<Bytes, AllocError>
+    ensures { IfOk result (λ name. name ≡ first_name names.now.items) }
+{
+    match names.front() {
+        Some(name) => name.clone(),
+        None => Ok(Bytes::from_static(NO_NAME)),
+    }
+}
+
+/// Drops the names of so many peers, which were asked.
+fn leave_names(names: &mut VecDeque<Bytes>, asked: usize)
+    ensures { names.new.items ≡ drop asked names.old.items }
+{
+    for _peer in 0..asked {
+        names.pop_front();
+    }
+}
+
+/// The names of the peers of a script.
+fn peer_names(alloc: Global, peers: &[PeerEntry]) -> Result<VecDeque<Bytes>, AllocError>
+    ensures { IfOk result (λ names. names.items ≡ names_of (peer_specs peers.now)) }
+{
+    let mut names = VecDeque::new(alloc);
+    for peer in peers {
+        names.push_back(peer.name.clone()?)?;
+    }
+    Ok(names)
 }
 
 /// What the proxy of a script asks beside its links: the branches of the script, in order.
@@ -77,39 +163,47 @@ fn wants_memory(outcome: Outcome) -> bool
     }
 }
 
-/// A connector to the peer of a script.
-fn connector_of(alloc: Global, peer: PeerEntry) -> Result<ScriptConnector, AllocError>
-    ensures { IfOk result (IsConnectorOf (peer_spec peer)) }
+/// A connector to the peers of a script.
+fn connector_of(alloc: Global, peers: Vec<PeerEntry>) -> Result<ScriptConnector, AllocError>
+    ensures { IfOk result (IsConnectorOf (peer_specs peers.items)) }
 {
-    let link = ScriptLink::new(alloc, peer.read, peer.write);
-    let entry = PeerScript {
-        name: peer.name,
-        link,
-        connect: None,
-    };
-    let mut entries = Vec::new(alloc);
-    entries.push(entry)?;
+    let entries = entries_of(alloc, peers)?;
     match ScriptConnector::new(alloc, entries) {
         Ok(connector) => Ok(connector),
         Err(_) => Err(AllocError),
     }
 }
 
-/// What a request at the peer of that name came to, from what the client's link took in all, and
-/// what the links that were handed back took.
+/// The entries of a connector to these peers, in order.
+fn entries_of(alloc: Global, peers: Vec<PeerEntry>) -> Result<Vec<PeerScript>, AllocError>
+    ensures { IfOk result (λ entries. AreEntriesOf (peer_specs peers.items) entries.items) }
+{
+    let mut entries = Vec::new(alloc);
+    for peer in peers {
+        entries.push(PeerScript {
+            name: peer.name,
+            link: ScriptLink::new(alloc, peer.read, peer.write),
+            connect: peer.connect,
+        })?;
+    }
+    Ok(entries)
+}
+
+/// What a request at the peer of that name came to, from what the client's link took in it, and
+/// the links that it handed back.
 fn request_report(
     alloc: Global,
     name: &Bytes,
     processed: &Processed,
-    client: &ScriptLink,
-    returned: &[Returned<ScriptLink>],
+    written: &[u8],
+    own: &[Returned<ScriptLink>],
 ) -> Result<RequestReport, AllocError>
-    requires { FirstStartsWithin returned.now }
+    requires { FirstStartsWithin own.now }
     ensures { IfOk result (λ request. request_spec request
-        ≡ reported name.now processed.now client.now returned.now) }
+        ≡ reported name.now processed.now written.now own.now) }
 {
-    let written = Bytes::copy_from_slice(alloc, client.taken())?;
-    let sent = sent_bytes(alloc, returned)?;
+    let written = Bytes::copy_from_slice(alloc, written)?;
+    let sent = sent_bytes(alloc, own)?;
     let attempts = attempt_reports(alloc, name, &sent, &processed.history.attempts)?;
     Ok(RequestReport {
         outcome: processed.outcome,
@@ -155,11 +249,11 @@ fn attempt_report(
 }
 
 /// The bytes that the first link of a list took since it was handed out.
-fn sent_bytes(alloc: Global, returned: &[Returned<ScriptLink>]) -> Result<Bytes, AllocError>
-    requires { FirstStartsWithin returned.now }
-    ensures { IfOk result (λ bytes. bytes ≡ sent_of returned.now) }
+fn sent_bytes(alloc: Global, own: &[Returned<ScriptLink>]) -> Result<Bytes, AllocError>
+    requires { FirstStartsWithin own.now }
+    ensures { IfOk result (λ bytes. bytes ≡ sent_of own.now) }
 {
-    match returned {
+    match own {
         [] => Ok(Bytes::new()),
         [first, ..] => {
             let bytes = Bytes::copy_from_slice(alloc, taken_since(&first.link))?;

@@ -1,7 +1,7 @@
 //! Reports: what the requests of a run came to, as text. A printer for each kind of thing; each
 //! writes its text at the end of a buffer.
-ghost use Rattle.std.specs.Prelude.{◌≡◌, ℕ, List, ◌+◌, ◌<◌, ◌^◌, ◌++◌, [], ◌∷◌, length, decimal, map, OnOk, IfOk};
-ghost use Rattle.relay_cli.specs.Report.{request_spec, hex_digit, shown_byte, shown, yes_no, type_name, type_number, number_text, source_name, retry_name, error_text, outcome_name, outcome_error, outcome_reuse, attempt_text, attempts_text, outcome_text, client_text, request_text, report_of, IsShownAlone};
+ghost use Rattle.std.specs.Prelude.{◌≡◌, ℕ, List, ◌+◌, ◌<◌, ◌^◌, ◌++◌, length, decimal, map, OnOk, IfOk};
+ghost use Rattle.relay_cli.specs.Report.{request_spec, hex_digit, shown_byte, shown, yes_no, type_name, type_number, number_text, source_name, retry_name, error_text, outcome_name, outcome_error, outcome_reuse, attempt_text, attempts_text, outcome_text, client_text, request_text, request_specs, report_of, IsShownAlone};
 
 use bytes::Bytes;
 use itoa::Buffer;
@@ -28,12 +28,14 @@ pub struct RequestReport {
     pub attempts: Vec<AttemptReport>,
 }
 
-/// The report of one request.
-pub fn report(alloc: Global, request: &RequestReport) -> Result<Vec<u8>, AllocError>
-    ensures { IfOk result (λ text. text.items ≡ report_of (request_spec request.now ∷ [])) }
+/// The report of requests, counted from 1.
+pub fn report(alloc: Global, requests: &[RequestReport]) -> Result<Vec<u8>, AllocError>
+    ensures { IfOk result (λ text. text.items ≡ report_of (request_specs requests.now)) }
 {
     let mut out = Vec::new(alloc);
-    push_request(&mut out, 1, request)?;
+    for (index, request) in requests.iter().enumerate() {
+        push_request(&mut out, index as u64 + 1, request)?;
+    }
     Ok(out)
 }
 
@@ -221,7 +223,7 @@ fn outcome_error(outcome: Outcome) -> Option<Error>
 }
 
 /// Whether the client's connection goes back for another request.
-fn outcome_reuse(outcome: Outcome) -> bool
+pub(crate) fn outcome_reuse(outcome: Outcome) -> bool
     ensures { result ≡ outcome_reuse outcome }
 {
     match outcome {

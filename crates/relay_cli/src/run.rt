@@ -7,7 +7,7 @@ ghost use Rattle.relay_cli.specs.Run.{status_code, status_after, Answers, EndsBy
 ghost use Rattle.relay_cli.specs.declared.run.Status.{Status};
 ghost use Rattle.relay_cli.specs.declared.transfer.Output.{Output};
 
-use crate::exchange::run_exchange;
+use crate::exchange::run_exchanges;
 use crate::report::report;
 use crate::script::{ScriptError, read_script};
 use crate::transfer::{Input, Output, read_all, write_all};
@@ -125,8 +125,8 @@ fn report_bytes(alloc: Global, bytes: &[u8]) -> Result<Vec<u8>, ScriptError>
     ensures { Answers (λ text. text.items) bytes.now result }
 {
     let script = read_script(alloc, bytes)?;
-    let request = run_exchange(alloc, script)?;
-    let text = report(alloc, &request)?;
+    let requests = run_exchanges(alloc, script)?;
+    let text = report(alloc, &requests)?;
     Ok(text)
 }
 

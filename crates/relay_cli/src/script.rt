@@ -1,10 +1,10 @@
-//! Scripts: what the client and the peer of a run give, read from JSON. A reader for each kind of
+//! Scripts: what the client and the peers of a run give, read from JSON. A reader for each kind of
 //! thing; a script is read whole before anything runs.
 ghost use Rattle.std.specs.Prelude.{◌≡◌, is_some, codes, if◌then◌else◌, option_map, Some};
 ghost use Rattle.hex.specs.Hex.{decode_of};
 ghost use Rattle.serde_json.specs.Find.{get};
 ghost use Rattle.serde_json.specs.View.{view, items_view};
-ghost use Rattle.relay_cli.specs.Script.{Reads, script_spec, reads_script, reads_value, script_of, one_peer_of, only_peer, peer_spec, peer_of, named_peer, name_of, items_of, write_items_of, writes_at, each_of, item_of, write_item_of, item_at_key, write_item_at_key, client_script, script_keys, turns_of, branch_of, branches_of, schedule_of, take_item, text_item, spelt, hex_item, count_of, wait_item, after_item, end_item, read_kind, write_kind, retry_of, mark_of, fault_of, key_count, has};
+ghost use Rattle.relay_cli.specs.Script.{Reads, script_spec, reads_script, reads_value, script_of, peer_spec, peer_specs, peer_keys, peer_of, peers_in, peers_of, named_peer, connect_of, limit_of, requests_of, name_of, items_of, write_items_of, writes_at, each_of, item_of, write_item_of, item_at_key, write_item_at_key, client_script, script_keys, turns_of, branch_of, branches_of, schedule_of, take_item, text_item, spelt, hex_item, count_of, wait_item, after_item, end_item, read_kind, write_kind, retry_of, mark_of, fault_of, key_count, has};
 
 use bytes::Bytes;
 use hex::FromHexError;
@@ -16,21 +16,28 @@ use std::alloc::{AllocError, AllocFailed, Global};
 /// How many turns a request may take where its script does not say.
 const TURNS: u64 = 1_000_000;
 
-/// The peer of a script: its name, and what its link gives and takes.
+/// How many peers a script has at most, and how many requests.
+const LIMIT: usize = 1_024;
+
+/// A peer of a script: its name, what its link gives and takes, and the mark of the fault that is
+/// answered in place of the link, where there is one.
 #[derive(Drop)]
 pub struct PeerEntry {
     pub name: Bytes,
     pub read: Vec<ReadItem>,
     pub write: Vec<WriteItem>,
+    pub connect: Option<RetryType>,
 }
 
-/// A script: what the client's link gives and takes, the peer, how many turns its request may
-/// take, and its schedule.
+/// A script: what the client's link gives and takes, the peers in the order in which they are
+/// asked, how many requests are run at most, how many turns each may take, and the schedule over
+/// all of them.
 #[derive(Drop)]
 pub struct Script {
     pub client: Vec<ReadItem>,
     pub client_write: Vec<WriteItem>,
-    pub peer: PeerEntry,
+    pub peers: Vec<PeerEntry>,
+    pub requests: u64,
     pub turns: u64,
     pub schedule: Vec<Branch>,
 }
@@ -105,6 +112,7 @@ fn script_keys(value: &Value) -> usize
     has(value, "client")
         + has(value, "client_write")
         + has(value, "peers")
+        + has(value, "requests")
         + has(value, "turns")
         + has(value, "schedule")
 }
@@ -114,19 +122,41 @@ fn client_script(alloc: Global, value: &Value, client: Vec<ReadItem>) -> Result<
     ensures { Reads script_spec result (client_script (view value.now) client.items) }
 {
     let client_write = writes_at(alloc, value, "client_write")?;
-    let peer = one_peer(alloc, required(value, "peers")?)?;
+    let peers = peers(alloc, required(value, "peers")?)?;
+    let requests = requests(value)?;
     let turns = turns(value)?;
     let schedule = schedule(alloc, value)?;
     Ok(Script {
         client,
         client_write,
-        peer,
+        peers,
+        requests,
         turns,
         schedule,
     })
 }
 
-/// How many turns the request of a script may take.
+/// How many requests of a script are run at most: one where it does not say.
+fn requests(value: &Value) -> Result<u64, ScriptError>
+    ensures { Reads (λ requests. requests) result (requests_of (view value.now)) }
+{
+    match value.get("requests") {
+        Some(number) => limit(count(number)?),
+        None => Ok(1),
+    }
+}
+
+/// A number of requests, from 1 to 1,024.
+fn limit(number: u32) -> Result<u64, ScriptError>
+    ensures { Reads (λ requests. requests) result (limit_of number) }
+{
+    if number >= 1 && number as usize <= LIMIT {
+        return Ok(u64::from(number));
+    }
+    Err(ScriptError::Refused)
+}
+
+/// How many turns each request of a script may take.
 fn turns(value: &Value) -> Result<u64, ScriptError>
     ensures { Reads (λ turns. turns) result (turns_of (view value.now)) }
 {
@@ -201,35 +231,55 @@ fn writes_at(alloc: Global, value: &Value, key: &str) -> Result<Vec<WriteItem>, 
     }
 }
 
-/// The one peer of a list.
-fn one_peer(alloc: Global, value: &Value) -> Result<PeerEntry, ScriptError>
-    ensures { Reads peer_spec result (one_peer_of (view value.now)) }
+/// The peers of a list.
+fn peers(alloc: Global, value: &Value) -> Result<Vec<PeerEntry>, ScriptError>
+    ensures { Reads (λ peers. peer_specs peers.items) result (peers_of (view value.now)) }
 {
     match value.as_array() {
-        Some(values) => only_peer(alloc, values),
+        Some(values) => peers_in(alloc, values),
         None => Err(ScriptError::Refused),
     }
 }
 
-/// The peer that the only value is.
-fn only_peer(alloc: Global, values: &[Value]) -> Result<PeerEntry, ScriptError>
-    ensures { Reads peer_spec result (only_peer (items_view values.now)) }
+/// The peers that values are, at most 1,024.
+fn peers_in(alloc: Global, values: &[Value]) -> Result<Vec<PeerEntry>, ScriptError>
+    ensures { Reads (λ peers. peer_specs peers.items) result (peers_in (items_view values.now)) }
 {
-    if values.len() != 1 {
+    if values.len() > LIMIT {
         return Err(ScriptError::Refused);
     }
-    peer(alloc, &values[0])
+    each_peer(alloc, values)
+}
+
+/// The peers that values are, in order.
+fn each_peer(alloc: Global, values: &[Value]) -> Result<Vec<PeerEntry>, ScriptError>
+    ensures { Reads (λ peers. peer_specs peers.items) result
+        (each_of peer_of (items_view values.now)) }
+{
+    let mut peers = Vec::new(alloc);
+    for value in values {
+        let peer = peer(alloc, value)?;
+        peers.push(peer)?;
+    }
+    Ok(peers)
 }
 
 /// The peer that a value is.
 fn peer(alloc: Global, value: &Value) -> Result<PeerEntry, ScriptError>
     ensures { Reads peer_spec result (peer_of (view value.now)) }
 {
-    if key_count(value) != has(value, "name") + has(value, "read") + has(value, "write") {
+    if key_count(value) != peer_keys(value) {
         return Err(ScriptError::Refused);
     }
     let name = name(alloc, required(value, "name")?)?;
     named_peer(alloc, value, name)
+}
+
+/// How many keys of a peer an object has.
+fn peer_keys(value: &Value) -> usize
+    ensures { result ≡ peer_keys (view value.now) }
+{
+    has(value, "name") + has(value, "read") + has(value, "write") + has(value, "connect")
 }
 
 /// The peer of that name that a value is.
@@ -241,7 +291,23 @@ fn named_peer(alloc: Global, value: &Value, name: Bytes) -> Result<PeerEntry, Sc
         None => Vec::new(alloc),
     };
     let write = writes_at(alloc, value, "write")?;
-    Ok(PeerEntry { name, read, write })
+    let connect = connect(value)?;
+    Ok(PeerEntry {
+        name,
+        read,
+        write,
+        connect,
+    })
+}
+
+/// The mark of the fault that is answered in place of a peer's link, where there is one.
+fn connect(value: &Value) -> Result<Option<RetryType>, ScriptError>
+    ensures { Reads (λ connect. connect) result (connect_of (view value.now)) }
+{
+    match value.get("connect") {
+        Some(mark) => Ok(Some(retry(mark)?)),
+        None => Ok(None),
+    }
 }
 
 /// The name that a value is.

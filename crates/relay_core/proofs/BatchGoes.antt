@@ -27,6 +27,7 @@ use Rattle.relay_core.proofs.OrdinaryDown.{ordinary_batch}
 use Rattle.relay_core.proofs.SteadyLemmas.{steady_of, steady_same, not_yet_asked, steady_refused}
 use Rattle.relay_core.proofs.SoundLemmas.{step_sound, enabled_sound}
 use Rattle.relay_core.proofs.TaskLemmas.{none_left, alone_or_plain, alone_part}
+use Rattle.relay_core.proofs.CountLemmas.{adds_by}
 use Rattle.relay_core.proofs.KeepLemmas.{down_open, held_so_far, open_held, ordinary_then, alive_then, no_error, held_behind, not_before, more_none, extends_same, extends_down, goes_by}
 
 -- ---- over what both sides then mean
@@ -46,7 +47,8 @@ module _
       → result ≡ step_of_batch answer
       → BatchGoes holds down_blames refuses p (batch_of old.duplex.responses.tasks) answer
       → SoFar dp up_holds up_blames old p q
-      → Goes holds down_blames refuses cannot_end up_holds up_blames p q new result
+      → Goes holds down_blames refuses cannot_end up_holds up_blames p q old new
+      result
   given dp old new result p q (Ok done) on by takes is same g f =
       let d = old.duplex in
       let held = d.responses.tasks in
@@ -68,6 +70,7 @@ module _
       branch.DownTake old new result on by p q g.past q
       (extends_down p g.past q [] (batch_of held) [] (more_none _ _ g.is_put) g.is_batched
       (more_none _ _ g.is_closing))
+      (adds_by branch.DownTake old new result on by q q refl (λ is. cc))
       (record {
         down = g.stands;
         up = f.up;
@@ -127,6 +130,7 @@ module _
       branch.DownTake old new result on by p q b.past q
       (extends_down p b.past q [] b.filtered [] (more_none _ _ b.is_put) b.is_batched
       (more_none _ _ b.is_closing))
+      (adds_by branch.DownTake old new result on by q q refl (λ is. cc))
       (record {
         down = b.stands;
         up = f.up;
@@ -200,7 +204,8 @@ module _
       → StepsTo branch.DownTake old new result
       → LosesBatchOn holds p old.duplex old.down new.duplex new.down result
       → SoFar dp up_holds up_blames old p q
-      → Goes holds down_blames refuses cannot_end up_holds up_blames p q new result
+      → Goes holds down_blames refuses cannot_end up_holds up_blames p q old new
+      result
   lost dp old new result p q on by w f =
       let d = old.duplex in
       let l = w.loses in
@@ -213,6 +218,7 @@ module _
       goes_by holds down_blames refuses cannot_end up_holds up_blames
       branch.DownTake old new result on by p q p q
       (extends_same p q)
+      (adds_by branch.DownTake old new result on by q q refl (λ is. cc))
       (record {
         down = w.stands;
         up = f.up;
@@ -243,7 +249,8 @@ module _
       (q : UpPast) → enabled old branch.DownTake ≡ true → StepsTo branch.DownTake old new result
       → DownTakesOn holds down_blames refuses p old.duplex old.down new.duplex new.down result
       → SoFar dp up_holds up_blames old p q
-      → Goes holds down_blames refuses cannot_end up_holds up_blames p q new result
+      → Goes holds down_blames refuses cannot_end up_holds up_blames p q old new
+      result
   goes_down_take dp old new result p q on by w f =
       elim w [
         | inl gives ↦ given dp old new result p q gives.answer on by gives.takes gives.duplex

@@ -22,6 +22,7 @@ use Rattle.relay_core.proofs.OrdinaryLemmas.{ordinary_at}
 use Rattle.relay_core.proofs.SteadyLemmas.{steady_same, steady_down_write, steady_down_read, asked_when_done, steady_down_finish}
 use Rattle.relay_core.proofs.RunsLemmas.{down_writes_body, down_ends_body}
 use Rattle.relay_core.proofs.SoundLemmas.{step_sound, enabled_sound}
+use Rattle.relay_core.proofs.CountLemmas.{adds_by}
 use Rattle.relay_core.proofs.KeepLemmas.{down_open, held_so_far, ordinary_then, alive_then, down_write_error, down_read_error, down_finish_error, no_error, error_is, held_behind, LeavesResponses, leaves_read, tasks_read, read_upgraded, no_end, more_none, extends_same, extends_down, goes_by, quiet}
 
 -- ---- over what both sides then mean
@@ -36,7 +37,8 @@ module _
       (q : UpPast) → enabled old branch.DownWrite ≡ true → StepsTo branch.DownWrite old new result
       → DownWritesOn holds down_blames p old.duplex old.down new.duplex new.down result
       → SoFar dp up_holds up_blames old p q
-      → Goes holds down_blames refuses cannot_end up_holds up_blames p q new result
+      → Goes holds down_blames refuses cannot_end up_holds up_blames p q old new
+      result
   goes_down_write dp old new result p q on by w f =
       let g = w.goes in
       let alive = enabled_sound branch.DownWrite old on in
@@ -45,6 +47,7 @@ module _
       branch.DownWrite old new result on by p q g.past q
       (extends_down p g.past q [] [] [] (more_none _ _ g.is_put) (more_none _ _ g.is_batched)
       (more_none _ _ g.is_closing))
+      (adds_by branch.DownWrite old new result on by q q refl (λ is. cc))
       (quiet holds down_blames refuses cannot_end up_holds up_blames dp up_holds up_blames
       branch.DownWrite old new result p g.past q q on by
       (leaves_at _ _ _ w.duplex (leaves_down_write old.duplex w.answer)) g.is_put g.is_batched refl
@@ -71,7 +74,8 @@ module _
   pub goes_down_drop : (old new : State) (result : Step) (p : DownPast) (q : UpPast)
       → enabled old branch.DownDrop ≡ true → StepsTo branch.DownDrop old new result
       → SoFar holds up_holds up_blames old p q
-      → Goes holds down_blames refuses cannot_end up_holds up_blames p q new result
+      → Goes holds down_blames refuses cannot_end up_holds up_blames p q old new
+      result
   goes_down_drop old new result p q on by f =
       let d = old.duplex in
       let w = by.does in
@@ -82,6 +86,7 @@ module _
       goes_by holds down_blames refuses cannot_end up_holds up_blames
       branch.DownDrop old new result on by p q p q
       (extends_same p q)
+      (adds_by branch.DownDrop old new result on by q q refl (λ is. cc))
       (record {
         down = f.down;
         up = f.up;
@@ -115,13 +120,15 @@ module _
   pub goes_down_end : (old new : State) (result : Step) (p : DownPast) (q : UpPast)
       → enabled old branch.DownEnd ≡ true → StepsTo branch.DownEnd old new result
       → SoFar holds up_holds up_blames old p q
-      → Goes holds down_blames refuses cannot_end up_holds up_blames p q new result
+      → Goes holds down_blames refuses cannot_end up_holds up_blames p q old new
+      result
   goes_down_end old new result p q on by f =
       let w = by.does in
       let alive = enabled_sound branch.DownEnd old on in
       goes_by holds down_blames refuses cannot_end up_holds up_blames
       branch.DownEnd old new result on by p q p q
       (extends_same p q)
+      (adds_by branch.DownEnd old new result on by q q refl (λ is. cc))
       (quiet holds down_blames refuses cannot_end up_holds up_blames holds up_holds up_blames
       branch.DownEnd old new result p p q q on by
       (leaves_at _ _ _ w.duplex (leaves_response_done old.duplex true)) refl refl refl refl f.down
@@ -140,7 +147,8 @@ module _
   pub goes_down_closed : (old new : State) (result : Step) (p : DownPast) (q : UpPast)
       → enabled old branch.DownClosed ≡ true → StepsTo branch.DownClosed old new result
       → SoFar holds up_holds up_blames old p q
-      → Goes holds down_blames refuses cannot_end up_holds up_blames p q new result
+      → Goes holds down_blames refuses cannot_end up_holds up_blames p q old new
+      result
   goes_down_closed old new result p q on by f =
       let d = old.duplex in
       let w = by.does in
@@ -148,6 +156,7 @@ module _
       goes_by holds down_blames refuses cannot_end up_holds up_blames
       branch.DownClosed old new result on by p q p q
       (extends_same p q)
+      (adds_by branch.DownClosed old new result on by q q refl (λ is. cc))
       (quiet holds down_blames refuses cannot_end up_holds up_blames holds up_holds up_blames
       branch.DownClosed old new result p p q q on by
       (leaves_at _ _ _ w.duplex (leaves_request_done d true)) refl refl refl refl f.down f.up
@@ -168,7 +177,8 @@ module _
       (q : UpPast) → enabled old branch.DownRead ≡ true → StepsTo branch.DownRead old new result
       → DownReadsOn holds down_blames p old.duplex old.down new.duplex new.down result
       → SoFar dp up_holds up_blames old p q
-      → Goes holds down_blames refuses cannot_end up_holds up_blames p q new result
+      → Goes holds down_blames refuses cannot_end up_holds up_blames p q old new
+      result
   goes_down_read dp old new result p q on by w f =
       let d = old.duplex in
       let g = w.goes in
@@ -190,6 +200,7 @@ module _
       branch.DownRead old new result on by p q g.past q
       (extends_down p g.past q (put_in upgraded w.answer) [] [] g.is_put
       (more_none _ _ g.is_batched) (more_none _ _ g.is_closing))
+      (adds_by branch.DownRead old new result on by q q refl (λ is. cc))
       (record {
         down = g.stands;
         up = f.up;
@@ -225,7 +236,8 @@ module _
       → StepsTo branch.DownFinish old new result
       → DownEndsOn holds cannot_end p old.duplex old.down new.duplex new.down result
       → SoFar dp up_holds up_blames old p q
-      → Goes holds down_blames refuses cannot_end up_holds up_blames p q new result
+      → Goes holds down_blames refuses cannot_end up_holds up_blames p q old new
+      result
   goes_down_finish dp old new result p q on by w f =
       let d = old.duplex in
       let g = w.goes in
@@ -238,6 +250,7 @@ module _
       branch.DownFinish old new result on by p q g.past q
       (extends_down p g.past q [] [] (closing_in w.answer) (more_none _ _ g.is_put)
       (more_none _ _ g.is_batched) g.is_closing)
+      (adds_by branch.DownFinish old new result on by q q refl (λ is. cc))
       (quiet holds down_blames refuses cannot_end up_holds up_blames dp up_holds up_blames
       branch.DownFinish old new result p g.past q q on by
       (leaves_at _ _ _ w.duplex (leaves_down_finish d new.down.pending w.answer alive)) g.is_put

@@ -22,6 +22,7 @@ use Rattle.relay_core.specs.declared.step.Step.TheVariants as step
 use Rattle.relay_core.specs.declared.step.UpKind.{UpKind}
 use Rattle.relay_core.specs.declared.step.UpKind.TheVariants as kind
 use Rattle.relay_core.specs.Causes.{says_failed, says_finished}
+use Rattle.relay_core.specs.Counts.{Adds}
 use Rattle.relay_core.specs.Down.{DownState, ReadsPiece}
 use Rattle.relay_core.specs.Ends.{can_send_on}
 use Rattle.relay_core.specs.Moves.{Extends, SoFar, Marks, Steady, Ordinary, Finishes, HasReason, Goes, ResponseHeld, is_over}
@@ -32,6 +33,7 @@ use Rattle.relay_core.specs.State.{is_response_done}
 use Rattle.relay_core.specs.Steps.{StepsTo}
 use Rattle.relay_core.specs.Table.{State, core, enabled, down_runs, up_runs, is_failed, is_finished, failed, after_up_write, step_of_up_write, step_of_down_write, after_piece, step_of_up_take, after_up_read, step_of_up_read, told_error, after_down_read, step_of_down_read, custom_error, step_of_up_finish, step_of_half, step_of_down_finish}
 use Rattle.relay_core.specs.Up.{UpState, ReadsTask}
+use Rattle.relay_core.proofs.CountLemmas.{adds_then}
 use Rattle.relay_core.proofs.BoolLemmas.{decide, clash, and_left, and_right, or_right, or_cases, or_false, or-true, not_true}
 use Rattle.relay_core.proofs.EndLemmas.{step_tells}
 use Rattle.relay_core.proofs.HeldLemmas.{Plain, plainly, at_last, passed_none, passed_task, passed_error}
@@ -530,17 +532,19 @@ module _
   -- the exchange so far after a step, and the cause of its error, are all that is to be shown
   pub goes_by : (b : Branch) (old new : State) (result : Step) → enabled old b ≡ true
       → StepsTo b old new result → (before : DownPast) (up_before : UpPast) (p : DownPast)
-      (q : UpPast) → Extends before up_before p q
+      (q : UpPast) → Extends before up_before p q → Adds old new up_before q
       → SoFar holds up_holds up_blames new p q
       → ((e : Error) → result ≡ step.Failed (fail.Error e)
       → HasReason down_blames refuses cannot_end up_blames new.down p q e)
-      → Goes holds down_blames refuses cannot_end up_holds up_blames before up_before new result
-  goes_by b old new result on by before up_before p q extends so_far blamed =
+      → Goes holds down_blames refuses cannot_end up_holds up_blames before up_before old new
+      result
+  goes_by b old new result on by before up_before p q extends adds so_far blamed =
       let tells = step_tells b old new result on by in
       record {
         p = p;
         q = q;
         extends = extends;
+        adds = adds;
         so_far = so_far;
         blamed = blamed;
         finished = λ is plain. finishes holds up_holds up_blames new p q so_far
@@ -551,14 +555,15 @@ module _
       }
 
   -- a step behind another: what it goes on from goes on from what was before both
-  pub goes_then : (before p : DownPast) (up_before q : UpPast) (s : State) (result : Step)
-      → Extends before up_before p q
-      → Goes holds down_blames refuses cannot_end up_holds up_blames p q s result
-      → Goes holds down_blames refuses cannot_end up_holds up_blames before up_before s result
-  goes_then before p up_before q s result extends went = record {
+  pub goes_then : (before p : DownPast) (up_before q : UpPast) (old mid s : State) (result : Step)
+      → Extends before up_before p q → Adds old mid up_before q
+      → Goes holds down_blames refuses cannot_end up_holds up_blames p q mid s result
+      → Goes holds down_blames refuses cannot_end up_holds up_blames before up_before old s result
+  goes_then before p up_before q old mid s result extends adds went = record {
     p = went.p;
     q = went.q;
     extends = extends_then before p went.p up_before q went.q extends went.extends;
+    adds = adds_then old mid s up_before q went.q adds went.adds;
     so_far = went.so_far;
     blamed = went.blamed;
     finished = went.finished;

@@ -10,6 +10,7 @@ pub mod SoundLemmas
 pub mod EndLemmas
 pub mod StuckLemmas
 pub mod DoneLemmas
+pub mod CountLemmas
 pub mod KeepLemmas
 pub mod StillLemmas
 pub mod MarkLemmas
@@ -22,3 +23,4 @@ pub mod SteadyLemmas
 pub mod RunsLemmas
 pub mod FitsLemmas
 pub mod UseLemmas
+pub mod TallyLemmas

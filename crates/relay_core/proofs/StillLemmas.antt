@@ -246,5 +246,6 @@ wait_stands b old new result by pause h =
     record {
       duplex = s.duplex;
       pending = ap (λ (side : DownState). side.pending) s.down;
+      body_finished = ap (λ (side : DownState). side.body_finished) s.down;
       calls = ap (λ (side : DownState). side.calls) s.down;
     }

@@ -14,6 +14,7 @@ use Rattle.relay_core.specs.Steps.{StepsTo, with_requests, UpWritesOn, UpTakes, 
 use Rattle.relay_core.specs.Table.{State, enabled, up_runs, is_failed, after_up_write, step_of_up_write, with_piece_sent, step_of_up_take, after_up_read, step_of_up_read, custom_error}
 use Rattle.relay_core.proofs.BoolLemmas.{and_left, and_right, not_true}
 use Rattle.relay_core.proofs.CauseLemmas.{kept_up_read, kept_up_finish}
+use Rattle.relay_core.proofs.CountLemmas.{adds_by, adds_read}
 use Rattle.relay_core.proofs.HeldLemmas.{at_last, passed_none}
 use Rattle.relay_core.proofs.MoveLemmas.{Leaves, leaves_at, leaves_next, leaves_up_write, leaves_piece, leaves_sent, leaves_up_finish}
 use Rattle.relay_core.proofs.MarkLemmas.{keep_at, keep_up_finish, marks_same, marks_write, marks_take, marks_read}
@@ -36,13 +37,15 @@ module _
       → StepsTo branch.UpWrite old new result
       → UpWritesOn up_holds ub up_blames q old.duplex old.up new.duplex new.up result
       → SoFar holds up ub old p q
-      → Goes holds down_blames refuses cannot_end up_holds up_blames p q new result
+      → Goes holds down_blames refuses cannot_end up_holds up_blames p q old new
+      result
   goes_up_write up ub old new result p q on by w f =
       let g = w.goes in
       let alive = enabled_sound branch.UpWrite old on in
       goes_by holds down_blames refuses cannot_end up_holds up_blames
       branch.UpWrite old new result on by p q p g.past
       (extends_up p q g.past [] [] (more_none _ _ g.is_read) (more_none _ _ g.is_taken))
+      (adds_by branch.UpWrite old new result on by q g.past g.is_read (λ is. cc))
       (quiet holds down_blames refuses cannot_end up_holds up_blames holds up ub
       branch.UpWrite old new result p p q g.past on by
       (leaves_at _ _ _ w.duplex (leaves_up_write old.duplex w.answer)) refl refl g.is_read
@@ -69,7 +72,8 @@ module _
       → StepsTo branch.UpTake old new result
       → UpTakesOn up_holds ub up_blames q old.down.upgraded old.duplex old.up new.duplex new.up
       result → SoFar holds up ub old p q
-      → Goes holds down_blames refuses cannot_end up_holds up_blames p q new result
+      → Goes holds down_blames refuses cannot_end up_holds up_blames p q old new
+      result
   goes_up_take_so up ub old new result p q on by w f =
       let d = old.duplex in
       let g = w.goes in
@@ -83,6 +87,7 @@ module _
       goes_by holds down_blames refuses cannot_end up_holds up_blames
       branch.UpTake old new result on by p q p g.past
       (extends_up p q g.past [] (w.piece ∷ []) (more_none _ _ g.is_read) g.is_taken)
+      (adds_by branch.UpTake old new result on by q g.past g.is_read (λ is. cc))
       (record {
         down = f.down;
         up = g.stands;
@@ -123,7 +128,8 @@ module _
       → UpTakes tunnel old.duplex old.up new.duplex new.up result → new.down ≡ old.down
       → UpTakesOn up_holds ub up_blames q tunnel old.duplex old.up new.duplex new.up result
       → SoFar holds up ub old p q
-      → Goes holds down_blames refuses cannot_end up_holds up_blames p q new result
+      → Goes holds down_blames refuses cannot_end up_holds up_blames p q old new
+      result
   goes_up_take up ub old new result p q on tunnel is does down w f =
       let T : Bool → Type 0 = λ b. UpTakes b old.duplex old.up new.duplex new.up result in
       let W : Bool → Type 0 = λ b.
@@ -137,7 +143,8 @@ module _
       → StepsTo branch.UpRead old new result
       → UpReadsOn up_holds ub up_blames q old.down.upgraded old.duplex old.up new.duplex new.up
       result → SoFar holds up ub old p q
-      → Goes holds down_blames refuses cannot_end up_holds up_blames p q new result
+      → Goes holds down_blames refuses cannot_end up_holds up_blames p q old new
+      result
   goes_up_read_so up ub old new result p q on by w f =
       let d = old.duplex in
       let g = w.goes in
@@ -150,6 +157,7 @@ module _
       goes_by holds down_blames refuses cannot_end up_holds up_blames
       branch.UpRead old new result on by p q p g.past
       (extends_up p q g.past (task_in w.answer) [] g.is_read (more_none _ _ g.is_taken))
+      (adds_read old new q g.past tunnel w.answer alive (unread old on) by.down w.duplex g.is_read)
       (record {
         down = f.down;
         up = g.stands;
@@ -197,7 +205,8 @@ module _
       → UpReads tunnel old.duplex old.up new.duplex new.up result → new.down ≡ old.down
       → UpReadsOn up_holds ub up_blames q tunnel old.duplex old.up new.duplex new.up result
       → SoFar holds up ub old p q
-      → Goes holds down_blames refuses cannot_end up_holds up_blames p q new result
+      → Goes holds down_blames refuses cannot_end up_holds up_blames p q old new
+      result
   goes_up_read up ub old new result p q on tunnel is does down w f =
       let T : Bool → Type 0 = λ b. UpReads b old.duplex old.up new.duplex new.up result in
       let W : Bool → Type 0 = λ b.
@@ -209,7 +218,8 @@ module _
   pub goes_up_finish : (old new : State) (result : Step) (p : DownPast) (q : UpPast)
       → enabled old branch.UpFinish ≡ true → StepsTo branch.UpFinish old new result
       → SoFar holds up_holds up_blames old p q
-      → Goes holds down_blames refuses cannot_end up_holds up_blames p q new result
+      → Goes holds down_blames refuses cannot_end up_holds up_blames p q old new
+      result
   goes_up_finish old new result p q on by f =
       let d = old.duplex in
       let w = by.does in
@@ -219,6 +229,7 @@ module _
       goes_by holds down_blames refuses cannot_end up_holds up_blames
       branch.UpFinish old new result on by p q p q
       (extends_same p q)
+      (adds_by branch.UpFinish old new result on by q q refl (λ is. cc))
       (quiet holds down_blames refuses cannot_end up_holds up_blames holds up_holds up_blames
       branch.UpFinish old new result p p q q on by
       (leaves_at _ _ _ w.duplex (leaves_up_finish d why)) refl refl refl refl f.down f.up

@@ -25,7 +25,7 @@ use Rattle.relay_core.specs.declared.step.Step.{Step}
 use Rattle.relay_core.specs.declared.step.Step.TheVariants as step
 use Rattle.relay_core.specs.Asked.{Brings}
 use Rattle.relay_core.specs.Batch.{batch_of, rest_of, plain_front}
-use Rattle.relay_core.specs.Down.{DownState}
+use Rattle.relay_core.specs.Down.{DownState, EndsBody, Finishes}
 use Rattle.relay_core.specs.Pipe.{is_failure}
 use Rattle.relay_core.specs.Piece.{task_put_of}
 use Rattle.relay_core.specs.Sound.{IsSound}
@@ -33,7 +33,7 @@ use Rattle.relay_core.specs.State.{is_reading, is_response_done, finished}
 use Rattle.relay_core.specs.Steps.{StepsTo, with_requests, with_responses}
 use Rattle.relay_core.specs.Table.{State, enabled, down_runs, up_runs, is_failed, step_of_up_write, step_of_down_write, step_of_up_take, step_of_batch, step_of_up_read, step_of_down_read, step_of_half, step_of_up_finish, step_of_down_finish, after_up_take, after_up_finish, after_down_finish, with_piece_read, with_piece_sent, custom_error}
 use Rattle.relay_core.specs.Uses.{IsUsed, MayUse, ReadUses, WriteUses, StepUses, PutsOrCalls, Asks, GainsTask, LosesTasks, ReadsInside, MovesInside, HasMoved, BranchUses, BranchGains}
-use Rattle.relay_core.proofs.BoolLemmas.{and_left, and_right, not_true}
+use Rattle.relay_core.proofs.BoolLemmas.{clash, and_left, and_right, not_true}
 use Rattle.relay_core.proofs.KeepLemmas.{up_open, down_open}
 use Rattle.relay_core.proofs.MoveLemmas.{batch-rest, leaves_batch, leaves_piece}
 
@@ -277,16 +277,30 @@ up_finished : (d after : Duplex) (kept : Option Error) (result : Step)
 up_finished d after None result is came moved = ap (λ (x : Duplex). x.upstream_finished) is
 up_finished d after (Some error) result is came moved = absurd (cc)
 
--- the client's half that moved by its end has finished, or something waits for the client
-down_finished : (d after : Duplex) (pending : Bool) (answer : Result Unit Fail) (result : Step)
-    → after ≡ after_down_finish d pending answer
-    → result ≡ step_of_down_finish d pending answer → result ≡ step.Moved
-    → (pending ≡ true) ⊎ (after.client_finished ≡ true)
-down_finished d after true (Ok done) result is came moved = inl refl
-down_finished d after false (Ok done) result is came moved =
+-- the client's half that moved by its end has finished, or something waits for the client, since
+-- the response's body was ended
+down_finished : (d after : Duplex) (side side' : DownState) (pending : Bool)
+    (answer : Result Unit Fail) (result : Step) → after ≡ after_down_finish d pending answer
+    → result ≡ step_of_down_finish d pending answer → Finishes side side' answer
+    → result ≡ step.Moved
+    → ((pending ≡ true) × EndsBody side side') ⊎ (after.client_finished ≡ true)
+down_finished d after side side' true (Ok done) result is came ends moved = inl (refl, ends)
+down_finished d after side side' false (Ok done) result is came ends moved =
     inr (ap (λ (x : Duplex). x.client_finished) is)
-down_finished d after true (Err why) result is came moved = absurd (cc)
-down_finished d after false (Err why) result is came moved = absurd (cc)
+down_finished d after side side' true (Err why) result is came ends moved = absurd (cc)
+down_finished d after side side' false (Err why) result is came ends moved = absurd (cc)
+
+-- where that queued something, the body had not been ended before
+ends_first : (side side' : DownState) → EndsBody side side' → side.pending ≡ false
+    → side'.pending ≡ true → (side.body_finished ≡ false) × (side'.body_finished ≡ true)
+ends_first side side' ends quiet waits = (
+  by side.body_finished ends.again,
+  ap (λ (s : DownState). s.body_finished) ends.exact,
+)
+  where
+    by : (b : Bool) → (b ≡ true → side'.pending ≡ side.pending) → b ≡ false
+    by true again = clash side.pending (sym (again refl) ∙ waits) quiet
+    by false again = refl
 
 -- a response that is ended is done, where no cache has more of it
 ended_done : (upstream cached : Bool) → cached ≡ true → ((upstream || true) && cached) ≡ true
@@ -390,9 +404,11 @@ module _ (client client' upstream upstream' : LinkState) where
       (and_right (not (is_reading old.duplex.client_request)) _
       (and_right (down_runs old.duplex) _ on))) in
       inside branch.DownFinish old new uses
-      (elim (down_finished old.duplex new.duplex new.down.pending by.does.answer result
-      by.does.duplex by.does.step moved) [
-        | inl waits ↦ inl (quiet, waits)
+      (elim (down_finished old.duplex new.duplex old.down new.down new.down.pending by.does.answer
+      result by.does.duplex by.does.step by.does.ends moved) [
+        | inl waits ↦ (
+            let first = ends_first old.down new.down waits.1 quiet waits.0 in
+            inl (quiet, waits.0, first.0, first.1))
         | inr done ↦
             inr (down_open old.duplex (and_left (down_runs old.duplex) _ on), done)
       ])

@@ -10,6 +10,7 @@ pub mod Table
 pub mod Steps
 pub mod Causes
 pub mod Sound
+pub mod Counts
 pub mod Moves
 pub mod Ends
 pub mod Asked

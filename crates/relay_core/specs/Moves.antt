@@ -10,6 +10,7 @@ use Rattle.relay_tasks.specs.Task.{is_end}
 use Rattle.relay_core.specs.declared.duplex.Duplex.{Duplex}
 use Rattle.relay_core.specs.declared.step.Step.{Step}
 use Rattle.relay_core.specs.declared.step.Step.TheVariants as step
+use Rattle.relay_core.specs.Counts.{Adds}
 use Rattle.relay_core.specs.Ends.{can_send_on}
 use Rattle.relay_core.specs.Down.{DownState}
 use Rattle.relay_core.specs.Past.{DownPast, UpPast}
@@ -179,18 +180,19 @@ pub record Extends (before : DownPast) (up_before : UpPast) (p : DownPast) (q : 
   pub taken : List HttpTask
   pub is_taken : q.taken ≡ up_before.taken ++ taken
 
--- a step went on with the exchange from these pasts, and its error has its reason. Without a
--- tunnel, where it finished both directions were relayed, and where the request pipe is then full
--- and no send error is kept, the upstream half that runs can go on
+-- a step went on with the exchange from these pasts, and its error has its reason. What it holds
+-- more it read. Without a tunnel, where it finished both directions were relayed, and where the
+-- request pipe is then full and no send error is kept, the upstream half that runs can go on
 pub record Goes
     (down_past : DownPast → Type 0) (down_blames : DownPast → Error → Type 0)
     (down_refuses : DownPast → List HttpTask → Error → Type 0)
     (down_cannot_end : DownPast → Error → Type 0)
     (up_past : UpPast → Type 0) (up_blames : UpPast → Error → Type 0) (before : DownPast)
-    (up_before : UpPast) (s : State) (result : Step) : Type 0 where
+    (up_before : UpPast) (old s : State) (result : Step) : Type 0 where
   pub p : DownPast
   pub q : UpPast
   pub extends : Extends before up_before p q
+  pub adds : Adds old s up_before q
   pub so_far : SoFar down_past up_past up_blames s p q
   pub blamed : (e : Error) → result ≡ step.Failed (fail.Error e)
       → HasReason down_blames down_refuses down_cannot_end up_blames s.down p q e

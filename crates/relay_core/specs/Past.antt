@@ -20,12 +20,14 @@ use Rattle.relay_core.specs.Told.{fault_of}
 
 -- ---- the pasts
 
--- where an exchange began: with the head of its request, and whether both sides ask for an upgrade;
--- where the client's link stood: the bytes that were read ahead from it, how many bytes it had
--- given and taken, and how many of its calls had failed; whether the upstream's link had been used
--- before; and how many faults the client's link had told of its reads and of its writes
+-- where an exchange began: with the head that the client's bytes say, and the head that is sent
+-- upstream of it; whether both sides ask for an upgrade; where the client's link stood: the bytes
+-- that were read ahead from it, how many bytes it had given and taken, and how many of its calls
+-- had failed; whether the upstream's link had been used before; and how many faults the client's
+-- link had told of its reads and of its writes
 pub record Origin : Type 0 where
   pub head : RequestHead
+  pub sent : RequestHead
   pub asked : Bool
   pub ahead : List ℕ
   pub given : ℕ

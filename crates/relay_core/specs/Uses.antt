@@ -137,7 +137,8 @@ MovesInside branch.DownRead old new = ReadsInside old.duplex old.down new.duplex
 MovesInside branch.UpFinish old new =
     (old.duplex.upstream_finished ≡ false) × (new.duplex.upstream_finished ≡ true)
 MovesInside branch.DownFinish old new =
-    ((old.down.pending ≡ false) × (new.down.pending ≡ true))
+    ((old.down.pending ≡ false) × (new.down.pending ≡ true)
+    × (old.down.body_finished ≡ false) × (new.down.body_finished ≡ true))
     ⊎ ((old.duplex.client_finished ≡ false) × (new.duplex.client_finished ≡ true))
 MovesInside branch.MessageUp old new = ⊥
 MovesInside branch.MessageDown old new = ⊥
@@ -228,9 +229,10 @@ BranchGains branch.DownFinish old new client client' upstream upstream' = Unit {
 BranchGains branch.MessageUp old new client client' upstream upstream' = Unit {0}
 BranchGains branch.MessageDown old new client client' upstream upstream' = Unit {0}
 
--- a step that waits leaves the duplex, whether output is pending for the client, and the calls of
--- hooks
+-- a step that waits leaves the duplex, whether output is pending for the client, whether its
+-- response's body was ended, and the calls of hooks
 pub record Stands (old new : State) : Type 0 where
   pub duplex : new.duplex ≡ old.duplex
   pub pending : new.down.pending ≡ old.down.pending
+  pub body_finished : new.down.body_finished ≡ old.down.body_finished
   pub calls : new.down.calls ≡ old.down.calls

@@ -273,6 +273,7 @@ impl Duplex {
             → Goes (D.past down.new client.new s) (D.blames down.new client.new s)
             (D.refuses down.new client.new s) (D.cannot_end down.new client.new s)
             (U.past up.new s) (U.blames up.new s) p q
+            (core self.old (D.state down.old) (U.state up.old))
             (core self.new (D.state down.new) (U.state up.new)) result }
         ensures waits { result ≡ Step.Waited Pause.NotReady
             → WaitRose (D.link client.old) (D.link client.new) (U.link up.old) (U.link up.new) }
@@ -351,15 +352,17 @@ impl Duplex {
         ensures tells { Tells result self.new }
 
         // The exchange so far goes on: what was put into a pipe is what was taken out and what is
-        // held, and each list goes on from what it was; behind the end of the request nothing is
-        // put, where the step finished both directions were relayed, and where the request pipe is
-        // then full without a send error, the upstream half can write, take or finish.
+        // held, and each list goes on from what it was; what is held of the response more than
+        // before was read, and ends that came stay; behind the end of the request nothing is put,
+        // where the step finished both directions were relayed, and where the request pipe is then
+        // full without a send error, the upstream half can write, take or finish.
         ensures goes { (s : Origin) (p : DownPast) (q : UpPast)
             → SoFar (D.past down.old client.old s) (U.past up.old s) (U.blames up.old s)
             (core self.old (D.state down.old) (U.state up.old)) p q
             → Goes (D.past down.new client.new s) (D.blames down.new client.new s)
             (D.refuses down.new client.new s) (D.cannot_end down.new client.new s)
             (U.past up.new s) (U.blames up.new s) p q
+            (core self.old (D.state down.old) (U.state up.old))
             (core self.new (D.state down.new) (U.state up.new)) result }
 
         // A step that waits leaves what can be taken. What it waits for is the link that its branch

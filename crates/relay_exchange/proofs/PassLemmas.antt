@@ -41,6 +41,7 @@ asks_from result client₀ client client' upstream₀ upstream upstream' is is' 
 
 module _ (first mid new : State) (same : mid.duplex ≡ first.duplex)
     (pending : mid.down.pending ≡ first.down.pending)
+    (body : mid.down.body_finished ≡ first.down.body_finished)
     (calls : mid.down.calls ≡ first.down.calls)
   where
     -- the same of a task, an end or a call, whose branch another duplex than that one does not see
@@ -60,7 +61,7 @@ module _ (first mid new : State) (same : mid.duplex ≡ first.duplex)
     ]
     at branch.UpFinish moves = moves
     at branch.DownFinish moves = elim moves [
-      | inl waits ↦ inl (sym pending ∙ waits.0, waits.1)
+      | inl waits ↦ inl (sym pending ∙ waits.0, waits.1, sym body ∙ waits.2, waits.3)
       | inr done ↦ inr done
     ]
     at branch.MessageUp moves = moves

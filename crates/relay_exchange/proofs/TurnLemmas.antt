@@ -2,7 +2,6 @@
 --
 --   turns_on      from the step of a duplex and what it tells: Turns
 --   turns_failed  from such a step, and the send error that is kept: Turns
---   turns_still   an exchange that is under way, where nothing was done
 --   begun         from Begins, over a duplex that has moved nothing: IsUnderWay
 use Rattle.std.proofs.Common.{◌≡◌, Bool, true, false, inl, inr, List, [], ◌∷◌, ◌++◌, Some, None, refl, sym, ap, subst, ◌∙◌, append-nil}
 use Rattle.std.specs.List.{list_any}
@@ -15,7 +14,7 @@ use Rattle.relay_links.specs.declared.link.Put.{Put}
 use Rattle.relay_links.specs.declared.link.Put.TheVariants as put
 use Rattle.relay_core.specs.Causes.{Tells, says_finished}
 use Rattle.relay_core.specs.Down.{DownState}
-use Rattle.relay_core.specs.Moves.{EndsLast, Extends, Goes, Ordinary, SoFar}
+use Rattle.relay_core.specs.Moves.{EndsLast, Goes, Ordinary, SoFar}
 use Rattle.relay_core.specs.Past.{DownPast, UpPast}
 use Rattle.relay_core.specs.Sound.{IsSound}
 use Rattle.relay_core.specs.State.{is_reading}
@@ -35,45 +34,31 @@ write_unfinished put.Silent = refl
 write_unfinished (put.Failed fault) = refl
 write_unfinished put.OutOfMemory = refl
 
--- the pasts go on from themselves
-same : (p : DownPast) (q : UpPast) → Extends p q p q
-same p q = record {
-  put = [];
-  is_put = sym (append-nil p.put);
-  batched = [];
-  is_batched = sym (append-nil p.batched);
-  closing = [];
-  is_closing = sym (append-nil p.closing);
-  read = [];
-  is_read = sym (append-nil q.read);
-  taken = [];
-  is_taken = sym (append-nil q.taken);
-}
-
 module _
     (down_past : DownPast → Type 0) (down_blames : DownPast → Error → Type 0)
     (down_refuses : DownPast → List HttpTask → Error → Type 0)
     (down_cannot_end : DownPast → Error → Type 0)
     (up_past : UpPast → Type 0) (up_blames : UpPast → Error → Type 0) (before : DownPast)
-    (up_before : UpPast) (s : State)
+    (up_before : UpPast) (old s : State)
   where
     -- a step of the duplex is a turn
     pub turns_on : (result : Step)
         → Goes down_past down_blames down_refuses down_cannot_end up_past up_blames before up_before
-        s result → Tells result s.duplex
+        old s result → Tells result s.duplex
         → Turns down_past down_blames down_refuses down_cannot_end up_past up_blames before
-        up_before s result
+        up_before old s result
     turns_on result went tells = record {
       p = went.p;
       q = went.q;
       extends = went.extends;
+      adds = went.adds;
       so_far = went.so_far;
       comes_to = comes result went tells;
     }
       where
         comes : (result : Step)
             → (went : Goes down_past down_blames down_refuses down_cannot_end up_past up_blames
-            before up_before s result)
+            before up_before old s result)
             → Tells result s.duplex
             → ComesTo down_blames down_refuses down_cannot_end up_blames s went.p went.q result
         comes step.Moved went tells =
@@ -87,27 +72,16 @@ module _
     -- where a send error is kept it is the answer, for which the upstream's side answers
     pub turns_failed : (result : Step) (e : Error)
         → Goes down_past down_blames down_refuses down_cannot_end up_past up_blames before up_before
-        s result → s.duplex.send_error ≡ Some e
+        old s result → s.duplex.send_error ≡ Some e
         → Turns down_past down_blames down_refuses down_cannot_end up_past up_blames before
-        up_before s (step.Failed (fail.Error e))
+        up_before old s (step.Failed (fail.Error e))
     turns_failed result e went kept = record {
       p = went.p;
       q = went.q;
       extends = went.extends;
+      adds = went.adds;
       so_far = went.so_far;
       comes_to = inr (inl (went.so_far.send_error e kept));
-    }
-
-    -- nothing was done
-    pub turns_still : IsUnderWay down_past up_past up_blames s before up_before
-        → Turns down_past down_blames down_refuses down_cannot_end up_past up_blames before
-        up_before s step.Moved
-    turns_still under = record {
-      p = before;
-      q = up_before;
-      extends = same before up_before;
-      so_far = under.so_far;
-      comes_to = under.goes_on;
     }
 
 -- ---- the beginning

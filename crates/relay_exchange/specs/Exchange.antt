@@ -6,6 +6,7 @@ use Rattle.relay_tasks.specs.declared.task.HttpTask.{HttpTask}
 use Rattle.relay_links.specs.Link.{LinkState}
 use Rattle.relay_links.specs.declared.branch.Branch.{Branch}
 use Rattle.relay_core.specs.Asked.{IsQuiet}
+use Rattle.relay_core.specs.Counts.{Adds}
 use Rattle.relay_core.specs.Down.{DownState}
 use Rattle.relay_core.specs.Moves.{SoFar, Extends, Finishes, HasReason}
 use Rattle.relay_core.specs.Past.{DownPast, UpPast}
@@ -77,16 +78,18 @@ ComesTo blames refuses cannot_end up_blames s p q (step.Failed (fail.Error e)) =
     HasReason blames refuses cannot_end up_blames s.down p q e
 ComesTo blames refuses cannot_end up_blames s p q (step.Failed fail.OutOfMemory) = Unit {0}
 
--- a turn went on from these pasts, with this answer
+-- a turn went on from these pasts, with this answer: what is held of the response more than before
+-- was read, and ends that came stay
 pub record Turns
     (down_past : DownPast → Type 0) (down_blames : DownPast → Error → Type 0)
     (down_refuses : DownPast → List HttpTask → Error → Type 0)
     (down_cannot_end : DownPast → Error → Type 0)
     (up_past : UpPast → Type 0) (up_blames : UpPast → Error → Type 0) (before : DownPast)
-    (up_before : UpPast) (s : State) (result : Step) : Type 0 where
+    (up_before : UpPast) (old s : State) (result : Step) : Type 0 where
   pub p : DownPast
   pub q : UpPast
   pub extends : Extends before up_before p q
+  pub adds : Adds old s up_before q
   pub so_far : SoFar down_past up_past up_blames s p q
   pub comes_to : ComesTo down_blames down_refuses down_cannot_end up_blames s p q result
 

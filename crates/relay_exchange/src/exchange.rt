@@ -82,6 +82,7 @@ impl<D, U: Up> Exchange<D, U> {
             → Turns (D.past self.new.down client.new s) (D.blames self.new.down client.new s)
             (D.refuses self.new.down client.new s) (D.cannot_end self.new.down client.new s)
             (U.past self.new.up s) (U.blames self.new.up s) p q
+            (core self.old.duplex (D.state self.old.down) (U.state self.old.up))
             (core self.new.duplex (D.state self.new.down) (U.state self.new.up)) result.step }
         // It finishes only where the head was sent.
         ensures bodies { result.step ≡ Step.Finished → self.new.stage ≡ Stage.Bodies }
@@ -225,6 +226,7 @@ fn send_head<C, D: Down<C>, U: Up>(
         → Turns (D.past down.new client.new s) (D.blames down.new client.new s)
         (D.refuses down.new client.new s) (D.cannot_end down.new client.new s)
         (U.past up.new s) (U.blames up.new s) p q
+        (core duplex.old (D.state down.old) (U.state up.old))
         (core duplex.new (D.state down.new) (U.state up.new)) result }
     ensures unfinished { says_finished result ≡ false }
     ensures waits { result ≡ Step.Waited Pause.NotReady
@@ -265,6 +267,7 @@ fn write_head<C, D: Down<C>, U: Up>(
         → Turns (D.past down.new client.new s) (D.blames down.new client.new s)
         (D.refuses down.new client.new s) (D.cannot_end down.new client.new s)
         (U.past up.new s) (U.blames up.new s) p q
+        (core duplex.old (D.state down.old) (U.state up.old))
         (core duplex.new (D.state down.new) (U.state up.new)) result }
     ensures unfinished { says_finished result ≡ false }
     // An error with which the head could not be sent is the answer.

@@ -33,6 +33,7 @@ pub(crate) fn go_round<C, D: Down<C>, U: Up, H: Schedule>(
         → Goes (D.past down.new client.new s) (D.blames down.new client.new s)
         (D.refuses down.new client.new s) (D.cannot_end down.new client.new s)
         (U.past up.new s) (U.blames up.new s) p q
+        (core duplex.old (D.state down.old) (U.state up.old))
         (core duplex.new (D.state down.new) (U.state up.new)) result.0 }
 
     // The answer says exactly whether a half failed, and whether both have finished.

@@ -1,5 +1,6 @@
--- A side behind filters: how each answer of the inner side goes on, with the call that it led to.
-use Rattle.std.proofs.Common.{◌≡◌, ℕ, ◌<◌, Bool, true, false, not, ◌||◌, if◌then◌else◌, List, [], ◌∷◌, ◌++◌, length, Option, Some, None, is_some, Err, arith, length-append, refl, sym, ap, subst, ◌∙◌, append-nil, append_assoc, inl, inr, IsTrue, IsSome}
+-- A side behind filters: how each answer of the inner side goes on, with the calls that it led to.
+use Rattle.std.proofs.Common.{◌≡◌, ℕ, ◌<◌, Bool, true, false, not, ◌||◌, ◌&&◌, if◌then◌else◌, List, [], ◌∷◌, ◌++◌, length, Option, Some, None, is_some, Ok, Err, arith, length-append, refl, sym, ap, subst, ◌∙◌, append-nil, append_assoc, inl, inr, IsTrue, IsSome, option_map, unwrap_or}
+use Rattle.std.specs.List.{list_any}
 use Rattle.relay_tasks.specs.declared.error.Error.{Error}
 use Rattle.relay_tasks.specs.declared.error.Fail.{Fail}
 use Rattle.relay_tasks.specs.declared.error.Fail.TheVariants as fail
@@ -7,24 +8,33 @@ use Rattle.relay_tasks.specs.declared.hook.Hook.TheVariants as hook
 use Rattle.relay_tasks.specs.declared.log.Item.TheVariants as item
 use Rattle.relay_tasks.specs.declared.log.LogEntry.{LogEntry}
 use Rattle.relay_tasks.specs.declared.task.HttpTask.{HttpTask}
+use Rattle.relay_tasks.specs.declared.task.HttpTask.TheVariants as task
+use Rattle.relay_tasks.specs.Error.{IsMemoryOr}
 use Rattle.relay_links.specs.declared.link.Put.{Put}
 use Rattle.relay_links.specs.declared.link.Put.TheVariants as put
 use Rattle.relay_session.specs.Reading.{head_of}
 use Rattle.relay_core.specs.Down.{DownState, Writes}
 use Rattle.relay_core.specs.Past.{BatchRefused, DownGoes, DownPast, error_of_fail}
+use Rattle.relay_core.specs.Pipe.{is_failure}
 use Rattle.relay_core.specs.Piece.{put_of}
 use Rattle.relay_core.specs.declared.piece.Piece.{Piece}
+use Rattle.relay_modules.specs.Module.{ModuleCall}
 use Rattle.relay_modules.specs.declared.seen.Seen.{Seen}
 use Rattle.relay_hooks.specs.Call.{Left, entry, failed, only}
 use Rattle.relay_hooks.specs.Session.{moment}
 use Rattle.relay_hooks.specs.Standing.{Standing, standing}
 use Rattle.relay_calls.specs.Calls.{Calls}
 use Rattle.relay_calls.specs.Entry.{cleared}
-use Rattle.relay_calls.specs.Log.{IsAllowed, Walk, requests_in}
+use Rattle.relay_calls.specs.Log.{IsAllowed, Walk, modules_in, requests_in, responses_in}
 use Rattle.relay_calls.proofs.CallLemmas.{CallsOf-walks}
-use Rattle.relay_calls.proofs.LogLemmas.{Views-same, Walk-append, requests_in-append}
+use Rattle.relay_calls.proofs.LogLemmas.{Views-same, Walk-append, modules_in-append, requests_in-append, responses_in-append}
+use Rattle.relay_sides.specs.Filtered.{is_head_request}
+use Rattle.relay_filters.specs.Chain.{AllPass, PassedModules, PassesModules, Refuses, by_hook, TaskChain}
 use Rattle.relay_filters.specs.Request.{Filtered, Filters, PassesRequest, is_last, piece_of}
-use Rattle.relay_filters.specs.Hooked.{BlamesOver, IsHooked, IsLogged, NoModule, RefusesOver, opened}
+use Rattle.relay_filters.specs.Response as batches
+use Rattle.relay_filters.specs.Response.{Adds, AddsSome, BatchPasses, BatchStops, MakesOf, Outcome, PartsOf, Stage, WasMade}
+use Rattle.relay_filters.specs.Hooked.{BlamesOver, IsHooked, IsLogged, RefusesOver, TakesOn, by_filter, by_inner, failure_in_front, had_stopped, inside, opened, refused_at_once}
+use Rattle.relay_filters.proofs.ChainLemmas.{all_append, all_split, parts_append, refuses_behind}
 use Rattle.relay_filters.proofs.RequestLemmas.{one_lost, one_piece, one_refused, same_request}
 
 -- ---- answers
@@ -44,19 +54,268 @@ fail_is (fail.Error error) e told = ap fail.Error (some_error error e told)
 abbrev Going : Type 0
 Going = ◌≡◌ {A = Option Fail} None None
 
+-- out of memory is no error
+no_memory : {A : Type 0} {e : Error} → Some fail.OutOfMemory ≡ Some (fail.Error e) → A
+no_memory is = cc
+
+-- no memory was wanted of a side that goes on
+going_on : ◌≡◌ {A = Option Fail} None (Some fail.OutOfMemory) → ⊥
+going_on is = cc
+
+-- ---- the response
+
+-- what came of the response is the same
+same_response : (oh stood : Bool) (own : List LogEntry) (on : Type 0)
+    (came came' made made' : List HttpTask) → came' ≡ came → made' ≡ made
+    → MakesOf oh stood own on came made → MakesOf oh stood own on came' made'
+same_response oh stood own on came came' made made' is is' r =
+    subst (λ (l : List HttpTask). MakesOf oh stood own on l made') (sym is)
+    (subst (λ (l : List HttpTask). MakesOf oh stood own on came l) (sym is') r)
+
+-- a stage by the same calls
+stage_on : (chain : HttpTask → List LogEntry → HttpTask → Type 0) (es es' : List LogEntry)
+    (on on' : Type 0) (xs ys : List HttpTask) → es' ≡ es → (on' → on) → Stage chain es on xs ys
+    → Stage chain es' on' xs ys
+stage_on chain es es' on on' xs ys is off s = record {
+  done = s.done;
+  dropped = s.dropped;
+  calls = is ∙ s.calls;
+  all = λ o. s.all (off o);
+  pass = s.pass;
+}
+
+-- more passed a stage that goes on
+stage_more : (chain : HttpTask → List LogEntry → HttpTask → Type 0) (es es' fs : List LogEntry)
+    (on on' : Type 0) (xs xs' ys ys' : List HttpTask) → es' ≡ es ++ fs → on
+    → Stage chain es on xs ys → AllPass chain fs xs' ys'
+    → Stage chain es' on' (xs ++ xs') (ys ++ ys')
+stage_more chain es es' fs on on' xs xs' ys ys' is o s pass = record {
+  done = s.done ++ fs;
+  dropped = [];
+  calls = is
+      ∙ ap (λ (l : List LogEntry). l ++ fs)
+      (s.calls ∙ ap (λ (l : List LogEntry). s.done ++ l) (s.all o) ∙ append-nil s.done)
+      ∙ sym (append-nil (s.done ++ fs));
+  all = λ so. refl;
+  pass = all_append chain s.done fs xs xs' ys ys' s.pass pass;
+}
+
+-- calls of a batch that was refused
+stage_drop : (chain : HttpTask → List LogEntry → HttpTask → Type 0) (es es' fs : List LogEntry)
+    (on on' : Type 0) (xs ys : List HttpTask) → es' ≡ es ++ fs → (on' → ⊥)
+    → Stage chain es on xs ys → Stage chain es' on' xs ys
+stage_drop chain es es' fs on on' xs ys is off s = record {
+  done = s.done;
+  dropped = s.dropped ++ fs;
+  calls = is ∙ ap (λ (l : List LogEntry). l ++ fs) s.calls
+      ∙ append_assoc s.done s.dropped fs;
+  all = λ o. absurd (off o);
+  pass = s.pass;
+}
+
+-- what follows from a chain follows of each of a list
+all_so : (chain chain' : HttpTask → List LogEntry → HttpTask → Type 0)
+    → ((x : HttpTask) (es : List LogEntry) (y : HttpTask) → chain x es y → chain' x es y)
+    → (es : List LogEntry) (xs ys : List HttpTask) → AllPass chain es xs ys
+    → AllPass chain' es xs ys
+all_so chain chain' so es [] [] none = none
+all_so chain chain' so es [] (y ∷ ys) none = absurd none
+all_so chain chain' so es (x ∷ xs) [] none = absurd none
+all_so chain chain' so es (x ∷ xs) (y ∷ ys) (own, rest, is, c, pass) =
+    (own, rest, is, so x own y c, all_so chain chain' so rest xs ys pass)
+
+-- and so of a stage
+stage_so : (chain chain' : HttpTask → List LogEntry → HttpTask → Type 0)
+    → ((x : HttpTask) (es : List LogEntry) (y : HttpTask) → chain x es y → chain' x es y)
+    → (es : List LogEntry) (on : Type 0) (xs ys : List HttpTask) → Stage chain es on xs ys
+    → Stage chain' es on xs ys
+stage_so chain chain' so es on xs ys s = record {
+  done = s.done;
+  dropped = s.dropped;
+  calls = s.calls;
+  all = s.all;
+  pass = all_so chain chain' so s.done xs ys s.pass;
+}
+
+-- a task that had passed, with one batch more
+passed_on : (stood stand : Bool) (x : HttpTask) (es : List LogEntry) (y : HttpTask)
+    → PassedModules stood x es y → PassedModules (stood && stand) x es y
+passed_on true true x es y c = c
+passed_on true false x es y c = inl c
+passed_on false stand x es y c = c
+
+-- and one of that batch
+passes_on : (stood stand : Bool) (x : HttpTask) (es : List LogEntry) (y : HttpTask)
+    → PassesModules stand x es y → PassedModules (stood && stand) x es y
+passes_on true true x es y c = c
+passes_on true false x es y c = inr c
+passes_on false true x es y c = inl c
+passes_on false false x es y c = inr c
+
+-- the calls of other filters leave the response
+response_on : (oh stood : Bool) (own own' : List LogEntry) (on on' : Type 0)
+    (came made : List HttpTask)
+    → responses_in own' ≡ responses_in own → modules_in own' ≡ modules_in own → (on' → on)
+    → MakesOf oh stood own on came made → MakesOf oh stood own' on' came made
+response_on oh stood own own' on on' came made is is' off r = record {
+  mid = r.mid;
+  by_app = stage_on (TaskChain oh) (responses_in own) (responses_in own') on on' came r.mid is off
+      r.by_app;
+  by_modules = stage_on (PassedModules stood) (modules_in own) (modules_in own') on on' r.mid made
+      is' off r.by_modules;
+}
+
+-- the parts of a log with these calls behind
+responses_more : (own es a b : List LogEntry) → PartsOf es a b
+    → responses_in (own ++ es) ≡ responses_in own ++ a
+responses_more own es a b p =
+    responses_in-append own es ∙ ap (λ (l : List LogEntry). responses_in own ++ l) p.responses
+
+modules_more : (own es a b : List LogEntry) → PartsOf es a b
+    → modules_in (own ++ es) ≡ modules_in own ++ b
+modules_more own es a b p =
+    modules_in-append own es ∙ ap (λ (l : List LogEntry). modules_in own ++ l) p.modules
+
+pub requests_same : (own es a b : List LogEntry) → PartsOf es a b
+    → requests_in (own ++ es) ≡ requests_in own
+requests_same own es a b p =
+    requests_in-append own es ∙ ap (λ (l : List LogEntry). requests_in own ++ l) p.requests
+    ∙ append-nil (requests_in own)
+
+-- the parts of the calls of a batch
+both_parts : (es first last : List LogEntry) → es ≡ first ++ last → PartsOf first first []
+    → PartsOf last [] last → PartsOf es first last
+both_parts es first last is p q =
+    subst (λ (l : List LogEntry). PartsOf l first last) (sym is)
+    (subst (λ (l : List LogEntry). PartsOf (first ++ last) l last) (append-nil first)
+    (parts_append first last first [] [] last p q))
+
+pub batch_parts : (oh stand : Bool) (tasks : List HttpTask) (es : List LogEntry)
+    (made : List HttpTask)
+    → (b : BatchPasses oh stand tasks es made) → PartsOf es b.by_app b.by_modules
+batch_parts oh stand tasks es made b =
+    both_parts es b.by_app b.by_modules b.calls b.are_apps b.are_modules
+
+-- the calls of a batch that was refused are of a response
+pub record HasParts (es : List LogEntry) : Type 0 where
+  pub apps : List LogEntry
+  pub modules : List LogEntry
+  pub are : PartsOf es apps modules
+
+pub stop_parts : (oh stand : Bool) (tasks : List HttpTask) (es : List LogEntry)
+    → BatchStops oh stand tasks es
+    → HasParts es
+stop_parts oh stand tasks es (batches.BatchStops.by_app are front) = record
+    { apps = es; modules = []; are = are }
+stop_parts oh stand tasks es (batches.BatchStops.by_modules stands mid first last is p q pass
+    front) =
+    record { apps = first; modules = last; are = both_parts es first last is p q }
+
+-- a batch passed
+makes_on : (oh stood stand : Bool) (own es : List LogEntry) (on on' : Type 0)
+    (came tasks queued made : List HttpTask) → on → MakesOf oh stood own on came queued
+    → BatchPasses oh stand tasks es made
+    → MakesOf oh (stood && stand) (own ++ es) on' (came ++ tasks) (queued ++ made)
+makes_on oh stood stand own es on on' came tasks queued made o r b =
+    let parts = batch_parts oh stand tasks es made b in
+    record {
+      mid = r.mid ++ b.mid;
+      by_app = stage_more (TaskChain oh) (responses_in own) (responses_in (own ++ es)) b.by_app on
+          on' came tasks r.mid b.mid (responses_more own es b.by_app b.by_modules parts) o r.by_app
+          b.pass;
+      by_modules = stage_more (PassedModules (stood && stand)) (modules_in own)
+          (modules_in (own ++ es)) b.by_modules on on' r.mid b.mid queued made
+          (modules_more own es b.by_app b.by_modules parts) o
+          (stage_so (PassedModules stood) (PassedModules (stood && stand)) (passed_on stood stand)
+          (modules_in own) on r.mid queued r.by_modules)
+          (all_so (PassesModules stand) (PassedModules (stood && stand)) (passes_on stood stand)
+          b.by_modules b.mid made b.made_so);
+    }
+
+-- a batch was refused by a filter
+makes_drop : (oh stood : Bool) (own es : List LogEntry) (on on' : Type 0)
+    (came queued : List HttpTask) → (on' → ⊥) → HasParts es → MakesOf oh stood own on came queued
+    → MakesOf oh stood (own ++ es) on' came queued
+makes_drop oh stood own es on on' came queued off parts r = record {
+  mid = r.mid;
+  by_app = stage_drop (TaskChain oh) (responses_in own) (responses_in (own ++ es)) parts.apps on on'
+      came r.mid (responses_more own es parts.apps parts.modules parts.are) off r.by_app;
+  by_modules = stage_drop (PassedModules stood) (modules_in own) (modules_in (own ++ es))
+      parts.modules on on' r.mid queued (modules_more own es parts.apps parts.modules parts.are) off
+      r.by_modules;
+}
+
+-- a batch passed its filters, and the inner side took a front of what they made
+record Takes (oh stood stand : Bool) (own es : List LogEntry) (on' : Type 0)
+    (came tasks queued front behind : List HttpTask) : Type 0 where
+  pub first : List HttpTask
+  pub last : List HttpTask
+  pub are : first ++ last ≡ tasks
+  pub makes : MakesOf oh (stood && stand) (own ++ es) on' (came ++ first) (queued ++ front)
+  pub made : WasMade oh stand last behind
+
+makes_front : (oh stood stand : Bool) (own es : List LogEntry) (on on' : Type 0)
+    (came tasks queued made front behind : List HttpTask) → on → (on' → ⊥)
+    → front ++ behind ≡ made → MakesOf oh stood own on came queued
+    → BatchPasses oh stand tasks es made
+    → Takes oh stood stand own es on' came tasks queued front behind
+makes_front oh stood stand own es on on' came tasks queued made front behind o off is r b =
+    let parts = batch_parts oh stand tasks es made b in
+    let s = all_split (PassesModules stand) b.by_modules b.mid front behind
+    (subst (λ (l : List HttpTask). AllPass (PassesModules stand) b.by_modules b.mid l) (sym is)
+    b.made_so) in
+    let chain = PassedModules (stood && stand) in
+    let t = all_split (TaskChain oh) b.by_app tasks s.first s.last
+    (subst (λ (l : List HttpTask). AllPass (TaskChain oh) b.by_app tasks l) s.are b.pass) in
+    record {
+      first = t.first;
+      last = t.last;
+      are = sym t.are;
+      makes = record {
+        mid = r.mid ++ s.first;
+        by_app = stage_drop (TaskChain oh) (responses_in own ++ t.calls)
+            (responses_in (own ++ es)) t.more on on' (came ++ t.first) (r.mid ++ s.first)
+            (responses_more own es b.by_app b.by_modules parts
+            ∙ ap (λ (l : List LogEntry). responses_in own ++ l) t.parts
+            ∙ sym (append_assoc (responses_in own) t.calls t.more)) off
+            (stage_more (TaskChain oh) (responses_in own) (responses_in own ++ t.calls) t.calls on
+            on came t.first r.mid s.first refl o r.by_app t.pass);
+        by_modules = stage_drop chain (modules_in own ++ s.calls) (modules_in (own ++ es))
+            s.more on on' (r.mid ++ s.first) (queued ++ front)
+            (modules_more own es b.by_app b.by_modules parts
+            ∙ ap (λ (l : List LogEntry). modules_in own ++ l) s.parts
+            ∙ sym (append_assoc (modules_in own) s.calls s.more)) off
+            (stage_more chain (modules_in own) (modules_in own ++ s.calls) s.calls on on r.mid
+            s.first queued front refl o
+            (stage_so (PassedModules stood) chain (passed_on stood stand) (modules_in own) on r.mid
+            queued r.by_modules)
+            (all_so (PassesModules stand) chain (passes_on stood stand) s.calls s.first front
+            s.pass));
+      };
+      made = record {
+        mid = s.last;
+        by_app = t.more;
+        by_modules = s.more;
+        pass = t.pass_on;
+        made_so = s.pass_on;
+      };
+    }
+
 -- ---- the inner side alone
 
 -- what passed goes on where the inner side does, and no filter was called
 stands_on : (inner inner' : DownPast → Type 0) (allows : Standing → LogEntry → Type 0)
-    (seen : Seen) (mark first : ℕ) (a ended ended' u u' : Bool) (st : Option Fail)
-    (p p' : DownPast) (came' : List HttpTask)
-    (h : IsHooked inner allows seen mark first a ended u st p)
+    (method : List ℕ) (seen : Seen) (mark first : ℕ) (oh a ended ended' u u' rf stood : Bool)
+    (st : Option Fail) (p p' : DownPast) (came' queued' : List HttpTask)
+    (h : IsHooked inner allows method seen mark first oh a ended u rf stood st p)
     → (u' ≡ false → (u ≡ false) × (ended' ≡ ended))
-    → came' ≡ h.came → p'.put ≡ p.put → inner' (record p' { put = came' })
-    → IsHooked inner' allows seen mark first a ended' u' st p'
-stands_on inner inner' allows seen mark first a ended ended' u u' st p p' came' h plain is same
-    holds = record {
+    → came' ≡ h.came → queued' ≡ h.queued → p'.put ≡ p.put → p'.batched ≡ p.batched
+    → inner' (inside p' came' queued')
+    → IsHooked inner' allows method seen mark first oh a ended' u' rf stood st p'
+stands_on inner inner' allows method seen mark first oh a ended ended' u u' rf stood st p p' came'
+    queued' h plain is is' same same' holds = record {
       came = came';
+      queued = queued';
       holds = holds;
       before = h.before;
       own = h.own;
@@ -69,56 +328,35 @@ stands_on inner inner' allows seen mark first a ended ended' u u' st p p' came' 
           (sym both.1)
           (same_request a ended (requests_in h.own) (st ≡ None) h.came came' p.put p'.put is same
           (h.request both.0));
+      is_of_head = h.is_of_head;
+      response = same_response oh stood h.own (TakesOn st rf) p.batched p'.batched h.queued queued'
+          same' is' h.response;
       head = h.head;
       told = h.told;
     }
 
 -- the inner side went on
 pub goes_on : (inner inner' : DownPast → Type 0) (blames' : DownPast → Error → Type 0)
-    (allows : Standing → LogEntry → Type 0) (seen : Seen) (mark first : ℕ)
-    (a ended ended' u u' : Bool) (st : Option Fail) (p : DownPast)
-    (put_in put batched closing : List HttpTask) (error : Option Error)
-    (h : IsHooked inner allows seen mark first a ended u st p)
+    (allows : Standing → LogEntry → Type 0) (method : List ℕ) (seen : Seen) (mark first : ℕ)
+    (oh a ended ended' u u' rf stood : Bool) (st : Option Fail) (p : DownPast)
+    (put_in put batched_in batched closing : List HttpTask) (error : Option Error)
+    (h : IsHooked inner allows method seen mark first oh a ended u rf stood st p)
     → (u' ≡ false → (u ≡ false) × (ended' ≡ ended))
-    → put_in ≡ h.came → put ≡ p.put → DownGoes inner' blames' put_in batched closing error
-    → DownGoes (IsHooked inner' allows seen mark first a ended' u' st)
+    → put_in ≡ h.came → put ≡ p.put → batched_in ≡ h.queued → batched ≡ p.batched
+    → DownGoes inner' blames' put_in batched_in closing error
+    → DownGoes (IsHooked inner' allows method seen mark first oh a ended' u' rf stood st)
     (λ past e. BlamesOver inner' blames' st past e) put batched closing error
-goes_on inner inner' blames' allows seen mark first a ended ended' u u' st p put_in put batched
-    closing error h plain is same g = record {
-      past = record g.past { put = put };
+goes_on inner inner' blames' allows method seen mark first oh a ended ended' u u' rf stood st p
+    put_in put batched_in batched closing error h plain is same is' same' g = record {
+      past = record g.past { put = put; batched = batched };
       stands =
-          stands_on inner inner' allows seen mark first a ended ended' u u' st p
-          (record g.past { put = put }) g.past.put h plain (g.is_put ∙ is) same g.stands;
+          stands_on inner inner' allows method seen mark first oh a ended ended' u u' rf stood st p
+          (record g.past { put = put; batched = batched }) g.past.put g.past.batched h plain
+          (g.is_put ∙ is) (g.is_batched ∙ is') same same' g.stands;
       is_put = refl;
-      is_batched = g.is_batched;
+      is_batched = refl;
       is_closing = g.is_closing;
-      blamed = λ e told. inl (g.past.put, g.stands, g.blamed e told);
-    }
-
--- the inner side refused a batch
-pub refuses_on : (inner inner' : DownPast → Type 0)
-    (refuses' : DownPast → List HttpTask → Error → Type 0)
-    (allows : Standing → LogEntry → Type 0) (seen : Seen) (mark first : ℕ)
-    (a ended u u' : Bool) (st : Option Fail) (p : DownPast) (tasks : List HttpTask)
-    (why : Fail) (h : IsHooked inner allows seen mark first a ended u st p)
-    → (u' ≡ false → u ≡ false)
-    → BatchRefused inner' refuses' (record p { put = h.came }) tasks why
-    → BatchRefused (IsHooked inner' allows seen mark first a ended u' st)
-    (λ past left e. RefusesOver inner' refuses' past left e) p tasks why
-refuses_on inner inner' refuses' allows seen mark first a ended u u' st p tasks why h plain b =
-    record {
-      filtered = b.filtered;
-      left = b.left;
-      parts = b.parts;
-      past = record b.past { put = p.put };
-      stands =
-          stands_on inner inner' allows seen mark first a ended ended u u' st p
-          (record b.past { put = p.put }) b.past.put h (λ not_up. (plain not_up, refl))
-          b.is_put refl b.stands;
-      is_put = refl;
-      is_batched = b.is_batched;
-      is_closing = b.is_closing;
-      refused = λ e no_failure is. (b.past.put, b.stands, b.refused e no_failure is);
+      blamed = λ e told. inl (g.past.put, g.past.batched, g.stands, g.blamed e told);
     }
 
 -- a side that has stopped answers why
@@ -138,10 +376,11 @@ stays_stopped holds inner blames st why p put is same h = record {
 
 -- a side whose session has no head is none of which something passed
 pub no_head : {A : Type 0} (inner : DownPast → Type 0) (allows : Standing → LogEntry → Type 0)
-    (seen : Seen) (mark first : ℕ) (a ended u : Bool) (st : Option Fail) (p : DownPast)
-    → st ≡ None → (IsSome (head_of seen.downstream.reading) → ⊥)
-    → IsHooked inner allows seen mark first a ended u st p → A
-no_head inner allows seen mark first a ended u st p on none h = absurd (none (h.head on))
+    (method : List ℕ) (seen : Seen) (mark first : ℕ) (oh a ended u rf stood : Bool)
+    (st : Option Fail) (p : DownPast) → st ≡ None → (IsSome (head_of seen.downstream.reading) → ⊥)
+    → IsHooked inner allows method seen mark first oh a ended u rf stood st p → A
+no_head inner allows method seen mark first oh a ended u rf stood st p on none h =
+    absurd (none (h.head on))
 
 -- ---- a batch
 
@@ -163,11 +402,12 @@ not_opened ended false false stays plain = (refl, refl)
 -- ---- a piece
 
 -- what no call of a piece fails to say: the log, the walk and the head behind it
-module _ (inner : DownPast → Type 0) (allows : Standing → LogEntry → Type 0) (seen : Seen)
-    (mark first : ℕ) (a ended u : Bool) (p : DownPast)
-    (h : IsHooked inner allows seen mark first a ended u None p) (bytes : Option (List ℕ))
-    (end : Bool) (seen' : Seen) (mark' : ℕ) (left : Left)
-    (call : Calls allows hook.RequestBodyFilter (item.Piece bytes end) seen mark seen' mark' left)
+module _ (inner : DownPast → Type 0) (app : Standing → LogEntry → Type 0)
+    (modules : ModuleCall → Type 0) (method : List ℕ) (seen : Seen) (mark first : ℕ)
+    (oh a ended u rf stood : Bool) (p : DownPast)
+    (h : IsHooked inner (IsAllowed app modules) method seen mark first oh a ended u rf stood None p)
+    (bytes : Option (List ℕ)) (end : Bool) (seen' : Seen) (mark' : ℕ) (left : Left)
+    (call : Calls app hook.RequestBodyFilter (item.Piece bytes end) seen mark seen' mark' left)
   where
     -- its entry
     abbrev pub entered : LogEntry
@@ -179,19 +419,29 @@ module _ (inner : DownPast → Type 0) (allows : Standing → LogEntry → Type 
         call.log ∙ ap (λ (l : List LogEntry). l ++ entered ∷ []) h.parts
         ∙ append_assoc h.before h.own (entered ∷ [])
 
-    pub walks_on : (on : Type 0) → IsLogged allows (h.own ++ entered ∷ []) seen' mark' on
-    walks_on on = record {
+    pub walks_on : (st : Option Fail)
+        → IsLogged (IsAllowed app modules) (h.own ++ entered ∷ []) seen' mark' st
+    walks_on st = record {
       from = h.logged.from;
       to = standing None false (moment seen' mark');
       walk =
-          Walk-append (IsAllowed allows NoModule) h.own (entered ∷ []) h.logged.from
+          Walk-append (IsAllowed app modules) h.own (entered ∷ []) h.logged.from
           (standing None false (moment seen mark)) (standing None false (moment seen' mark'))
-          (subst (λ (s : Standing). Walk (IsAllowed allows NoModule) h.logged.from h.own s)
-          (h.logged.at refl) h.logged.walk)
-          (CallsOf-walks allows NoModule None false hook.RequestBodyFilter (item.Piece bytes end)
+          (subst (λ (s : Standing). Walk (IsAllowed app modules) h.logged.from h.own s)
+          (h.logged.at going_on) h.logged.walk)
+          (CallsOf-walks app modules None false hook.RequestBodyFilter (item.Piece bytes end)
           seen mark seen' mark' left call refl);
       at = λ so. refl;
     }
+
+    -- the response is as it was
+    pub response_as : (st : Option Fail) → (TakesOn st rf → TakesOn None rf)
+        → MakesOf oh stood (h.own ++ entered ∷ []) (TakesOn st rf) p.batched h.queued
+    response_as st off =
+        response_on oh stood h.own (h.own ++ entered ∷ []) (TakesOn None rf) (TakesOn st rf)
+        p.batched h.queued (responses_in-append h.own (entered ∷ []) ∙ append-nil
+        (responses_in h.own)) (modules_in-append h.own (entered ∷ []) ∙ append-nil
+        (modules_in h.own)) off h.response
 
     pub head_on : IsSome (head_of seen'.downstream.reading)
     head_on =
@@ -203,73 +453,95 @@ module _ (inner : DownPast → Type 0) (allows : Standing → LogEntry → Type 
 
 -- a piece was read and filtered
 reads_open : (inner inner' : DownPast → Type 0) (blames' : DownPast → Error → Type 0)
-    (allows : Standing → LogEntry → Type 0) (seen : Seen) (mark first : ℕ)
-    (a ended u u' : Bool) (p : DownPast) (piece made : Piece) (seen' : Seen) (mark' : ℕ)
-    (h : IsHooked inner allows seen mark first a ended u None p) → u' ≡ u
-    → Filtered allows ended piece made seen mark seen' mark'
-    → DownGoes inner' blames' (h.came ++ put_of u piece) p.batched p.closing None
-    → DownGoes (IsHooked inner' allows seen' mark' first a (ended || made.upstream_end) u' None)
+    (app : Standing → LogEntry → Type 0) (modules : ModuleCall → Type 0) (method : List ℕ)
+    (seen : Seen) (mark first : ℕ) (oh a ended u u' rf stood : Bool) (p : DownPast)
+    (piece made : Piece) (seen' : Seen) (mark' : ℕ)
+    (h : IsHooked inner (IsAllowed app modules) method seen mark first oh a ended u rf stood None p)
+    → u' ≡ u
+    → Filtered app ended piece made seen mark seen' mark'
+    → DownGoes inner' blames' (h.came ++ put_of u piece) h.queued p.closing None
+    → DownGoes (IsHooked inner' (IsAllowed app modules) method seen' mark' first oh a
+    (ended || made.upstream_end) u' rf stood None)
     (λ past e. BlamesOver inner' blames' None past e) (p.put ++ put_of u made) p.batched p.closing
     None
-reads_open inner inner' blames' allows seen mark first a ended u u' p piece made seen' mark' h
+reads_open inner inner' blames' app modules method seen mark first oh a ended u u' rf stood p piece
+    made seen' mark' h
     up f g =
     let end = is_last piece in
     let left = f.left in
-    let e = entered inner allows seen mark first a ended u p h piece.bytes end seen' mark'
+    let e = entered inner app modules method seen mark first oh a ended u rf stood p h piece.bytes
+    end seen' mark'
     (only (item.Piece left end)) f.call in
     let one = piece_of ended end piece.client_end (is_some piece.bytes) left in
     subst (λ (m : Piece). DownGoes
-    (IsHooked inner' allows seen' mark' first a (ended || m.upstream_end) u' None)
+    (IsHooked inner' (IsAllowed app modules) method seen' mark' first oh a
+    (ended || m.upstream_end) u' rf stood None)
     (λ past e. BlamesOver inner' blames' None past e) (p.put ++ put_of u m) p.batched p.closing
     None) (sym f.is_made)
     (record {
-      past = record g.past { put = p.put ++ put_of u one };
+      past = record g.past { put = p.put ++ put_of u one; batched = p.batched };
       stands = record {
         came = g.past.put;
+        queued = g.past.batched;
         holds = g.stands;
         before = h.before;
         own = h.own ++ e ∷ [];
-        parts = parts_on inner allows seen mark first a ended u p h piece.bytes end seen' mark'
+        parts = parts_on inner app modules method seen mark first oh a ended u rf stood p h
+            piece.bytes end seen' mark'
             (only (item.Piece left end)) f.call;
         began = h.began;
-        logged = walks_on inner allows seen mark first a ended u p h piece.bytes end seen' mark'
-            (only (item.Piece left end)) f.call Going;
+        logged = walks_on inner app modules method seen mark first oh a ended u rf stood p h
+            piece.bytes end seen' mark'
+            (only (item.Piece left end)) f.call None;
         request = λ plain.
             let low = sym up ∙ plain in
             subst (λ (l : List LogEntry). PassesRequest a (ended || one.upstream_end) l
             Going g.past.put (p.put ++ put_of u one))
-            (sym (requests_on inner allows seen mark first a ended u p h piece.bytes end seen'
+            (sym (requests_on inner app modules method seen mark first oh a ended u rf stood p h
+            piece.bytes end seen'
             mark' (only (item.Piece left end)) f.call))
             (one_piece a ended end piece.client_end u (requests_in h.own) Going h.came
             g.past.put p.put (p.put ++ put_of u one) piece left e refl (h.request low) g.is_put
             (ap (λ (b : Bool). p.put ++ put_of b one) low) refl refl refl);
+        is_of_head = h.is_of_head;
+        response =
+            same_response oh stood (h.own ++ e ∷ []) (TakesOn None rf) p.batched p.batched h.queued
+            g.past.batched refl g.is_batched
+            (response_as inner app modules method seen mark first oh a ended u rf stood p h
+            piece.bytes end seen' mark' (only (item.Piece left end)) f.call None (λ so. so));
         head = λ on.
-            head_on inner allows seen mark first a ended u p h piece.bytes end seen' mark'
+            head_on inner app modules method seen mark first oh a ended u rf stood p h piece.bytes
+            end seen' mark'
             (only (item.Piece left end)) f.call;
         told = λ e is. cc;
       };
       is_put = refl;
-      is_batched = g.is_batched;
+      is_batched = refl;
       is_closing = g.is_closing;
       blamed = λ e isnt. cc;
     })
 
 -- the filter refused a piece, or memory was wanted
 stops_open : (inner inner' : DownPast → Type 0) (blames' : DownPast → Error → Type 0)
-    (allows : Standing → LogEntry → Type 0) (seen : Seen) (mark first : ℕ)
-    (a ended u u' : Bool) (p : DownPast) (piece : Piece) (why : Fail) (put : List HttpTask)
-    (seen' : Seen) (mark' : ℕ) (h : IsHooked inner allows seen mark first a ended u None p)
+    (app : Standing → LogEntry → Type 0) (modules : ModuleCall → Type 0) (method : List ℕ)
+    (seen : Seen) (mark first : ℕ) (oh a ended u u' rf stood : Bool) (p : DownPast) (piece : Piece)
+    (why : Fail) (put : List HttpTask)
+    (seen' : Seen) (mark' : ℕ) (h : IsHooked inner (IsAllowed app modules) method seen mark first
+    oh a ended u rf stood None p)
     → u' ≡ u → put ≡ p.put
-    → Filters allows ended piece (Err why) seen mark seen' mark'
-    → DownGoes inner' blames' (h.came ++ put_of u piece) p.batched p.closing None
-    → DownGoes (IsHooked inner' allows seen' mark' first a ended u' (Some why))
+    → Filters app ended piece (Err why) seen mark seen' mark'
+    → DownGoes inner' blames' (h.came ++ put_of u piece) h.queued p.closing None
+    → DownGoes (IsHooked inner' (IsAllowed app modules) method seen' mark' first oh a ended u' rf
+    stood (Some why))
     (λ past e. BlamesOver inner' blames' (Some why) past e) put p.batched p.closing
     (error_of_fail why)
-stops_open inner inner' blames' allows seen mark first a ended u u' p piece fail.OutOfMemory
+stops_open inner inner' blames' app modules method seen mark first oh a ended u u' rf stood p piece
+    fail.OutOfMemory
     put seen' mark' h up same f g = record {
-      past = record g.past { put = put };
+      past = record g.past { put = put; batched = p.batched };
       stands = record {
         came = g.past.put;
+        queued = g.past.batched;
         holds = g.stands;
         before = h.before;
         own = h.own;
@@ -279,56 +551,69 @@ stops_open inner inner' blames' allows seen mark first a ended u u' p piece fail
           from = h.logged.from;
           to = h.logged.to;
           walk = h.logged.walk;
-          at = λ so. some_none fail.OutOfMemory so;
+          at = λ so. absurd (so refl);
         };
         request = λ plain.
             one_lost a ended u (requests_in h.own) Going (Some fail.OutOfMemory ≡ None)
             h.came g.past.put p.put put piece (λ so. some_none fail.OutOfMemory so)
             (h.request (sym up ∙ plain)) g.is_put same;
+        is_of_head = h.is_of_head;
+        response =
+            same_response oh stood h.own (TakesOn (Some fail.OutOfMemory) rf) p.batched p.batched
+            h.queued g.past.batched refl g.is_batched
+            (response_on oh stood h.own h.own (TakesOn None rf) (TakesOn (Some fail.OutOfMemory) rf)
+            p.batched h.queued refl refl (λ so. some_none fail.OutOfMemory so.0) h.response);
         head = λ so. some_none fail.OutOfMemory so;
         told = λ e is. cc;
       };
       is_put = refl;
-      is_batched = g.is_batched;
+      is_batched = refl;
       is_closing = g.is_closing;
       blamed = λ e isnt. cc;
     }
-stops_open inner inner' blames' allows seen mark first a ended u u' p piece
+stops_open inner inner' blames' app modules method seen mark first oh a ended u u' rf stood p piece
     (fail.Error error) put seen' mark' h up same f g =
     let end = is_last piece in
     let left = failed (item.Piece f.left end) error in
-    let e = entered inner allows seen mark first a ended u p h piece.bytes end seen' mark' left
+    let e = entered inner app modules method seen mark first oh a ended u rf stood p h piece.bytes
+    end seen' mark' left
     f.call in
     record {
-      past = record g.past { put = put };
+      past = record g.past { put = put; batched = p.batched };
       stands = record {
         came = g.past.put;
+        queued = g.past.batched;
         holds = g.stands;
         before = h.before;
         own = h.own ++ e ∷ [];
-        parts = parts_on inner allows seen mark first a ended u p h piece.bytes end seen' mark'
+        parts = parts_on inner app modules method seen mark first oh a ended u rf stood p h
+            piece.bytes end seen' mark'
             left f.call;
         began = h.began;
-        logged = walks_on inner allows seen mark first a ended u p h piece.bytes end seen' mark'
-            left f.call (Some (fail.Error error) ≡ None);
+        logged = walks_on inner app modules method seen mark first oh a ended u rf stood p h
+            piece.bytes end seen' mark'
+            left f.call (Some (fail.Error error));
         request = λ plain.
             subst (λ (l : List LogEntry). PassesRequest a ended l (Some (fail.Error error) ≡ None)
             g.past.put put)
-            (sym (requests_on inner allows seen mark first a ended u p h piece.bytes end seen'
+            (sym (requests_on inner app modules method seen mark first oh a ended u rf stood p h
+            piece.bytes end seen'
             mark' left f.call))
             (one_refused a ended end u (requests_in h.own) Going
             (Some (fail.Error error) ≡ None) h.came g.past.put p.put put piece e refl
             (h.request (sym up ∙ plain)) g.is_put same refl refl);
+        is_of_head = h.is_of_head;
+        response =
+            same_response oh stood (h.own ++ e ∷ []) (TakesOn (Some (fail.Error error)) rf)
+            p.batched p.batched h.queued g.past.batched refl g.is_batched
+            (response_as inner app modules method seen mark first oh a ended u rf stood p h
+            piece.bytes end seen' mark' left f.call (Some (fail.Error error))
+            (λ so. some_none (fail.Error error) so.0));
         head = λ so. some_none (fail.Error error) so;
-        told = λ x is. record {
-          front = h.own;
-          last = e;
-          parts = refl;
-          says = error_in is;
-        };
+        told = λ x is. by_hook h.own e refl (error_in is);
       };
       is_put = refl;
-      is_batched = g.is_batched;
+      is_batched = refl;
       is_closing = g.is_closing;
       blamed = λ x told. inr (ap Some (fail_is (fail.Error error) x told));
     }
@@ -340,58 +625,466 @@ stops_open inner inner' blames' allows seen mark first a ended u u' p piece
 
 -- a piece was read and filtered
 pub reads_piece : (inner inner' : DownPast → Type 0) (blames' : DownPast → Error → Type 0)
-    (allows : Standing → LogEntry → Type 0) (seen : Seen) (mark first : ℕ)
-    (a ended u u' : Bool) (st : Option Fail) (p : DownPast) (piece made : Piece)
+    (app : Standing → LogEntry → Type 0) (modules : ModuleCall → Type 0) (method : List ℕ)
+    (seen : Seen) (mark first : ℕ) (oh a ended u u' rf stood : Bool) (st : Option Fail)
+    (p : DownPast) (piece made : Piece)
     (seen' : Seen) (mark' : ℕ) → st ≡ None
-    → (h : IsHooked inner allows seen mark first a ended u st p) → u' ≡ u
-    → Filtered allows ended piece made seen mark seen' mark'
-    → DownGoes inner' blames' (h.came ++ put_of u piece) p.batched p.closing None
-    → DownGoes (IsHooked inner' allows seen' mark' first a (ended || made.upstream_end) u' st)
+    → (h : IsHooked inner (IsAllowed app modules) method seen mark first oh a ended u rf stood st p)
+    → u' ≡ u
+    → Filtered app ended piece made seen mark seen' mark'
+    → DownGoes inner' blames' (h.came ++ put_of u piece) h.queued p.closing None
+    → DownGoes (IsHooked inner' (IsAllowed app modules) method seen' mark' first oh a
+    (ended || made.upstream_end) u' rf stood st)
     (λ past e. BlamesOver inner' blames' st past e) (p.put ++ put_of u made) p.batched p.closing
     None
-reads_piece inner inner' blames' allows seen mark first a ended u u' (Some why) p piece made
+reads_piece inner inner' blames' app modules method seen mark first oh a ended u u' rf stood
+    (Some why) p piece made
     seen' mark' on h = some_none why on
-reads_piece inner inner' blames' allows seen mark first a ended u u' None p piece made seen'
+reads_piece inner inner' blames' app modules method seen mark first oh a ended u u' rf stood None p
+    piece made seen'
     mark' on h =
-    reads_open inner inner' blames' allows seen mark first a ended u u' p piece made seen'
+    reads_open inner inner' blames' app modules method seen mark first oh a ended u u' rf stood p
+    piece made seen'
     mark' h
 
 -- the filter refused a piece, or memory was wanted
 pub stops_at : (inner inner' : DownPast → Type 0) (blames' : DownPast → Error → Type 0)
-    (allows : Standing → LogEntry → Type 0) (seen : Seen) (mark first : ℕ)
-    (a ended u u' : Bool) (st : Option Fail) (p : DownPast) (piece : Piece) (why : Fail)
+    (app : Standing → LogEntry → Type 0) (modules : ModuleCall → Type 0) (method : List ℕ)
+    (seen : Seen) (mark first : ℕ) (oh a ended u u' rf stood : Bool) (st : Option Fail)
+    (p : DownPast) (piece : Piece) (why : Fail)
     (put : List HttpTask) (seen' : Seen) (mark' : ℕ) → st ≡ None
-    → (h : IsHooked inner allows seen mark first a ended u st p) → u' ≡ u
+    → (h : IsHooked inner (IsAllowed app modules) method seen mark first oh a ended u rf stood st p)
+    → u' ≡ u
     → put ≡ p.put
-    → Filters allows ended piece (Err why) seen mark seen' mark'
-    → DownGoes inner' blames' (h.came ++ put_of u piece) p.batched p.closing None
-    → DownGoes (IsHooked inner' allows seen' mark' first a ended u' (Some why))
+    → Filters app ended piece (Err why) seen mark seen' mark'
+    → DownGoes inner' blames' (h.came ++ put_of u piece) h.queued p.closing None
+    → DownGoes (IsHooked inner' (IsAllowed app modules) method seen' mark' first oh a ended u' rf
+    stood (Some why))
     (λ past e. BlamesOver inner' blames' (Some why) past e) put p.batched p.closing
     (error_of_fail why)
-stops_at inner inner' blames' allows seen mark first a ended u u' (Some before) p piece why put
+stops_at inner inner' blames' app modules method seen mark first oh a ended u u' rf stood
+    (Some before) p piece why put
     seen' mark' on h = some_none before on
-stops_at inner inner' blames' allows seen mark first a ended u u' None p piece why put seen'
+stops_at inner inner' blames' app modules method seen mark first oh a ended u u' rf stood None p
+    piece why put seen'
     mark' on h =
-    stops_open inner inner' blames' allows seen mark first a ended u u' p piece why put seen'
+    stops_open inner inner' blames' app modules method seen mark first oh a ended u u' rf stood p
+    piece why put seen'
     mark' h
+
+-- ---- a batch
+
+-- the calls of a batch behind those before
+module _ (allows : Standing → LogEntry → Type 0) (own : List LogEntry) (seen : Seen) (mark : ℕ)
+    (l : IsLogged allows own seen mark None) (seen' : Seen) (es : List LogEntry) where
+  -- they lead up to the session and the mark as they are
+  logs_on : (mark' : ℕ) (st : Option Fail) → Adds allows seen mark seen' mark' es
+      → IsLogged allows (own ++ es) seen' mark' st
+  logs_on mark' st a = record {
+    from = l.from;
+    to = standing None false (moment seen' mark');
+    walk = Walk-append allows own es l.from (standing None false (moment seen mark))
+        (standing None false (moment seen' mark'))
+        (subst (λ (s : Standing). Walk allows l.from own s) (l.at going_on) l.walk) a.walk;
+    at = λ so. refl;
+  }
+
+  -- where memory was wanted that is not said
+  logs_some : (mark' : ℕ) → AddsSome allows seen mark seen' es
+      → IsLogged allows (own ++ es) seen' mark' (Some fail.OutOfMemory)
+  logs_some mark' a = record {
+    from = l.from;
+    to = a.to;
+    walk = Walk-append allows own es l.from (standing None false (moment seen mark)) a.to
+        (subst (λ (s : Standing). Walk allows l.from own s) (l.at going_on) l.walk) a.walk;
+    at = λ so. absurd (so refl);
+  }
+
+-- the log behind the calls of a batch
+parts_behind : (before own es log log' : List LogEntry) → log ≡ before ++ own → log' ≡ log ++ es
+    → log' ≡ before ++ (own ++ es)
+parts_behind before own es log log' is is' =
+    is' ∙ ap (λ (l : List LogEntry). l ++ es) is ∙ append_assoc before own es
+
+-- the request is as it was
+request_same : (a ended : Bool) (own own' : List LogEntry) (on on' : Type 0)
+    (came came' put put' : List HttpTask) → requests_in own' ≡ requests_in own → (on' → on)
+    → came' ≡ came → put' ≡ put → PassesRequest a ended (requests_in own) on came put
+    → PassesRequest a ended (requests_in own') on' came' put'
+request_same a ended own own' on on' came came' put put' is off same same' r =
+    subst (λ (l : List LogEntry). PassesRequest a ended l on' came' put') (sym is)
+    (same_request a ended (requests_in own) on' came came' put put' same same'
+    (record {
+      rest = r.rest;
+      read = r.read;
+      all = λ o. r.all (off o);
+      left = r.left;
+      is_ended = r.is_ended;
+    }))
+
+-- a batch passed, and the inner side queued it
+batch_open : (inner inner' : DownPast → Type 0) (blames' : DownPast → Error → Type 0)
+    (allows : Standing → LogEntry → Type 0) (method : List ℕ) (seen : Seen) (mark first : ℕ)
+    (oh a ended ended' u u' stood stand : Bool) (p : DownPast) (tasks made : List HttpTask)
+    (seen' : Seen)
+    (mark' : ℕ) (h : IsHooked inner allows method seen mark first oh a ended u false stood None p)
+    → (u' ≡ false → (u ≡ false) × (ended' ≡ ended))
+    → Outcome allows (λ es out. BatchPasses oh stand tasks es out) (BatchStops oh stand tasks)
+    (Refuses oh) (Ok made) seen mark seen' mark'
+    → DownGoes inner' blames' h.came (h.queued ++ made) p.closing None
+    → DownGoes (IsHooked inner' allows method seen' mark' first oh a ended' u' false
+    (stood && stand) None)
+    (λ past e. BlamesOver inner' blames' None past e) p.put (p.batched ++ tasks) p.closing None
+batch_open inner inner' blames' allows method seen mark first oh a ended ended' u u' stood stand p
+    tasks made seen' mark' h plain (es, adds, b) g =
+    let parts = batch_parts oh stand tasks es made b in
+    record {
+      past = record g.past { put = p.put; batched = p.batched ++ tasks };
+      stands = record {
+        came = g.past.put;
+        queued = g.past.batched;
+        holds = g.stands;
+        before = h.before;
+        own = h.own ++ es;
+        parts = parts_behind h.before h.own es seen.log seen'.log h.parts adds.log;
+        began = h.began;
+        logged = logs_on allows h.own seen mark h.logged seen' es mark' None adds;
+        request = λ not_up.
+            let both = plain not_up in
+            subst (λ (b : Bool). PassesRequest a b (requests_in (h.own ++ es)) Going g.past.put
+            p.put) (sym both.1)
+            (request_same a ended h.own (h.own ++ es) Going Going h.came g.past.put p.put p.put
+            (requests_same h.own es b.by_app b.by_modules parts) (λ so. so) g.is_put refl
+            (h.request both.0));
+        is_of_head = h.is_of_head;
+        response =
+            same_response oh (stood && stand) (h.own ++ es) (TakesOn None false)
+            (p.batched ++ tasks) (p.batched ++ tasks) (h.queued ++ made) g.past.batched refl
+            g.is_batched (makes_on oh stood stand h.own es (TakesOn None false) (TakesOn None false)
+            p.batched tasks h.queued made (refl, refl) h.response b);
+        head = λ on. adds.head;
+        told = λ e is. cc;
+      };
+      is_put = refl;
+      is_batched = refl;
+      is_closing = g.is_closing;
+      blamed = λ e isnt. cc;
+    }
+
+-- a batch was refused by a filter, or memory was wanted: nothing of it is queued
+stops_batch : (inner : DownPast → Type 0) (refuses : DownPast → List HttpTask → Error → Type 0)
+    (allows : Standing → LogEntry → Type 0) (method : List ℕ) (seen : Seen) (mark first : ℕ)
+    (oh a ended u stood stand : Bool) (p : DownPast) (tasks : List HttpTask) (why : Fail)
+    (seen' : Seen)
+    (mark' : ℕ) → IsHooked inner allows method seen mark first oh a ended u false stood None p
+    → Outcome {Y = List HttpTask} allows (λ es out. BatchPasses oh stand tasks es out)
+    (BatchStops oh stand tasks) (Refuses oh) (Err why) seen mark seen' mark'
+    → BatchRefused (IsHooked inner allows method seen' mark' first oh a ended u false stood
+    (Some why)) (λ past left e. RefusesOver inner refuses oh stand (Some why) seen'.log past left e)
+    p tasks why
+stops_batch inner refuses allows method seen mark first oh a ended u stood stand p tasks
+    (fail.Error error) seen' mark' h (es, adds, fed, refused) =
+    let parts = stop_parts oh stand tasks es fed in
+    record {
+      filtered = [];
+      left = tasks;
+      parts = refl;
+      past = p;
+      stands = record {
+        came = h.came;
+        queued = h.queued;
+        holds = h.holds;
+        before = h.before;
+        own = h.own ++ es;
+        parts = parts_behind h.before h.own es seen.log seen'.log h.parts adds.log;
+        began = h.began;
+        logged = logs_on allows h.own seen mark h.logged seen' es mark' (Some (fail.Error error))
+            adds;
+        request = λ not_up.
+            request_same a ended h.own (h.own ++ es) Going (Some (fail.Error error) ≡ None) h.came
+            h.came p.put p.put (requests_same h.own es parts.apps parts.modules parts.are)
+            (λ so. some_none (fail.Error error) so) refl refl (h.request not_up);
+        is_of_head = h.is_of_head;
+        response =
+            makes_drop oh stood h.own es (TakesOn None false)
+            (TakesOn (Some (fail.Error error)) false) p.batched h.queued
+            (λ so. some_none (fail.Error error) so.0) parts h.response;
+        head = λ so. some_none (fail.Error error) so;
+        told = λ x is.
+            subst (λ (y : Error). Refuses oh y (h.own ++ es)) (error_in is)
+            (refuses_behind oh error h.own es refused);
+      };
+      is_put = refl;
+      is_batched = sym (append-nil p.batched);
+      is_closing = refl;
+      refused = λ x no_failure is.
+          by_filter seen.log es adds.log fed
+          (subst (λ (y : Error). Refuses oh y es) (error_is is) refused);
+    }
+  where
+    error_in : {x : Error} → Some (fail.Error error) ≡ Some (fail.Error x) → error ≡ x
+    error_in is = cc
+
+    error_is : {x : Error} → fail.Error error ≡ fail.Error x → error ≡ x
+    error_is is = cc
+stops_batch inner refuses allows method seen mark first oh a ended u stood stand p tasks
+    fail.OutOfMemory seen' mark' h (es, adds, fed) =
+    let parts = stop_parts oh stand tasks es fed in
+    record {
+      filtered = [];
+      left = tasks;
+      parts = refl;
+      past = p;
+      stands = record {
+        came = h.came;
+        queued = h.queued;
+        holds = h.holds;
+        before = h.before;
+        own = h.own ++ es;
+        parts = parts_behind h.before h.own es seen.log seen'.log h.parts adds.log;
+        began = h.began;
+        logged = logs_some allows h.own seen mark h.logged seen' es mark' adds;
+        request = λ not_up.
+            request_same a ended h.own (h.own ++ es) Going (Some fail.OutOfMemory ≡ None) h.came
+            h.came p.put p.put (requests_same h.own es parts.apps parts.modules parts.are)
+            (λ so. some_none fail.OutOfMemory so) refl refl (h.request not_up);
+        is_of_head = h.is_of_head;
+        response =
+            makes_drop oh stood h.own es (TakesOn None false)
+            (TakesOn (Some fail.OutOfMemory) false) p.batched h.queued
+            (λ so. some_none fail.OutOfMemory so.0) parts h.response;
+        head = λ so. some_none fail.OutOfMemory so;
+        told = λ x is. cc;
+      };
+      is_put = refl;
+      is_batched = sym (append-nil p.batched);
+      is_closing = refl;
+      refused = λ x no_failure is. cc;
+    }
+
+-- a batch passed, and the inner side refused it
+refused_open : (inner inner' : DownPast → Type 0)
+    (refuses' : DownPast → List HttpTask → Error → Type 0)
+    (allows : Standing → LogEntry → Type 0) (method : List ℕ) (seen : Seen) (mark first : ℕ)
+    (oh a ended u u' stood stand : Bool) (p : DownPast) (tasks made : List HttpTask) (why : Fail)
+    (seen' : Seen)
+    (mark' : ℕ) (h : IsHooked inner allows method seen mark first oh a ended u false stood None p)
+    → (u' ≡ false → u ≡ false)
+    → list_any is_failure made ≡ list_any is_failure tasks
+    → Outcome allows (λ es out. BatchPasses oh stand tasks es out) (BatchStops oh stand tasks)
+    (Refuses oh) (Ok made) seen mark seen' mark'
+    → BatchRefused inner' refuses' (inside p h.came h.queued) made why
+    → BatchRefused (IsHooked inner' allows method seen' mark' first oh a ended u' true
+    (stood && stand) None)
+    (λ past left e. RefusesOver inner' refuses' oh stand None seen'.log past left e) p tasks why
+refused_open inner inner' refuses' allows method seen mark first oh a ended u u' stood stand p tasks
+    made why seen' mark' h plain same (es, adds, b) g =
+    let parts = batch_parts oh stand tasks es made b in
+    let t = makes_front oh stood stand h.own es (TakesOn None false) (TakesOn None true) p.batched
+    tasks h.queued made g.filtered g.left (refl, refl) (λ so. not_taken so.1) g.parts h.response b
+    in
+    record {
+      filtered = t.first;
+      left = t.last;
+      parts = t.are;
+      past = record g.past { put = p.put; batched = p.batched ++ t.first };
+      stands = record {
+        came = g.past.put;
+        queued = g.past.batched;
+        holds = g.stands;
+        before = h.before;
+        own = h.own ++ es;
+        parts = parts_behind h.before h.own es seen.log seen'.log h.parts adds.log;
+        began = h.began;
+        logged = logs_on allows h.own seen mark h.logged seen' es mark' None adds;
+        request = λ not_up.
+            request_same a ended h.own (h.own ++ es) Going Going h.came g.past.put p.put p.put
+            (requests_same h.own es b.by_app b.by_modules parts) (λ so. so) g.is_put refl
+            (h.request (plain not_up));
+        is_of_head = h.is_of_head;
+        response =
+            same_response oh (stood && stand) (h.own ++ es) (TakesOn None true)
+            (p.batched ++ t.first)
+            (p.batched ++ t.first) (h.queued ++ g.filtered) g.past.batched refl g.is_batched
+            t.makes;
+        head = λ on. adds.head;
+        told = λ e is. cc;
+      };
+      is_put = refl;
+      is_batched = refl;
+      is_closing = g.is_closing;
+      refused = λ e no_failure is.
+          by_inner g.past.put g.past.batched g.left g.stands t.made
+          (g.refused e (same ∙ no_failure) is);
+    }
+  where
+    not_taken : true ≡ false → ⊥
+    not_taken is = cc
+
+-- a side that takes on, by its flags
+pub batch_goes : (inner inner' : DownPast → Type 0) (blames' : DownPast → Error → Type 0)
+    (allows : Standing → LogEntry → Type 0) (method : List ℕ) (seen : Seen) (mark first : ℕ)
+    (oh a ended ended' u u' rf stood stand : Bool) (st : Option Fail) (has : Bool) (p : DownPast)
+    (tasks made : List HttpTask) (seen' : Seen) (mark' : ℕ)
+    → refused_at_once st rf has tasks ≡ None
+    → (h : IsHooked inner allows method seen mark first oh a ended u rf stood st p)
+    → (u' ≡ false → (u ≡ false) × (ended' ≡ ended))
+    → Outcome allows (λ es out. BatchPasses oh stand tasks es out) (BatchStops oh stand tasks)
+    (Refuses oh) (Ok made) seen mark seen' mark'
+    → DownGoes inner' blames' h.came (h.queued ++ made) p.closing None
+    → DownGoes (IsHooked inner' allows method seen' mark' first oh a ended' u' rf (stood && stand)
+    st) (λ past e. BlamesOver inner' blames' st past e) p.put (p.batched ++ tasks) p.closing None
+batch_goes inner inner' blames' allows method seen mark first oh a ended ended' u u' rf stood stand
+    (Some why) has p tasks made seen' mark' on h = some_none _ on
+batch_goes inner inner' blames' allows method seen mark first oh a ended ended' u u' true stood
+    stand None has p tasks made seen' mark' on h = some_none _ on
+batch_goes inner inner' blames' allows method seen mark first oh a ended ended' u u' false stood
+    stand None has p tasks made seen' mark' on h =
+    batch_open inner inner' blames' allows method seen mark first oh a ended ended' u u' stood stand
+    p tasks made seen' mark' h
+
+pub batch_stops : (inner : DownPast → Type 0) (refuses : DownPast → List HttpTask → Error → Type 0)
+    (allows : Standing → LogEntry → Type 0) (method : List ℕ) (seen : Seen) (mark first : ℕ)
+    (oh a ended u rf stood stand : Bool) (st : Option Fail) (has : Bool) (p : DownPast)
+    (tasks : List HttpTask) (why : Fail) (seen' : Seen) (mark' : ℕ)
+    → refused_at_once st rf has tasks ≡ None
+    → IsHooked inner allows method seen mark first oh a ended u rf stood st p
+    → Outcome {Y = List HttpTask} allows (λ es out. BatchPasses oh stand tasks es out)
+    (BatchStops oh stand tasks) (Refuses oh) (Err why) seen mark seen' mark'
+    → BatchRefused (IsHooked inner allows method seen' mark' first oh a ended u rf stood (Some why))
+    (λ past left e. RefusesOver inner refuses oh stand (Some why) seen'.log past left e) p tasks why
+batch_stops inner refuses allows method seen mark first oh a ended u rf stood stand (Some before)
+    has p tasks why seen' mark' on h = some_none _ on
+batch_stops inner refuses allows method seen mark first oh a ended u true stood stand None has p
+    tasks why seen' mark' on h = some_none _ on
+batch_stops inner refuses allows method seen mark first oh a ended u false stood stand None has p
+    tasks why seen' mark' on h =
+    stops_batch inner refuses allows method seen mark first oh a ended u stood stand p tasks why
+    seen' mark' h
+
+pub batch_refused : (inner inner' : DownPast → Type 0)
+    (refuses' : DownPast → List HttpTask → Error → Type 0)
+    (allows : Standing → LogEntry → Type 0) (method : List ℕ) (seen : Seen) (mark first : ℕ)
+    (oh a ended u u' rf stood stand : Bool) (st : Option Fail) (has : Bool) (p : DownPast)
+    (tasks made : List HttpTask) (why : Fail) (seen' : Seen) (mark' : ℕ)
+    → refused_at_once st rf has tasks ≡ None
+    → (h : IsHooked inner allows method seen mark first oh a ended u rf stood st p)
+    → (u' ≡ false → u ≡ false) → list_any is_failure made ≡ list_any is_failure tasks
+    → Outcome allows (λ es out. BatchPasses oh stand tasks es out) (BatchStops oh stand tasks)
+    (Refuses oh) (Ok made) seen mark seen' mark'
+    → BatchRefused inner' refuses' (inside p h.came h.queued) made why
+    → BatchRefused (IsHooked inner' allows method seen' mark' first oh a ended u' true
+    (stood && stand) st)
+    (λ past left e. RefusesOver inner' refuses' oh stand st seen'.log past left e) p tasks why
+batch_refused inner inner' refuses' allows method seen mark first oh a ended u u' rf stood stand
+    (Some before) has p tasks made why seen' mark' on h = some_none _ on
+batch_refused inner inner' refuses' allows method seen mark first oh a ended u u' true stood stand
+    None has p tasks made why seen' mark' on h = some_none _ on
+batch_refused inner inner' refuses' allows method seen mark first oh a ended u u' false stood stand
+    None has p tasks made why seen' mark' on h =
+    refused_open inner inner' refuses' allows method seen mark first oh a ended u u' stood stand p
+    tasks made why seen' mark' h
+
+-- without a failure the error of a batch that is refused at once is that of the stop
+no_failure_first : (tasks : List HttpTask) → list_any is_failure tasks ≡ false
+    → failure_in_front tasks ≡ None
+no_failure_first [] plain = refl
+no_failure_first (task.Header head end ∷ tasks) plain = refl
+no_failure_first (task.Body bytes end ∷ tasks) plain = refl
+no_failure_first (task.UpgradedBody bytes end ∷ tasks) plain = refl
+no_failure_first (task.Trailer fields ∷ tasks) plain = refl
+no_failure_first (task.Done ∷ tasks) plain = refl
+no_failure_first (task.Failed error ∷ tasks) plain = cc
+
+at_once_by : (st : Option Fail) (rf has : Bool) (tasks : List HttpTask) (why : Fail) (e : Error)
+    → refused_at_once st rf has tasks ≡ Some why → list_any is_failure tasks ≡ false
+    → why ≡ fail.Error e → st ≡ Some (fail.Error e)
+at_once_by (Some before) rf has tasks why e is plain told =
+    sym (ap (λ (o : Option Error). Some (unwrap_or (option_map fail.Error o) before))
+    (no_failure_first tasks plain)) ∙ is ∙ ap Some told
+at_once_by None true has tasks why e is plain told =
+    no_memory (sym (ap (λ (o : Option Error).
+    Some (unwrap_or (option_map fail.Error o) fail.OutOfMemory))
+    (no_failure_first tasks plain)) ∙ is ∙ ap Some told)
+at_once_by None false true tasks why e is plain told = some_none why (sym is)
+at_once_by None false false tasks why e is plain told = no_memory (is ∙ ap Some told)
+
+-- a failure alone is refused with its error
+pub alone_at_once : (st : Option Fail) (rf has : Bool) (tasks : List HttpTask) (why : Fail)
+    (error : Error) → refused_at_once st rf has tasks ≡ Some why → tasks ≡ task.Failed error ∷ []
+    → IsMemoryOr error why
+alone_at_once st rf has tasks why error is alone =
+    by_flags st rf has (subst (λ (l : List HttpTask). refused_at_once st rf has l ≡ Some why) alone
+    is)
+  where
+    told : Some (fail.Error error) ≡ Some why → IsMemoryOr error why
+    told is = subst (λ (f : Fail). IsMemoryOr error f) (same is) refl
+      where
+        same : Some (fail.Error error) ≡ Some why → fail.Error error ≡ why
+        same is = cc
+
+    by_flags : (st : Option Fail) (rf has : Bool)
+        → refused_at_once st rf has (task.Failed error ∷ []) ≡ Some why → IsMemoryOr error why
+    by_flags (Some before) rf has is = told is
+    by_flags None true has is = told is
+    by_flags None false true is = cc
+    by_flags None false false is =
+        subst (λ (f : Fail). IsMemoryOr error f) (memory is) tt
+      where
+        memory : Some fail.OutOfMemory ≡ Some why → fail.OutOfMemory ≡ why
+        memory is = cc
+
+-- what is true is true
+pub true_is : (b : Bool) → IsTrue b → b ≡ true
+true_is b up = up
+
+-- a batch is refused before any filter is called
+pub at_once : (inner : DownPast → Type 0) (refuses : DownPast → List HttpTask → Error → Type 0)
+    (allows : Standing → LogEntry → Type 0) (method : List ℕ) (seen : Seen) (mark first : ℕ)
+    (oh a ended u rf stood stand : Bool) (st : Option Fail) (has : Bool) (p : DownPast)
+    (tasks : List HttpTask) (why : Fail) → refused_at_once st rf has tasks ≡ Some why
+    → IsHooked inner allows method seen mark first oh a ended u rf stood st p
+    → BatchRefused (IsHooked inner allows method seen mark first oh a ended u rf stood st)
+    (λ past left e. RefusesOver inner refuses oh stand st seen.log past left e) p tasks why
+at_once inner refuses allows method seen mark first oh a ended u rf stood stand st has p tasks why
+    is h =
+    record {
+      filtered = [];
+      left = tasks;
+      parts = refl;
+      past = p;
+      stands = h;
+      is_put = refl;
+      is_batched = sym (append-nil p.batched);
+      is_closing = refl;
+      refused = λ e no_failure told. had_stopped
+          (at_once_by st rf has tasks why e is no_failure told);
+    }
 
 -- ---- the calls
 
--- one entry more makes a log longer
+-- one entry more of the request makes its part of the log longer
 pub longer : (log log' : List LogEntry) (e : LogEntry) → log' ≡ log ++ e ∷ []
-    → length log < length log'
-longer log log' e is = rw is (rw (length-append log (e ∷ [])) (omega arith))
+    → requests_in (e ∷ []) ≡ e ∷ [] → length (requests_in log) < length (requests_in log')
+longer log log' e is one =
+    rw is
+    (rw (requests_in-append log (e ∷ []))
+    (rw one (rw (length-append (requests_in log) (e ∷ [])) (omega arith))))
 
 -- ---- the beginning
 
 -- before the first piece nothing passed
-pub begins : (holds : DownPast → Type 0) (allows : Standing → LogEntry → Type 0) (seen : Seen)
-    (mark first : ℕ) (ended u : Bool) (p : DownPast) → first ≡ length seen.log
-    → IsSome (head_of seen.downstream.reading)
-    → p.put ≡ [] → holds p → IsHooked holds allows seen mark first ended ended u None p
-begins holds allows seen mark first ended u p len head none h = record {
+pub begins : (holds : DownPast → Type 0) (allows : Standing → LogEntry → Type 0)
+    (method : List ℕ) (seen : Seen) (mark first : ℕ) (oh ended u : Bool) (p : DownPast)
+    → first ≡ length seen.log → IsSome (head_of seen.downstream.reading) → p.put ≡ []
+    → p.batched ≡ [] → oh ≡ is_head_request method → holds p
+    → IsHooked holds allows method seen mark first oh ended ended u false true None p
+begins holds allows method seen mark first oh ended u p len head none none' own h = record {
   came = [];
-  holds = subst (λ (l : List HttpTask). holds (record p { put = l })) none h;
+  queued = [];
+  holds =
+      subst (λ (l : List HttpTask). holds (record p { put = []; batched = l })) none'
+      (subst (λ (l : List HttpTask). holds (record p { put = l })) none h);
   before = seen.log;
   own = [];
   parts = sym (append-nil seen.log);
@@ -409,9 +1102,25 @@ begins holds allows seen mark first ended u p len head none h = record {
     left = none;
     is_ended = refl;
   };
+  is_of_head = own;
+  response = record {
+    mid = [];
+    by_app = nothing (TaskChain oh) p.batched none';
+    by_modules = nothing (PassedModules true) [] refl;
+  };
   head = λ on. head;
   told = λ e is. cc;
 }
+  where
+    nothing : (chain : HttpTask → List LogEntry → HttpTask → Type 0) (xs : List HttpTask)
+        → xs ≡ [] → Stage chain [] (TakesOn None false) xs []
+    nothing chain xs is = record {
+      done = [];
+      dropped = [];
+      calls = refl;
+      all = λ so. refl;
+      pass = subst (λ (l : List HttpTask). AllPass chain [] l []) (sym is) refl;
+    }
 
 -- ---- the states
 

@@ -1,21 +1,24 @@
--- What passed through a side behind filters: what its inner side put, and by the log what the
--- filters let pass of it.
-use Rattle.std.specs.Prelude.{◌≡◌, ℕ, Bool, true, false, not, ◌&&◌, if◌then◌else◌, ◌⊎◌, List, [], ◌∷◌, ◌++◌, length, Option, Some, None, is_some, IsSome}
+-- What passed through a side behind filters: what its inner side put and was given, and by the log
+-- what the filters let pass and made of it.
+use Rattle.std.specs.Prelude.{◌≡◌, ℕ, Bool, true, false, not, ◌&&◌, if◌then◌else◌, ◌⊎◌, List, [], ◌∷◌, ◌++◌, length, Option, Some, None, is_some, option_map, unwrap_or, IsSome}
 use Rattle.relay_tasks.specs.declared.error.Error.{Error}
 use Rattle.relay_tasks.specs.declared.error.Fail.{Fail}
 use Rattle.relay_tasks.specs.declared.error.Fail.TheVariants as fail
 use Rattle.relay_tasks.specs.declared.log.LogEntry.{LogEntry}
 use Rattle.relay_tasks.specs.declared.task.HttpTask.{HttpTask}
+use Rattle.relay_tasks.specs.declared.task.HttpTask.TheVariants as task
 use Rattle.relay_session.specs.Reading.{head_of}
 use Rattle.relay_core.specs.Down.{DownState}
 use Rattle.relay_core.specs.Past.{DownPast}
 use Rattle.relay_core.specs.declared.told.Told.{Told}
-use Rattle.relay_modules.specs.Module.{ModuleCall}
 use Rattle.relay_modules.specs.declared.seen.Seen.{Seen}
 use Rattle.relay_hooks.specs.Standing.{Standing, standing}
 use Rattle.relay_hooks.specs.Session.{moment}
-use Rattle.relay_calls.specs.Log.{IsAllowed, Walk, requests_in}
+use Rattle.relay_calls.specs.Log.{Walk, requests_in}
+use Rattle.relay_sides.specs.Filtered.{is_head_request}
+use Rattle.relay_filters.specs.Chain.{Refuses}
 use Rattle.relay_filters.specs.Request.{PassesRequest}
+use Rattle.relay_filters.specs.Response.{BatchStops, MakesOf, WasMade}
 
 -- ---- the state
 
@@ -25,71 +28,101 @@ is_held stopped held = is_some stopped && held
 
 -- the state of the side over that of its inner one: the request ends where the filter lets it end,
 -- a body whose last piece did not pass has not ended, the side tells of its own answers, and the
--- calls of hooks are those of the log
+-- calls of hooks that its reads have made are those of the request in the log
 abbrev pub state_over : DownState → Bool → Option Fail → Bool → Told → List LogEntry → DownState
 state_over inner ended stopped held told log = record inner {
   request_ended = ended;
   body_done = if is_held stopped held then false else inner.body_done;
   told = told;
-  calls = length log;
+  calls = length (requests_in log);
 }
 
 -- the request is open again where an upgrade was accepted in between
 abbrev pub opened : Bool → Bool → Bool → Bool
 opened ended before after = if not before && after then false else ended
 
+-- the error of a failure in front
+abbrev pub failure_in_front : List HttpTask → Option Error
+failure_in_front [] = None
+failure_in_front (task.Header head end ∷ tasks) = None
+failure_in_front (task.Body piece end ∷ tasks) = None
+failure_in_front (task.UpgradedBody piece end ∷ tasks) = None
+failure_in_front (task.Trailer fields ∷ tasks) = None
+failure_in_front (task.Done ∷ tasks) = None
+failure_in_front (task.Failed error ∷ tasks) = Some error
+
+-- why a batch is refused before any filter is called: the side has stopped, or its inner one
+-- refused one before, or its session has no head. A failure in front is answered with its error
+abbrev pub refused_at_once : Option Fail → Bool → Bool → List HttpTask → Option Fail
+refused_at_once (Some why) refused has_head tasks =
+    Some (unwrap_or (option_map fail.Error (failure_in_front tasks)) why)
+refused_at_once None true has_head tasks =
+    Some (unwrap_or (option_map fail.Error (failure_in_front tasks)) fail.OutOfMemory)
+refused_at_once None false true tasks = None
+refused_at_once None false false tasks = Some fail.OutOfMemory
+
 -- ---- what passed
 
--- no filter of the modules was called
-abbrev pub NoModule : ModuleCall → Type 0
-NoModule call = ⊥
+-- the past of the inner side: it put this, and was given that
+abbrev pub inside : DownPast → List HttpTask → List HttpTask → DownPast
+inside p came queued = record p { put = came; batched = queued }
 
--- the calls of the side walk, each of them allowed by the application, up to the session and the
--- context's mark as they stand while the side goes on
+-- the calls of the side walk, each of them allowed by the application or by modules, up to the
+-- session and the context's mark as they stand, where no call wanted memory
 pub record IsLogged (allows : Standing → LogEntry → Type 0) (own : List LogEntry) (seen : Seen)
-    (mark : ℕ) (goes_on : Type 0) : Type 0 where
+    (mark : ℕ) (stopped : Option Fail) : Type 0 where
   pub from : Standing
   pub to : Standing
-  pub walk : Walk (IsAllowed allows NoModule) from own to
-  pub at : goes_on → to ≡ standing None false (moment seen mark)
+  pub walk : Walk allows from own to
+  pub at : (stopped ≡ Some fail.OutOfMemory → ⊥) → to ≡ standing None false (moment seen mark)
 
--- the last call answered that error
-pub record LastTells (e : Error) (es : List LogEntry) : Type 0 where
-  pub front : List LogEntry
-  pub last : LogEntry
-  pub parts : es ≡ front ++ last ∷ []
-  pub says : last.error ≡ Some e
+-- the side takes on: it has not stopped, and its inner one has refused nothing
+abbrev pub TakesOn : Option Fail → Bool → Type 0
+TakesOn stopped refused = (stopped ≡ None) × (refused ≡ false)
 
 -- what passed through a side whose calls stand in the log behind so many: what the inner side put
--- passed the filter by these calls, and all else passed as it did inside. Of a client that was
--- upgraded nothing is said
+-- passed the filter of requests by these calls, what it was given is what the filters of responses
+-- made, and all else passed as it did inside. `stood` says that modules stood for each batch. Of
+-- the request of a client that was upgraded nothing is said
 pub record IsHooked (inner : DownPast → Type 0) (allows : Standing → LogEntry → Type 0)
-    (seen : Seen) (mark first : ℕ) (at_first ended upgraded : Bool)
-    (stopped : Option Fail) (p : DownPast) : Type 0 where
+    (method : List ℕ) (seen : Seen) (mark first : ℕ)
+    (of_head at_first ended upgraded refused stood : Bool) (stopped : Option Fail) (p : DownPast)
+    : Type 0 where
   pub came : List HttpTask
-  pub holds : inner (record p { put = came })
+  pub queued : List HttpTask
+  pub holds : inner (inside p came queued)
   pub before : List LogEntry
   pub own : List LogEntry
   pub parts : seen.log ≡ before ++ own
   pub began : length before ≡ first
-  pub logged : IsLogged allows own seen mark (stopped ≡ None)
+  pub logged : IsLogged allows own seen mark stopped
   pub request : upgraded ≡ false
       → PassesRequest at_first ended (requests_in own) (stopped ≡ None) came p.put
+  pub is_of_head : of_head ≡ is_head_request method
+  pub response : MakesOf of_head stood own (TakesOn stopped refused) p.batched queued
   pub head : stopped ≡ None → IsSome (head_of seen.downstream.reading)
-  -- the side stopped for what its last call answered
-  pub told : (e : Error) → stopped ≡ Some (fail.Error e) → LastTells e own
+  -- the side stopped for what its last call answered or left
+  pub told : (e : Error) → stopped ≡ Some (fail.Error e) → Refuses of_head e own
 
 -- the side answers for an error: its inner one does, or it stopped for it
 abbrev pub BlamesOver : (DownPast → Type 0) → (DownPast → Error → Type 0) → Option Fail → DownPast
     → Error → Type 0
 BlamesOver inner blames stopped p e =
-    ((came : List HttpTask) × inner (record p { put = came })
-    × blames (record p { put = came }) e)
+    ((came : List HttpTask) × (queued : List HttpTask) × inner (inside p came queued)
+    × blames (inside p came queued) e)
     ⊎ (stopped ≡ Some (fail.Error e))
 
--- the side refuses tasks: its inner one does
-abbrev pub RefusesOver : (DownPast → Type 0) → (DownPast → List HttpTask → Error → Type 0)
-    → DownPast → List HttpTask → Error → Type 0
-RefusesOver inner refuses p left e =
-    (came : List HttpTask) × inner (record p { put = came })
-    × refuses (record p { put = came }) left e
+-- why the side refuses tasks: a filter, or the check behind one, stopped them, for what the last
+-- call of the log answered or left; its inner one refuses what the filters made of them; or the
+-- side had stopped for that error before. `stand` says that modules stand
+pub data RefusesOver (inner : DownPast → Type 0)
+    (refuses : DownPast → List HttpTask → Error → Type 0) (of_head stand : Bool)
+    (stopped : Option Fail) (log : List LogEntry) (p : DownPast) (left : List HttpTask)
+    (e : Error) : Type 0 where
+  by_filter : (before own : List LogEntry) → log ≡ before ++ own → BatchStops of_head stand left own
+      → Refuses of_head e own → RefusesOver inner refuses of_head stand stopped log p left e
+  by_inner : (came queued made : List HttpTask) → inner (inside p came queued)
+      → WasMade of_head stand left made → refuses (inside p came queued) made e
+      → RefusesOver inner refuses of_head stand stopped log p left e
+  had_stopped : stopped ≡ Some (fail.Error e)
+      → RefusesOver inner refuses of_head stand stopped log p left e

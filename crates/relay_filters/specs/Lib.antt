@@ -1,2 +1,5 @@
 pub mod Request
+pub mod Chain
+pub mod Response
 pub mod Hooked
+pub mod Delay

@@ -1,36 +1,59 @@
-//! The client's side behind the filter of an application: the pieces of the request that the inner
-//! side gives pass it, and the tasks of the response pass as they are.
-ghost use Rattle.std.specs.Prelude.{◌≡◌, ◌||◌, ◌<◌, [], length, is_some, true, false, None, OnOk, IsSome, IsTrue};
+//! The client's side behind the filters of an application: the pieces of the request that the inner
+//! side gives pass them, and so do the tasks of the response that it takes.
+ghost use Rattle.std.specs.Prelude.{◌≡◌, ◌||◌, ◌&&◌, ◌<◌, ◌+◌, ◌^◌, ◌-◌, [], drop, length, min, is_some, true, false, None, OnOk, OnErr, IsSome, IsTrue, option_map, unwrap_or};
+ghost use Rattle.relay_tasks.specs.declared.error.Fail.TheVariants as fail;
 ghost use Rattle.relay_session.specs.Reading.{head_of};
 ghost use Rattle.relay_core.specs.Past.{Origin, DownPast};
+ghost use Rattle.relay_sides.specs.Filtered.{is_head_request};
+ghost use Rattle.relay_calls.specs.Log.{IsAllowed, requests_in};
 ghost use Rattle.relay_filters.specs.Request.{Filters, piece_of};
-ghost use Rattle.relay_filters.specs.Hooked.{BlamesOver, IsHooked, RefusesOver, is_held, opened, state_over};
+ghost use Rattle.relay_filters.specs.Response.{SomeAllow};
+ghost use Rattle.relay_filters.specs.Delay.{delays_of};
+ghost use Rattle.relay_filters.specs.Hooked.{BlamesOver, IsHooked, RefusesOver, failure_in_front, is_held, opened, refused_at_once, state_over};
 
+use crate::response::filter_response;
 use bytes::Bytes;
 use relay_calls::call_request_body_filter;
 use relay_core::{Down, Piece, Told, UpKind};
 use relay_hooks::{ProxyHttp, Session};
 use relay_links::Put;
-use relay_tasks::{ErrorSource, Fail, HttpTask, Result, TaskList, Took};
+use relay_tasks::{Error, ErrorSource, Fail, HttpTask, PhaseLog, Result, TaskList, Took};
 
-/// The client's side over another, whose pieces pass the filter of request bodies of an
-/// application: one call for each piece, which stands in the log of the session. What the filter
-/// leaves empty puts nothing, and where it takes a piece away the request ends. Behind an error of
-/// the filter nothing is read.
+/// The client's side over another, behind the filters of an application. Each call stands in the
+/// log of the session.
+///
+/// Each piece of the request passes the filter of request bodies. What that leaves empty puts
+/// nothing, and where it takes a piece away the request ends.
+///
+/// Each batch of the response passes the application's filters, all its tasks, and then those of
+/// the modules, where modules were made. What these made of it is given to the inner side, the
+/// whole batch, or nothing of it where one does not pass.
+///
+/// What the filters of pieces ask for as a delay is summed, and taken by its caller.
+///
+/// Behind an error of a filter, and behind a batch that was refused, nothing is read or taken.
 pub struct Hooked<'a, SV: ProxyHttp, D> {
     app: &'a SV,
     session: Session<SV::Modules>,
     ctx: SV::CTX,
     inner: D,
     told: Told,
+    // Whether the request is a HEAD, whose response has no body.
+    of_head: bool,
     // How many calls stood in the log before the side's own.
     first: usize,
+    // How many calls of the log had their delays taken.
+    counted: usize,
     // Whether the request had ended before the first piece.
     at_first: bool,
     // Whether the request has ended for the upstream.
     ended: bool,
-    // Why no piece is read any more, once the filter refused one.
+    // Why nothing is read or taken any more, once a filter refused something.
     stopped: Option<Fail>,
+    // Whether the inner side refused a batch: then no more is taken.
+    refused: bool,
+    // Whether modules stood for each batch that passed its filters.
+    stood: bool,
     // Whether the client's body ended with that piece.
     held: bool,
 }
@@ -47,6 +70,53 @@ fn opened(ended: bool, before: bool, after: bool) -> bool
     ensures { result ≡ opened ended before after }
 {
     if !before && after { false } else { ended }
+}
+
+/// The error of a failure in front.
+fn failure_in_front(tasks: &TaskList) -> Option<Error>
+    ensures { result ≡ failure_in_front tasks.now }
+{
+    match tasks.get(0) {
+        Some(HttpTask::Failed(error)) => Some(*error),
+        Some(_) | None => None,
+    }
+}
+
+/// The error of a failure in front, or else that one.
+fn failure_or(tasks: &TaskList, why: Fail) -> Fail
+    ensures { result
+        ≡ unwrap_or (option_map fail.Error (failure_in_front tasks.now)) why }
+{
+    match failure_in_front(tasks) {
+        Some(error) => Fail::Error(error),
+        None => why,
+    }
+}
+
+/// The delay that the call at that place of the log asked for.
+fn delay_at(log: &PhaseLog, at: usize) -> u64
+    requires { at < length log.now }
+    ensures { delays_of (drop at log.now) ≡ result + delays_of (drop (at + 1) log.now) }
+{
+    match log.get(at) {
+        Some(entry) => entry.delay.unwrap_or(0),
+        None => unreachable!(),
+    }
+}
+
+/// The delays that the calls from that place of the log on asked for, summed. A sum that does not
+/// fit stands at the last value.
+fn delays_from(log: &PhaseLog, first: usize) -> u64
+    ensures { result ≡ min (delays_of (drop first log.now)) (2 ^ 64 - 1) }
+{
+    let end = log.len();
+    let mut sum = 0_u64;
+    let mut at = first;
+    while at < end {
+        sum = sum.saturating_add(delay_at(log, at));
+        at += 1;
+    }
+    sum
 }
 
 /// The piece that passes, of what the filter left: nothing once the request has ended. `given`
@@ -83,7 +153,8 @@ fn filter_piece<SV: ProxyHttp>(
     requires { IsSome (head_of session.old.seen.downstream.reading) }
     ensures filters { Filters (SV.allows app.now) ended piece result session.old.seen
         (SV.mark_of app.now ctx.old) session.new.seen (SV.mark_of app.now ctx.new) }
-    ensures called { OnOk result (length session.old.seen.log < length session.new.seen.log) }
+    ensures called { OnOk result (length (requests_in session.old.seen.log)
+        < length (requests_in session.new.seen.log)) }
 {
     let Piece {
         bytes: mut body,
@@ -100,26 +171,33 @@ fn filter_piece<SV: ProxyHttp>(
 
 impl<'a, SV: ProxyHttp, D> Hooked<'a, SV, D> {
     /// The side over that one, with the calls of the application in the log of that session and
-    /// with that context; `ended` says that the request ended with its head. It tells what the
-    /// inner one has told.
+    /// with that context; `ended` says that the request ended with its head, `of_head` that it is a
+    /// HEAD. It tells what the inner one has told.
     ///
-    /// What passed is as inside, where nothing was put yet and the session's head was read.
+    /// What passed is as inside, where nothing was put or taken yet and the session's head was
+    /// read.
     pub fn new<C>(
         app: &'a SV,
         session: Session<SV::Modules>,
         ctx: SV::CTX,
         inner: D,
         ended: bool,
+        of_head: bool,
     ) -> Hooked<'a, SV, D>
     where
         D: Down<C>,
         ensures state { D.state result.inner ≡ D.state inner }
         ensures begins { (client : C) (s : Origin) (p : DownPast)
-            → IsSome (head_of session.seen.downstream.reading) → p.put ≡ []
-            → D.past inner client s p
-            → IsHooked (D.past result.inner client s) (SV.allows result.app.now)
-            result.session.seen (SV.mark_of result.app.now result.ctx) result.first
-            result.at_first result.ended (D.state result.inner).upgraded result.stopped p }
+            → IsSome (head_of session.seen.downstream.reading) → p.put ≡ [] → p.batched ≡ []
+            → of_head ≡ is_head_request s.head.method → D.past inner client s p
+            → IsHooked (D.past result.inner client s)
+            (IsAllowed (SV.allows result.app.now) (SomeAllow SV.Modules.allows))
+            s.head.method result.session.seen (SV.mark_of result.app.now result.ctx) result.first
+            result.of_head
+            result.at_first result.ended (D.state result.inner).upgraded result.refused
+            result.stood result.stopped p }
+        ensures counted { result.counted ≡ length session.seen.log }
+        ensures stood { result.stood ≡ true }
     {
         let first = session.phase_log().len();
         let told = inner.told();
@@ -129,10 +207,14 @@ impl<'a, SV: ProxyHttp, D> Hooked<'a, SV, D> {
             ctx,
             inner,
             told,
+            of_head,
             first,
+            counted: first,
             at_first: ended,
             ended,
             stopped: None,
+            refused: false,
+            stood: true,
             held: false,
         }
     }
@@ -149,10 +231,14 @@ impl<'a, SV: ProxyHttp, D> Hooked<'a, SV, D> {
             ctx,
             inner,
             told: _,
+            of_head: _,
             first: _,
+            counted: _,
             at_first: _,
             ended: _,
             stopped: _,
+            refused: _,
+            stood: _,
             held: _,
         } = self;
         (inner, session, ctx)
@@ -172,11 +258,56 @@ impl<'a, SV: ProxyHttp, D> Hooked<'a, SV, D> {
         &self.session
     }
 
+    /// The delay in milliseconds that the filters of pieces asked for since it was last taken, or
+    /// since the side was made: the sum over the calls in the log, and 0 where none asked. A sum
+    /// that does not fit stands at the last value.
+    pub fn take_delay(&mut self) -> u64
+        ensures sum { result
+            ≡ min (delays_of (drop self.old.counted self.old.session.seen.log)) (2 ^ 64 - 1) }
+        ensures counted { self.new
+            ≡ record self.old { counted = length self.old.session.seen.log } }
+    {
+        let log = self.session.phase_log();
+        let sum = delays_from(log, self.counted);
+        self.counted = log.len();
+        sum
+    }
+
+    /// Whether modules stood for each batch that passed its filters so far.
+    pub fn modules_stood(&self) -> bool
+        ensures { result ≡ self.now.stood }
+    {
+        self.stood
+    }
+
+    /// Whether modules stood for each batch, one more included that passed as they stand.
+    fn still_stood(&self) -> bool
+        ensures { result ≡ (self.now.stood && is_some self.now.session.modules) }
+    {
+        self.stood && self.session.modules.is_some()
+    }
+
     /// Whether the end of the client's body came with a piece that did not pass.
     fn is_held(&self) -> bool
         ensures { result ≡ is_held self.now.stopped self.now.held }
     {
         self.stopped.is_some() && self.held
+    }
+
+    /// Why a batch is refused before any filter is called: the side has stopped, or its inner one
+    /// refused a batch before, or the session has no head, and so no hook may be given it. A
+    /// failure in front is answered with its error. Where no error is there to be told, it is out
+    /// of memory.
+    fn refused_at_once(&self, tasks: &TaskList) -> Option<Fail>
+        ensures { result ≡ refused_at_once self.now.stopped self.now.refused
+            (is_some (head_of self.now.session.seen.downstream.reading)) tasks.now }
+    {
+        match self.stopped {
+            Some(why) => Some(failure_or(tasks, why)),
+            None if self.refused => Some(failure_or(tasks, Fail::OutOfMemory)),
+            None if self.session.as_downstream().has_head() => None,
+            None => Some(Fail::OutOfMemory),
+        }
     }
 }
 
@@ -184,15 +315,17 @@ impl<'a, SV: ProxyHttp, C, D: Down<C>> Down<C> for Hooked<'a, SV, D> {
     ghost state = { λ f. state_over (D.state f.inner) f.ended f.stopped f.held f.told
         f.session.seen.log };
 
-    ghost past = { λ f client s p. IsHooked (D.past f.inner client s) (SV.allows f.app.now)
-        f.session.seen (SV.mark_of f.app.now f.ctx) f.first f.at_first f.ended
-        (D.state f.inner).upgraded f.stopped p };
+    ghost past = { λ f client s p. IsHooked (D.past f.inner client s)
+        (IsAllowed (SV.allows f.app.now) (SomeAllow SV.Modules.allows)) s.head.method
+        f.session.seen (SV.mark_of f.app.now f.ctx) f.first f.of_head f.at_first f.ended
+        (D.state f.inner).upgraded f.refused f.stood f.stopped p };
 
     ghost blames = { λ f client s p e.
         BlamesOver (D.past f.inner client s) (D.blames f.inner client s) f.stopped p e };
 
     ghost refuses = { λ f client s p left e.
-        RefusesOver (D.past f.inner client s) (D.refuses f.inner client s) p left e };
+        RefusesOver (D.past f.inner client s) (D.refuses f.inner client s) f.of_head
+        (is_some f.session.modules) f.stopped f.session.seen.log p left e };
 
     ghost cannot_end = { λ f client s p e.
         BlamesOver (D.past f.inner client s) (D.cannot_end f.inner client s) f.stopped p e };
@@ -262,15 +395,36 @@ impl<'a, SV: ProxyHttp, C, D: Down<C>> Down<C> for Hooked<'a, SV, D> {
     }
 
     fn take_batch(&mut self, tasks: TaskList, kind: UpKind) -> Result<bool> {
-        let was = self.inner.upgraded();
-        match self.inner.take_batch(tasks, kind) {
-            Ok(done) => {
-                self.ended = opened(self.ended, was, self.inner.upgraded());
-                Ok(done)
-            }
-            Err(why) => {
+        match self.refused_at_once(&tasks) {
+            Some(why) => {
                 self.told = self.told.failed(why);
                 Err(why)
+            }
+            None => {
+                let of_head = self.of_head;
+                match filter_response(self.app, &mut self.session, &mut self.ctx, of_head, tasks) {
+                    Ok(made) => {
+                        self.stood = self.still_stood();
+                        let was = self.inner.upgraded();
+                        match self.inner.take_batch(made, kind) {
+                            Ok(done) => {
+                                self.ended = opened(self.ended, was, self.inner.upgraded());
+                                Ok(done)
+                            }
+                            Err(why) => {
+                                self.refused = true;
+                                self.told = self.told.failed(why);
+                                Err(why)
+                            }
+                        }
+                    }
+                    Err(why) => {
+                        self.stopped = Some(why);
+                        self.held = false;
+                        self.told = self.told.failed(why);
+                        Err(why)
+                    }
+                }
             }
         }
     }

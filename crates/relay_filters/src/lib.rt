@@ -1,8 +1,9 @@
 //! The client's side of a duplex behind the filters of an application: each piece of the request
-//! passes its filter, and each call of one stands in the log.
+//! and each task of the response passes its filters, and each call of one stands in the log.
 #![tactic(auto)]
 
 mod hooked;
+mod response;
 #[cfg(test)]
 mod tests;
 

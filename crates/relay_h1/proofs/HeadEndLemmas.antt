@@ -1,7 +1,9 @@
 -- How the end of a head is found from a place in the middle.
-use Rattle.std.proofs.Common.{◌≡◌, ℕ, zero, suc, ◌+◌, ◌-◌, ◌<◌, ◌≤◌, List, [], ◌∷◌, length, take, drop, Bool, false, true, ◌&&◌, refl, sym, ◌∙◌, ap, arith, Option, Some, None, get_or, add-one, drop-cons, option_map, ◌++◌, inl, inr, bytes_eq, subst}
-use Rattle.std.proofs.lemmas.List.{drop-drop, drop-append-le, take-append-le, take-append-drop, length-drop, length-take-le}
+use Rattle.std.proofs.Common.{◌≡◌, ◌≢◌, ℕ, zero, suc, ◌+◌, ◌-◌, ◌<◌, ◌≤◌, List, [], ◌∷◌, length, take, drop, Bool, false, true, ◌&&◌, refl, sym, ◌∙◌, ap, arith, Option, Some, None, get_or, add-one, drop-cons, option_map, ◌++◌, inl, inr, bytes_eq, subst}
+use Rattle.std.specs.Prelude.{◌⊎◌}
+use Rattle.std.proofs.lemmas.List.{drop-drop, drop-append-le, take-append-le, take-append-drop, length-drop, length-take-le, get_or-take, get_or-drop}
 use Rattle.std.proofs.lemmas.Bool.{cases_Bool, cases_lt}
+use Rattle.std.proofs.lemmas.Slice.Eq.{bytes_eq-Decides}
 use Rattle.relay_h1.specs.HeadEnd.{begins_with_mark, end_mark, head_end, shifted, NoMarkBefore}
 
 -- what is shifted by one more
@@ -60,6 +62,62 @@ head_end-from (suc n) bytes within none_before =
     let here = head_end-skip bytes n (omega arith) (none_before n (omega arith)) in
     rw (← add-one)
     (so_far ∙ ap (shifted n) here ∙ sym (shifted-suc n (head_end (drop (n + 1) bytes))))
+
+-- the byte of a mark at a place
+mark_byte : (bytes : List ℕ) (k i : ℕ) → begins_with_mark (drop k bytes) ≡ true → i < 4
+    → get_or bytes (k + i) 0 ≡ get_or end_mark i 0
+mark_byte bytes k i here inside =
+    sym (get_or-take 4 (drop k bytes) i 0 inside ∙ get_or-drop k bytes i 0)
+    ∙ ap (λ (m : List ℕ). get_or m i 0)
+    ((bytes_eq-Decides (take 4 (drop k bytes)) end_mark).0 here)
+
+-- each byte of a mark is CR or LF
+mark_is_crlf : (i : ℕ) → i < 4 → (get_or end_mark i 0 ≡ 13) ⊎ (get_or end_mark i 0 ≡ 10)
+mark_is_crlf zero inside = inl refl
+mark_is_crlf (suc zero) inside = inr refl
+mark_is_crlf (suc (suc zero)) inside = inl refl
+mark_is_crlf (suc (suc (suc zero))) inside = inr refl
+mark_is_crlf (suc (suc (suc (suc i)))) inside = absurd (omega arith)
+
+-- among four bytes whose last is neither CR nor LF no mark begins
+pub no_mark_in_four : (bytes : List ℕ) (at : ℕ) → NoMarkBefore at bytes
+    → ¬ (get_or bytes (at + 3) 0 ≡ 13) → ¬ (get_or bytes (at + 3) 0 ≡ 10)
+    → NoMarkBefore (at + 4) bytes
+no_mark_in_four bytes at none_before no_cr no_lf = λ k less.
+    elim (cases_lt k at) [
+      | inl before ↦ none_before k before
+      | inr not_before ↦ elim (cases_Bool (begins_with_mark (drop k bytes))) [
+        | inl here ↦
+            let there : k + (at + 3 - k) ≡ at + 3 = omega arith in
+            let same =
+            subst (λ (n : ℕ). get_or bytes n 0 ≡ get_or end_mark (at + 3 - k) 0) there
+            (mark_byte bytes k (at + 3 - k) here (omega arith)) in
+            elim (mark_is_crlf (at + 3 - k) (omega arith)) [
+              | inl cr ↦ absurd (no_cr (same ∙ cr))
+              | inr lf ↦ absurd (no_lf (same ∙ lf))
+            ]
+        | inr none ↦ none
+      ]
+    ]
+
+-- where a search goes on by so many bytes no mark begins before
+pub no_mark_by_stride : (bytes : List ℕ) (at n : ℕ) → NoMarkBefore at bytes
+    → begins_with_mark (drop at bytes) ≡ false → n ≤ 4
+    → (1 < n → (get_or bytes (at + 3) 0 ≢ 13) × (get_or bytes (at + 3) 0 ≢ 10))
+    → NoMarkBefore (at + n) bytes
+no_mark_by_stride bytes at n none_before none_here few passes = λ k less.
+    elim (cases_lt 1 n) [
+      | inl more ↦
+          let no_part = passes more in
+          no_mark_in_four bytes at none_before no_part.0 no_part.1 k (omega arith)
+      | inr one ↦ elim (cases_lt k at) [
+        | inl before ↦ none_before k before
+        | inr not_before ↦
+            let same : at ≡ k = omega arith in
+            subst (λ (j : ℕ). begins_with_mark (drop j bytes) ≡ false) same
+            none_here
+      ]
+    ]
 
 -- what is shifted to nothing was nothing
 pub shifted-none : (n : ℕ) (place : Option ℕ) → shifted n place ≡ None → place ≡ None

@@ -7,7 +7,7 @@ ghost use Rattle.http_header.specs.HeaderMap.{get_all};
 ghost use Rattle.relay_h1.specs.Framing.{is_length, is_chunked, is_http_10, length_said, coding_said, request_table, response_table, is_bodiless, has_no_body, opens_tunnel, request_framing, response_framing, IsFramedBy};
 
 use http::{Method, Version};
-use http_header::HeaderMap;
+use http_header::{CONTENT_LENGTH, HeaderMap, TRANSFER_ENCODING};
 use relay_tasks::{Context, Error, ErrorType, RequestHeader, ResponseHeader};
 
 /// How the body of a message is delimited.
@@ -178,7 +178,7 @@ fn is_chunked(value: &[u8]) -> bool
 fn length_said(fields: &HeaderMap) -> LengthField
     ensures { result ≡ length_said (get_all fields.now (codes "content-length")) }
 {
-    let mut values = fields.get_all("content-length").iter();
+    let mut values = fields.get_all(&CONTENT_LENGTH).iter();
     match (values.next(), values.next()) {
         (None, _) => LengthField::Absent,
         (Some(value), None) => match length_of(value.as_bytes()) {
@@ -192,7 +192,7 @@ fn length_said(fields: &HeaderMap) -> LengthField
 fn coding_said(fields: &HeaderMap) -> CodingField
     ensures { result ≡ coding_said (get_all fields.now (codes "transfer-encoding")) }
 {
-    let mut values = fields.get_all("transfer-encoding").iter();
+    let mut values = fields.get_all(&TRANSFER_ENCODING).iter();
     match (values.next(), values.next()) {
         (None, _) => CodingField::Absent,
         (Some(value), None) if is_chunked(value.as_bytes()) => CodingField::Chunked,

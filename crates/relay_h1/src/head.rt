@@ -1,5 +1,5 @@
 //! Where a message head ends, and what it says (RFC 9112, sections 2 to 5).
-ghost use Rattle.std.specs.Prelude.{◌≡◌, ◌+◌, ◌≤◌, ◌↔◌, [], length, drop, All, IfOk, IfErr, IfSome, IfNone, OnOk, IsErrOf, IsOkUnless, IsTrue};
+ghost use Rattle.std.specs.Prelude.{◌≡◌, ◌≢◌, ◌+◌, ◌<◌, ◌≤◌, ◌↔◌, [], length, drop, All, IfOk, IfErr, IfSome, IfNone, OnOk, IsErrOf, IsOkUnless, IsTrue};
 ghost use Rattle.http_header.specs.FieldName.{IsFieldName};
 ghost use Rattle.http_header.specs.FieldValue.{IsFieldValue, plain_value};
 ghost use Rattle.http_header.specs.Token.{IsToken, lowercase};
@@ -23,6 +23,9 @@ pub const MAX_FIELDS: usize = 256;
 
 /// How many bytes a head may have.
 pub const MAX_HEAD: usize = 65_536;
+
+/// For how many fields there is room at first. Few heads have more, and these are parsed again.
+const FEW_FIELDS: usize = 32;
 
 /// Finds and reads message heads. It keeps nothing.
 pub struct HeadReader;
@@ -95,6 +98,23 @@ pub(crate) fn read_one_request(alloc: Global, bytes: &[u8]) -> Result<RequestHea
         → (head : RequestHead) × ReadsRequest bytes.now head }
     ensures causes { IfErr result (IsMemoryOr (head_refusal bytes.now)) }
 {
+    let mut spans = [EMPTY_HEADER_SPAN; FEW_FIELDS];
+    match find_request(bytes, &mut spans) {
+        Some(found) => make_request(alloc, bytes, &found, &spans),
+        None => read_long_request(alloc, bytes),
+    }
+}
+
+/// The same, with room for as many fields as a head may have.
+fn read_long_request(alloc: Global, bytes: &[u8]) -> Result<RequestHeader>
+    requires { IsOneHead bytes.now }
+    ensures ok { IfOk result (ReadsRequest bytes.now) }
+    ensures refused { IsErrOf result (Fail.Error (head_refusal bytes.now))
+        ↔ RefusesRequest bytes.now }
+    ensures memory { IsErrOf result Fail.OutOfMemory
+        → (head : RequestHead) × ReadsRequest bytes.now head }
+    ensures causes { IfErr result (IsMemoryOr (head_refusal bytes.now)) }
+{
     let mut spans = [EMPTY_HEADER_SPAN; MAX_FIELDS];
     match find_request(bytes, &mut spans) {
         Some(found) => make_request(alloc, bytes, &found, &spans),
@@ -104,6 +124,23 @@ pub(crate) fn read_one_request(alloc: Global, bytes: &[u8]) -> Result<RequestHea
 
 /// `HeadReader::read_response` of a text that was found to end as a head does.
 pub(crate) fn read_one_response(alloc: Global, bytes: &[u8]) -> Result<ResponseHeader>
+    requires { IsOneHead bytes.now }
+    ensures ok { IfOk result (ReadsResponse bytes.now) }
+    ensures refused { IsErrOf result (Fail.Error (head_refusal bytes.now))
+        ↔ RefusesResponse bytes.now }
+    ensures memory { IsErrOf result Fail.OutOfMemory
+        → (head : ResponseHead) × ReadsResponse bytes.now head }
+    ensures causes { IfErr result (IsMemoryOr (head_refusal bytes.now)) }
+{
+    let mut spans = [EMPTY_HEADER_SPAN; FEW_FIELDS];
+    match find_response(bytes, &mut spans) {
+        Some(found) => make_response(alloc, bytes, &found, &spans),
+        None => read_long_response(alloc, bytes),
+    }
+}
+
+/// The same, with room for as many fields as a head may have.
+fn read_long_response(alloc: Global, bytes: &[u8]) -> Result<ResponseHeader>
     requires { IsOneHead bytes.now }
     ensures ok { IfOk result (ReadsResponse bytes.now) }
     ensures refused { IsErrOf result (Fail.Error (head_refusal bytes.now))
@@ -132,9 +169,9 @@ fn head_refusal(bytes: &[u8]) -> Error
 
 fn find_request(bytes: &[u8], spans: &mut [HeaderSpan]) -> Option<RequestSpans>
     requires ends { IsOneHead bytes.now }
-    requires room { length spans.old ≡ MAX_FIELDS }
+    requires room { length spans.old ≤ MAX_FIELDS }
     ensures found { IfSome result (IsRequestFound bytes.now spans.new) }
-    ensures refused { IfNone result (RefusesRequest bytes.now) }
+    ensures refused { length spans.old ≡ MAX_FIELDS → IfNone result (RefusesRequest bytes.now) }
 {
     if bytes.len() > MAX_HEAD {
         return None;
@@ -150,9 +187,9 @@ fn find_request(bytes: &[u8], spans: &mut [HeaderSpan]) -> Option<RequestSpans>
 
 fn find_response(bytes: &[u8], spans: &mut [HeaderSpan]) -> Option<ResponseSpans>
     requires ends { IsOneHead bytes.now }
-    requires room { length spans.old ≡ MAX_FIELDS }
+    requires room { length spans.old ≤ MAX_FIELDS }
     ensures found { IfSome result (IsResponseFound bytes.now spans.new) }
-    ensures refused { IfNone result (RefusesResponse bytes.now) }
+    ensures refused { length spans.old ≡ MAX_FIELDS → IfNone result (RefusesResponse bytes.now) }
 {
     if bytes.len() > MAX_HEAD {
         return None;
@@ -289,9 +326,18 @@ pub(crate) fn find_from(bytes: &[u8], start: usize) -> Option<usize>
         if has_mark_at(bytes, at) {
             return Some(at + 4);
         }
-        at += 1;
+        at += stride(bytes[at + 3]);
     }
     None
+}
+
+/// How far the search goes on from four bytes that are no CR LF CR LF, by the last of them: where
+/// that is neither CR nor LF, none begins among the four.
+fn stride(last: u8) -> usize
+    ensures within { (0 < result) × (result ≤ 4) }
+    ensures passes { 1 < result → (last ≢ 13) × (last ≢ 10) }
+{
+    if last == b'\r' || last == b'\n' { 1 } else { 4 }
 }
 
 fn has_mark_at(bytes: &[u8], at: usize) -> bool

@@ -2,7 +2,7 @@
 ghost use Rattle.std.specs.Prelude.{◌≡◌, codes};
 ghost use Rattle.relay_h1.specs.Options.{is_close, says_close, lists_close, closes};
 
-use http_header::HeaderMap;
+use http_header::{CONNECTION, HeaderMap};
 
 /// Whether a Connection field has the option `close`: a member of its comma-separated values,
 /// without the blanks around it, in any case.
@@ -10,7 +10,7 @@ pub fn closes(fields: &HeaderMap) -> bool
     ensures { result ≡ closes fields.now }
 {
     fields
-        .get_all("connection")
+        .get_all(&CONNECTION)
         .iter()
         .any(|value| lists_close(value.as_bytes()))
 }

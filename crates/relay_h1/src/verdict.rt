@@ -9,7 +9,7 @@ use crate::ahead::Ahead;
 use crate::framing::{Framing, is_http_10, request_framing, response_framing};
 use crate::head::{MAX_HEAD, read_one_request, read_one_response};
 use http::Method;
-use http_header::CONTENT_LENGTH;
+use http_header::{CONTENT_LENGTH, HOST};
 use relay_tasks::{
     Context, Error, ErrorSource, ErrorType, Fail, RequestHeader, ResponseHeader, Result,
 };
@@ -102,7 +102,7 @@ fn admit_head(head: &RequestHeader) -> std::result::Result<Framing, Error>
 fn has_host(head: &RequestHeader) -> bool
     ensures { result ≡ has_host head.now }
 {
-    is_http_10(head.version()) || head.headers().get_all("host").iter().count() == 1
+    is_http_10(head.version()) || head.headers().get_all(&HOST).iter().count() == 1
 }
 
 /// The failure, as one of that side.

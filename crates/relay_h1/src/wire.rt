@@ -13,6 +13,9 @@ use std::alloc::AllocError;
 const GENERATED_FIELDS: &[u8] =
     b"server: Pingora\r\ncontent-length: 0\r\ncache-control: private, no-store\r\n\r\n";
 
+/// Room that is taken for a head at once. Most heads have fewer bytes.
+const HEAD_ROOM: usize = 512;
+
 /// Appends the text of a request's head. Its request line names HTTP/1.1, whatever the version.
 /// Where memory is wanted, `out` stays as it was.
 pub fn write_request_head(out: &mut Vec<u8>, head: &RequestHeader) -> Result<()>
@@ -62,6 +65,7 @@ fn push_request(out: &mut Vec<u8>, head: &RequestHeader) -> std::result::Result<
     ensures ok { OnOk result (out.new.items ≡ out.old.items ++ request_text head.now) }
     ensures front { KeepsFront out.old.items out.new.items }
 {
+    out.reserve(HEAD_ROOM)?;
     push_request_line(out, head)?;
     push_fields(out, head.headers())
 }
@@ -70,6 +74,7 @@ fn push_response(out: &mut Vec<u8>, head: &ResponseHeader) -> std::result::Resul
     ensures ok { OnOk result (out.new.items ≡ out.old.items ++ response_text head.now) }
     ensures front { KeepsFront out.old.items out.new.items }
 {
+    out.reserve(HEAD_ROOM)?;
     push_status_line(out, head.status())?;
     push_fields(out, head.headers())
 }

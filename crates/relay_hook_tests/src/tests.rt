@@ -3,8 +3,10 @@
 
 mod app;
 mod calls;
+mod closings;
 mod default_app;
 mod errors;
 mod modules;
+mod openings;
 mod orders;
 mod scripted;

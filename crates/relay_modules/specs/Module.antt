@@ -47,6 +47,11 @@ LeavesInput (response_trailer before after answer error) =
     (after ≡ before) × (answer ≡ None) × (error ≡ None)
 LeavesInput (response_done answer error) = (answer ≡ None) × (error ≡ None)
 
+-- modules that were made allow what they allow; before that each filter leaves what it is given
+abbrev pub AllowsMade : {M : Type 0} → (M → ModuleCall → Type 0) → Option M → ModuleCall → Type 0
+AllowsMade allows None call = LeavesInput call
+AllowsMade allows (Some modules) call = allows modules call
+
 -- ---- a call in a log
 
 -- which filter was called

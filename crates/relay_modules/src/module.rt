@@ -123,3 +123,56 @@ impl HttpModule for NoModules {
         Ok(None)
     }
 }
+
+/// Modules that may not be made yet: before they are made each filter leaves what it is given, and
+/// answers nothing.
+impl<M: HttpModule> HttpModule for Option<M> {
+    ghost use Rattle.relay_modules.specs.Module.{AllowsMade};
+
+    ghost allows = { AllowsMade M.allows };
+
+    fn request_header_filter(&mut self, head: &mut RequestHeader) -> Result<()> {
+        match self {
+            None => Ok(()),
+            Some(modules) => modules.request_header_filter(head),
+        }
+    }
+
+    fn request_body_filter(&mut self, body: &mut Option<Bytes>, end: bool) -> Result<()> {
+        match self {
+            None => Ok(()),
+            Some(modules) => modules.request_body_filter(body, end),
+        }
+    }
+
+    fn response_header_filter(&mut self, head: &mut ResponseHeader, end: bool) -> Result<()> {
+        match self {
+            None => Ok(()),
+            Some(modules) => modules.response_header_filter(head, end),
+        }
+    }
+
+    fn response_body_filter(&mut self, body: &mut Option<Bytes>, end: bool) -> Result<()> {
+        match self {
+            None => Ok(()),
+            Some(modules) => modules.response_body_filter(body, end),
+        }
+    }
+
+    fn response_trailer_filter(
+        &mut self,
+        trailers: &mut Option<HeaderMap>,
+    ) -> Result<Option<Bytes>> {
+        match self {
+            None => Ok(None),
+            Some(modules) => modules.response_trailer_filter(trailers),
+        }
+    }
+
+    fn response_done_filter(&mut self) -> Result<Option<Bytes>> {
+        match self {
+            None => Ok(None),
+            Some(modules) => modules.response_done_filter(),
+        }
+    }
+}

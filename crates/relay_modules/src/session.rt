@@ -1,11 +1,11 @@
 //! The session that hooks are given: the client's, and the modules of its request.
-ghost use Rattle.std.specs.Prelude.{◌≡◌, ◌==◌, ◌&&◌, ◌∷◌, [], not, length, true, false, Some, IsSome, IfOk, IfErr, OnOk, OnErr};
+ghost use Rattle.std.specs.Prelude.{◌≡◌, ◌==◌, ◌&&◌, ◌∷◌, [], not, length, true, false, None, Some, IsSome, IfOk, IfErr, OnOk, OnErr};
 ghost use Rattle.std.specs.Borrow.{sem};
 ghost use Rattle.relay_tasks.specs.Head.{IsStatus};
 ghost use Rattle.relay_session.specs.Reading.{head_of};
 ghost use Rattle.relay_session.specs.Generated.{answer_tasks, body_answer_tasks, AnswersText};
 ghost use Rattle.relay_session.specs.Response.{is_over};
-ghost use Rattle.relay_modules.specs.Module.{ModuleCall};
+ghost use Rattle.relay_modules.specs.Module.{ModuleCall, AllowsMade};
 ghost use Rattle.relay_modules.specs.Filtering.{WritesBatch, FailsToWrite, KeepsTask, FailsToKeep, FiltersRequest};
 ghost use Rattle.relay_modules.specs.Seen.{IsNew, Responds, RespondsWith, FailsToNote, WritesKept, is_due, keeps_none};
 
@@ -21,12 +21,13 @@ use relay_tasks::{
 use std::alloc::Global;
 use std::mem;
 
-/// The session of a request: what hooks see of it, and its modules. A call that takes tasks passes
-/// them through the modules first.
+/// The session of a request: what hooks see of it, and its modules once they were made. A call that
+/// takes tasks passes them through the modules first; before they were made no module filters, and
+/// tasks pass as they are.
 #[derive(Drop)]
 pub struct Session<M> {
     pub seen: Seen,
-    pub modules: M,
+    pub modules: Option<M>,
 }
 
 impl Session<NoModules> {
@@ -45,11 +46,23 @@ impl<M: HttpModule> Session<M> {
     /// task API is off, and nothing was counted.
     pub fn new_h1_with_modules(alloc: Global, downstream: HttpSession, modules: M) -> Session<M>
         ensures seen { IsNew downstream result.seen }
-        ensures modules { result.modules ≡ modules }
+        ensures modules { result.modules ≡ Some modules }
     {
         Session {
             seen: Seen::new(alloc, downstream),
-            modules,
+            modules: Some(modules),
+        }
+    }
+
+    /// The session of a client on an HTTP/1 link, of which no modules were made yet: as behind
+    /// `new_h1_with_modules`, but that no module filters.
+    pub fn new_h1_unmade(alloc: Global, downstream: HttpSession) -> Session<M>
+        ensures seen { IsNew downstream result.seen }
+        ensures modules { result.modules ≡ None }
+    {
+        Session {
+            seen: Seen::new(alloc, downstream),
+            modules: None,
         }
     }
 
@@ -100,10 +113,10 @@ impl<M: HttpModule> Session<M> {
     /// The error of the filter; what it made of the head stands.
     pub fn filter_request_header(&mut self) -> Result<()>
         requires { IsSome (head_of self.old.seen.downstream.reading) }
-        ensures filters { FiltersRequest (M.allows self.old.modules) result self.old.seen
+        ensures filters { FiltersRequest (AllowsMade M.allows self.old.modules) result self.old.seen
             self.new.seen }
-        ensures narrows { (call : ModuleCall) → M.allows self.new.modules call
-            → M.allows self.old.modules call }
+        ensures narrows { (call : ModuleCall) → AllowsMade M.allows self.new.modules call
+            → AllowsMade M.allows self.old.modules call }
     {
         let Session { seen, modules } = self;
         modules.request_header_filter(seen.req_header_mut())
@@ -114,24 +127,24 @@ impl<M: HttpModule> Session<M> {
     ///
     /// Refused as in `write_response_tasks`.
     pub fn write_response_header(&mut self, head: ResponseHeader, end: bool) -> Result<()>
-        ensures ok { OnOk result (WritesBatch (M.allows self.old.modules)
+        ensures ok { OnOk result (WritesBatch (AllowsMade M.allows self.old.modules)
             (HttpTask.Header head end ∷ []) self.old.seen self.new.seen) }
-        ensures err { IfErr result (FailsToWrite (M.allows self.old.modules)
+        ensures err { IfErr result (FailsToWrite (AllowsMade M.allows self.old.modules)
             (HttpTask.Header head end ∷ []) self.old.seen self.new.seen) }
-        ensures narrows { (call : ModuleCall) → M.allows self.new.modules call
-            → M.allows self.old.modules call }
+        ensures narrows { (call : ModuleCall) → AllowsMade M.allows self.new.modules call
+            → AllowsMade M.allows self.old.modules call }
     {
         self.write_one(HttpTask::Header(head, end))
     }
 
     /// As `write_response_header`, and the head stays with its caller.
     pub fn write_response_header_ref(&mut self, head: &ResponseHeader, end: bool) -> Result<()>
-        ensures ok { OnOk result (WritesBatch (M.allows self.old.modules)
+        ensures ok { OnOk result (WritesBatch (AllowsMade M.allows self.old.modules)
             (HttpTask.Header head.now end ∷ []) self.old.seen self.new.seen) }
-        ensures err { IfErr result (FailsToWrite (M.allows self.old.modules)
+        ensures err { IfErr result (FailsToWrite (AllowsMade M.allows self.old.modules)
             (HttpTask.Header head.now end ∷ []) self.old.seen self.new.seen) }
-        ensures narrows { (call : ModuleCall) → M.allows self.new.modules call
-            → M.allows self.old.modules call }
+        ensures narrows { (call : ModuleCall) → AllowsMade M.allows self.new.modules call
+            → AllowsMade M.allows self.old.modules call }
     {
         let head = head.copy()?;
         self.write_one(HttpTask::Header(head, end))
@@ -142,24 +155,24 @@ impl<M: HttpModule> Session<M> {
     ///
     /// Refused as in `write_response_tasks`.
     pub fn write_response_body(&mut self, body: Option<Bytes>, end: bool) -> Result<()>
-        ensures ok { OnOk result (WritesBatch (M.allows self.old.modules)
+        ensures ok { OnOk result (WritesBatch (AllowsMade M.allows self.old.modules)
             (HttpTask.Body body end ∷ []) self.old.seen self.new.seen) }
-        ensures err { IfErr result (FailsToWrite (M.allows self.old.modules)
+        ensures err { IfErr result (FailsToWrite (AllowsMade M.allows self.old.modules)
             (HttpTask.Body body end ∷ []) self.old.seen self.new.seen) }
-        ensures narrows { (call : ModuleCall) → M.allows self.new.modules call
-            → M.allows self.old.modules call }
+        ensures narrows { (call : ModuleCall) → AllowsMade M.allows self.new.modules call
+            → AllowsMade M.allows self.old.modules call }
     {
         self.write_one(HttpTask::Body(body, end))
     }
 
     /// A batch of one task.
     fn write_one(&mut self, task: HttpTask) -> Result<()>
-        ensures ok { OnOk result (WritesBatch (M.allows self.old.modules) (task ∷ []) self.old.seen
-            self.new.seen) }
-        ensures err { IfErr result (FailsToWrite (M.allows self.old.modules)
+        ensures ok { OnOk result (WritesBatch (AllowsMade M.allows self.old.modules) (task ∷ [])
+            self.old.seen self.new.seen) }
+        ensures err { IfErr result (FailsToWrite (AllowsMade M.allows self.old.modules)
             (task ∷ []) self.old.seen self.new.seen) }
-        ensures narrows { (call : ModuleCall) → M.allows self.new.modules call
-            → M.allows self.old.modules call }
+        ensures narrows { (call : ModuleCall) → AllowsMade M.allows self.new.modules call
+            → AllowsMade M.allows self.old.modules call }
     {
         let mut tasks = TaskList::new(self.seen.alloc);
         tasks.push(task)?;
@@ -177,12 +190,12 @@ impl<M: HttpModule> Session<M> {
     pub fn write_response_tasks(&mut self, tasks: TaskList) -> Result<bool>
         ensures over { IfOk result
             (λ over. over ≡ is_over self.new.seen.downstream.writing.place) }
-        ensures ok { OnOk result (WritesBatch (M.allows self.old.modules) tasks self.old.seen
-            self.new.seen) }
-        ensures err { IfErr result (FailsToWrite (M.allows self.old.modules)
+        ensures ok { OnOk result (WritesBatch (AllowsMade M.allows self.old.modules) tasks
+            self.old.seen self.new.seen) }
+        ensures err { IfErr result (FailsToWrite (AllowsMade M.allows self.old.modules)
             tasks self.old.seen self.new.seen) }
-        ensures narrows { (call : ModuleCall) → M.allows self.new.modules call
-            → M.allows self.old.modules call }
+        ensures narrows { (call : ModuleCall) → AllowsMade M.allows self.new.modules call
+            → AllowsMade M.allows self.old.modules call }
     {
         let made = filter_tasks(self.seen.alloc, &mut self.modules, tasks)?;
         self.seen.note_tasks(made)
@@ -240,13 +253,14 @@ impl<M: HttpModule> Session<M> {
     /// no module sees the task then. Else the error of the filter, or the refusal of what it made
     /// (`filter_task`). Then, and where memory is wanted, nothing is kept of it.
     pub fn send_downstream_proxy_task(&mut self, task: HttpTask) -> Result<()>
-        ensures ok { OnOk result (KeepsTask (M.allows self.old.modules) task self.old.seen
-            self.new.seen) }
-        ensures err { IfErr result (FailsToKeep (M.allows self.old.modules) task self.old.seen) }
+        ensures ok { OnOk result (KeepsTask (AllowsMade M.allows self.old.modules) task
+            self.old.seen self.new.seen) }
+        ensures err { IfErr result (FailsToKeep (AllowsMade M.allows self.old.modules) task
+            self.old.seen) }
         ensures kept { OnErr result (self.new.seen ≡ self.old.seen) }
         ensures off { self.old.seen.tasks_enabled ≡ false → self.new.modules ≡ self.old.modules }
-        ensures narrows { (call : ModuleCall) → M.allows self.new.modules call
-            → M.allows self.old.modules call }
+        ensures narrows { (call : ModuleCall) → AllowsMade M.allows self.new.modules call
+            → AllowsMade M.allows self.old.modules call }
     {
         if !self.seen.tasks_enabled {
             let error = Error::explain(ErrorType::WriteError, Context::NoTaskApi);

@@ -419,7 +419,7 @@ write_goes {L} o start started before after old new lost q answer same kept unas
 
 -- a side whose request began on a link that was handed out
 begins : {L : Type 0} (o : Origin) (start : LinkStart) (link : LinkState) (reused : Bool)
-    (old : PeerSide L) (new : H1Client L) (head : RequestHead) → head ≡ o.head
+    (old : PeerSide L) (new : H1Client L) (head : RequestHead) → head ≡ o.sent
     → new.asked ≡ o.asked → IsNew old
     → IsHandedOut link start reused → new.response ≡ old.client.response
     → SentSoFar (writing.Sent.begun head []) [] new.request
@@ -454,7 +454,7 @@ begins {L} o start link reused old new head own unasked fresh out same so_far = 
 
 -- the same, where the call gave its facts
 begins_peer : {L : Type 0} (o : Origin) (start started : LinkStart) (before after : LinkState)
-    (reused : Bool) (old : PeerSide L) (new : H1Client L) (head : RequestHead) → head ≡ o.head
+    (reused : Bool) (old : PeerSide L) (new : H1Client L) (head : RequestHead) → head ≡ o.sent
     → new.asked ≡ o.asked → started ≡ start → after ≡ before → new.response ≡ old.client.response
     → ((sent : Sent) (had : List ℕ) → SentSoFar sent had old.client.request
     → SentSoFar (writing.with_head sent head) had new.request)
@@ -470,7 +470,7 @@ begins_peer {L} o start started before after reused old new head own unasked sam
 
 -- and the side with it
 pub begins_side : {L : Type 0} (o : Origin) (start started : LinkStart) (before after : LinkState)
-    (reused : Bool) (old : PeerSide L) (new : H1Client L) (head : RequestHead) → head ≡ o.head
+    (reused : Bool) (old : PeerSide L) (new : H1Client L) (head : RequestHead) → head ≡ o.sent
     → new.asked ≡ o.asked → started ≡ start → after ≡ before → new.response ≡ old.client.response
     → ((sent : Sent) (had : List ℕ) → SentSoFar sent had old.client.request
     → SentSoFar (writing.with_head sent head) had new.request)

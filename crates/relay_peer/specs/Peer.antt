@@ -173,7 +173,7 @@ pub record IsPeer {L : Type 0}
   pub sound : IsSound link
   pub head : RequestHead
   pub is_head : head_in client.request.request ≡ Some head
-  pub own : head ≡ o.head
+  pub own : head ≡ o.sent
   pub asks : client.asked ≡ o.asked
   pub sending : Sent
   pub so_far : SentSoFar sending q.sent client.request

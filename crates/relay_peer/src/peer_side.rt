@@ -99,7 +99,7 @@ impl<L: ByteLink> PeerSide<L> {
     /// `InvalidHTTPHeader` of the source `Internal`, about `BadFraming`: exactly where
     /// `request_framing` refuses the head. Nothing is queued then.
     pub fn write_request_header(&mut self, head: RequestHeader) -> Result<()>
-        ensures begins { OnOk result ((s : Origin) → head ≡ s.head → s.asked ≡ false
+        ensures begins { OnOk result ((s : Origin) → head ≡ s.sent → s.asked ≡ false
             → IsNew self.old → (reused : Bool)
             → IsHandedOut (L.state self.old.client.link) (L.start self.old.client.link) reused
             → s.reused ≡ reused

@@ -1,4 +1,5 @@
 pub mod OrderLemmas
 pub mod LogLemmas
 pub mod EnterLemmas
+pub mod TurnLemmas
 pub mod ModulesLemmas

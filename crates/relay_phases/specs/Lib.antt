@@ -2,4 +2,5 @@ pub mod Order
 pub mod Looks
 pub mod Modules
 pub mod Settled
+pub mod Turns
 pub mod Examples

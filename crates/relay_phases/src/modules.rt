@@ -1,9 +1,10 @@
 //! The modules of a request: they are made, and filter its head (RFC 9110, section 3.7).
 //!
 //! A call may be out of memory before it is made, and behind it: then the log is as before.
-ghost use Rattle.std.specs.Prelude.{◌≡◌, IsSome, IsOkUnless};
+ghost use Rattle.std.specs.Prelude.{◌≡◌, Err, IsSome, OnOk, IsOkUnless};
+ghost use Rattle.relay_tasks.specs.declared.error.Error.{Error};
 ghost use Rattle.relay_session.specs.Reading.{head_of};
-ghost use Rattle.relay_modules.specs.Module.{ModuleCall};
+ghost use Rattle.relay_modules.specs.Module.{ModuleCall, AllowsMade};
 ghost use Rattle.relay_hooks.specs.Call.{answered};
 ghost use Rattle.relay_hooks.specs.Session.{request_head};
 ghost use Rattle.relay_calls.specs.Calls.{Enters};
@@ -53,6 +54,9 @@ pub fn make_modules<SV: ProxyHttp>(
     ensures calls { MakesModules (Looks (SV.allows app.now) Hook.AllowSpawningSubrequest
         (Item.Request (request_head session.old.seen)) (SV.mark_of app.now ctx.now)
         session.old.seen session.new.seen) result session.old.seen session.new.seen }
+    ensures made { OnOk result (IsSome session.new.modules) }
+    ensures kept { (error : Error) → result ≡ Err (Fail.Error error)
+        → session.new.modules ≡ session.old.modules }
 {
     let mark = app.mark(ctx);
     let begun = begin_with_head(&mut session.seen, Hook::AllowSpawningSubrequest, mark)?;
@@ -60,7 +64,7 @@ pub fn make_modules<SV: ProxyHttp>(
     let alloc = session.seen.alloc;
     match app.init_downstream_modules(alloc) {
         Ok(modules) => {
-            session.modules = modules;
+            session.modules = Some(modules);
             log_call(&mut session.seen, begun, only(Item::Answer(say)), mark)?;
             Ok(say)
         }
@@ -73,17 +77,19 @@ pub fn make_modules<SV: ProxyHttp>(
     }
 }
 
-/// Passes the head of the request through the modules. `mark` is that of the context, which the
-/// call leaves.
+/// Passes the head of the request through the modules, which were made. `mark` is that of the
+/// context, which the call leaves.
 ///
 /// The error of the filter, which stands in its entry; what it left of the head stays.
 pub fn call_module_request_header<M: HttpModule>(session: &mut Session<M>, mark: u64) -> Result<()>
-    requires { IsSome (head_of session.old.seen.downstream.reading) }
+    requires read { IsSome (head_of session.old.seen.downstream.reading) }
+    requires made { IsSome session.old.modules }
     ensures calls { Enters (told_error result)
-        (CallsOnHead (M.allows session.old.modules) session.old.seen mark session.new.seen)
+        (CallsOnHead (AllowsMade M.allows session.old.modules) session.old.seen mark
+        session.new.seen)
         session.old.seen session.new.seen }
-    ensures narrows { (call : ModuleCall) → M.allows session.new.modules call
-        → M.allows session.old.modules call }
+    ensures narrows { (call : ModuleCall) → AllowsMade M.allows session.new.modules call
+        → AllowsMade M.allows session.old.modules call }
 {
     let begun = begin_with_head(&mut session.seen, Hook::ModuleRequestHeader, mark)?;
     let answer = session.filter_request_header();

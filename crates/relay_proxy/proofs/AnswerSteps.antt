@@ -5,7 +5,7 @@
 --   ends_served, ends_part      how a request ends that owes an answer, or owed one
 --   answer_took .. answer_memory    what each answer of a write makes of the run so far
 use Rattle.std.specs.Global.{Box}
-use Rattle.std.proofs.Common.{◌≡◌, ◌≢◌, ◌⊎◌, ℕ, ◌<◌, false, List, [], ◌∷◌, ◌++◌, length, take, Option, Some, refl, sym, ap, subst, ◌∙◌, inl, inr, arith, append-nil, length-append}
+use Rattle.std.proofs.Common.{◌≡◌, ◌≢◌, ◌⊎◌, ℕ, ◌<◌, Bool, false, List, [], ◌∷◌, ◌++◌, length, take, Option, Some, refl, sym, ap, subst, ◌∙◌, inl, inr, arith, append-nil, length-append}
 use Rattle.relay_tasks.specs.declared.Error.{Error}
 use Rattle.relay_tasks.specs.declared.Fault.{Fault}
 use Rattle.relay_links.specs.Count.{Rose}
@@ -29,7 +29,7 @@ use Rattle.relay_attempt.proofs.FailLemmas.{blames_still, written_to}
 use Rattle.relay_valid.specs.Valid.{IsValid}
 use Rattle.relay_valid.proofs.ValidLemmas.{never_fails}
 use Rattle.relay_proxy.specs.Answer.{owed_text, past_at, WaitsOf}
-use Rattle.relay_proxy.specs.Endings.{IsInOrder, IsGiven, FailsToWrite, IsHalfRefused, IsPart, IsPartOrNone, HasFailed, owed_by, EndsWith}
+use Rattle.relay_proxy.specs.Endings.{IsInOrder, IsGiven, FailsToWrite, IsFailedAttempt, IsUnsentAttempt, IsHalfRefused, IsPart, IsPartOrNone, HasFailed, Misses, owed_by, EndsWith}
 use Rattle.relay_proxy.specs.Owed.{Owes, HasAttempts, IsAnswering, outcome_owed, outcome_failed}
 use Rattle.relay_proxy.specs.Passed.{World, Start, origin_of, asked, TellsClient}
 use Rattle.relay_proxy.specs.Phases.{PhaseHolds, RunSoFar}
@@ -95,25 +95,50 @@ failed_on : (s : Start) (p : Passed) (written : List ℕ) (before after link : L
     (start : LinkStart) (e : Error) (failed : HasFailed s p before link start e)
     → WrittenTo before after → FailedOn failed written after
 failed_on s p written before after link start e failed to =
-    let on = still (origin_of s failed.head start.reused) (past_at p failed.before) before after
-    link start e to failed.why in
+    let on = still (origin_of s failed.head failed.sent start.reused) (past_at p failed.before)
+    before after link start e to failed.why in
     record {
       again = record {
         head = failed.head;
+        sent = failed.sent;
         relayable = failed.relayable;
+        sends = failed.sends;
         before = failed.before;
         why = on.again;
       };
       same = ap (λ o. owed_text o e) on.same;
     }
 
+-- an attempt that failed still did, and as much is owed
+misses_on : (s : Start) (p : Passed) (written : List ℕ) (before after link : LinkState)
+    (start : LinkStart) (keep : Bool) (e : Error) (text : List ℕ) → WrittenTo before after
+    → Misses s p before link start keep e text
+    → Misses s (past_at p written) after link start keep e text
+misses_on s p written before after link start keep e text to (Misses.in_exchange failed is kept) =
+    let on = failed_on s p written before after link start e failed to in
+    Misses.in_exchange on.again (is ∙ sym on.same) kept
+misses_on s p written before after link start keep e text to (Misses.ahead_of_it r is kept) =
+    Misses.ahead_of_it (record {
+      head = r.head;
+      accepted = record {
+        framing = r.accepted.framing;
+        len = r.accepted.len;
+        has = r.accepted.has;
+        relayable = r.accepted.relayable;
+      };
+      refused = r.refused;
+      status = r.status;
+      fresh = r.fresh;
+      unsent = record { got = r.unsent.got; sent = r.unsent.sent };
+    }) is kept
+
 -- no valid exchange fails
 pub failed_invalid : (s : Start) (p : Passed) (client link : LinkState) (start : LinkStart)
     (e : Error) (failed : HasFailed s p client link start e)
-    → IsValid (origin_of s failed.head start.reused) p client link start → ⊥
+    → IsValid (origin_of s failed.head failed.sent start.reused) p client link start → ⊥
 failed_invalid s p client link start e failed valid =
-    never_fails (origin_of s failed.head start.reused) (past_at p failed.before) client link start e
-    failed.why (record {
+    never_fails (origin_of s failed.head failed.sent start.reused) (past_at p failed.before) client
+    link start e failed.why (record {
       asks = record {
         request = valid.asks.request;
         gives = valid.asks.gives;
@@ -126,8 +151,30 @@ failed_invalid s p client link start e failed valid =
         is_response = valid.answers.is_response;
         ends = valid.answers.ends;
       };
+      agrees = valid.agrees;
       client_faultless = valid.client_faultless;
       link_faultless = valid.link_faultless;
+    })
+
+-- how an attempt ends that failed, and whose client was given what it is owed
+pub ends_missed : (s : Start) (p : Passed) (w : World) (link : LinkState) (start : LinkStart)
+    (keep : Bool) (e : Error) (text : List ℕ) → Misses s p w.client link start keep e text
+    → IsGiven s p w text
+    → IsFailedAttempt s p w link start keep false e ⊎ IsUnsentAttempt s p w link start keep false e
+ends_missed s p w link start keep e text (Misses.in_exchange failed is kept) given =
+    inl (record {
+      failed = failed;
+      invalid = failed_invalid s p w.client link start e failed;
+      answered = subst (λ (t : List ℕ). IsGiven s p w t) is given;
+      not_kept = kept;
+      stays = refl;
+    })
+ends_missed s p w link start keep e text (Misses.ahead_of_it refused is kept) given =
+    inr (record {
+      refused = refused;
+      answered = subst (λ (t : List ℕ). IsGiven s p w t) is given;
+      kept = kept;
+      stays = refl;
     })
 
 -- an answer is no end by its turns
@@ -184,9 +231,7 @@ module _ {L : Type 0} (state : L → LinkState) (start_at : L → LinkStart) whe
   )
   owes_on s p written w x (r ∷ own) (Refused error) text to same owes = absurd owes
   owes_on s p written w x (r ∷ own) (Served e) text to same owes =
-      let on = failed_on s p written w.client x.client (state r.link) (start_at r.link) e owes.0 to
-      in
-      (on.again, owes.1 ∙ sym on.same)
+      misses_on s p written w.client x.client (state r.link) (start_at r.link) r.keep e text to owes
 
   -- the attempts are those that they were
   attempts_on : (p : Passed) (written : List ℕ) (own : List (Returned L)) (owed : Owed)
@@ -198,7 +243,6 @@ module _ {L : Type 0} (state : L → LinkState) (start_at : L → LinkStart) whe
   attempts_on p written (r ∷ []) (Served e) attempts made = record {
     tells = record { got = made.tells.got; sent = made.tells.sent; faults = made.tells.faults };
     peer = made.peer;
-    not_kept = made.not_kept;
     attempt = made.attempt;
     attempts_are = made.attempts_are;
     is_record = made.is_record;
@@ -216,9 +260,12 @@ module _ {L : Type 0} (state : L → LinkState) (start_at : L → LinkStart) whe
       IsInOrder.is_unlinked owes.0.head owes.0.accepted
       (subst (λ (t : List ℕ). IsFrontOf p.written t) owes.1 front) owes.0.unsent.sent
   owes_order s p w (r ∷ own) (Refused error) text owes front = absurd owes
-  owes_order s p w (r ∷ own) (Served e) text owes front =
-      IsInOrder.is_failure owes.0.head _ _ owes.0.before e owes.0.relayable
-      (order_of owes.0.why) (subst (λ (t : List ℕ). IsFrontOf p.written t) owes.1 front)
+  owes_order s p w (r ∷ own) (Served e) text (Misses.in_exchange f is kept) front =
+      IsInOrder.is_failure f.head f.sent _ _ f.before e f.relayable f.sends (order_of f.why)
+      (subst (λ (t : List ℕ). IsFrontOf p.written t) is front)
+  owes_order s p w (r ∷ own) (Served e) text (Misses.ahead_of_it f is kept) front =
+      IsInOrder.is_unsent f.head e f.accepted f.refused
+      (subst (λ (t : List ℕ). IsFrontOf p.written t) is front) f.unsent.sent
 
   -- the client's head is open no more
   pub owes_open : (s : Start) (p : Passed) (w : World) (own : List (Returned L)) (owed : Owed)
@@ -228,8 +275,11 @@ module _ {L : Type 0} (state : L → LinkState) (start_at : L → LinkStart) whe
       HasRequest-IsOpen (asked s p) owes.0.head owes.0.accepted.framing owes.0.accepted.len
       owes.0.accepted.has open_head
   owes_open s p w (r ∷ own) (Refused error) text owes open_head = absurd owes
-  owes_open s p w (r ∷ own) (Served e) text owes open_head =
-      exchange_open s (past_at p owes.0.before) owes.0.head _ _ (order_of owes.0.why) open_head
+  owes_open s p w (r ∷ own) (Served e) text (Misses.in_exchange f is kept) open_head =
+      exchange_open s (past_at p f.before) f.head f.sent _ _ (order_of f.why) open_head
+  owes_open s p w (r ∷ own) (Served e) text (Misses.ahead_of_it f is kept) open_head =
+      HasRequest-IsOpen (asked s p) f.head f.accepted.framing f.accepted.len f.accepted.has
+      open_head
 
   -- ---- how it ends
 
@@ -256,13 +306,7 @@ module _ {L : Type 0} (state : L → LinkState) (start_at : L → LinkStart) whe
     attempts_are = made.attempts_are;
     is_record = made.is_record;
     error = made.error;
-    ends = record {
-      failed = owes.0;
-      invalid = failed_invalid s p w.client (state r.link) (start_at r.link) e owes.0;
-      answered = subst (λ (t : List ℕ). IsGiven s p w t) owes.1 given;
-      not_kept = made.not_kept;
-      stays = refl;
-    };
+    ends = ends_missed s p w (state r.link) (start_at r.link) r.keep e text owes given;
   }
   ends_served s p w (r ∷ q ∷ own) e text attempts owes given made = absurd made
 
@@ -285,36 +329,30 @@ module _ {L : Type 0} (state : L → LinkState) (start_at : L → LinkStart) whe
       } in
       ((owes.0.unsent, inr half), (owes.0.unsent, inr half))
   ends_part s p w (r ∷ []) (Refused error) text attempts owes part made = absurd made
-  ends_part s p w (r ∷ []) (Served e) text attempts owes part made =
-      let some : IsFrontOf p.written (owed_by owes.0) =
-      subst (λ (t : List ℕ). IsFrontOf p.written t) owes.1 part in (
-        record {
-          tells = made.tells;
-          peer = made.peer;
-          attempt = made.attempt;
-          attempts_are = made.attempts_are;
-          is_record = made.is_record;
-          error = tt;
-          ends = (
-            subst (λ (t : Option Error). IsPart s p w (state r.link) (start_at r.link) t)
-                (sym made.error) (record { failed = owes.0; part = some }),
-            made.not_kept,
-          );
-        },
-        record {
-          tells = made.tells;
-          peer = made.peer;
-          attempt = made.attempt;
-          attempts_are = made.attempts_are;
-          is_record = made.is_record;
-          error = tt;
-          ends = (
-            subst (λ (t : Option Error). IsPartOrNone s p w (state r.link) (start_at r.link) t)
-                (sym made.error) (record { failed = owes.0; part = some }),
-            made.not_kept,
-          );
-        },
-      )
+  ends_part s p w (r ∷ []) (Served e) text attempts owes part made = (
+    record {
+      tells = made.tells;
+      peer = made.peer;
+      attempt = made.attempt;
+      attempts_are = made.attempts_are;
+      is_record = made.is_record;
+      error = tt;
+      ends = subst
+          (λ (t : Option Error). IsPart s p w (state r.link) (start_at r.link) r.keep t)
+          (sym made.error) (record { text = text; misses = owes; part = part });
+    },
+    record {
+      tells = made.tells;
+      peer = made.peer;
+      attempt = made.attempt;
+      attempts_are = made.attempts_are;
+      is_record = made.is_record;
+      error = tt;
+      ends = subst
+          (λ (t : Option Error). IsPartOrNone s p w (state r.link) (start_at r.link) r.keep t)
+          (sym made.error) (record { text = text; misses = owes; part = part });
+    },
+  )
   ends_part s p w (r ∷ q ∷ own) owed text attempts owes part made = absurd made
 
   -- the answer was written whole

@@ -1,5 +1,5 @@
 -- Turns of the connector: the attempt's exchange begins over the link that it gave, or does not.
-use Rattle.std.proofs.Common.{◌≡◌, ◌≢◌, ℕ, ◌≤◌, Bool, false, List, [], ◌++◌, Option, Some, None, refl, sym, ap, subst, ◌∙◌, inl, inr, arith}
+use Rattle.std.proofs.Common.{◌≡◌, ◌≢◌, ℕ, ◌≤◌, Bool, false, true, not, List, [], ◌++◌, Option, Some, None, Err, refl, sym, ap, subst, ◌∙◌, inl, inr, arith}
 use Rattle.std.specs.Global.{Box}
 use Rattle.relay_tasks.specs.declared.error.Error.{Error}
 use Rattle.relay_tasks.specs.declared.error.ErrorSource.TheVariants.{Internal, Upstream}
@@ -17,35 +17,42 @@ use Rattle.relay_links.proofs.SinceLemmas.{Since-start}
 use Rattle.relay_h1.specs.Framing.{request_framing}
 use Rattle.relay_h1.specs.Verdict.{refused_from}
 use Rattle.relay_h1.specs.declared.framing.Framing.{Framing}
+use Rattle.relay_authority.specs.Stage.{FailsToMake}
+use Rattle.relay_authority.specs.declared.upstream.Client.{Client}
+use Rattle.relay_h1.specs.ClientHead.{is_sent_to}
 use Rattle.relay_h1.specs.Wire.{generated}
 use Rattle.relay_session.specs.Generated.{answer_tasks, AnswersText}
-use Rattle.relay_session.specs.Reading.{head_of}
+use Rattle.relay_session.specs.Reading.{head_of, is_body_done}
 use Rattle.relay_session.specs.Response.{AreQueued}
 use Rattle.relay_session.specs.declared.writing.Outgoing.TheVariants.{Open}
 use Rattle.relay_session.specs.declared.writing.Writing.{Writing}
 use Rattle.relay_session.specs.declared.session.HttpSession.{HttpSession}
 use Rattle.relay_sides.specs.Client.{BeginsBehind}
 use Rattle.relay_core.specs.Past.{Origin}
+use Rattle.relay_attempt.specs.Agrees.{Agrees}
 use Rattle.relay_attempt.specs.Exchange.{IsUnderWay, UpHolds}
 use Rattle.relay_attempt.specs.Passed.{Passed}
 use Rattle.relay_attempt.specs.declared.h1_exchange.H1Exchange.{H1Exchange}
 use Rattle.relay_attempt.specs.Order as exchange
 use Rattle.relay_attempt.specs.Head.{link_of}
 use Rattle.relay_proxy.specs.Relayable.{IsRelayable}
-use Rattle.relay_proxy.specs.Endings.{IsInOrder, IsAskedPeer, IsPartRelayed, IsUnconnected, IsFailedRecord, EndsLinked, error_of, fault_error, outcome_of}
+use Rattle.relay_proxy.specs.Sent.{MakesSent, Sends, RefusesToSend, client_of}
+use Rattle.relay_proxy.specs.Endings.{IsInOrder, Misses, IsAskedPeer, IsPartRelayed, IsUnconnected, IsFailedRecord, EndsLinked, error_of, fault_error, outcome_of}
 use Rattle.relay_proxy.specs.Passed.{World, Start, origin_of, TellsClient, IsUnsent}
 use Rattle.relay_proxy.specs.Phases.{IsConnecting, IsLeased, IsRelaying, RunSoFar}
 use Rattle.relay_proxy.specs.Turn.{Advances, world_with}
 use Rattle.relay_proxy.specs.declared.machine.Attempt.{Attempt}
 use Rattle.relay_proxy.specs.declared.machine.Lease.{Lease}
 use Rattle.relay_proxy.specs.declared.machine.Phase.TheVariants.{Connect, Relay, Close, Answer, Ended}
+use Rattle.relay_proxy.specs.declared.machine.Phase.TheVariants as phase
 use Rattle.relay_proxy.specs.declared.owed.Owed.TheVariants.{Served}
 use Rattle.relay_proxy.specs.declared.record.AttemptRecord.{AttemptRecord}
 use Rattle.relay_proxy.specs.declared.outcome.Outcome.{Outcome}
 use Rattle.relay_proxy.specs.declared.outcome.Outcome.TheVariants as outcome
 use Rattle.relay_proxy.proofs.AnswerSteps.{answer_on}
-use Rattle.relay_proxy.proofs.HeadSteps.{begun_answer, generated_some, sent_502}
+use Rattle.relay_proxy.proofs.HeadSteps.{begun_answer, generated_some}
 use Rattle.relay_proxy.proofs.OpenHead.{exchange_open}
+use Rattle.relay_proxy.proofs.SentLemmas.{client_is, sends_agrees, refused_code}
 use Rattle.relay_peer.proofs.FaultLemmas.{grew_same}
 use Rattle.relay_proxy.proofs.Tells.{Rose-le, client_still}
 
@@ -68,9 +75,48 @@ came_alone : (p : Passed) → p.written ≡ [] → IsUnsent p
 came_alone p none unsent = grind (arith, none, unsent.got, unsent.sent)
 
 -- a session has one head
-same_head : (given own : RequestHead) (session : HttpSession) → head_of session.reading ≡ Some given
+pub same_head : (given own : RequestHead) (session : HttpSession)
+    → head_of session.reading ≡ Some given
     → head_of session.reading ≡ Some own → given ≡ own
 same_head given own session is is_own = grind (arith, is, is_own)
+
+-- whether the client's body has bytes is what its session says, before any was read
+pub client_asked : (s : Start) (p : Passed) (w : World) (session : HttpSession)
+    (given : RequestHead)
+    → head_of session.reading ≡ Some given → IsConnecting s p w session
+    → record { custom = false; has_body = not (is_body_done session.reading) } ≡ client_of given
+client_asked s p w session given is connecting =
+    let b = connecting.begins given false in
+    let framed : request_framing given ≡ Some b.framing =
+    subst (λ (h : RequestHead). request_framing h ≡ Some b.framing)
+    (b.own ∙ sym (same_head given connecting.head session is connecting.is_head))
+    b.has.let_in.framed in
+    client_is given b.framing (is_body_done session.reading) framed b.done
+
+-- so a head that is refused for such a client is one that is refused where it was to be sent
+pub refused_asked : (s : Start) (p : Passed) (w : World) (session read : HttpSession)
+    (given : RequestHead) (failure : Fail) (e told : Error) → told ≡ e → read ≡ session
+    → head_of session.reading ≡ Some given → IsConnecting s p w session → failure ≡ fail.Error e
+    → FailsToMake
+    (MakesSent (record { custom = false; has_body = not (is_body_done read.reading) }) given)
+    failure
+    → RefusesToSend given told
+refused_asked s p w session read given failure e told one same is connecting failed refuses =
+    let own : FailsToMake
+    (MakesSent (record { custom = false; has_body = not (is_body_done session.reading) }) given)
+    failure =
+    subst (λ (h : HttpSession). FailsToMake
+    (MakesSent (record { custom = false; has_body = not (is_body_done h.reading) }) given) failure)
+    same refuses in
+    let made : MakesSent
+    (record { custom = false; has_body = not (is_body_done session.reading) }) given (Err e) =
+    subst (λ (f : Fail). FailsToMake
+    (MakesSent (record { custom = false; has_body = not (is_body_done session.reading) }) given) f)
+    failed own in
+    subst (λ (x : Error). RefusesToSend given x) (sym one)
+    (subst (λ (k : Client). MakesSent k given (Err e))
+    (client_asked s p w session given is connecting)
+    made)
 
 -- a framing that is there is not missing
 not_missing : (framing : Framing) (found : Option Framing) → found ≡ None → found ≡ Some framing → ⊥
@@ -98,14 +144,17 @@ unconnected_tells s p w failed fits rose tells =
     (grew_same w.client w.client refl) tells
 
 -- what passed of an exchange under way, by the mark of its link
-pub part_relayed : (s : Start) (p : Passed) (head : RequestHead) (reused : Bool)
-    (link : LinkState) (start : LinkStart) → IsRelayable head → start.reused ≡ reused
-    → exchange.IsInOrder (origin_of s head reused) p link.ended → IsPartRelayed s p link start
-part_relayed s p head reused link start relayable same order = record {
+pub part_relayed : (s : Start) (p : Passed) (head sent : RequestHead) (reused : Bool)
+    (link : LinkState) (start : LinkStart) → IsRelayable head → Sends head sent
+    → start.reused ≡ reused
+    → exchange.IsInOrder (origin_of s head sent reused) p link.ended → IsPartRelayed s p link start
+part_relayed s p head sent reused link start relayable sends same order = record {
   head = head;
+  sent = sent;
   relayable = relayable;
-  order = subst (λ (r : Bool). exchange.IsInOrder (origin_of s head r) p link.ended) (sym same)
-      order;
+  sends = sends;
+  order = subst (λ (r : Bool). exchange.IsInOrder (origin_of s head sent r) p link.ended)
+      (sym same) order;
 }
 
 module _ {L : Type 0} (state : L → LinkState) (start_at : L → LinkStart) where
@@ -131,33 +180,42 @@ module _ {L : Type 0} (state : L → LinkState) (start_at : L → LinkStart) whe
 
 module _ {L C : Type 0} (state : L → LinkState) (start_at : L → LinkStart) where
   -- the exchange is under way, and nothing was sent or written yet
-  pub begun : (s : Start) (p : Passed) (w : World) (session : HttpSession) (given : RequestHead)
-      (link : L) (a : Attempt L C) → head_of session.reading ≡ Some given
-      → IsHandedOut (state link) (start_at link) a.lease.reused → IsAskedPeer a.lease.peer
+  pub begun : (s : Start) (p : Passed) (w : World) (session : HttpSession)
+      (head given : RequestHead) (link : L) (a : Attempt L C) → head_of session.reading ≡ Some head
+      → Sends head given → IsHandedOut (state link) (start_at link) a.lease.reused
+      → IsAskedPeer a.lease.peer
       → ((o : Origin) (came : List ℕ) (client : LinkState) (ahead : List ℕ) (reused : Bool)
-      → given ≡ o.head → o.asked ≡ false → BeginsBehind o came client ahead session
+      → given ≡ o.sent → Agrees o.head o.sent → o.asked ≡ false → BeginsBehind o came client ahead
+      session
       → IsHandedOut (state link) (start_at link) reused → o.reused ≡ reused
       → IsUnderWay state start_at o
       (record { came = came; written = []; got = []; sent = [] }) client ahead a.exchange)
       → IsConnecting s p w session → IsRelaying state start_at s p w a
-  begun s p w session given link a is handed peer begins connecting =
+  begun s p w session head given link a is goes handed peer begins connecting =
       record {
         leased = leased_under_way state start_at origin p w.client w.ahead a.exchange a.lease refl
             peer under;
         head = connecting.head;
+        sent = given;
         relayable = connecting.accepted.relayable;
+        sends = sends;
         under_way = under;
       }
     where
       origin : Origin
-      origin = origin_of s connecting.head a.lease.reused
+      origin = origin_of s connecting.head given a.lease.reused
+
+      sends : Sends connecting.head given
+      sends = subst (λ (h : RequestHead). Sends h given)
+          (same_head head connecting.head session is connecting.is_head) goes
 
       under : IsUnderWay state start_at origin p w.client w.ahead a.exchange
       under = subst (λ (q : Passed). IsUnderWay state start_at origin q w.client w.ahead a.exchange)
           (came_alone p connecting.written connecting.unsent)
-          (begins origin p.came w.client w.ahead a.lease.reused
-          (same_head given connecting.head session is connecting.is_head) refl
-          (connecting.begins a.lease.reused) handed refl)
+          (begins origin p.came w.client w.ahead a.lease.reused refl
+          (sends_agrees connecting.head given connecting.accepted.framing
+          connecting.accepted.has.let_in.framed sends) refl
+          (connecting.begins given a.lease.reused) handed refl)
 
   -- the attempt is held
   pub held : (s : Start) (p : Passed) (w : World) (a : Attempt L C) (b : Box (Attempt L C))
@@ -170,8 +228,8 @@ module _ {L C : Type 0} (state : L → LinkState) (start_at : L → LinkStart) w
       tells = tells;
       order = order;
       untouched = λ open_head.
-          absurd (exchange_open s p relaying.head a.lease.reused _ relaying.under_way.order
-          open_head);
+          absurd (exchange_open s p relaying.head relaying.sent a.lease.reused _
+          relaying.under_way.order open_head);
       going = tt;
       calm = calm;
       holds = subst (λ (x : Attempt L C). IsRelaying state start_at s p w x) (sym same) relaying;
@@ -189,15 +247,15 @@ module _ {L C : Type 0} (state : L → LinkState) (start_at : L → LinkStart) w
       tells = tells;
       order = order;
       untouched = λ open_head.
-          absurd (exchange_open s p relaying.head a.lease.reused _ relaying.under_way.order
-          open_head);
+          absurd (exchange_open s p relaying.head relaying.sent a.lease.reused _
+          relaying.under_way.order open_head);
       going = no_limit;
       calm = tt;
       holds = (
         relaying.leased,
         (
-          inl (part_relayed s p relaying.head a.lease.reused _ _ relaying.relayable
-              relaying.leased.reused relaying.under_way.order),
+          inl (part_relayed s p relaying.head relaying.sent a.lease.reused _ _ relaying.relayable
+              relaying.sends relaying.leased.reused relaying.under_way.order),
           refl,
         ),
       );
@@ -206,16 +264,16 @@ module _ {L C : Type 0} (state : L → LinkState) (start_at : L → LinkStart) w
 
   -- the exchange was not begun, when out of memory
   pub not_begun : (s : Start) (p : Passed) (w : World) (context : C) (session : Box HttpSession)
-      (given : RequestHead) (link back : L) (lease : Lease) (why : Fail) (end : Outcome)
-      → head_of session.value.reading ≡ Some given
+      (head given : RequestHead) (link back : L) (lease : Lease) (why : Fail) (end : Outcome)
+      → head_of session.value.reading ≡ Some head → Sends head given
       → IsHandedOut (state link) (start_at link) lease.reused → IsAskedPeer lease.peer
       → back ≡ link → end ≡ outcome_of why
       → IsMemoryOr (refused_from Internal BadFraming) why
       → (why ≡ fail.Error (refused_from Internal BadFraming) → request_framing given ≡ None)
       → RunSoFar {C = C} state start_at s p w [] (Connect context session)
       → Advances {C = C} state start_at s w (Close back lease false end)
-  not_begun s p w context session given link back lease why end is handed peer same ends causes
-      refused run =
+  not_begun s p w context session head given link back lease why end is goes handed peer same ends
+      causes refused run =
       record {
         passed = p;
         run = record {
@@ -235,13 +293,83 @@ module _ {L C : Type 0} (state : L → LinkState) (start_at : L → LinkStart) w
       }
     where
       framed : request_framing given ≡ Some run.holds.accepted.framing
-      framed = rw (same_head given run.holds.head session.value is run.holds.is_head)
+      framed =
+          (sends_agrees run.holds.head given run.holds.accepted.framing
           run.holds.accepted.has.let_in.framed
+          (subst (λ (h : RequestHead). Sends h given)
+          (same_head head run.holds.head session.value is run.holds.is_head) goes)).framing
+          ∙ run.holds.accepted.has.let_in.framed
 
       is_memory : end ≡ outcome.OutOfMemory
       is_memory = ends ∙ ap (λ (f : Fail). outcome_of f)
           (memory_alone (refused_from Internal BadFraming) why (request_framing given)
           run.holds.accepted.framing causes refused framed)
+
+  -- no head was made to be sent, when out of memory
+  pub not_made : (s : Start) (p : Passed) (w : World) (context : C) (session : Box HttpSession)
+      (link : L) (lease : Lease) → IsHandedOut (state link) (start_at link) lease.reused
+      → IsAskedPeer lease.peer
+      → RunSoFar {C = C} state start_at s p w [] (Connect context session)
+      → Advances {C = C} state start_at s w (Close link lease false outcome.OutOfMemory)
+  not_made s p w context session link lease handed peer run = record {
+    passed = p;
+    run = record {
+      tells = run.tells;
+      order = run.order;
+      untouched = run.untouched;
+      going = no_limit;
+      calm = tt;
+      holds = (
+        leased_anew p (state link) (start_at link) lease run.holds.unsent handed peer,
+        (inr (run.holds.written, run.holds.unsent), refl),
+      );
+    };
+  }
+
+  -- the head that was to be sent is refused, and the client is owed an answer for that
+  pub not_sent : (s : Start) (p : Passed) (w : World) (context : C)
+      (session session' : Box HttpSession) (head : RequestHead) (link : L) (lease : Lease)
+      (e : Error) → head_of session.value.reading ≡ Some head → RefusesToSend head e
+      → IsHandedOut (state link) (start_at link) lease.reused → IsAskedPeer lease.peer
+      → session'.value.writing.output ≡ Open (generated 500)
+      → RunSoFar {C = C} state start_at s p w [] (Connect context session)
+      → Advances {C = C} state start_at s w (phase.Fail link lease true session' e)
+  not_sent s p w context session session' head link lease e is refuses handed peer waits run =
+      record {
+        passed = p;
+        run = record {
+          tells = run.tells;
+          order = run.order;
+          untouched = run.untouched;
+          going = tt;
+          calm = tt;
+          holds = (
+            leased_anew p (state link) (start_at link) lease run.holds.unsent handed peer,
+            record {
+              text = generated 500;
+              misses = Misses.ahead_of_it (record {
+                head = run.holds.head;
+                accepted = run.holds.accepted;
+                refused = refused;
+                status = refused_code run.holds.head e refused;
+                fresh = subst (λ (b : Bool). IsHandedOut (state link) (start_at link) b)
+                    (sym handed.marked) handed;
+                unsent = run.holds.unsent;
+              }) refl refl;
+              waits = record {
+                left = generated 500;
+                is_open = waits;
+                some = generated_some 500;
+                joined = ap (λ (xs : List ℕ). xs ++ generated 500) run.holds.written;
+              };
+            },
+          );
+        };
+      }
+    where
+      refused : RefusesToSend run.holds.head e
+      refused = subst (λ (h : RequestHead). RefusesToSend h e)
+          (same_head head run.holds.head session.value is run.holds.is_head) refuses
 
   -- the connector gave no link
   unconnected : (s : Start) (p : Passed) (w : World) (failed : ℕ) (context : C)
@@ -314,11 +442,14 @@ module _ {L C : Type 0} (state : L → LinkState) (start_at : L → LinkStart) w
     };
   }
 
--- the session that wants a link has nothing but the answer queued
-pub connecting_answer : (s : Start) (p : Passed) (w : World) (session : HttpSession)
+-- the session that wants a link has nothing but the answer queued, with a status that goes to each
+-- client
+pub connecting_answer : (s : Start) (p : Passed) (w : World) (status : ℕ) (session : HttpSession)
     (new : Writing) → IsConnecting s p w session
-    → AreQueued session.writing (answer_tasks session.writing.place 502) new
-    → AnswersText 502 session.writing new → new.output ≡ Open (generated 502)
-connecting_answer s p w session new connecting queued text =
-    begun_answer 502 session.writing new (connecting.begins false).response queued text
-    (sent_502 session.writing.request.version)
+    → is_sent_to session.writing.request.version status ≡ true
+    → AreQueued session.writing (answer_tasks session.writing.place status) new
+    → AnswersText status session.writing new → new.output ≡ Open (generated status)
+connecting_answer s p w status session new connecting sent queued text =
+    begun_answer status session.writing new (connecting.begins connecting.head false).response
+    queued
+    text sent

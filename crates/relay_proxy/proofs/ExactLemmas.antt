@@ -5,7 +5,11 @@ use Rattle.relay_tasks.specs.declared.Error.{Error}
 use Rattle.relay_links.specs.Count.{Rose}
 use Rattle.relay_links.specs.Link.{LinkState, LinkStart}
 use Rattle.relay_links.specs.declared.Returned.{Returned}
+use Rattle.relay_tasks.specs.declared.Context.{Context}
+use Rattle.relay_authority.specs.Entry.{Entered}
+use Rattle.relay_authority.proofs.OneAnswer.{Entered-unique}
 use Rattle.relay_h1.specs.Verdict.{IsOpen, HasRequest, IsRefusedRequest}
+use Rattle.relay_h1.specs.Framing.{request_framing}
 use Rattle.relay_h1.specs.declared.framing.Framing.{Framing}
 use Rattle.relay_h1.proofs.VerdictLemmas.{HasRequest-IsOpen, IsRefusedRequest-IsOpen, HasRequest-IsRefusedRequest, HasRequest-unique}
 use Rattle.relay_attempt.specs.Order.{FailsFor}
@@ -16,7 +20,8 @@ use Rattle.relay_valid.specs.Valid.{AsksFor, AnswersWith, IsValid}
 use Rattle.relay_valid.proofs.AskedLemmas.{asks_head, asks_unrefused, valid_over}
 use Rattle.relay_valid.proofs.UnfitLemmas.{relayed_fit}
 use Rattle.relay_proxy.specs.Answer.{past_at}
-use Rattle.relay_proxy.specs.Relayable.{IsConnect, IsRelayable}
+use Rattle.relay_proxy.specs.Relayable.{IsConnect, IsRelayable, NamesUpgrade}
+use Rattle.relay_proxy.specs.Sent.{Sends, RefusesToSend}
 use Rattle.relay_proxy.specs.Passed.{World, Start, origin_of, asked}
 use Rattle.relay_proxy.specs.Endings as endings
 use Rattle.relay_proxy.specs.Endings.{IsAccepted, IsTurnedDown, IsLeftAlone, EndsUnlinked, EndsLinked, IsEnded}
@@ -25,6 +30,7 @@ use Rattle.relay_proxy.specs.declared.outcome.Outcome.{Outcome}
 use Rattle.relay_proxy.specs.declared.outcome.Outcome.TheVariants.{NoRequest, Refused, Served, TurnLimit, OutOfMemory}
 use Rattle.relay_proxy.specs.declared.record.AttemptRecord.{AttemptRecord}
 use Rattle.relay_proxy.proofs.OpenHead.{turns_down_open}
+use Rattle.relay_proxy.proofs.SentLemmas.{sends_agrees}
 
 -- no bytes are an open head
 open_nothing : IsOpen []
@@ -44,27 +50,43 @@ turns_down_nothing (endings.IsTurnedDown.has_bad_head why refused is told) none 
     IsRefusedRequest-IsOpen [] why
     (subst (λ (xs : List ℕ). IsRefusedRequest xs why) none refused) open_nothing
 turns_down_nothing
-    (endings.IsTurnedDown.asks_to_connect head framing len has connect is told) none =
+    (endings.IsTurnedDown.is_not_entered head framing len why has refused is told) none =
+    has_nothing has none
+turns_down_nothing
+    (endings.IsTurnedDown.asks_to_connect head framing len has entered connect is told) none =
     has_nothing has none
 
--- a generated answer to a head that is valid and asks for no tunnel
+-- a head that the entry check refuses, and one that passes it
+enters_or_not : (head : RequestHead) (why : Context) → Entered head (Some why) → Entered head None
+    → ⊥
+enters_or_not head why refused entered =
+    apart (Entered-unique head (Some why) None refused entered)
+  where
+    apart : Some why ≡ None → ⊥
+    apart same = cc
+
+-- a generated answer to a head that is valid, passes the entry check and asks for no tunnel
 turns_down_other : {bytes answer : List ℕ} {error : Option Error} (head : RequestHead)
     (framing : Framing) (len : ℕ) → IsTurnedDown bytes answer error
-    → HasRequest bytes head framing len → ¬ (IsConnect head) → ⊥
+    → HasRequest bytes head framing len → Entered head None → ¬ (IsConnect head) → ⊥
 turns_down_other {bytes} head framing len
-    (endings.IsTurnedDown.has_bad_head why refused is told) has no_connect =
+    (endings.IsTurnedDown.has_bad_head why refused is told) has entered no_connect =
     HasRequest-IsRefusedRequest bytes head framing len why has refused
 turns_down_other {bytes} head framing len
-    (endings.IsTurnedDown.asks_to_connect a f n x connect is told) has no_connect =
+    (endings.IsTurnedDown.is_not_entered a f n why x refused is told) has entered no_connect =
+    enters_or_not head why (subst (λ (h : RequestHead). Entered h (Some why))
+    (HasRequest-unique bytes a head f framing n len x has).0 refused) entered
+turns_down_other {bytes} head framing len
+    (endings.IsTurnedDown.asks_to_connect a f n x passed connect is told) has entered no_connect =
     no_connect (subst (λ (h : RequestHead). IsConnect h)
     (HasRequest-unique bytes a head f framing n len x has).0 connect)
 
--- a head that is relayed and one that is not
+-- a head that is relayed and one that names Upgrade
 relayable_or_not : {bytes : List ℕ} {a b : RequestHead} {f g : Framing} {n m : ℕ}
-    → HasRequest bytes a g n → IsRelayable a → HasRequest bytes b f m → ¬ (IsRelayable b) → ⊥
-relayable_or_not {bytes} {a} {b} {f} {g} {n} {m} x relayable y unrelayable =
-    unrelayable (subst (λ (h : RequestHead). IsRelayable h)
-    (HasRequest-unique bytes a b g f n m x y).0 relayable)
+    → HasRequest bytes a g n → IsRelayable a → HasRequest bytes b f m → NamesUpgrade b → ⊥
+relayable_or_not {bytes} {a} {b} {f} {g} {n} {m} x relayable y upgrade =
+    relayable.no_upgrade (subst (λ (h : RequestHead). NamesUpgrade h)
+    (sym (HasRequest-unique bytes a b g f n m x y).0) upgrade)
 
 -- a true flag is not false
 not_both : {b : Bool} → b ≡ true → b ≡ false → ⊥
@@ -108,21 +130,39 @@ turned_down_or_left down (endings.IsLeftAlone.ends_in_head inside is) =
     turns_down_open down inside.open_head
 turned_down_or_left down (endings.IsLeftAlone.is_unrelayable unrelayable is) =
     turns_down_other unrelayable.head unrelayable.framing unrelayable.len down
-    unrelayable.has unrelayable.no_connect
+    unrelayable.has unrelayable.entered unrelayable.no_connect
 
 -- the generated answer is one
 one_answer : {bytes a b : List ℕ} {d e : Option Error}
     → IsTurnedDown bytes a d → IsTurnedDown bytes b e → a ≡ b
 one_answer (endings.IsTurnedDown.has_bad_head why refused is told)
     (endings.IsTurnedDown.has_bad_head why2 refused2 is2 told2) = is ∙ sym is2
+one_answer (endings.IsTurnedDown.has_bad_head why refused is told)
+    (endings.IsTurnedDown.is_not_entered head framing len why2 has refused2 is2 told2) =
+    is ∙ sym is2
 one_answer {bytes} (endings.IsTurnedDown.has_bad_head why refused is told)
-    (endings.IsTurnedDown.asks_to_connect head framing len has connect is2 told2) =
+    (endings.IsTurnedDown.asks_to_connect head framing len has entered connect is2 told2) =
     absurd (HasRequest-IsRefusedRequest bytes head framing len why has refused)
-one_answer {bytes} (endings.IsTurnedDown.asks_to_connect head framing len has connect is told)
+one_answer (endings.IsTurnedDown.is_not_entered head framing len why2 has refused is told)
+    (endings.IsTurnedDown.has_bad_head why refused2 is2 told2) = is ∙ sym is2
+one_answer (endings.IsTurnedDown.is_not_entered head framing len why has refused is told)
+    (endings.IsTurnedDown.is_not_entered head2 framing2 len2 why2 has2 refused2 is2 told2) =
+    is ∙ sym is2
+one_answer {bytes} (endings.IsTurnedDown.is_not_entered head framing len why has refused is told)
+    (endings.IsTurnedDown.asks_to_connect head2 framing2 len2 has2 entered connect is2 told2) =
+    absurd (enters_or_not head2 why (subst (λ (h : RequestHead). Entered h (Some why))
+    (HasRequest-unique bytes head head2 framing framing2 len len2 has has2).0 refused) entered)
+one_answer {bytes} (endings.IsTurnedDown.asks_to_connect head framing len has entered connect is
+    told)
     (endings.IsTurnedDown.has_bad_head why refused is2 told2) =
     absurd (HasRequest-IsRefusedRequest bytes head framing len why has refused)
-one_answer (endings.IsTurnedDown.asks_to_connect head framing len has connect is told)
-    (endings.IsTurnedDown.asks_to_connect head2 framing2 len2 has2 connect2 is2 told2) =
+one_answer {bytes} (endings.IsTurnedDown.asks_to_connect head framing len has entered connect is
+    told)
+    (endings.IsTurnedDown.is_not_entered head2 framing2 len2 why has2 refused is2 told2) =
+    absurd (enters_or_not head why (subst (λ (h : RequestHead). Entered h (Some why))
+    (HasRequest-unique bytes head2 head framing2 framing len2 len has2 has).0 refused) entered)
+one_answer (endings.IsTurnedDown.asks_to_connect head framing len has entered connect is told)
+    (endings.IsTurnedDown.asks_to_connect head2 framing2 len2 has2 entered2 connect2 is2 told2) =
     is ∙ sym is2
 
 -- a head that is turned down and answered whole is a refusal, where the request is finished
@@ -153,7 +193,7 @@ exact_refused s p w (Served None reuse) ends answer error down whole = absurd en
 exact_refused s p w (Served (Some e) reuse) ends answer error down whole =
     let u = ends.0.unconnected in
     absurd (turns_down_other u.head u.accepted.framing u.accepted.len down u.accepted.has
-    u.accepted.relayable.method)
+    u.accepted.relayable.entered u.accepted.relayable.method)
 exact_refused s p w TurnLimit ends answer error down whole = inl (inl refl)
 exact_refused s p w OutOfMemory ends answer error down whole = inl (inr refl)
 
@@ -163,7 +203,7 @@ relayed_or_not : {s : Start} {p : Passed} {w : World} {e : Error} (head : Reques
 relayed_or_not {s} {p} head accepted (endings.IsLeftAlone.ends_in_head inside is) =
     HasRequest-IsOpen (asked s p) head accepted.framing accepted.len accepted.has inside.open_head
 relayed_or_not head accepted (endings.IsLeftAlone.is_unrelayable unrelayable is) =
-    relayable_or_not accepted.has accepted.relayable unrelayable.has unrelayable.unrelayable
+    relayable_or_not accepted.has accepted.relayable unrelayable.has unrelayable.upgrade
 
 -- a head that is left alone is left so, where the request is finished
 exact_unrelayed : (s : Start) (p : Passed) (w : World) (outcome : Outcome)
@@ -211,14 +251,14 @@ record IsHeadOf (s : Start) (p : Passed) (head : RequestHead) : Type 0 where
   has : HasRequest (asked s p) head framing len
 
 -- the head of an attempt that failed is that of the client's bytes
-failed_head : (s : Start) (p : Passed) (head : RequestHead) (reused : Bool)
+failed_head : (s : Start) (p : Passed) (head sent : RequestHead) (reused : Bool)
     {client link : LinkState} {start : LinkStart} {e : Error}
-    → FailsFor (origin_of s head reused) p client link start e → IsHeadOf s p head
-failed_head s p head reused (order.FailsFor.by_client o blames) =
+    → FailsFor (origin_of s head sent reused) p client link start e → IsHeadOf s p head
+failed_head s p head sent reused (order.FailsFor.by_client o blames) =
     record { framing = o.asks.framing; len = o.asks.len; has = o.asks.has }
-failed_head s p head reused (order.FailsFor.by_peer o lost blames) =
+failed_head s p head sent reused (order.FailsFor.by_peer o lost blames) =
     record { framing = o.asks.framing; len = o.asks.len; has = o.asks.has }
-failed_head s p head reused (order.FailsFor.by_refusal o refused) =
+failed_head s p head sent reused (order.FailsFor.by_refusal o refused) =
     record { framing = o.asks.framing; len = o.asks.len; has = o.asks.has }
 
 -- the head of a request that had a link, and was not left unfinished
@@ -234,13 +274,15 @@ linked_head s p w link start keep told (Served None reuse) ends =
       ends.head,
       record { framing = asks.framing; len = asks.len; has = asks.has; relayable = ends.relayable },
     )
-linked_head s p w link start keep told (Served (Some e) reuse) ends =
+linked_head s p w link start keep told (Served (Some e) reuse) (inl ends) =
     let f = ends.failed in
-    let own = failed_head s (past_at p f.before) f.head start.reused f.why in
+    let own = failed_head s (past_at p f.before) f.head f.sent start.reused f.why in
     inr (
       f.head,
       record { framing = own.framing; len = own.len; has = own.has; relayable = f.relayable },
     )
+linked_head s p w link start keep told (Served (Some e) reuse) (inr ends) =
+    inr (ends.refused.head, ends.refused.accepted)
 linked_head s p w link start keep told TurnLimit ends = inl (inl refl)
 linked_head s p w link start keep told OutOfMemory ends = inl (inr refl)
 
@@ -254,7 +296,7 @@ one_head {s} {p} {a} {b} x y =
 exact_unfit : (s : Start) (p : Passed) (w : World) (link : LinkState) (start : LinkStart)
     (keep : Bool) (told : Option Error) (outcome : Outcome)
     → EndsLinked s p w link start keep told outcome → (head : RequestHead) → IsAccepted s p head
-    → IsUnfit head.method false p.got link.ended
+    → ((sent : RequestHead) → Sends head sent → IsUnfit sent.method false p.got link.ended)
     → IsUnfinished outcome ⊎ IsMissed outcome
 exact_unfit s p w link start keep told NoRequest ends head accepted unfit = absurd ends
 exact_unfit s p w link start keep told (Refused error) ends head accepted unfit = absurd ends
@@ -262,10 +304,12 @@ exact_unfit s p w link start keep told (Served None reuse) ends head accepted un
     let asks = ends.relayed.order.asks in
     let own : IsAccepted s p ends.head =
     record { framing = asks.framing; len = asks.len; has = asks.has; relayable = ends.relayable } in
-    absurd (relayed_fit (origin_of s ends.head start.reused) p link start ends.relayed
-    (subst (λ (h : RequestHead). IsUnfit h.method false p.got link.ended) (one_head accepted own)
-    unfit))
-exact_unfit s p w link start keep told (Served (Some e) reuse) ends head accepted unfit =
+    absurd (relayed_fit (origin_of s ends.head ends.sent start.reused) p link start ends.relayed
+    (unfit ends.sent
+    (subst (λ (h : RequestHead). Sends h ends.sent) (sym (one_head accepted own)) ends.sends)))
+exact_unfit s p w link start keep told (Served (Some e) reuse) (inl ends) head accepted unfit =
+    inr (e, ap (λ (b : Bool). Served (Some e) b) ends.stays)
+exact_unfit s p w link start keep told (Served (Some e) reuse) (inr ends) head accepted unfit =
     inr (e, ap (λ (b : Bool). Served (Some e) b) ends.stays)
 exact_unfit s p w link start keep told TurnLimit ends head accepted unfit = inl (inl refl)
 exact_unfit s p w link start keep told OutOfMemory ends head accepted unfit = inl (inr refl)
@@ -274,30 +318,34 @@ exact_unfit s p w link start keep told OutOfMemory ends head accepted unfit = in
 
 -- a request that is relayed is not turned down, as far as it has come
 asks_not_refused : (s : Start) (p : Passed) (w : World) {answer : List ℕ} {error : Option Error}
-    (head : RequestHead) → IsRelayable head → AsksFor (origin_of s head false) p w.client
+    (head : RequestHead) → IsRelayable head → AsksFor (origin_of s head head false) p w.client
     → IsTurnedDown (asked s p) answer error → ⊥
 asks_not_refused s p w head relayable asks (endings.IsTurnedDown.has_bad_head why refused is told) =
-    asks_unrefused (origin_of s head false) p w.client why asks refused
+    asks_unrefused (origin_of s head head false) p w.client why asks refused
 asks_not_refused s p w head relayable asks
-    (endings.IsTurnedDown.asks_to_connect other framing len has connect is told) =
+    (endings.IsTurnedDown.is_not_entered other framing len why has refused is told) =
+    enters_or_not head why (subst (λ (h : RequestHead). Entered h (Some why))
+    (asks_head (origin_of s head head false) p w.client other framing len asks has) refused)
+    relayable.entered
+asks_not_refused s p w head relayable asks
+    (endings.IsTurnedDown.asks_to_connect other framing len has entered connect is told) =
     relayable.method (subst (λ (h : RequestHead). IsConnect h)
-    (asks_head (origin_of s head false) p w.client other framing len asks has) connect)
+    (asks_head (origin_of s head head false) p w.client other framing len asks has) connect)
 
 -- a request that is relayed is not left alone
 asks_not_left : (s : Start) (p : Passed) (w : World) {e : Error} (head : RequestHead)
-    → IsRelayable head → AsksFor (origin_of s head false) p w.client → IsLeftAlone s p w e → ⊥
+    → IsRelayable head → AsksFor (origin_of s head head false) p w.client → IsLeftAlone s p w e → ⊥
 asks_not_left s p w head relayable asks (endings.IsLeftAlone.ends_in_head inside is) =
     not_both inside.ended asks.stays
 asks_not_left s p w head relayable asks (endings.IsLeftAlone.is_unrelayable unrelayable is) =
-    unrelayable.unrelayable (subst (λ (h : RequestHead). IsRelayable h)
-    (sym (asks_head (origin_of s head false) p w.client unrelayable.head unrelayable.framing
-    unrelayable.len asks unrelayable.has))
-    relayable)
+    relayable.no_upgrade (subst (λ (h : RequestHead). NamesUpgrade h)
+    (asks_head (origin_of s head head false) p w.client unrelayable.head unrelayable.framing
+    unrelayable.len asks unrelayable.has) unrelayable.upgrade)
 
 -- a valid request that had no link is served, where it is finished and no fault was met
 whole_unlinked : (s : Start) (p : Passed) (w : World) (outcome : Outcome)
     → EndsUnlinked s p w outcome → (head : RequestHead) → IsRelayable head
-    → AsksFor (origin_of s head false) p w.client
+    → AsksFor (origin_of s head head false) p w.client
     → ¬ (Rose s.faults w.client.faults) → ¬ (Rose s.connect_faults w.connect_faults)
     → IsUnfinished outcome ⊎ ((reuse : Bool) × (outcome ≡ Served None reuse))
 whole_unlinked s p w NoRequest ends head relayable asks client connector =
@@ -316,31 +364,59 @@ whole_unlinked s p w (Served (Some e) reuse) ends head relayable asks client con
 whole_unlinked s p w TurnLimit ends head relayable asks client connector = inl (inl refl)
 whole_unlinked s p w OutOfMemory ends head relayable asks client connector = inl (inr refl)
 
+-- what the client asks for does not depend on what is sent of it
+asks_still : (s : Start) (p : Passed) (w : World) (head sent : RequestHead)
+    → AsksFor (origin_of s head head false) p w.client
+    → AsksFor (origin_of s head sent false) p w.client
+asks_still s p w head sent asks = record {
+  request = asks.request;
+  gives = asks.gives;
+  is_request = asks.is_request;
+  stays = asks.stays;
+}
+
 -- a valid request that had a link is served, where it is finished and no fault was met
 whole_linked : (s : Start) (p : Passed) (w : World) (link : LinkState) (start : LinkStart)
     (keep : Bool) (told : Option Error) (outcome : Outcome)
     → EndsLinked s p w link start keep told outcome → (head : RequestHead)
-    → AsksFor (origin_of s head false) p w.client
-    → AnswersWith head.method false p link → ¬ (Rose s.faults w.client.faults)
+    → ((e : Error) → ¬ (RefusesToSend head e)) → AsksFor (origin_of s head head false) p w.client
+    → ((sent : RequestHead) → Sends head sent → AnswersWith sent.method false p link)
+    → ¬ (Rose s.faults w.client.faults)
     → ¬ (Rose start.faults link.faults)
     → IsUnfinished outcome ⊎ ((reuse : Bool) × (outcome ≡ Served None reuse))
-whole_linked s p w link start keep told NoRequest ends head asks answers client faults = absurd ends
-whole_linked s p w link start keep told (Refused error) ends head asks answers client faults =
+whole_linked s p w link start keep told NoRequest ends head goes asks answers client faults =
     absurd ends
-whole_linked s p w link start keep told (Served None reuse) ends head asks answers client faults =
-    inr (reuse, refl)
-whole_linked s p w link start keep told (Served (Some e) reuse) ends head asks answers client
+whole_linked s p w link start keep told (Refused error) ends head goes asks answers client faults =
+    absurd ends
+whole_linked s p w link start keep told (Served None reuse) ends head goes asks answers client
     faults =
+    inr (reuse, refl)
+whole_linked s p w link start keep told (Served (Some e) reuse) (inl ends) head goes asks answers
+    client faults =
     let f = ends.failed in
-    let own = failed_head s (past_at p f.before) f.head start.reused f.why in
+    let own = failed_head s (past_at p f.before) f.head f.sent start.reused f.why in
+    let same = asks_head (origin_of s head head false) p w.client f.head own.framing own.len asks
+    own.has in
+    let sends : Sends head f.sent =
+    subst (λ (h : RequestHead). Sends h f.sent) same f.sends in
+    let framed : request_framing head ≡ Some own.framing =
+    subst (λ (h : RequestHead). request_framing h ≡ Some own.framing) same own.has.let_in.framed in
     absurd (ends.invalid
-    (subst (λ (h : RequestHead). IsValid (origin_of s h start.reused) p w.client link start)
-    (sym (asks_head (origin_of s head false) p w.client f.head own.framing own.len asks own.has))
-    (valid_over (origin_of s head false) p w.client link start start.reused asks answers client
-    faults)))
-whole_linked s p w link start keep told TurnLimit ends head asks answers client faults =
+    (subst (λ (h : RequestHead). IsValid (origin_of s h f.sent start.reused) p w.client link start)
+    (sym same)
+    (valid_over (origin_of s head f.sent false) p w.client link start start.reused
+    (asks_still s p w head f.sent asks) (answers f.sent sends)
+    (sends_agrees head f.sent own.framing framed sends) client faults)))
+whole_linked s p w link start keep told (Served (Some e) reuse) (inr ends) head goes asks answers
+    client faults =
+    let r = ends.refused in
+    absurd (goes e (subst (λ (h : RequestHead). RefusesToSend h e)
+    (asks_head (origin_of s head head false) p w.client r.head r.accepted.framing r.accepted.len
+    asks
+    r.accepted.has) r.refused))
+whole_linked s p w link start keep told TurnLimit ends head goes asks answers client faults =
     inl (inl refl)
-whole_linked s p w link start keep told OutOfMemory ends head asks answers client faults =
+whole_linked s p w link start keep told OutOfMemory ends head goes asks answers client faults =
     inl (inr refl)
 
 -- lists of one and of none
@@ -360,7 +436,7 @@ module _ {L : Type 0} (state : L → LinkState) (start_at : L → LinkStart) whe
     refused = λ answer error down whole. exact_refused s p w outcome ends answer error down whole;
     not_relayed = λ e cause. exact_unrelayed s p w outcome ends e cause;
     unfit = λ r head one accepted unfit. absurd (one_not_none one);
-    whole = λ head relayable asks answers faultless.
+    whole = λ head relayable goes asks answers faultless.
         whole_unlinked s p w outcome ends head relayable asks faultless.client faultless.connector;
   }
 
@@ -379,7 +455,7 @@ module _ {L : Type 0} (state : L → LinkState) (start_at : L → LinkStart) whe
             elim own as (λ _. IsUnfinished outcome ⊎ IsRefusal s p outcome) [
               | inl unfinished ↦ inl unfinished
               | inr one ↦ absurd (turns_down_other one.0 one.1.framing one.1.len down one.1.has
-                  one.1.relayable.method)
+                  one.1.relayable.entered one.1.relayable.method)
             ];
         not_relayed = λ e cause.
             elim own as (λ _. IsUnfinished outcome ⊎ IsLeft s p w outcome) [
@@ -389,11 +465,13 @@ module _ {L : Type 0} (state : L → LinkState) (start_at : L → LinkStart) whe
         unfit = λ q head one accepted unfit.
             exact_unfit s p w (state r.link) (start_at r.link) r.keep told outcome ends head
             accepted
-            (subst (λ (x : Returned L). IsUnfit head.method false p.got (state x.link).ended)
-            (sym (same_one one)) unfit);
-        whole = λ head relayable asks answers faultless.
-            whole_linked s p w (state r.link) (start_at r.link) r.keep told outcome ends head asks
-            (answers r refl) faultless.client (faultless.link r refl);
+            (λ sent sends. subst
+            (λ (x : Returned L). IsUnfit sent.method false p.got (state x.link).ended)
+            (sym (same_one one)) (unfit sent sends));
+        whole = λ head relayable goes asks answers faultless.
+            whole_linked s p w (state r.link) (start_at r.link) r.keep told outcome ends head goes
+            asks
+            (λ sent sends. answers r sent refl sends) faultless.client (faultless.link r refl);
       }
 
   -- how a request ended, the other way round

@@ -24,7 +24,7 @@ use Rattle.relay_peer.specs.Body.{IsFrontOf}
 use Rattle.relay_attempt.specs.Order.{order_of}
 use Rattle.relay_attempt.specs.Passed.{Passed}
 use Rattle.relay_proxy.specs.Answer.{answer_for, owed_text, QueuesAnswer, WaitsOf}
-use Rattle.relay_proxy.specs.Endings.{IsInOrder, IsGiven, FailsToWrite, IsPartRelayed, HasFailed, owed_by, EndsLinked, error_of}
+use Rattle.relay_proxy.specs.Endings.{IsInOrder, IsGiven, FailsToWrite, IsPartRelayed, HasFailed, Misses, owed_by, EndsLinked, error_of}
 use Rattle.relay_proxy.specs.Leaving.{LeavesSession}
 use Rattle.relay_proxy.specs.Passed.{World, Start, TellsClient}
 use Rattle.relay_proxy.specs.Phases.{IsLeased}
@@ -96,14 +96,27 @@ pub leaves_part : (s : Start) (p : Passed) (client link : LinkState) (start : Li
     (session : HttpSession) (e : Error) → LeavesSession s p client link start session e
     → IsPartRelayed s p link start
 leaves_part s p client link start session e l =
-    record { head = l.head; relayable = l.relayable; order = order_of l.why }
+    record {
+      head = l.head;
+      sent = l.sent;
+      relayable = l.relayable;
+      sends = l.sends;
+      order = order_of l.why;
+    }
 
 -- the exchange failed, and so much is owed to its client
 abbrev failed_of : (s : Start) (p : Passed) (client link : LinkState) (start : LinkStart)
     (session : HttpSession) (e : Error) → LeavesSession s p client link start session e
     → HasFailed s p client link start e
 failed_of s p client link start session e l =
-    record { head = l.head; relayable = l.relayable; before = p.written; why = l.why }
+    record {
+      head = l.head;
+      sent = l.sent;
+      relayable = l.relayable;
+      sends = l.sends;
+      before = p.written;
+      why = l.why;
+    }
 
 -- where nothing waits the client was given all of it, or a write failed
 given_all : (s : Start) (p : Passed) (w : World) (text : List ℕ) (output : Outgoing)
@@ -153,8 +166,9 @@ module _ {L C : Type 0} (state : L → LinkState) (start_at : L → LinkStart)
       passed = p;
       run = record {
         tells = tells;
-        order = IsInOrder.is_exchange part.head _ _ part.relayable part.order;
-        untouched = λ open_head. absurd (exchange_open s p part.head _ _ part.order open_head);
+        order = IsInOrder.is_exchange part.head part.sent _ _ part.relayable part.sends part.order;
+        untouched = λ open_head. absurd (exchange_open s p part.head part.sent _ _ part.order
+            open_head);
         going = going;
         calm = tt;
         holds = (leased, ends);
@@ -177,7 +191,7 @@ module _ {L C : Type 0} (state : L → LinkState) (start_at : L → LinkStart)
         let failed = failed_of s p w.client (state link) (start_at link) session e l in
         over (outcome.Served (Some e) false)
         (leaves_part s p w.client (state link) (start_at link) session e l) (λ limit. cc)
-        (record {
+        (inl (record {
           failed = failed;
           invalid = failed_invalid s p w.client (state link) (start_at link) e failed;
           answered = given_all s p w (owed_by failed) session'.writing.output
@@ -185,14 +199,14 @@ module _ {L C : Type 0} (state : L → LinkState) (start_at : L → LinkStart)
               none;
           not_kept = refl;
           stays = refl;
-        })
+        }))
 
     -- something waits
     pub left_owing : (session session' : HttpSession) (box : Box HttpSession) (e : Error)
         → LeavesSession s p w.client (state link) (start_at link) session e
         → QueuesAnswer session.writing.output e session.writing session'.writing
         → 0 < length (pending session'.writing.output) → box.value ≡ session'
-        → Advances {C = C} state start_at s w (Fail link lease box e)
+        → Advances {C = C} state start_at s w (Fail link lease false box e)
     left_owing session session' box e l queues some is =
         let part = leaves_part s p w.client (state link) (start_at link) session e l in
         let failed = failed_of s p w.client (state link) (start_at link) session e l in
@@ -200,14 +214,17 @@ module _ {L C : Type 0} (state : L → LinkState) (start_at : L → LinkStart)
           passed = p;
           run = record {
             tells = tells;
-            order = IsInOrder.is_exchange part.head _ _ part.relayable part.order;
-            untouched = λ open_head. absurd (exchange_open s p part.head _ _ part.order open_head);
+            order = IsInOrder.is_exchange part.head part.sent _ _ part.relayable part.sends
+                part.order;
+            untouched = λ open_head. absurd (exchange_open s p part.head part.sent _ _ part.order
+                open_head);
             going = tt;
             calm = tt;
             holds = (
               leased,
               record {
-                failed = failed;
+                text = owed_by failed;
+                misses = Misses.in_exchange failed refl refl;
                 waits = subst (λ (h : HttpSession).
                     WaitsOf h.writing.output p.written (owed_by failed)) (sym is)
                     (waits_of s p w.client (owed_by failed) session'.writing.output

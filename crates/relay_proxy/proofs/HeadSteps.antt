@@ -32,9 +32,10 @@ use Rattle.relay_session.specs.declared.session.HttpSession.{HttpSession}
 use Rattle.relay_session.specs.declared.writing.Outgoing.TheVariants.{Open}
 use Rattle.relay_sides.specs.Client.{BeginsBehind}
 use Rattle.relay_attempt.specs.Passed.{Passed}
-use Rattle.relay_proxy.specs.Relayable.{IsRelayable}
+use Rattle.relay_authority.specs.Entry.{Entered}
+use Rattle.relay_proxy.specs.Relayable.{IsConnect, IsRelayable, NamesUpgrade}
 use Rattle.relay_proxy.specs.Passed.{World, Start, start_of, origin_of, nothing, asked, TellsClient, IsUnsent}
-use Rattle.relay_proxy.specs.Endings.{IsInOrder, IsLeftAlone, IsTurnedDown, EndsUnlinked, AttemptsUnlinked, ended_outcome, left_early, fault_error}
+use Rattle.relay_proxy.specs.Endings.{IsInOrder, IsLeftAlone, IsTurnedDown, EndsUnlinked, AttemptsUnlinked, ended_outcome, left_early, unrelayed, fault_error}
 use Rattle.relay_proxy.specs.Phases.{RunSoFar}
 use Rattle.relay_proxy.specs.Turn.{Advances}
 use Rattle.relay_proxy.specs.declared.machine.Phase.TheVariants.{ReadHead, Connect, Answer, Ended}
@@ -70,11 +71,11 @@ pub record StandsBehind (head : RequestHead) (framing : Framing) (session : Http
 
 -- such a session begins behind the client's bytes, out of which its head was taken
 begins_behind : (s : Start) (p : Passed) (w : World) (head : RequestHead) (framing : Framing)
-    (len : ℕ) (session : HttpSession) (reused : Bool)
+    (len : ℕ) (session : HttpSession) (sent : RequestHead) (reused : Bool)
     → TellsClient s p w → p.written ≡ [] → HasRequest (asked s p) head framing len
     → w.ahead ≡ drop len (asked s p) → StandsBehind head framing session
-    → BeginsBehind (origin_of s head reused) p.came w.client w.ahead session
-begins_behind s p w head framing len session reused tells none has taken stands = record {
+    → BeginsBehind (origin_of s head sent reused) p.came w.client w.ahead session
+begins_behind s p w head framing len session sent reused tells none has taken stands = record {
   gave = tells.came;
   written = subst (λ (xs : List ℕ). Since [] s.taken w.client.taken xs) none tells.written;
   faults = tells.faults;
@@ -82,7 +83,7 @@ begins_behind s p w head framing len session reused tells none has taken stands 
   framing = framing;
   len = len;
   has = has;
-  is_head = stands.is_head;
+  has_head = rw stands.is_head refl;
   own = refl;
   answers = stands.answers;
   request = rw taken (stands.starts (asked s p) len has);
@@ -126,7 +127,10 @@ not_both : (b : Bool) → not (b && false) ≡ true
 not_both true = refl
 not_both false = refl
 
--- 502 is sent to each client
+-- 500 and 502 are sent to each client
+pub sent_500 : (version : Version) → is_sent_to version 500 ≡ true
+sent_500 version = not_both _
+
 pub sent_502 : (version : Version) → is_sent_to version 502 ≡ true
 sent_502 version = not_both _
 
@@ -304,6 +308,43 @@ module _ {L C : Type 0} (state : L → LinkState) (start_at : L → LinkStart) w
       all = grown ∙ ap (λ (xs : List ℕ). xs ++ take n room) run.holds.whole
           ∙ append_assoc s.ahead p.came (take n room)
 
+  -- the head passed the entry check, and names Upgrade
+  pub head_upgrades : (s : Start) (p : Passed) (w : World) (head : RequestHead)
+      (framing : Framing) (len : ℕ) (e : Error) (attempts : List AttemptRecord)
+      → HasRequest w.ahead head framing len → Entered head None → ¬ (IsConnect head)
+      → NamesUpgrade head → e ≡ unrelayed Downstream → attempts ≡ []
+      → RunSoFar {C = C} state start_at s p w [] ReadHead
+      → Advances {C = C} state start_at s w (Ended (outcome.Refused (Some e)) attempts)
+  head_upgrades s p w head framing len e attempts has entered no_connect upgrade is none run =
+      record {
+        passed = p;
+        run = record {
+          tells = run.tells;
+          order = run.order;
+          untouched = run.untouched;
+          going = λ limit. cc;
+          calm = tt;
+          holds = (
+            inr (inl (record {
+              e = e;
+              is = refl;
+              why = IsLeftAlone.is_unrelayable (record {
+                head = head;
+                framing = framing;
+                len = len;
+                has = subst (λ (xs : List ℕ). HasRequest xs head framing len) run.holds.whole has;
+                entered = entered;
+                no_connect = no_connect;
+                upgrade = upgrade;
+              }) is;
+              written = run.holds.written;
+              unsent = run.holds.unsent;
+            })),
+            none,
+          );
+        };
+      }
+
   -- the head was accepted and taken from what is ahead, and a session begins behind it
   pub head_accepted : (s : Start) (p : Passed) (w x : World) (head : RequestHead)
       (framing : Framing) (len : ℕ) (context : C)
@@ -328,8 +369,8 @@ module _ {L C : Type 0} (state : L → LinkState) (start_at : L → LinkStart) w
             head = head;
             accepted = record { framing = framing; len = len; has = asks; relayable = relayable };
             is_head = stands.is_head;
-            begins = λ reused. begins_behind s p x head framing len session.value reused tells
-                run.holds.written asks
+            begins = λ sent reused. begins_behind s p x head framing len session.value sent reused
+                tells run.holds.written asks
                 (ahead ∙ ap (λ (xs : List ℕ). drop len xs) run.holds.whole) stands;
             written = run.holds.written;
             unsent = run.holds.unsent;

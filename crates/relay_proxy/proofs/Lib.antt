@@ -1,10 +1,12 @@
 pub mod Tells
 pub mod OpenHead
+pub mod SentLemmas
 pub mod AnswerSteps
 pub mod FailSteps
 pub mod HeadSteps
 pub mod ConnectSteps
 pub mod RelaySteps
+pub mod BoundLemmas
 pub mod StepLemmas
 mod TakenLemmas
 mod RefusalLemmas

@@ -16,11 +16,14 @@ pub turns_down_open : {bytes answer : List ℕ} {error : Option Error}
 turns_down_open {bytes} (endings.IsTurnedDown.has_bad_head why refused is told) open_head =
     IsRefusedRequest-IsOpen bytes why refused open_head
 turns_down_open {bytes}
-    (endings.IsTurnedDown.asks_to_connect head framing len has connect is told) open_head =
+    (endings.IsTurnedDown.is_not_entered head framing len why has refused is told) open_head =
+    HasRequest-IsOpen bytes head framing len has open_head
+turns_down_open {bytes}
+    (endings.IsTurnedDown.asks_to_connect head framing len has entered connect is told) open_head =
     HasRequest-IsOpen bytes head framing len has open_head
 
 -- the head of an exchange is open no more
-pub exchange_open : (s : Start) (p : Passed) (head : RequestHead) (reused closed : Bool)
-    → exchange.IsInOrder (origin_of s head reused) p closed → IsOpen (asked s p) → ⊥
-exchange_open s p head reused closed order open_head =
+pub exchange_open : (s : Start) (p : Passed) (head sent : RequestHead) (reused closed : Bool)
+    → exchange.IsInOrder (origin_of s head sent reused) p closed → IsOpen (asked s p) → ⊥
+exchange_open s p head sent reused closed order open_head =
     HasRequest-IsOpen (asked s p) head order.asks.framing order.asks.len order.asks.has open_head

@@ -35,7 +35,7 @@ pub none_before_link : {L C : Type 0} (state : L â†’ LinkState) (start_at : L â†
 none_before_link state start_at ReadHead held = refl
 none_before_link state start_at (Connect context session) held = refl
 none_before_link state start_at (Relay a) held = refl
-none_before_link state start_at (Fail link lease session error) held = refl
+none_before_link state start_at (Fail link lease keep session error) held = refl
 none_before_link state start_at (Close link lease keep outcome) held = refl
 none_before_link state start_at (Answer session owed attempts) held = cc
 none_before_link state start_at (Ended outcome attempts) held = cc

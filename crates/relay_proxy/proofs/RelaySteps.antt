@@ -1,5 +1,5 @@
 -- What a turn of an attempt's exchange makes of the run so far.
-use Rattle.std.proofs.Common.{◌≡◌, ◌≢◌, ◌↔◌, ℕ, ◌+◌, Bool, true, false, not, ◌&&◌, List, [], length, Option, None, Some, refl, sym, ap, subst, ◌∙◌, inl, inr}
+use Rattle.std.proofs.Common.{◌≡◌, ◌≢◌, ◌↔◌, ℕ, ◌+◌, Bool, true, false, not, ◌&&◌, List, [], length, None, Some, refl, sym, ap, subst, ◌∙◌, inl, inr}
 use Rattle.std.specs.Prelude.{IsTrue, ◌==◌, if◌then◌else◌}
 use Rattle.std.specs.Box.{with_value}
 use Rattle.std.specs.Global.{Box}
@@ -17,8 +17,9 @@ use Rattle.relay_tasks.specs.declared.took.Pause.TheVariants.{NotReady, Silent}
 use Rattle.relay_links.specs.Link.{LinkState, LinkStart}
 use Rattle.relay_h1.specs.Options.{closes}
 use Rattle.relay_h1.specs.Verdict.{IsOpen}
-use Rattle.relay_peer.specs.ResponseReading.{is_http_11, is_version_11}
-use Rattle.relay_session.specs.Reading.{head_of, is_body_done}
+use Rattle.relay_session.specs.Asked.{is_http_11, is_version_11, lets_ask, request_of}
+use Rattle.relay_session.specs.Reading.{is_body_done}
+use Rattle.relay_session.specs.declared.task_text.Request.{Request}
 use Rattle.relay_core.specs.Asked.{WaitRose}
 use Rattle.relay_core.specs.Causes.{says_failed}
 use Rattle.relay_core.specs.Past.{Origin}
@@ -36,10 +37,11 @@ use Rattle.relay_attempt.specs.declared.h1_exchange.H1Exchange.{H1Exchange}
 use Rattle.relay_proxy.specs.Relayable.{IsRelayable}
 use Rattle.relay_proxy.specs.Endings.{IsClientReusable, IsRelayedWhole, IsInOrder, EndsLinked, error_of}
 use Rattle.relay_proxy.specs.Leaving.{LeavesBy}
+use Rattle.relay_proxy.specs.Sent.{Sends}
 use Rattle.relay_proxy.specs.Passed.{World, Start, origin_of, asked, TellsClient}
 use Rattle.relay_proxy.specs.Phases.{IsLeased, RunSoFar}
 use Rattle.relay_proxy.specs.Relaying.{turned, TurnsOver, TurnsWithin}
-use Rattle.relay_proxy.specs.Reuse.{lets_ask, client_reusable}
+use Rattle.relay_proxy.specs.Reuse.{client_reusable}
 use Rattle.relay_proxy.specs.Turn.{world_with, Advances, HasMoved, HasWaited, MeetsSilence, held_state}
 use Rattle.relay_proxy.specs.Uses.{BothUse, ExchangeMoved, LinkUses, OwesAnswer, PhaseUses, TurnCounts, TurnUses, ups, work_by}
 use Rattle.relay_proxy.proofs.ConnectSteps.{part_relayed}
@@ -101,11 +103,11 @@ all_pass a b c d e five =
 -- what is known of a finished exchange says exactly whether its client may ask for more
 reusable : {L : Type 0} (x : H1Exchange L) (o : Origin) (p : Passed) (closed : Bool)
     (order : exchange.IsInOrder o p closed) (ahead : List ℕ) (keeps : Bool)
-    → head_of x.exchange.down.session.reading ≡ Some o.head
+    → x.exchange.down.session.writing.request ≡ request_of o.head
     → Leaves o p closed order ahead (is_body_done x.exchange.down.session.reading)
     x.exchange.up.closes keeps
     → IsTrue (client_reusable x ahead) ↔ IsClientReusable o p closed order ahead
-reusable x o p closed order ahead keeps is_head leaves = (
+reusable x o p closed order ahead keeps answers leaves = (
   λ passes. by_tests (five_pass closing none done is_11 asks (sym tests ∙ passes)),
   λ may. tests ∙ all_pass closing none done is_11 asks (record {
     answers = leaves.closes ∙ may.answers;
@@ -132,8 +134,7 @@ reusable x o p closed order ahead keeps is_head leaves = (
     asks = closes o.head.fields
 
     tests : client_reusable x ahead ≡ ((not closing && none) && (done && (is_11 && not asks)))
-    tests = ap (λ (head : Option RequestHead). (not closing && none) && (done && lets_ask head))
-        is_head
+    tests = ap (λ (r : Request). (not closing && none) && (done && lets_ask r)) answers
 
     by_tests : FivePass closing none done is_11 asks → IsClientReusable o p closed order ahead
     by_tests five = record {
@@ -148,11 +149,11 @@ reusable x o p closed order ahead keeps is_head leaves = (
 
 module _ {L : Type 0} (state : L → LinkState) (start_at : L → LinkStart) where
   -- the client's link tells what passed, and the connector's count stands where it stood
-  tells_client : (s : Start) (head : RequestHead) (reused : Bool) (p q : Passed) (w : World)
+  tells_client : (s : Start) (head sent : RequestHead) (reused : Bool) (p q : Passed) (w : World)
       (client peer : LinkState) (start : LinkStart) (ahead : List ℕ) → TellsClient s p w
-      → AreTold state start_at (origin_of s head reused) q client peer start
+      → AreTold state start_at (origin_of s head sent reused) q client peer start
       → TellsClient s q (world_with client ahead w.connect_faults)
-  tells_client s head reused p q w client peer start ahead tells told = record {
+  tells_client s head sent reused p q w client peer start ahead tells told = record {
     came = told.came;
     written = told.written;
     faults = told.faults;
@@ -161,11 +162,11 @@ module _ {L : Type 0} (state : L → LinkState) (start_at : L → LinkStart) whe
   }
 
   -- the attempt's link tells what passed, and the lease still says what it was
-  leased : (s : Start) (head : RequestHead) (p q : Passed) (client old peer : LinkState)
+  leased : (s : Start) (head sent : RequestHead) (p q : Passed) (client old peer : LinkState)
       (old_start start : LinkStart) (lease : Lease) → IsLeased p old old_start lease
-      → AreTold state start_at (origin_of s head lease.reused) q client peer start
+      → AreTold state start_at (origin_of s head sent lease.reused) q client peer start
       → IsLeased q peer start lease
-  leased s head p q client old peer old_start start lease was told = record {
+  leased s head sent p q client old peer old_start start lease was told = record {
     tells = record { got = told.got; sent = told.sent; faults = told.peer_faults };
     peer = was.peer;
     reused = told.reused;
@@ -175,23 +176,24 @@ module _ {L : Type 0} (state : L → LinkState) (start_at : L → LinkStart) whe
 
 module _ {L : Type 0} (state : L → LinkState) (start_at : L → LinkStart) where
   -- a finished exchange relayed its request whole
-  relayed_whole : (s : Start) (p : Passed) (w : World) (head : RequestHead) (x : H1Exchange L)
-      → IsRelayable head → w.client.faults ≡ s.faults
-      → IsFinished state start_at (origin_of s head (start_at (link_of x)).reused) p w.ahead
-      x
+  relayed_whole : (s : Start) (p : Passed) (w : World) (head sent : RequestHead)
+      (x : H1Exchange L) → IsRelayable head → Sends head sent → w.client.faults ≡ s.faults
+      → IsFinished state start_at (origin_of s head sent (start_at (link_of x)).reused) p w.ahead x
       → IsRelayedWhole s p w (state (link_of x)) (start_at (link_of x)) (may_keep x)
       (client_reusable x w.ahead)
-  relayed_whole s p w head x relayable calm finished = record {
+  relayed_whole s p w head sent x relayable sends calm finished = record {
     head = head;
+    sent = sent;
     relayable = relayable;
+    sends = sends;
     relayed = finished.relayed;
     calm = calm;
     kept = finished.leaves.serves;
     faultless = finished.faultless;
     keeps = finished.keeps;
-    goes_back = reusable x (origin_of s head (start_at (link_of x)).reused) p
+    goes_back = reusable x (origin_of s head sent (start_at (link_of x)).reused) p
         (state (link_of x)).ended finished.relayed.order w.ahead (may_keep x)
-        finished.is_head finished.leaves;
+        finished.answers finished.leaves;
     behind = λ ended. finished.leaves.behind (finished.leaves.ended.1 ended);
   }
 
@@ -201,26 +203,30 @@ module _ {L C : Type 0} (state : L → LinkState) (start_at : L → LinkStart) w
   -- the exchange goes on, and so does the attempt
   going_on : (s : Start) (p q : Passed) (v : World) (client : LinkState) (ahead : List ℕ)
       (a : Box (Attempt L C)) (x : H1Exchange L) (run : RunSoFar state start_at s p v [] (Relay a))
-      → AreTold state start_at (origin_of s run.holds.head a.value.lease.reused) q client
-      (state (link_of x)) (start_at (link_of x))
-      → IsUnderWay state start_at (origin_of s run.holds.head a.value.lease.reused) q client ahead x
+      → AreTold state start_at (origin_of s run.holds.head run.holds.sent a.value.lease.reused) q
+      client (state (link_of x)) (start_at (link_of x))
+      → IsUnderWay state start_at (origin_of s run.holds.head run.holds.sent a.value.lease.reused) q
+      client ahead x
       → client.faults ≡ s.faults
       → RunSoFar {C = C} state start_at s q (world_with client ahead v.connect_faults) []
       (Relay (turned a x))
   going_on s p q v client ahead a x run told under calm = record {
-    tells = tells_client state start_at s run.holds.head a.value.lease.reused p q v client _ _ ahead
-        run.tells told;
-    order = IsInOrder.is_exchange run.holds.head a.value.lease.reused _ run.holds.relayable
-        under.order;
+    tells = tells_client state start_at s run.holds.head run.holds.sent a.value.lease.reused p q v
+        client _ _ ahead run.tells told;
+    order = IsInOrder.is_exchange run.holds.head run.holds.sent a.value.lease.reused _
+        run.holds.relayable run.holds.sends under.order;
     untouched = λ open_head.
-        absurd (exchange_open s q run.holds.head a.value.lease.reused _ under.order open_head);
+        absurd (exchange_open s q run.holds.head run.holds.sent a.value.lease.reused _ under.order
+        open_head);
     going = tt;
     calm = calm;
     holds = record {
-      leased = leased state start_at s run.holds.head p q client _ _ _ _ a.value.lease
-          run.holds.leased told;
+      leased = leased state start_at s run.holds.head run.holds.sent p q client _ _ _ _
+          a.value.lease run.holds.leased told;
       head = run.holds.head;
+      sent = run.holds.sent;
       relayable = run.holds.relayable;
+      sends = run.holds.sends;
       under_way = under;
     };
   }
@@ -228,8 +234,8 @@ module _ {L C : Type 0} (state : L → LinkState) (start_at : L → LinkStart) w
   -- a turn that moved
   moves : (s : Start) (p : Passed) (v : World) (client : LinkState) (ahead : List ℕ)
       (a : Box (Attempt L C)) (x : H1Exchange L) (run : RunSoFar state start_at s p v [] (Relay a))
-      → Turns state start_at (origin_of s run.holds.head a.value.lease.reused) client ahead x
-      step.Moved
+      → Turns state start_at (origin_of s run.holds.head run.holds.sent a.value.lease.reused) client
+      ahead x step.Moved
       → client.faults ≡ v.client.faults
       → Advances {C = C} state start_at s (world_with client ahead v.connect_faults)
       (Relay (turned a x))
@@ -243,8 +249,8 @@ module _ {L C : Type 0} (state : L → LinkState) (start_at : L → LinkStart) w
   waits : (s : Start) (p : Passed) (v : World) (client : LinkState) (ahead : List ℕ)
       (a : Box (Attempt L C)) (x : H1Exchange L) (pause : Pause)
       (run : RunSoFar state start_at s p v [] (Relay a))
-      → Turns state start_at (origin_of s run.holds.head a.value.lease.reused) client ahead x
-      (step.Waited pause)
+      → Turns state start_at (origin_of s run.holds.head run.holds.sent a.value.lease.reused) client
+      ahead x (step.Waited pause)
       → client.faults ≡ v.client.faults
       → Advances {C = C} state start_at s (world_with client ahead v.connect_faults)
       (Relay (turned a x))
@@ -258,22 +264,23 @@ module _ {L C : Type 0} (state : L → LinkState) (start_at : L → LinkStart) w
   closing : (s : Start) (p q : Passed) (v : World) (client : LinkState) (ahead : List ℕ)
       (a : Box (Attempt L C)) (x : H1Exchange L) (keep : Bool) (outcome : Outcome)
       (run : RunSoFar state start_at s p v [] (Relay a))
-      → AreTold state start_at (origin_of s run.holds.head a.value.lease.reused) q client
-      (state (link_of x)) (start_at (link_of x))
+      → AreTold state start_at (origin_of s run.holds.head run.holds.sent a.value.lease.reused) q
+      client (state (link_of x)) (start_at (link_of x))
       → IsInOrder s q → ¬ (IsOpen (asked s q)) → outcome ≢ TurnLimit
       → EndsLinked s q (world_with client ahead v.connect_faults) (state (link_of x))
       (start_at (link_of x)) keep (error_of outcome) outcome
       → RunSoFar {C = C} state start_at s q (world_with client ahead v.connect_faults) []
       (Close (link_of x) a.value.lease keep outcome)
   closing s p q v client ahead a x keep outcome run told order ended_head going ends = record {
-    tells = tells_client state start_at s run.holds.head a.value.lease.reused p q v client _ _ ahead
-        run.tells told;
+    tells = tells_client state start_at s run.holds.head run.holds.sent a.value.lease.reused p q v
+        client _ _ ahead run.tells told;
     order = order;
     untouched = λ open_head. absurd (ended_head open_head);
     going = going;
     calm = tt;
     holds = (
-      leased state start_at s run.holds.head p q client _ _ _ _ a.value.lease run.holds.leased told,
+      leased state start_at s run.holds.head run.holds.sent p q client _ _ _ _ a.value.lease
+          run.holds.leased told,
       ends,
     );
   }
@@ -281,28 +288,29 @@ module _ {L C : Type 0} (state : L → LinkState) (start_at : L → LinkStart) w
   -- a turn that finished the exchange
   finishes : (s : Start) (p : Passed) (v : World) (client : LinkState) (ahead : List ℕ)
       (a : Box (Attempt L C)) (x : H1Exchange L) (run : RunSoFar state start_at s p v [] (Relay a))
-      → Turns state start_at (origin_of s run.holds.head a.value.lease.reused) client ahead x
-      step.Finished
+      → Turns state start_at (origin_of s run.holds.head run.holds.sent a.value.lease.reused) client
+      ahead x step.Finished
       → client.faults ≡ v.client.faults
       → Advances {C = C} state start_at s (world_with client ahead v.connect_faults)
       (Close (link_of x) a.value.lease (may_keep x) (Served None (client_reusable x ahead)))
   finishes s p v client ahead a x run turns calm =
       let head = run.holds.head in
+      let sent = run.holds.sent in
       let relayable = run.holds.relayable in
       let told = turns.told in
       let w = world_with client ahead v.connect_faults in
       let finished = subst
-      (λ (reused : Bool). IsFinished state start_at (origin_of s head reused) turns.passed ahead
-      x)
-      (sym told.reused) turns.comes_to in
+      (λ (reused : Bool). IsFinished state start_at (origin_of s head sent reused) turns.passed
+      ahead x) (sym told.reused) turns.comes_to in
       record {
         passed = turns.passed;
         run = closing s p turns.passed v client ahead a x _ _ run told
-            (IsInOrder.is_exchange head _ _ relayable finished.relayed.order)
+            (IsInOrder.is_exchange head sent _ _ relayable run.holds.sends finished.relayed.order)
             (λ open_head.
-            exchange_open s turns.passed head _ _ finished.relayed.order open_head) (λ same. cc)
-            (relayed_whole state start_at s turns.passed w head x relayable (calm ∙ run.calm)
-            finished);
+            exchange_open s turns.passed head sent _ _ finished.relayed.order open_head)
+            (λ same. cc)
+            (relayed_whole state start_at s turns.passed w head sent x relayable run.holds.sends
+            (calm ∙ run.calm) finished);
       }
 
   -- what a turn that failed left
@@ -318,33 +326,36 @@ module _ {L C : Type 0} (state : L → LinkState) (start_at : L → LinkStart) w
   fails : (s : Start) (p : Passed) (v : World) (client : LinkState) (ahead : List ℕ)
       (a : Box (Attempt L C)) (x : H1Exchange L) (why : Fail)
       (run : RunSoFar state start_at s p v [] (Relay a))
-      → Turns state start_at (origin_of s run.holds.head a.value.lease.reused) client ahead x
-      (step.Failed why)
+      → Turns state start_at (origin_of s run.holds.head run.holds.sent a.value.lease.reused) client
+      ahead x (step.Failed why)
       → LeavesOff s (world_with client ahead v.connect_faults) a x why
   fails s p v client ahead a x why run turns = record {
     passed = turns.passed;
-    tells = tells_client state start_at s run.holds.head a.value.lease.reused p turns.passed v
-        client _ _ ahead run.tells turns.told;
-    held = leased state start_at s run.holds.head p turns.passed client _ _ _ _ a.value.lease
-        run.holds.leased turns.told;
+    tells = tells_client state start_at s run.holds.head run.holds.sent a.value.lease.reused p
+        turns.passed v client _ _ ahead run.tells turns.told;
+    held = leased state start_at s run.holds.head run.holds.sent p turns.passed client _ _ _ _
+        a.value.lease run.holds.leased turns.told;
     left = by why turns.comes_to;
   }
     where
       by : (f : Fail)
-          → ComesTo state start_at (origin_of s run.holds.head a.value.lease.reused) turns.passed
-          client ahead x (step.Failed f)
+          → ComesTo state start_at (origin_of s run.holds.head run.holds.sent a.value.lease.reused)
+          turns.passed client ahead x (step.Failed f)
           → LeavesBy s turns.passed client (state (link_of x)) (start_at (link_of x))
           x.exchange.down.session f
       by fail.OutOfMemory order =
-          part_relayed s turns.passed run.holds.head a.value.lease.reused _ _ run.holds.relayable
-          turns.told.reused order
+          part_relayed s turns.passed run.holds.head run.holds.sent a.value.lease.reused _ _
+          run.holds.relayable run.holds.sends turns.told.reused order
       by (fail.Error e) fails =
           let own = subst
-          (λ (reused : Bool). FailsWith state start_at (origin_of s run.holds.head reused)
+          (λ (reused : Bool). FailsWith state start_at
+          (origin_of s run.holds.head run.holds.sent reused)
           turns.passed client x e) (sym turns.told.reused) fails in
           record {
             head = run.holds.head;
+            sent = run.holds.sent;
             relayable = run.holds.relayable;
+            sends = run.holds.sends;
             why = own.why;
             answers = own.answers;
             holds = own.holds;
@@ -383,12 +394,12 @@ module _ {L C : Type 0} (state : L → LinkState) (start_at : L → LinkStart)
     -- the exchange took a turn
     own_turn : (s : Start) (p : Passed) (to : Step)
         (run : RunSoFar state start_at s p w [] (Relay within.attempt)) → did.step ≡ to
-        → Turns state start_at (origin_of s run.holds.head within.attempt.value.lease.reused)
-        x.client x.ahead within.exchange to
+        → Turns state start_at (origin_of s run.holds.head run.holds.sent
+        within.attempt.value.lease.reused) x.client x.ahead within.exchange to
     own_turn s p to run is =
         subst (λ (d : Step). Turns state start_at
-        (origin_of s run.holds.head within.attempt.value.lease.reused) x.client x.ahead
-        within.exchange d) is (within.turns.goes _ p run.holds.under_way)
+        (origin_of s run.holds.head run.holds.sent within.attempt.value.lease.reused) x.client
+        x.ahead within.exchange d) is (within.turns.goes _ p run.holds.under_way)
 
     -- the attempt behind the turn is the next phase
     stands_next : (s : Start) → Advances {C = C} state start_at s x

@@ -1,8 +1,7 @@
 -- A step takes the run so far on, and the end adds up what it says.
 use Rattle.std.specs.Global.{Box}
-use Rattle.std.proofs.Common.{◌≡◌, ◌≢◌, ℕ, ◌+◌, min, Bool, true, false, List, [], ◌∷◌, ◌++◌, Option, None, Some, Ok, Err, map, true≢false, ◌⊎◌, refl, sym, ap, subst, ◌∙◌, inl, inr, append_assoc, append-nil}
+use Rattle.std.proofs.Common.{◌≡◌, ◌≢◌, ℕ, ◌+◌, ◌≤◌, Bool, true, false, List, [], ◌∷◌, ◌++◌, Option, None, Some, Ok, Err, map, true≢false, ◌⊎◌, refl, sym, ap, subst, ◌∙◌, inl, inr, append_assoc, append-nil, arith}
 use Rattle.relay_links.specs.Connector.{Offer}
-use Rattle.relay_links.specs.Count.{last_count}
 use Rattle.relay_links.specs.Link.{LinkState, LinkStart, LinkItems}
 use Rattle.relay_links.specs.Told.{more, Gains}
 use Rattle.relay_links.specs.declared.Returned.{Returned}
@@ -13,8 +12,9 @@ use Rattle.relay_h1.specs.Verdict.{IsOpen}
 use Rattle.relay_attempt.specs.Exchange.{IsUnderWay}
 use Rattle.relay_attempt.specs.Passed.{Passed}
 use Rattle.relay_attempt.specs.Head.{link_of}
+use Rattle.relay_proxy.specs.Bound.{IsWithin, LinkGave, OwnGave, PhaseCounts, TurnedCounts, most_sides}
 use Rattle.relay_proxy.specs.Passed.{World, Start, origin_of, IsUnsent}
-use Rattle.relay_proxy.specs.Endings.{owed_by, error_of, IsErrorOf, EndsLinked, EndsUnlinked, AttemptsUnlinked, EndsReturned, EndsWith}
+use Rattle.relay_proxy.specs.Endings.{error_of, IsErrorOf, EndsLinked, EndsUnlinked, AttemptsUnlinked, EndsReturned, EndsWith}
 use Rattle.relay_proxy.specs.Owed.{IsGivenBack, IsAnswering, IsHalfGiven}
 use Rattle.relay_proxy.specs.Taken.{Takes, offers_for, offers_before, offers_of_turn}
 use Rattle.relay_proxy.specs.Phases.{IsLeased, IsFailing, IsGoing, IsRelaying, RunSoFar}
@@ -24,7 +24,9 @@ use Rattle.relay_proxy.specs.Request.{StepsOn}
 use Rattle.relay_proxy.specs.Stock.{items_back}
 use Rattle.relay_proxy.specs.Turn.{Advances, HasMoved, HasCause, HandsOn, IsStalled, is_over, is_end, is_reading_head}
 use Rattle.relay_proxy.specs.Uses.{LinkUses, OwesAnswer, OwnUses, PhaseUses, TurnCounts}
+use Rattle.relay_proxy.specs.Work.{added_work}
 use Rattle.relay_proxy.specs.Closing.{Hands, HandsBack, Settles, GivesUp, GivesFailedUp, GivesAnswerUp, AnswersOn, Finishes, IsQuietExchange, IsQuiet, Rests, TurnOf, Ends}
+use Rattle.relay_proxy.proofs.BoundLemmas.{open_counts, within_link}
 use Rattle.relay_proxy.proofs.ConnectSteps.{part_relayed}
 use Rattle.relay_proxy.proofs.AnswerSteps.{answering_of, ends_part, waits_front, waits_left}
 use Rattle.relay_proxy.proofs.TurnLemmas.{unlinked_open, unlinked_items, answer_offers}
@@ -41,6 +43,7 @@ use Rattle.relay_proxy.specs.declared.outcome.Outcome.TheVariants.{NoRequest, Re
 use Rattle.relay_proxy.specs.declared.owed.Owed.{Owed}
 use Rattle.relay_proxy.specs.declared.owed.Owed.TheVariants as owed
 use Rattle.relay_proxy.specs.declared.record.AttemptRecord.{AttemptRecord}
+use Rattle.relay_proxy.specs.declared.work.Work.{Work}
 
 -- a list that gained nothing
 pub more-nil : {X : Type 0} (told : Option (List X)) → told ≡ more told []
@@ -83,14 +86,13 @@ module _ {L : Type 0} (state : L → LinkState) (start_at : L → LinkStart) whe
   }
 
   -- the link of an attempt that failed went back, and its client is owed an answer
-  given_back : (p : Passed) (link : L) (lease : Lease) (e : Error) (r : Returned L)
+  given_back : (p : Passed) (link : L) (lease : Lease) (keep : Bool) (e : Error) (r : Returned L)
       (attempts : List AttemptRecord) → IsLeased p (state link) (start_at link) lease
-      → Hands link lease false (Served (Some e) false) r attempts
+      → Hands link lease keep (Served (Some e) false) r attempts
       → IsGivenBack state start_at p r attempts e
-  given_back p link lease e r attempts leased hands = record {
+  given_back p link lease keep e r attempts leased hands = record {
     tells = rw hands.is_link leased.tells;
     peer = hands.peer ∙ leased.peer;
-    not_kept = hands.kept;
     attempt = hands.attempt;
     attempts_are = hands.attempts_are;
     is_record = record {
@@ -102,20 +104,22 @@ module _ {L : Type 0} (state : L → LinkState) (start_at : L → LinkStart) whe
   }
 
   -- what it owes is that of the link that went back
-  owes_back : (s : Start) (p : Passed) (w : World) (link : L) (lease : Lease) (e : Error)
-      (r : Returned L) (attempts : List AttemptRecord) (session : HttpSession)
+  owes_back : (s : Start) (p : Passed) (w : World) (link : L) (lease : Lease) (keep : Bool)
+      (e : Error) (r : Returned L) (attempts : List AttemptRecord) (session : HttpSession)
       → IsLeased p (state link) (start_at link) lease
-      → Hands link lease false (Served (Some e) false) r attempts
-      → IsFailing state start_at s p w link session e
+      → Hands link lease keep (Served (Some e) false) r attempts
+      → IsFailing state start_at s p w link keep session e
       → IsAnswering state start_at s p w (r ∷ []) session.writing.output (owed.Served e) attempts
-  owes_back s p w link lease e r attempts session leased hands failing =
-      let back : IsFailing state start_at s p w r.link session e =
-      subst (λ (l : L). IsFailing state start_at s p w l session e) (sym hands.is_link) failing in
+  owes_back s p w link lease keep e r attempts session leased hands failing =
+      let back : IsFailing state start_at s p w r.link r.keep session e =
+      subst (λ (b : Bool). IsFailing state start_at s p w r.link b session e) (sym hands.kept)
+      (subst (λ (l : L). IsFailing state start_at s p w l keep session e) (sym hands.is_link)
+      failing) in
       record {
-        text = owed_by back.failed;
-        owes = (back.failed, refl);
+        text = back.text;
+        owes = back.misses;
         waits = back.waits;
-        made = given_back p link lease e r attempts leased hands;
+        made = given_back p link lease keep e r attempts leased hands;
       }
 
   -- where the client takes no more of what it is owed
@@ -124,6 +128,32 @@ module _ {L : Type 0} (state : L → LinkState) (start_at : L → LinkStart) whe
       → IsQuiet state start_at s p w own
   quiet_answer s p w [] half silent = inr (half, silent)
   quiet_answer s p w (r ∷ own) half silent = inr (half, silent)
+
+-- more ends may come
+more_room : (tasks ends : ℕ) (s : Start) (client : LinkState) (gave : List ℕ → Type 0)
+    → IsWithin tasks ends 6 s client gave → IsWithin tasks ends most_sides s client gave
+more_room tasks ends s client gave w = record {
+  came = w.came;
+  got = w.got;
+  client_gave = w.client_gave;
+  own_gave = w.own_gave;
+  tasks_within = w.tasks_within;
+  ends_within = omega (arith, w.ends_within);
+}
+
+module _ {L : Type 0} (state : L → LinkState) (start_at : L → LinkStart) where
+  -- what is bounded by the bytes of a link is, once that was handed back
+  of_link : (tasks ends most : ℕ) (s : Start) (client : LinkState) (link : L) (r : Returned L)
+      → r.link ≡ link → IsWithin tasks ends most s client (LinkGave state start_at link)
+      → IsWithin tasks ends most s client (OwnGave state start_at (r ∷ []))
+  of_link tasks ends most s client link r is w = record {
+    came = w.came;
+    got = w.got;
+    client_gave = w.client_gave;
+    own_gave = subst (λ (l : L). LinkGave state start_at l w.got) (sym is) w.own_gave;
+    tasks_within = w.tasks_within;
+    ends_within = w.ends_within;
+  }
 
 module _ {L C : Type 0} (state : L → LinkState) (start_at : L → LinkStart) where
   -- what a turn counted is what its step counts, where the link of both phases was asked as often
@@ -149,18 +179,25 @@ module _ {L C : Type 0} (state : L → LinkState) (start_at : L → LinkStart) w
     refused : faults_before [] next ≡ faults_before handed settled
     offered : offers_before start_at [] next ≡ offers_before start_at handed settled
     uses : (n : ℕ) → PhaseUses state start_at n [] next → PhaseUses state start_at n handed settled
+    bounded : (tasks ends : ℕ) (client : LinkState) (ahead : List ℕ)
+        → TurnedCounts state start_at tasks ends s client ahead [] next
+        → PhaseCounts state start_at tasks ends s client ahead handed settled
 
   -- a phase that stays
   stays : (s : Start) (p : Passed) (w : World) (next settled : Phase L C)
       (before after : Option (List (Returned L))) → settled ≡ next → after ≡ before
-      → RunSoFar state start_at s p w [] next → Settled s p w next settled before after
-  stays s p w next settled before after same kept run = record {
+      → is_closing next ≡ false → RunSoFar state start_at s p w [] next
+      → Settled s p w next settled before after
+  stays s p w next settled before after same kept shut run = record {
     handed = [];
     gained = kept ∙ more-nil before;
     run = subst (λ (n : Phase L C). RunSoFar state start_at s p w [] n) (sym same) run;
     refused = ap (λ (n : Phase L C). faults_before [] n) (sym same);
     offered = ap (λ (n : Phase L C). offers_before start_at [] n) (sym same);
     uses = λ n uses. subst (λ (k : Phase L C). PhaseUses state start_at n [] k) (sym same) uses;
+    bounded = λ tasks ends client ahead counts.
+        subst (λ (k : Phase L C). PhaseCounts state start_at tasks ends s client ahead [] k)
+        (sym same) (open_counts state start_at tasks ends s client ahead [] next shut counts);
   }
 
   -- settling keeps the run so far
@@ -168,10 +205,10 @@ module _ {L C : Type 0} (state : L → LinkState) (start_at : L → LinkStart) w
       (before after : Option (List (Returned L))) → Settles next before after settled
       → RunSoFar state start_at s p w [] next → Settled s p w next settled before after
   settle_run s p w ReadHead settled before after does run =
-      stays s p w ReadHead settled before after does.0 does.1 run
+      stays s p w ReadHead settled before after does.0 does.1 refl run
   settle_run s p w (Answer session owed attempts) settled before after does run =
-      stays s p w (Answer session owed attempts) settled before after does.0 does.1 run
-  settle_run s p w (Fail link lease session e) settled before after does run = record {
+      stays s p w (Answer session owed attempts) settled before after does.0 does.1 refl run
+  settle_run s p w (Fail link lease keep session e) settled before after does run = record {
     handed = does.2.entry ∷ [];
     gained = does.2.gained;
     run = subst (λ (n : Phase L C). RunSoFar state start_at s p w (does.2.entry ∷ []) n)
@@ -181,7 +218,7 @@ module _ {L C : Type 0} (state : L → LinkState) (start_at : L → LinkStart) w
           untouched = run.untouched;
           going = tt;
           calm = tt;
-          holds = owes_back state start_at s p w link lease e does.2.entry does.0 session.value
+          holds = owes_back state start_at s p w link lease keep e does.2.entry does.0 session.value
               run.holds.0 does.2.hands run.holds.1;
         });
     refused = ap (λ (n : Phase L C). faults_before (does.2.entry ∷ []) n) (sym does.1);
@@ -190,11 +227,16 @@ module _ {L C : Type 0} (state : L → LinkState) (start_at : L → LinkStart) w
     uses = λ n uses. subst
         (λ (k : Phase L C). PhaseUses state start_at n (does.2.entry ∷ []) k) (sym does.1)
         (subst (λ (l : L). LinkUses state start_at n l) (sym does.2.hands.is_link) uses);
+    bounded = λ tasks ends client ahead counts. subst
+        (λ (k : Phase L C).
+        PhaseCounts state start_at tasks ends s client ahead (does.2.entry ∷ []) k) (sym does.1)
+        (of_link state start_at tasks ends _ s client link does.2.entry does.2.hands.is_link
+        counts);
   }
   settle_run s p w (Connect context session) settled before after does run =
-      stays s p w (Connect context session) settled before after does.0 does.1 run
+      stays s p w (Connect context session) settled before after does.0 does.1 refl run
   settle_run s p w (Relay a) settled before after does run =
-      stays s p w (Relay a) settled before after does.0 does.1 run
+      stays s p w (Relay a) settled before after does.0 does.1 refl run
   settle_run s p w (Close link lease keep outcome) settled before after does run = record {
     handed = does.2.entry ∷ [];
     gained = does.2.gained;
@@ -214,9 +256,14 @@ module _ {L C : Type 0} (state : L → LinkState) (start_at : L → LinkStart) w
     uses = λ n uses. subst
         (λ (k : Phase L C). PhaseUses state start_at n (does.2.entry ∷ []) k) (sym does.1)
         (subst (λ (l : L). LinkUses state start_at n l) (sym does.2.hands.is_link) uses);
+    bounded = λ tasks ends client ahead counts. subst
+        (λ (k : Phase L C).
+        PhaseCounts state start_at tasks ends s client ahead (does.2.entry ∷ []) k) (sym does.1)
+        (of_link state start_at tasks ends _ s client link does.2.entry does.2.hands.is_link
+        counts);
   }
   settle_run s p w (Ended outcome attempts) settled before after does run =
-      stays s p w (Ended outcome attempts) settled before after does.0 does.1 run
+      stays s p w (Ended outcome attempts) settled before after does.0 does.1 refl run
 
   -- a phase from which no link goes back stays
   settles_same : (next settled : Phase L C) (before after : Option (List (Returned L)))
@@ -225,7 +272,7 @@ module _ {L C : Type 0} (state : L → LinkState) (start_at : L → LinkStart) w
   settles_same ReadHead settled before after does shut = does
   settles_same (Connect context session) settled before after does shut = does
   settles_same (Relay a) settled before after does shut = does
-  settles_same (Fail link lease session e) settled before after does shut =
+  settles_same (Fail link lease keep session e) settled before after does shut =
       absurd (true≢false shut)
   settles_same (Close link lease keep outcome) settled before after does shut =
       absurd (true≢false shut)
@@ -239,8 +286,12 @@ module _ {L C : Type 0} (state : L → LinkState) (start_at : L → LinkStart) w
   settles_live ReadHead settled before after does going = inl does.0
   settles_live (Connect context session) settled before after does going = inl does.0
   settles_live (Relay a) settled before after does going = inl does.0
-  settles_live (Fail link lease session e) settled before after does going =
-      inr (tt, owes_settled state start_at (Fail link lease session e) settled before after does tt)
+  settles_live (Fail link lease keep session e) settled before after does going =
+      inr (
+        tt,
+        owes_settled state start_at (Fail link lease keep session e) settled before after
+            does tt,
+      )
   settles_live (Close link lease keep outcome) settled before after does going =
       absurd (true≢false going)
   settles_live (Answer session owed attempts) settled before after does going = inl does.0
@@ -257,13 +308,13 @@ module _ {L C : Type 0} (state : L → LinkState) (start_at : L → LinkStart) w
       owing ReadHead o = absurd o
       owing (Connect context session) o = refl
       owing (Relay a) o = refl
-      owing (Fail link lease session e) o = refl
+      owing (Fail link lease keep session e) o = refl
       owing (Close link lease keep outcome) o = refl
       owing (Answer session owed attempts) o = refl
       owing (Ended outcome attempts) o = refl
   owes_moved w x (Connect context session) next settled owes owes' moved = inr owes'
   owes_moved w x (Relay a) next settled owes owes' moved = inr owes'
-  owes_moved w x (Fail link lease session e) next settled owes owes' moved = owes'
+  owes_moved w x (Fail link lease keep session e) next settled owes owes' moved = owes'
   owes_moved w x (Close link lease keep outcome) next settled owes owes' moved = absurd moved
   owes_moved w x (Answer session owed attempts) next settled owes owes' moved = moved
   owes_moved w x (Ended outcome attempts) next settled owes owes' moved = absurd moved
@@ -295,7 +346,7 @@ module _ {L C : Type 0} (state : L → LinkState) (start_at : L → LinkStart) w
   live_unrefused ReadHead next live mute = refl
   live_unrefused (Connect context session) next live mute = refl
   live_unrefused (Relay a) next live mute = refl
-  live_unrefused (Fail link lease session e) next live mute = refl
+  live_unrefused (Fail link lease keep session e) next live mute = refl
   live_unrefused (Close link lease keep outcome) next live mute = absurd (true≢false live)
   live_unrefused (Answer session owed attempts) next live mute = absurd (true≢false mute)
   live_unrefused (Ended outcome attempts) next live mute = absurd (true≢false live)
@@ -309,13 +360,17 @@ module _ {L C : Type 0} (state : L → LinkState) (start_at : L → LinkStart) w
       → Takes had (offers_of_turn start_at phase next) has
       → offers_before start_at [] phase ++ offers_of_turn start_at phase next
       ≡ offers_before start_at [] next
-      → (client : LinkState) (counted counts used : ℕ) → counts ≡ min (counted + used) last_count
+      → (client : LinkState) (ahead : List ℕ) (was now extra : Work) → now ≡ added_work was extra
       → ((n : ℕ) → PhaseUses state start_at n [] phase
-      → TurnCounts state start_at n client x.client used [] next)
-      → StepsOn state start_at s p x [] before after told_before told_after had has client counted
-      counts phase settled
+      → TurnCounts state start_at n client x.client extra.used [] next)
+      → ((tasks ends : ℕ)
+      → PhaseCounts {C = C} state start_at tasks ends s client ahead [] phase
+      → TurnedCounts {C = C} state start_at (extra.moved + tasks) (extra.ended + ends) s x.client
+      x.ahead [] next)
+      → StepsOn state start_at s p x [] before after told_before told_after had has client ahead
+      was now phase settled
   live_on s p x phase next settled before mid after told_before told_after had has live mute turn
-      kept does told takes carries client counted counts used adds uses =
+      kept does told takes carries client ahead was now extra adds uses bounds =
       let done = settle_run s turn.passed x next settled mid after does turn.run in
       record {
         passed = turn.passed;
@@ -333,11 +388,15 @@ module _ {L C : Type 0} (state : L → LinkState) (start_at : L → LinkStart) w
           are = carries ∙ done.offered;
         };
         uses = λ n had. record {
-          used = used;
-          turn = settled_counts n client x.client used [] done.handed next settled
+          used = extra.used;
+          turn = settled_counts n client x.client extra.used [] done.handed next settled
               (λ k. done.uses k) (uses n had);
-          adds = adds;
+          adds = ap (λ (w : Work). w.used) adds;
         };
+        work = extra;
+        adds = adds;
+        bounded = λ tasks ends counted. done.bounded (extra.moved + tasks) (extra.ended + ends)
+            x.client x.ahead (bounds tasks ends counted);
         rested = λ over. absurd (true≢false (sym over ∙ live));
       }
 
@@ -349,13 +408,17 @@ module _ {L C : Type 0} (state : L → LinkState) (start_at : L → LinkStart) w
       → Rests {L = L} {C = C} w x (Ended outcome attempts) next did → mid ≡ before
       → Settles next mid after settled → Gains told_before [] told_after → Takes had [] has
       → RunSoFar {C = C} state start_at s p w own (Ended outcome attempts)
-      → (client : LinkState) (counted counts used : ℕ) → counts ≡ min (counted + used) last_count
+      → (client : LinkState) (ahead : List ℕ) (was now extra : Work) → now ≡ added_work was extra
       → ((n : ℕ) → PhaseUses {C = C} state start_at n own (Ended outcome attempts)
-      → TurnCounts state start_at n client x.client used own next)
+      → TurnCounts state start_at n client x.client extra.used own next)
+      → ((tasks ends : ℕ)
+      → PhaseCounts {C = C} state start_at tasks ends s client ahead own (Ended outcome attempts)
+      → TurnedCounts {C = C} state start_at (extra.moved + tasks) (extra.ended + ends) s x.client
+      x.ahead own next)
       → StepsOn {C = C} state start_at s p x own before after told_before told_after had has client
-      counted counts (Ended outcome attempts) settled
+      ahead was now (Ended outcome attempts) settled
   ended_on s p own w x outcome attempts next settled did before mid after told_before told_after
-      had has rests kept does told takes run client counted counts used adds uses =
+      had has rests kept does told takes run client ahead was now extra adds uses bounds =
       let stayed = subst (λ (k : Phase L C). Settles k mid after settled) rests.0 does in
       record {
         passed = p;
@@ -382,14 +445,23 @@ module _ {L C : Type 0} (state : L → LinkState) (start_at : L → LinkStart) w
               ∙ ap (λ (k : Phase L C). offers_before start_at (own ++ []) k) (sym stayed.0);
         };
         uses = λ n had. record {
-          used = used;
-          turn = settled_counts n client x.client used own (own ++ []) next settled
+          used = extra.used;
+          turn = settled_counts n client x.client extra.used own (own ++ []) next settled
               (λ k asked. subst (λ (rs : List (Returned L)). PhaseUses state start_at k rs settled)
               (sym (append-nil own))
               (subst (λ (q : Phase L C). PhaseUses state start_at k own q)
               (rests.0 ∙ sym stayed.0) asked)) (uses n had);
-          adds = adds;
+          adds = ap (λ (w : Work). w.used) adds;
         };
+        work = extra;
+        adds = adds;
+        bounded = λ tasks ends counted. subst
+            (λ (rs : List (Returned L)). PhaseCounts state start_at (extra.moved + tasks)
+            (extra.ended + ends) s x.client x.ahead rs settled) (sym (append-nil own))
+            (subst (λ (k : Phase L C). PhaseCounts state start_at (extra.moved + tasks)
+            (extra.ended + ends) s x.client x.ahead own k) (sym stayed.0)
+            (subst (λ (k : Phase L C). TurnedCounts state start_at (extra.moved + tasks)
+            (extra.ended + ends) s x.client x.ahead own k) rests.0 (bounds tasks ends counted)));
         rested = λ over. refl;
       }
 
@@ -401,13 +473,13 @@ module _ {L C : Type 0} (state : L → LinkState) (start_at : L → LinkStart) w
       → Rests w x (Close link lease keep outcome) next did → mid ≡ before
       → Settles next mid after settled → Gains told_before [] told_after → Takes had [] has
       → RunSoFar {C = C} state start_at s p w [] (Close link lease keep outcome)
-      → (client : LinkState) (counted counts used : ℕ) → counts ≡ min (counted + used) last_count
+      → (client : LinkState) (ahead : List ℕ) (was now extra : Work) → now ≡ added_work was extra
       → ((n : ℕ) → PhaseUses {C = C} state start_at n [] (Close link lease keep outcome)
-      → TurnCounts state start_at n client x.client used [] next)
-      → StepsOn state start_at s p x [] before after told_before told_after had has client counted
-      counts (Close link lease keep outcome) settled
+      → TurnCounts state start_at n client x.client extra.used [] next)
+      → StepsOn state start_at s p x [] before after told_before told_after had has client ahead
+      was now (Close link lease keep outcome) settled
   closed_on s p w x link lease keep outcome next settled did before mid after told_before told_after
-      had has rests kept does told takes run client counted counts used adds uses =
+      had has rests kept does told takes run client ahead was now extra adds uses =
       let done = settle_run s p w (Close link lease keep outcome) settled mid after
       (subst (λ (k : Phase L C). Settles k mid after settled) rests.0 does) run in
       record {
@@ -419,13 +491,16 @@ module _ {L C : Type 0} (state : L → LinkState) (start_at : L → LinkStart) w
         refused = record { faults = []; gained = told; are = done.refused };
         offered = record { taken = []; takes = takes; are = done.offered };
         uses = λ n had. record {
-          used = used;
-          turn = settled_counts n client x.client used [] done.handed next settled
+          used = extra.used;
+          turn = settled_counts n client x.client extra.used [] done.handed next settled
               (λ k asked. done.uses k
               (subst (λ (q : Phase L C). PhaseUses state start_at k [] q) rests.0 asked))
               (uses n had);
-          adds = adds;
+          adds = ap (λ (w : Work). w.used) adds;
         };
+        work = extra;
+        adds = adds;
+        bounded = λ tasks ends counted. absurd counted;
         rested = λ over. refl;
       }
 
@@ -436,13 +511,18 @@ module _ {L C : Type 0} (state : L → LinkState) (start_at : L → LinkStart) w
       (told_before told_after : Option (List Fault)) (had has : Option (List Offer))
       → AnswersOn state start_at s x own attempts next → mid ≡ before
       → Settles next mid after settled → Gains told_before [] told_after → Takes had [] has
-      → (client : LinkState) (counted counts used : ℕ) → counts ≡ min (counted + used) last_count
+      → (client : LinkState) (ahead : List ℕ) (was now extra : Work) → now ≡ added_work was extra
       → ((n : ℕ) → PhaseUses {C = C} state start_at n own (Answer session owes attempts)
-      → TurnCounts state start_at n client x.client used own next)
-      → StepsOn state start_at s p x own before after told_before told_after had has client counted
-      counts (Answer session owes attempts) settled
+      → TurnCounts state start_at n client x.client extra.used own next)
+      → ((tasks ends : ℕ)
+      → PhaseCounts {C = C} state start_at tasks ends s client ahead own
+      (Answer session owes attempts)
+      → TurnedCounts {C = C} state start_at (extra.moved + tasks) (extra.ended + ends) s x.client
+      x.ahead own next)
+      → StepsOn state start_at s p x own before after told_before told_after had has client ahead
+      was now (Answer session owes attempts) settled
   answer_step s p own x session owes attempts next settled before mid after told_before told_after
-      had has turn kept does told takes client counted counts used adds uses =
+      had has turn kept does told takes client ahead was now extra adds uses bounds =
       let stayed = settles_same next settled mid after does
       (unlinked_open state start_at next turn.unlinked) in
       let none = unlinked_items state start_at next turn.unlinked in
@@ -474,14 +554,25 @@ module _ {L C : Type 0} (state : L → LinkState) (start_at : L → LinkStart) w
               (sym (append-nil own));
         };
         uses = λ n had. record {
-          used = used;
-          turn = settled_counts n client x.client used own (own ++ []) next settled
+          used = extra.used;
+          turn = settled_counts n client x.client extra.used own (own ++ []) next settled
               (λ k asked. subst (λ (rs : List (Returned L)). PhaseUses state start_at k rs settled)
               (sym (append-nil own))
               (subst (λ (q : Phase L C). PhaseUses state start_at k own q) (sym stayed.0) asked))
               (uses n had);
-          adds = adds;
+          adds = ap (λ (w : Work). w.used) adds;
         };
+        work = extra;
+        adds = adds;
+        bounded = λ tasks ends counted. subst
+            (λ (rs : List (Returned L)). PhaseCounts state start_at (extra.moved + tasks)
+            (extra.ended + ends) s x.client x.ahead rs settled) (sym (append-nil own))
+            (subst (λ (k : Phase L C). PhaseCounts state start_at (extra.moved + tasks)
+            (extra.ended + ends) s x.client x.ahead own k) (sym stayed.0)
+            (open_counts state start_at (extra.moved + tasks) (extra.ended + ends) s x.client
+            x.ahead
+            own next (unlinked_open state start_at next turn.unlinked)
+            (bounds tasks ends counted)));
         rested = λ over. absurd (true≢false (sym over));
       }
 
@@ -498,54 +589,58 @@ module _ {L C : Type 0} (state : L → LinkState) (start_at : L → LinkStart) w
       → offers_before start_at [] phase ++ offers_of_turn start_at phase next
       ≡ offers_before start_at [] next)
       → RunSoFar state start_at s p w own phase
-      → (client : LinkState) (counted counts used : ℕ) → counts ≡ min (counted + used) last_count
+      → (client : LinkState) (ahead : List ℕ) (was now extra : Work) → now ≡ added_work was extra
       → ((n : ℕ) → PhaseUses state start_at n own phase
-      → TurnCounts state start_at n client x.client used own next)
-      → StepsOn state start_at s p x own before after told_before told_after had has client counted
-      counts phase settled
+      → TurnCounts state start_at n client x.client extra.used own next)
+      → ((tasks ends : ℕ)
+      → PhaseCounts {C = C} state start_at tasks ends s client ahead own phase
+      → TurnedCounts {C = C} state start_at (extra.moved + tasks) (extra.ended + ends) s x.client
+      x.ahead own next)
+      → StepsOn state start_at s p x own before after told_before told_after had has client ahead
+      was now phase settled
   step_on s p [] w x ReadHead next settled did before mid after t u h k
-      turn rests kept does told takes carries run c i j o adds uses =
+      turn rests kept does told takes carries run c i j o m adds uses bounds =
       live_on s p x ReadHead next settled before mid after t u h k refl refl
-      (turn run) kept does told takes (carries refl) c i j o adds uses
+      (turn run) kept does told takes (carries refl) c i j o m adds uses bounds
   step_on s p [] w x (Connect context session) next settled did before mid after t u h k
-      turn rests kept does told takes carries run c i j o adds uses =
+      turn rests kept does told takes carries run c i j o m adds uses bounds =
       live_on s p x (Connect context session) next settled before mid after t u h k refl refl
-      (turn run) kept does told takes (carries refl) c i j o adds uses
+      (turn run) kept does told takes (carries refl) c i j o m adds uses bounds
   step_on s p [] w x (Relay a) next settled did before mid after t u h k
-      turn rests kept does told takes carries run c i j o adds uses =
+      turn rests kept does told takes carries run c i j o m adds uses bounds =
       live_on s p x (Relay a) next settled before mid after t u h k refl refl
-      (turn run) kept does told takes (carries refl) c i j o adds uses
-  step_on s p [] w x (Fail link lease session e) next settled did before mid after t u h k
-      turn rests kept does told takes carries run c i j o adds uses =
-      live_on s p x (Fail link lease session e) next settled before mid after t u h k refl refl
-      (turn run) kept does told takes (carries refl) c i j o adds uses
+      (turn run) kept does told takes (carries refl) c i j o m adds uses bounds
+  step_on s p [] w x (Fail link lease keep session e) next settled did before mid after t u h k
+      turn rests kept does told takes carries run c i j o m adds uses bounds =
+      live_on s p x (Fail link lease keep session e) next settled before mid after t u h k refl refl
+      (turn run) kept does told takes (carries refl) c i j o m adds uses bounds
   step_on s p [] w x (Close link lease keep outcome) next settled did before mid after t u h k
-      turn rests kept does told takes carries run c i j o adds uses =
+      turn rests kept does told takes carries run c i j o m adds uses bounds =
       closed_on s p w x link lease keep outcome next settled did before mid after t u h k rests
-      kept does told takes run c i j o adds uses
+      kept does told takes run c i j o m adds uses
   step_on s p (r ∷ own) w x ReadHead next settled did before mid after t u
-      h k turn rests kept does told takes carries run c i j o adds uses =
+      h k turn rests kept does told takes carries run c i j o m adds uses bounds =
       absurd run.holds
   step_on s p (r ∷ own) w x (Connect context session) next settled did before mid after t u
-      h k turn rests kept does told takes carries run c i j o adds uses =
+      h k turn rests kept does told takes carries run c i j o m adds uses bounds =
       absurd run.holds
   step_on s p (r ∷ own) w x (Relay a) next settled did before mid after t u
-      h k turn rests kept does told takes carries run c i j o adds uses =
+      h k turn rests kept does told takes carries run c i j o m adds uses bounds =
       absurd run.holds
-  step_on s p (r ∷ own) w x (Fail link lease session e) next settled did before mid after t u
-      h k turn rests kept does told takes carries run c i j o adds uses =
+  step_on s p (r ∷ own) w x (Fail link lease keep session e) next settled did before mid after t u
+      h k turn rests kept does told takes carries run c i j o m adds uses bounds =
       absurd run.holds
   step_on s p (r ∷ own) w x (Close link lease keep outcome) next settled did before mid after t u
-      h k turn rests kept does told takes carries run c i j o adds uses =
+      h k turn rests kept does told takes carries run c i j o m adds uses bounds =
       absurd run.holds
   step_on s p own w x (Answer session owes attempts) next settled did before mid after t u h k
-      turn rests kept does told takes carries run c i j o adds uses =
+      turn rests kept does told takes carries run c i j o m adds uses bounds =
       answer_step s p own x session owes attempts next settled before mid after t u h k (turn run)
-      kept does told takes c i j o adds uses
+      kept does told takes c i j o m adds uses bounds
   step_on s p own w x (Ended outcome attempts) next settled did before mid after t u h k
-      turn rests kept does told takes carries run c i j o adds uses =
+      turn rests kept does told takes carries run c i j o m adds uses bounds =
       ended_on s p own w x outcome attempts next settled did before mid after t u h k rests kept
-      does told takes run c i j o adds uses
+      does told takes run c i j o m adds uses bounds
 
   -- an attempt in which all that can be done asks a silent link
   quiet_over : (s : Start) (p : Passed) (w : World) (a : Box (Attempt L C))
@@ -555,9 +650,12 @@ module _ {L C : Type 0} (state : L → LinkState) (start_at : L → LinkStart) w
     exchange = a.value.exchange;
     is_link = refl;
     head = holds.head;
+    sent = holds.sent;
     relayable = holds.relayable;
-    under_way = subst (λ (r : Bool). IsUnderWay state start_at (origin_of s holds.head r) p
-        w.client w.ahead a.value.exchange) (sym holds.leased.reused) holds.under_way;
+    sends = holds.sends;
+    under_way = subst (λ (r : Bool). IsUnderWay state start_at
+        (origin_of s holds.head holds.sent r) p w.client w.ahead a.value.exchange)
+        (sym holds.leased.reused) holds.under_way;
     silent = stalled;
   }
 
@@ -572,9 +670,11 @@ module _ {L C : Type 0} (state : L → LinkState) (start_at : L → LinkStart) w
       → faults_before [] phase ≡ []
       → offers_before start_at [] phase ≡ Ok (start_at link).items ∷ []
       → ((n : ℕ) → PhaseUses state start_at n [] phase → LinkUses state start_at n link)
+      → ((tasks ends : ℕ) → PhaseCounts state start_at tasks ends s w.client w.ahead [] phase
+      → IsWithin tasks ends most_sides s w.client (LinkGave state start_at link))
       → Ends state start_at s p w [] before after phase ending
   linked_end s p w phase link lease keep before after ending outcome is back run leased ends
-      stalled none holds linked = record {
+      stalled none holds linked within = record {
         handed = back.entry ∷ [];
         gained = back.gained;
         ended = record {
@@ -591,6 +691,9 @@ module _ {L C : Type 0} (state : L → LinkState) (start_at : L → LinkStart) w
         offered = ap (λ (l : L). Ok (start_at l).items ∷ []) back.hands.is_link ∙ sym holds;
         uses = λ n asked. subst (λ (l : L). LinkUses state start_at n l)
             (sym back.hands.is_link) (linked n asked);
+        bounded = λ tasks ends counted. of_link state start_at tasks ends most_sides s w.client link
+            back.entry
+            back.hands.is_link (within tasks ends counted);
         quiet = λ limit still. inl (subst (λ (l : L). IsQuietExchange state start_at s p w l)
             (sym back.hands.is_link) (stalled still));
       }
@@ -602,23 +705,36 @@ module _ {L C : Type 0} (state : L → LinkState) (start_at : L → LinkStart) w
       → (IsStalled state start_at w phase → IsQuiet state start_at s p w [])
       → faults_before [] phase ≡ [] → offers_before start_at [] phase ≡ []
       → ((n : ℕ) → PhaseUses state start_at n [] phase → OwnUses state start_at n [])
+      → ((tasks ends : ℕ) → PhaseCounts state start_at tasks ends s w.client w.ahead [] phase
+      → (tasks ≡ 0) × (ends ≤ 1))
       → Ends state start_at s p w [] before after phase ending
-  unlinked_end s p w phase before after ending gives run unsent empty stalled none bare asked = record {
-    handed = [];
-    gained = gives.same ∙ more-nil before;
-    ended = record {
-      tells = run.tells;
-      order = run.order;
-      untouched = run.untouched;
-      ends = subst
-          (λ (o : Outcome). EndsUnlinked s p w o × AttemptsUnlinked s p w ending.attempts o)
-          (sym gives.limit) (unsent, inl (gives.none, inl empty));
-    };
-    refused = ap (λ (l : List AttemptRecord). faults_for {L = L} [] l) gives.none ∙ sym none;
-    offered = ap (λ (l : List AttemptRecord). offers_for start_at [] l) gives.none ∙ sym bare;
-    uses = asked;
-    quiet = λ limit still. stalled still;
-  }
+  unlinked_end s p w phase before after ending gives run unsent empty stalled none bare asked few =
+      record {
+        handed = [];
+        gained = gives.same ∙ more-nil before;
+        ended = record {
+          tells = run.tells;
+          order = run.order;
+          untouched = run.untouched;
+          ends = subst
+              (λ (o : Outcome). EndsUnlinked s p w o × AttemptsUnlinked s p w ending.attempts o)
+              (sym gives.limit) (unsent, inl (gives.none, inl empty));
+        };
+        refused = ap (λ (l : List AttemptRecord). faults_for {L = L} [] l) gives.none ∙ sym none;
+        offered = ap (λ (l : List AttemptRecord). offers_for start_at [] l) gives.none ∙ sym bare;
+        uses = asked;
+        bounded = λ tasks ends counted.
+            let little = few tasks ends counted in
+            record {
+              came = p.came;
+              got = [];
+              client_gave = run.tells.came;
+              own_gave = refl;
+              tasks_within = omega (arith, little.0);
+              ends_within = omega (arith, little.1);
+            };
+        quiet = λ limit still. stalled still;
+      }
 
   -- a request that has ended
   ended_end : (s : Start) (p : Passed) (w : World) (own : List (Returned L)) (outcome : Outcome)
@@ -649,17 +765,20 @@ module _ {L C : Type 0} (state : L → LinkState) (start_at : L → LinkStart) w
         (sym (append-nil (items_back start_at own)));
     uses = λ n asked. subst (λ (rs : List (Returned L)). OwnUses state start_at n rs)
         (sym (append-nil own)) asked;
+    bounded = λ tasks ends counted. subst (λ (rs : List (Returned L)).
+        IsWithin tasks ends most_sides s w.client (OwnGave state start_at rs))
+        (sym (append-nil own)) counted;
     quiet = λ limit never. absurd never;
   }
 
   -- a request whose exchange failed gave up before its link went back
-  failed_end : (s : Start) (p : Passed) (w : World) (link : L) (lease : Lease)
+  failed_end : (s : Start) (p : Passed) (w : World) (link : L) (lease : Lease) (keep : Bool)
       (session : Box HttpSession) (e : Error) (before after : Option (List (Returned L)))
-      (ending : Ending) → GivesFailedUp link lease e before after ending
-      → RunSoFar {C = C} state start_at s p w [] (Fail link lease session e)
-      → Ends {C = C} state start_at s p w [] before after (Fail link lease session e) ending
-  failed_end s p w link lease session e before after ending gives run =
-      let back = owes_back state start_at s p w link lease e gives.back.entry ending.attempts
+      (ending : Ending) → GivesFailedUp link lease keep e before after ending
+      → RunSoFar {C = C} state start_at s p w [] (Fail link lease keep session e)
+      → Ends {C = C} state start_at s p w [] before after (Fail link lease keep session e) ending
+  failed_end s p w link lease keep session e before after ending gives run =
+      let back = owes_back state start_at s p w link lease keep e gives.back.entry ending.attempts
       session.value run.holds.0 gives.back.hands run.holds.1 in
       record {
         handed = gives.back.entry ∷ [];
@@ -679,6 +798,7 @@ module _ {L C : Type 0} (state : L → LinkState) (start_at : L → LinkStart) w
         offered = ap (λ (l : L). Ok (start_at l).items ∷ []) gives.back.hands.is_link;
         uses = λ n asked. subst (λ (l : L). LinkUses state start_at n l)
             (sym gives.back.hands.is_link) asked;
+        bounded = λ tasks ends counted. absurd counted;
         quiet = λ limit never. absurd never;
       }
 
@@ -719,6 +839,10 @@ module _ {L C : Type 0} (state : L → LinkState) (start_at : L → LinkStart) w
             (sym (append-nil (items_back start_at own)));
         uses = λ n asked. subst (λ (rs : List (Returned L)). OwnUses state start_at n rs)
             (sym (append-nil own)) asked;
+        bounded = λ tasks ends counted. subst (λ (rs : List (Returned L)).
+            IsWithin tasks ends most_sides s w.client (OwnGave state start_at rs))
+            (sym (append-nil own)) (more_room tasks ends s w.client
+            (OwnGave state start_at own) counted);
         quiet = λ limit silent. subst (λ (rs : List (Returned L)). IsQuiet state start_at s p w rs)
             (sym (append-nil own))
             (quiet_answer state start_at s p w own (record {
@@ -738,29 +862,42 @@ module _ {L C : Type 0} (state : L → LinkState) (start_at : L → LinkStart) w
   end_of s p [] w ReadHead before after ending does run =
       unlinked_end s p w ReadHead before after ending does run run.holds.unsent run.holds.written
       (λ h. inl (subst (λ (xs : List ℕ). IsOpen xs) run.holds.whole h.0, h.1)) refl refl
-      (λ n asked. asked)
+      (λ n asked. asked) (λ tasks ends counted. (counted.0, omega (arith, counted.1)))
   end_of s p [] w (Connect context session) before after ending does run =
       unlinked_end s p w (Connect context session) before after ending does run run.holds.unsent
       run.holds.written (λ h. absurd h) refl refl (λ n asked. asked)
+      (λ tasks ends counted. (counted.0, omega (arith, counted.1)))
   end_of s p [] w (Relay a) before after ending does run =
       linked_end s p w (Relay a) (link_of a.value.exchange) a.value.lease false before after
       ending TurnLimit does.limit does.back run run.holds.leased (
-        part_relayed s p run.holds.head a.value.lease.reused _ _ run.holds.relayable
-            run.holds.leased.reused run.holds.under_way.order,
+        part_relayed s p run.holds.head run.holds.sent a.value.lease.reused _ _
+            run.holds.relayable run.holds.sends run.holds.leased.reused
+            run.holds.under_way.order,
         refl,
       )
       (λ h. quiet_over s p w a run.holds h) refl refl (λ n asked. asked)
+      (λ tasks ends counted.
+      let within = within_link state start_at tasks ends s w.client w.ahead a.value counted in
+      record {
+        came = within.came;
+        got = within.got;
+        client_gave = within.client_gave;
+        own_gave = within.own_gave;
+        tasks_within = within.tasks_within;
+        ends_within = omega (arith, within.ends_within);
+      })
   end_of s p [] w (Close link lease keep outcome) before after ending does run =
       linked_end s p w (Close link lease keep outcome) link lease keep before after ending outcome
       does.0 does.1 run run.holds.0 run.holds.1 (λ h. absurd h) refl refl (λ n asked. asked)
-  end_of s p [] w (Fail link lease session e) before after ending does run =
-      failed_end s p w link lease session e before after ending does run
+      (λ tasks ends counted. absurd counted)
+  end_of s p [] w (Fail link lease keep session e) before after ending does run =
+      failed_end s p w link lease keep session e before after ending does run
   end_of s p [] w (Ended outcome attempts) before after ending does run =
       ended_end s p w [] outcome attempts before after ending run.holds does.0 does.1 does.2 run
   end_of s p own w (Answer session owes attempts) before after ending does run =
       answered_end s p w own session owes attempts before after ending does run
   end_of s p (r ∷ own) w ReadHead before after ending does run = absurd run.holds
-  end_of s p (r ∷ own) w (Fail link lease session e) before after ending does run =
+  end_of s p (r ∷ own) w (Fail link lease keep session e) before after ending does run =
       absurd run.holds
   end_of s p (r ∷ own) w (Connect context session) before after ending does run = absurd run.holds
   end_of s p (r ∷ own) w (Relay a) before after ending does run = absurd run.holds
@@ -775,7 +912,7 @@ module _ {L C : Type 0} (state : L → LinkState) (start_at : L → LinkStart) w
       → IsGoing state start_at phase → Finishes phase before after ending → is_over phase ≡ true
       → ending.outcome ≢ TurnLimit
   over_end ReadHead before after ending going does over = absurd (true≢false (sym over))
-  over_end (Fail link lease session e) before after ending going does over =
+  over_end (Fail link lease keep session e) before after ending going does over =
       absurd (true≢false (sym over))
   over_end (Answer session owes attempts) before after ending going does over =
       absurd (true≢false (sym over))

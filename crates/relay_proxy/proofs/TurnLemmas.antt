@@ -41,7 +41,7 @@ module _ {L C : Type 0} (state : L → LinkState) (start_at : L → LinkStart) w
       absurd (true≢false (sym is))
   relaying_turn s p w x [] (Relay a) next is run turn = turn run
   relaying_turn s p w x (r ∷ own) (Relay a) next is run turn = absurd run.holds
-  relaying_turn s p w x own (Fail link lease session error) next is run turn =
+  relaying_turn s p w x own (Fail link lease keep session error) next is run turn =
       absurd (true≢false (sym is))
   relaying_turn s p w x own (Close link lease keep outcome) next is run turn =
       absurd (true≢false (sym is))
@@ -72,7 +72,7 @@ module _ {L C : Type 0} (state : L → LinkState) (start_at : L → LinkStart) w
   pub relaying_rests : (w x : World) (phase next : Phase L C) (did : RunStep)
       → is_relaying phase ≡ true → Rests {L = L} {C = C} w x phase next did
   relaying_rests w x ReadHead next did is = absurd (true≢false (sym is))
-  relaying_rests w x (Fail link lease session error) next did is = absurd (true≢false (sym is))
+  relaying_rests w x (Fail link lease keep session error) next did is = absurd (true≢false (sym is))
   relaying_rests w x (Answer session owed attempts) next did is = absurd (true≢false (sym is))
   relaying_rests w x (Connect context session) next did is = absurd (true≢false (sym is))
   relaying_rests w x (Relay a) next did is = tt
@@ -84,7 +84,8 @@ module _ {L C : Type 0} (state : L → LinkState) (start_at : L → LinkStart) w
       → links_held {C = C} state start_at next ≡ links_held {C = C} state start_at phase
       → faults_of_turn phase next ≡ []
   relaying_unrefused ReadHead next is held = absurd (true≢false (sym is))
-  relaying_unrefused (Fail link lease session error) next is held = absurd (true≢false (sym is))
+  relaying_unrefused (Fail link lease keep session error) next is held = absurd
+      (true≢false (sym is))
   relaying_unrefused (Answer session owed attempts) next is held = absurd (true≢false (sym is))
   relaying_unrefused (Connect context session) next is held = absurd (true≢false (sym is))
   relaying_unrefused (Relay a) next is held = none_before_link state start_at next held
@@ -95,7 +96,7 @@ module _ {L C : Type 0} (state : L → LinkState) (start_at : L → LinkStart) w
   pub relaying_takes : (phase next : Phase L C) → is_relaying phase ≡ true
       → offers_of_turn start_at phase next ≡ []
   relaying_takes ReadHead next is = absurd (true≢false (sym is))
-  relaying_takes (Fail link lease session error) next is = absurd (true≢false (sym is))
+  relaying_takes (Fail link lease keep session error) next is = absurd (true≢false (sym is))
   relaying_takes (Answer session owed attempts) next is = absurd (true≢false (sym is))
   relaying_takes (Connect context session) next is = absurd (true≢false (sym is))
   relaying_takes (Relay a) next is = refl
@@ -109,7 +110,8 @@ module _ {L C : Type 0} (state : L → LinkState) (start_at : L → LinkStart) w
       → offers_before start_at [] phase ++ offers_of_turn start_at phase next
       ≡ offers_before start_at [] next
   relaying_carries ReadHead next is held items = absurd (true≢false (sym is))
-  relaying_carries (Fail link lease session error) next is held items = absurd (true≢false (sym is))
+  relaying_carries (Fail link lease keep session error) next is held items = absurd
+      (true≢false (sym is))
   relaying_carries (Answer session owed attempts) next is held items = absurd (true≢false (sym is))
   relaying_carries (Connect context session) next is held items = absurd (true≢false (sym is))
   relaying_carries (Relay a) next is held items =
@@ -124,14 +126,14 @@ module _ {L C : Type 0} (state : L → LinkState) (start_at : L → LinkStart) w
       → ((o : Origin) (q : Passed) (a : Box (Attempt L C)) → phase ≡ Relay a
       → IsUnderWay state start_at o q w.client w.ahead a.value.exchange → T) → T
   relaying_uses s p own w ReadHead T is run uses = absurd (true≢false (sym is))
-  relaying_uses s p own w (Fail link lease session error) T is run uses =
+  relaying_uses s p own w (Fail link lease keep session error) T is run uses =
       absurd (true≢false (sym is))
   relaying_uses s p own w (Answer session owed attempts) T is run uses =
       absurd (true≢false (sym is))
   relaying_uses s p own w (Connect context session) T is run uses = absurd (true≢false (sym is))
   relaying_uses s p own w (Relay a) T is run uses =
       let relays = relaying_of state start_at s p w own a run in
-      uses (origin_of s relays.head a.value.lease.reused) p a refl relays.under_way
+      uses (origin_of s relays.head relays.sent a.value.lease.reused) p a refl relays.under_way
   relaying_uses s p own w (Close link lease keep outcome) T is run uses =
       absurd (true≢false (sym is))
   relaying_uses s p own w (Ended outcome attempts) T is run uses = absurd (true≢false (sym is))
@@ -147,14 +149,16 @@ module _ {L C : Type 0} (state : L → LinkState) (start_at : L → LinkStart) w
       → TurnCounts state start_at n w.client client' used own next
   relaying_counts s p own w client' n used ReadHead next is run had counts =
       absurd (true≢false (sym is))
-  relaying_counts s p own w client' n used (Fail link lease session error) next is run had counts =
+  relaying_counts s p own w client' n used (Fail link lease keep session error) next is run had
+      counts =
       absurd (true≢false (sym is))
   relaying_counts s p own w client' n used (Answer session owed attempts) next is run had counts =
       absurd (true≢false (sym is))
   relaying_counts s p own w client' n used (Connect context session) next is run had counts =
       absurd (true≢false (sym is))
   relaying_counts s p [] w client' n used (Relay a) next is run had counts =
-      counts (origin_of s run.holds.head a.value.lease.reused) p a n refl run.holds.under_way had
+      counts (origin_of s run.holds.head run.holds.sent a.value.lease.reused) p a n refl
+      run.holds.under_way had
   relaying_counts s p (r ∷ own) w client' n used (Relay a) next is run had counts =
       absurd run.holds
   relaying_counts s p own w client' n used (Close link lease keep outcome) next is run had counts =
@@ -167,7 +171,7 @@ module _ {L C : Type 0} (state : L → LinkState) (start_at : L → LinkStart) w
       → links_held state start_at next ≡ 0 → OwnUses state start_at n own
       → PhaseUses state start_at n own next
   unlinked_asked n own ReadHead none had = had
-  unlinked_asked n own (Fail link lease session error) none had = cc
+  unlinked_asked n own (Fail link lease keep session error) none had = cc
   unlinked_asked n own (Answer session owed attempts) none had = had
   unlinked_asked n own (Connect context session) none had = had
   unlinked_asked n own (Relay a) none had = cc
@@ -227,7 +231,7 @@ not_relaying {L = L} {C = C} phase a not_so is =
 pub relaying_works : {L C : Type 0} (phase : Phase L C) (did : RunStep) (work : Work)
     → is_relaying phase ≡ true → DoesWork did work → WorksIn phase did work
 relaying_works ReadHead did work is does = absurd (true≢false (sym is))
-relaying_works (Fail link lease session error) did work is does = absurd (true≢false (sym is))
+relaying_works (Fail link lease keep session error) did work is does = absurd (true≢false (sym is))
 relaying_works (Answer session owed attempts) did work is does = absurd (true≢false (sym is))
 relaying_works (Connect context session) did work is does = absurd (true≢false (sym is))
 relaying_works (Relay a) did work is does = does
@@ -238,7 +242,7 @@ relaying_works (Ended outcome attempts) did work is does = absurd (true≢false 
 pub open_settles : {L C : Type 0} (phase : Phase L C) (told : Option (List (Returned L)))
     → is_closing phase ≡ false → Settles phase told told phase
 open_settles ReadHead told is = (refl, refl)
-open_settles (Fail link lease session error) told is = absurd (true≢false is)
+open_settles (Fail link lease keep session error) told is = absurd (true≢false is)
 open_settles (Answer session owed attempts) told is = (refl, refl)
 open_settles (Connect context session) told is = (refl, refl)
 open_settles (Relay a) told is = (refl, refl)
@@ -251,7 +255,7 @@ pub unlinked_open : {L C : Type 0} (state : L → LinkState) (start_at : L → L
 unlinked_open state start_at ReadHead none = refl
 unlinked_open state start_at (Connect context session) none = refl
 unlinked_open state start_at (Relay a) none = refl
-unlinked_open state start_at (Fail link lease session error) none = cc
+unlinked_open state start_at (Fail link lease keep session error) none = cc
 unlinked_open state start_at (Close link lease keep outcome) none = cc
 unlinked_open state start_at (Answer session owed attempts) none = refl
 unlinked_open state start_at (Ended outcome attempts) none = refl
@@ -262,7 +266,7 @@ pub relaying_open : {L C : Type 0} (phase : Phase L C) → is_relaying phase ≡
 relaying_open ReadHead is = refl
 relaying_open (Connect context session) is = refl
 relaying_open (Relay a) is = refl
-relaying_open (Fail link lease session error) is = absurd (true≢false (sym is))
+relaying_open (Fail link lease keep session error) is = absurd (true≢false (sym is))
 relaying_open (Close link lease keep outcome) is = absurd (true≢false (sym is))
 relaying_open (Answer session owed attempts) is = refl
 relaying_open (Ended outcome attempts) is = refl
@@ -273,7 +277,7 @@ pub unlinked_items : {L C : Type 0} (state : L → LinkState) (start_at : L → 
 unlinked_items state start_at ReadHead none = refl
 unlinked_items state start_at (Connect context session) none = refl
 unlinked_items state start_at (Relay a) none = cc
-unlinked_items state start_at (Fail link lease session error) none = cc
+unlinked_items state start_at (Fail link lease keep session error) none = cc
 unlinked_items state start_at (Close link lease keep outcome) none = cc
 unlinked_items state start_at (Answer session owed attempts) none = refl
 unlinked_items state start_at (Ended outcome attempts) none = refl

@@ -9,6 +9,7 @@ use Rattle.relay_links.specs.declared.Returned.{Returned}
 use Rattle.relay_tasks.specs.declared.Fault.{Fault}
 use Rattle.relay_tasks.specs.declared.took.Pause.TheVariants.{NotReady, Silent}
 use Rattle.relay_attempt.specs.Passed.{Passed}
+use Rattle.relay_proxy.specs.Bound.{IsBounded, IsWithin, OwnGave, PhaseCounts, most_sides}
 use Rattle.relay_proxy.specs.Passed.{World, Start, start_of, nothing}
 use Rattle.relay_proxy.specs.Taken.{Takes, offers_before}
 use Rattle.relay_proxy.specs.Phases.{RunSoFar}
@@ -24,6 +25,8 @@ use Rattle.relay_proxy.specs.declared.machine.RunStep.TheVariants as step
 use Rattle.relay_proxy.specs.declared.outcome.Outcome.TheVariants.{TurnLimit}
 use Rattle.relay_proxy.specs.declared.outcome.Processed.{Processed}
 use Rattle.relay_proxy.specs.declared.record.AttemptRecord.{AttemptRecord}
+use Rattle.relay_proxy.specs.declared.work.Work.{Work}
+use Rattle.relay_proxy.specs.Work.{total_work}
 use Rattle.relay_proxy.proofs.StepLemmas.{more-nil, more-more}
 use Rattle.relay_proxy.proofs.CountLemmas.{ups_twice, min_twice}
 use Rattle.relay_proxy.proofs.ExactLemmas.{exact_of}
@@ -44,6 +47,28 @@ no_end step.Moved goes = refl
 no_end (step.Waited NotReady) goes = refl
 no_end (step.Waited Silent) goes = absurd (true≢false goes)
 no_end step.Ended goes = absurd (true≢false goes)
+
+module _ {L : Type 0} (state : L → LinkState) (start_at : L → LinkStart) where
+  -- what is recorded is no more than what was counted
+  bounded_by : (s : Start) (client : LinkState) (own : List (Returned L)) (processed : Processed)
+      (turns : ℕ) (work : Work) (tasks ends : ℕ) → processed.history.turns_taken ≡ turns
+      → processed.history.items_used ≡ work.used → processed.history.tasks_moved ≡ work.moved
+      → processed.history.sides_ended ≡ work.ended → turns ≤ total_work work
+      → work.moved ≤ tasks → work.ended ≤ ends
+      → IsWithin tasks ends most_sides s client (OwnGave state start_at own)
+      → IsBounded state start_at s client own processed.history
+  bounded_by s client own processed turns work tasks ends taken used moved sides worked tasks_fit
+      ends_fit within = record {
+        worked = omega (arith, taken, used, moved, sides, worked);
+        within = record {
+          came = within.came;
+          got = within.got;
+          client_gave = within.client_gave;
+          own_gave = within.own_gave;
+          tasks_within = omega (arith, moved, tasks_fit, within.tasks_within);
+          ends_within = omega (arith, sides, ends_fit, within.ends_within);
+        };
+      }
 
 module _ {L C : Type 0} (state : L → LinkState) (start_at : L → LinkStart) where
   -- all uses so far were counted: those of the client's link, and those of the request's own
@@ -96,7 +121,24 @@ module _ {L C : Type 0} (state : L → LinkState) (start_at : L → LinkStart) w
     pub refused : Gains told_before (faults_before own m.phase) told_now
     pub offered : Takes had (offers_before start_at own m.phase) has
     pub uses : UsesSoFar first w.client own m.phase m.work.used
+    -- so many tasks were moved, and so many ends came; the counts stand still at their last value
+    pub tasks : ℕ
+    pub ends : ℕ
+    pub bounded : PhaseCounts state start_at tasks ends s w.client w.ahead own m.phase
+    pub tasks_fit : m.work.moved ≤ tasks
+    pub ends_fit : m.work.ended ≤ ends
     pub counted : m.turns ≡ turns
+
+  -- what was counted stands where the client does
+  still_counts : (tasks ends : ℕ) (s : Start) (w x : World) (own : List (Returned L))
+      (phase : Phase L C) → x.client ≡ w.client → x.ahead ≡ w.ahead
+      → PhaseCounts state start_at tasks ends s w.client w.ahead own phase
+      → PhaseCounts state start_at tasks ends s x.client x.ahead own phase
+  still_counts tasks ends s w x own phase same kept counts =
+      subst (λ (xs : List ℕ). PhaseCounts state start_at tasks ends s x.client xs own phase)
+      (sym kept)
+      (subst (λ (c : LinkState). PhaseCounts state start_at tasks ends s c w.ahead own phase)
+      (sym same) counts)
 
   -- a request without an attempt, that holds no link, took nothing
   none_taken : (phase : Phase L C) → attempts_in phase ≡ [] → items_held start_at phase ≡ []
@@ -110,10 +152,11 @@ module _ {L C : Type 0} (state : L → LinkState) (start_at : L → LinkStart) w
       → told_now ≡ told_before → has ≡ had
       → RunSoFar state start_at (start_of w) nothing x [] m.phase
       → attempts_in m.phase ≡ [] → links_held state start_at m.phase ≡ 0 → m.turns ≡ 0
-      → x.client ≡ first → m.work.used ≡ 0
+      → x.client ≡ first → m.work.used ≡ 0 → m.work.moved ≡ 0 → m.work.ended ≡ 0
+      → PhaseCounts state start_at 0 0 (start_of w) x.client x.ahead [] m.phase
       → IsUnderWay (start_of w) x before now told_before told_now had has first m 0
   begun w x before now told_before told_now had has first m same told kept run unmade unlinked none
-      is unused =
+      is unused unmoved unended first_bound =
       record {
         passed = nothing;
         own = [];
@@ -131,6 +174,11 @@ module _ {L C : Type 0} (state : L → LinkState) (start_at : L → LinkStart) w
           upstream_rose = unlinked_asked state start_at 0 [] m.phase unlinked refl;
           all = unused;
         };
+        tasks = 0;
+        ends = 0;
+        bounded = first_bound;
+        tasks_fit = omega (arith, unmoved);
+        ends_fit = omega (arith, unended);
         counted = none;
       }
 
@@ -139,8 +187,8 @@ module _ {L C : Type 0} (state : L → LinkState) (start_at : L → LinkStart) w
       (t u v : Option (List Fault)) (h k l : Option (List Offer)) (first : LinkState)
       (m n : Machine L C) (turns : ℕ)
       (under : IsUnderWay s w before now t u h k first m turns)
-      → StepsOn state start_at s under.passed x under.own now after u v k l w.client m.work.used
-      n.work.used m.phase n.phase
+      → StepsOn state start_at s under.passed x under.own now after u v k l w.client w.ahead m.work
+      n.work m.phase n.phase
       → n.turns ≡ up m.turns → turns + 1 ≤ last_count
       → IsUnderWay s x before after t v h l first n (turns + 1)
   goes_on s w x before now after t u v h k l first m n turns under steps one few = record {
@@ -159,6 +207,11 @@ module _ {L C : Type 0} (state : L → LinkState) (start_at : L → LinkStart) w
     uses = used_on first w.client x.client under.own (under.own ++ steps.handed) m.phase n.phase
         m.work.used n.work.used under.uses
         (steps.uses under.uses.upstream under.uses.upstream_rose);
+    tasks = steps.work.moved + under.tasks;
+    ends = steps.work.ended + under.ends;
+    bounded = steps.bounded under.tasks under.ends under.bounded;
+    tasks_fit = omega (arith, ap (λ (k : Work). k.moved) steps.adds, under.tasks_fit);
+    ends_fit = omega (arith, ap (λ (k : Work). k.ended) steps.adds, under.ends_fit);
     counted = omega (arith, one, under.counted);
   }
 
@@ -169,10 +222,13 @@ module _ {L C : Type 0} (state : L → LinkState) (start_at : L → LinkStart) w
       (under : IsUnderWay s w before now t u h k first m turns) → most ≡ turns
       → ComesToEnd state start_at s under.passed x under.own now after m.phase processed
       → v ≡ u → l ≡ k → processed.history.turns_taken ≡ m.turns → x.client ≡ w.client
+      → x.ahead ≡ w.ahead
       → processed.history.items_used ≡ m.work.used
+      → processed.history.tasks_moved ≡ m.work.moved
+      → processed.history.sides_ended ≡ m.work.ended → m.turns ≤ total_work m.work
       → Processes state start_at s x before after t v h l first most processed
   all_taken s w x before now after t u v h k l first m turns most processed under all ends told kept
-      taken same items = record {
+      taken same kept_ahead items tasks sides worked = record {
         passed = under.passed;
         own = under.own ++ ends.handed;
         gained = ends.gained
@@ -189,6 +245,12 @@ module _ {L C : Type 0} (state : L → LinkState) (start_at : L → LinkStart) w
             processed.history.items_used
             (subst (λ (c : LinkState). UsesSoFar first c under.own m.phase m.work.used) (sym same)
             under.uses) ends.uses items;
+        bounded = bounded_by state start_at s x.client (under.own ++ ends.handed) processed m.turns
+            m.work
+            under.tasks under.ends taken items tasks sides worked under.tasks_fit under.ends_fit
+            (ends.bounded under.tasks under.ends
+            (still_counts under.tasks under.ends s w x under.own m.phase same kept_ahead
+            under.bounded));
         exact = exact_of state start_at s under.passed x (under.own ++ ends.handed)
             processed.history.attempts processed.outcome ends.ended;
         limit = λ is. inl (taken ∙ under.counted ∙ sym all);
@@ -200,14 +262,17 @@ module _ {L C : Type 0} (state : L → LinkState) (start_at : L → LinkStart) w
       (m n : Machine L C) (turns most : ℕ) (processed : Processed)
       (under : IsUnderWay s w before now t u h k first m turns)
       (steps : StepsOn state start_at s under.passed x under.own now mid u v k l w.client
-      m.work.used n.work.used m.phase n.phase)
+      w.ahead m.work n.work m.phase n.phase)
       → ComesToEnd state start_at s steps.passed y (under.own ++ steps.handed) mid after n.phase
       processed
       → z ≡ v → a ≡ l → (processed.outcome ≡ TurnLimit → IsStalled state start_at y n.phase)
-      → y.client ≡ x.client → processed.history.items_used ≡ n.work.used
+      → y.client ≡ x.client → y.ahead ≡ x.ahead → processed.history.turns_taken ≡ n.turns
+      → processed.history.items_used ≡ n.work.used
+      → processed.history.tasks_moved ≡ n.work.moved
+      → processed.history.sides_ended ≡ n.work.ended → n.turns ≤ total_work n.work
       → Processes state start_at s y before after t z h a first most processed
   stopped s w x y before now mid after t u v z h k l a first m n turns most processed under steps
-      ends told kept stalled same items =
+      ends told kept stalled same kept_ahead taken items tasks sides worked =
       record {
         passed = steps.passed;
         own = (under.own ++ steps.handed) ++ ends.handed;
@@ -236,6 +301,17 @@ module _ {L C : Type 0} (state : L → LinkState) (start_at : L → LinkStart) w
             (used_on first w.client x.client under.own (under.own ++ steps.handed) m.phase n.phase
             m.work.used n.work.used under.uses
             (steps.uses under.uses.upstream under.uses.upstream_rose))) ends.uses items;
+        bounded =
+            let so_many = steps.work.moved + under.tasks in
+            let so_often = steps.work.ended + under.ends in
+            bounded_by state start_at s y.client ((under.own ++ steps.handed) ++ ends.handed)
+            processed n.turns
+            n.work so_many so_often taken items tasks sides worked
+            (omega (arith, ap (λ (k : Work). k.moved) steps.adds, under.tasks_fit))
+            (omega (arith, ap (λ (k : Work). k.ended) steps.adds, under.ends_fit))
+            (ends.bounded so_many so_often
+            (still_counts so_many so_often s x y (under.own ++ steps.handed) n.phase same
+            kept_ahead (steps.bounded under.tasks under.ends under.bounded)));
         exact = exact_of state start_at s steps.passed y
             ((under.own ++ steps.handed) ++ ends.handed) processed.history.attempts
             processed.outcome ends.ended;

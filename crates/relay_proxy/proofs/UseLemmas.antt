@@ -59,7 +59,7 @@ module _ (client client' upstream upstream' : LinkState) (asked : Bool)
     (m : Measured client client' upstream upstream' asked)
   where
     -- where one of both links was asked, a count rose
-    either_rose : AsksEither client client' upstream upstream' → asked ≡ true
+    pub either_rose : AsksEither client client' upstream upstream' → asked ≡ true
     either_rose (inl one) = m.rose.1 (inl (up_rose client.used client'.used one.used))
     either_rose (inr one) = m.rose.1 (inr (up_rose upstream.used upstream'.used one.used))
 
@@ -160,7 +160,7 @@ module _ {L C : Type 0} (state : L → LinkState) (start_at : L → LinkStart) w
       absurd (cc)
   settled_stands (Relay a) settled before mid after link same does held =
       inl (ap (λ (n : Phase L C). held_state state n) does.0 ∙ held)
-  settled_stands (Fail l lease session e) settled before mid after link same does held =
+  settled_stands (Fail l lease keep session e) settled before mid after link same does held =
       let is : state l ≡ link = cc in
       inr (
         does.2.entry,
@@ -211,7 +211,7 @@ module _ {L C : Type 0} (state : L → LinkState) (start_at : L → LinkStart) w
   owes_settled ReadHead settled before after does owes = absurd owes
   owes_settled (Connect context session) settled before after does owes = absurd owes
   owes_settled (Relay a) settled before after does owes = absurd owes
-  owes_settled (Fail link lease session error) settled before after does owes =
+  owes_settled (Fail link lease keep session error) settled before after does owes =
       subst (λ (n : Phase L C). OwesAnswer n) (sym does.1) tt
   owes_settled (Close link lease keep outcome) settled before after does owes = absurd owes
   owes_settled (Answer session owed attempts) settled before after does owes =

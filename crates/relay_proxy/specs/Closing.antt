@@ -10,6 +10,8 @@ use Rattle.relay_attempt.specs.Exchange.{IsUnderWay, SilentIn}
 use Rattle.relay_attempt.specs.Passed.{Passed}
 use Rattle.relay_attempt.specs.declared.h1_exchange.H1Exchange.{H1Exchange}
 use Rattle.relay_attempt.specs.Head.{link_of}
+use Rattle.relay_proxy.specs.Sent.{Sends}
+use Rattle.relay_proxy.specs.Bound.{IsWithin, OwnGave, PhaseCounts, most_sides}
 use Rattle.relay_proxy.specs.Passed.{World, Start, origin_of, asked}
 use Rattle.relay_proxy.specs.Endings.{error_of, IsAskedPeer, IsEnded}
 use Rattle.relay_proxy.specs.Owed.{IsHalfGiven}
@@ -60,9 +62,9 @@ Settles ReadHead before after next = (next ≡ ReadHead) × (after ≡ before)
 Settles (Connect context session) before after next =
     (next ≡ Connect context session) × (after ≡ before)
 Settles (Relay a) before after next = (next ≡ Relay a) × (after ≡ before)
-Settles (Fail link lease session error) before after next =
+Settles (Fail link lease keep session error) before after next =
     (attempts : List AttemptRecord) × (next ≡ Answer session (Served error) attempts)
-    × HandsBack link lease false (outcome.Served (Some error) false) before after attempts
+    × HandsBack link lease keep (outcome.Served (Some error) false) before after attempts
 Settles (Answer session owed attempts) before after next =
     (next ≡ Answer session owed attempts) × (after ≡ before)
 Settles (Close link lease keep outcome) before after next =
@@ -85,12 +87,12 @@ pub record GivesLinkUp {L : Type 0}
   pub limit : ending.outcome ≡ TurnLimit
   pub back : HandsBack link lease false TurnLimit before after ending.attempts
 
--- a request whose exchange failed, and whose link was not handed back yet, gives up
+-- a request whose attempt failed, and whose link was not handed back yet, gives up
 pub record GivesFailedUp {L : Type 0}
-    (link : L) (lease : Lease) (e : Error) (before after : Option (List (Returned L)))
+    (link : L) (lease : Lease) (keep : Bool) (e : Error) (before after : Option (List (Returned L)))
     (ending : Ending) : Type 0 where
   pub limit : ending.outcome ≡ TurnLimit
-  pub back : HandsBack link lease false (outcome.Served (Some e) false) before after
+  pub back : HandsBack link lease keep (outcome.Served (Some e) false) before after
       ending.attempts
 
 -- a request that has handed its link back, or was given none, gives up
@@ -108,8 +110,8 @@ Finishes ReadHead before after ending = GivesUp before after ending
 Finishes (Connect context session) before after ending = GivesUp before after ending
 Finishes (Relay a) before after ending =
     GivesLinkUp (link_of a.value.exchange) a.value.lease before after ending
-Finishes (Fail link lease session error) before after ending =
-    GivesFailedUp link lease error before after ending
+Finishes (Fail link lease keep session error) before after ending =
+    GivesFailedUp link lease keep error before after ending
 Finishes (Answer session owed attempts) before after ending =
     GivesAnswerUp attempts before after ending
 Finishes (Close link lease keep outcome) before after ending =
@@ -122,7 +124,7 @@ abbrev pub Rests : {L C : Type 0} → World → World → Phase L C → Phase L 
 Rests w x ReadHead next did = Unit {0}
 Rests w x (Connect context session) next did = Unit {0}
 Rests w x (Relay a) next did = Unit {0}
-Rests w x (Fail link lease session error) next did = Unit {0}
+Rests w x (Fail link lease keep session error) next did = Unit {0}
 Rests w x (Answer session owed attempts) next did = Unit {0}
 Rests w x (Close link lease keep outcome) next did =
     (next ≡ Close link lease keep outcome) × (did ≡ step.Ended) × (x ≡ w)
@@ -135,9 +137,11 @@ module _ {L : Type 0} (state : L → LinkState) (start_at : L → LinkStart) whe
     pub exchange : H1Exchange L
     pub is_link : link_of exchange ≡ link
     pub head : RequestHead
+    pub sent : RequestHead
     pub relayable : IsRelayable head
-    pub under_way : IsUnderWay state start_at (origin_of s head (start_at link).reused) p w.client
-        w.ahead exchange
+    pub sends : Sends head sent
+    pub under_way : IsUnderWay state start_at (origin_of s head sent (start_at link).reused) p
+        w.client w.ahead exchange
     pub silent : SilentIn state start_at w.client exchange
 
   -- all that a request asks is silent: without a link the client, that is to give more of an open
@@ -164,7 +168,7 @@ module _ {L C : Type 0} (state : L → LinkState) (start_at : L → LinkStart) w
   TurnOf s x own ReadHead next = AdvancesOn state start_at s x own next
   TurnOf s x own (Connect context session) next = AdvancesOn state start_at s x own next
   TurnOf s x own (Relay a) next = AdvancesOn state start_at s x own next
-  TurnOf s x own (Fail link lease session error) next = AdvancesOn state start_at s x own next
+  TurnOf s x own (Fail link lease keep session error) next = AdvancesOn state start_at s x own next
   TurnOf s x own (Close link lease keep outcome) next = Unit {0}
   TurnOf s x own (Answer session owed attempts) next = AnswersOn s x own attempts next
   TurnOf s x own (Ended outcome attempts) next = Unit {0}
@@ -185,5 +189,9 @@ module _ {L C : Type 0} (state : L → LinkState) (start_at : L → LinkStart) w
     -- no link was asked any more
     pub uses : (n : ℕ) → PhaseUses state start_at n own phase
         → OwnUses state start_at n (own ++ handed)
+    -- nor was more counted
+    pub bounded : (tasks ends : ℕ)
+        → PhaseCounts state start_at tasks ends s w.client w.ahead own phase
+        → IsWithin tasks ends most_sides s w.client (OwnGave state start_at (own ++ handed))
     pub quiet : ending.outcome ≡ TurnLimit → IsStalled state start_at w phase
         → IsQuiet state start_at s p w (own ++ handed)

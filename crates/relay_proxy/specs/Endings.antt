@@ -16,13 +16,15 @@ use Rattle.relay_tasks.specs.declared.Fault.{Fault}
 use Rattle.relay_tasks.specs.declared.Peer.{Peer}
 use Rattle.relay_links.specs.Count.{Rose}
 use Rattle.relay_links.specs.Connector.{IsConnectFault}
-use Rattle.relay_links.specs.Link.{LinkState, LinkStart, IsReadFault, IsWriteFault}
+use Rattle.relay_links.specs.Link.{LinkState, LinkStart, IsHandedOut, IsReadFault, IsWriteFault}
 use Rattle.relay_links.specs.declared.Returned.{Returned}
 use Rattle.relay_h1.specs.Options.{closes}
 use Rattle.relay_h1.specs.Verdict.{IsOpen, HasRequest, IsRefusedRequest, refused_from}
 use Rattle.relay_h1.specs.Wire.{generated}
 use Rattle.relay_h1.specs.declared.framing.Framing.{Framing}
+use Rattle.relay_authority.specs.Entry.{Entered}
 use Rattle.relay_session.specs.Reading.{IsWhole}
+use Rattle.relay_hooks.specs.DefaultAnswer.{answer_code}
 use Rattle.relay_core.specs.Past.{Origin}
 use Rattle.relay_peer.specs.Body.{IsFrontOf, body_of}
 use Rattle.relay_peer.specs.Faults.{IsAmong, IsLast}
@@ -32,8 +34,9 @@ use Rattle.relay_attempt.specs.Order.{FailsFor, order_of, IsRelayed, HasEnded, M
 use Rattle.relay_attempt.specs.Passed.{Passed}
 use Rattle.relay_valid.specs.Valid.{IsValid}
 use Rattle.relay_proxy.specs.Answer.{owed_text, past_at}
-use Rattle.relay_proxy.specs.Relayable.{IsConnect, IsRelayable}
+use Rattle.relay_proxy.specs.Relayable.{IsConnect, IsRelayable, NamesUpgrade}
 use Rattle.relay_proxy.specs.Passed.{World, Start, origin_of, asked, TellsClient, TellsLink, IsUnsent, IsUntouched}
+use Rattle.relay_proxy.specs.Sent.{Sends, RefusesToSend}
 use Rattle.relay_proxy.specs.declared.outcome.Outcome.{Outcome}
 use Rattle.relay_proxy.specs.declared.outcome.Outcome.TheVariants.{NoRequest, Refused, Served, TurnLimit, OutOfMemory}
 use Rattle.relay_proxy.specs.declared.record.AttemptRecord.{AttemptRecord}
@@ -50,10 +53,15 @@ pub data IsTurnedDown (bytes answer : List ℕ) (error : Option Error) : Type 0 
   -- its head is refused
   has_bad_head : (why : Context) → IsRefusedRequest bytes why → answer ≡ generated 400
       → error ≡ Some (refused_from Downstream why) → IsTurnedDown bytes answer error
-  -- its head is valid, and asks for a tunnel to an authority
+  -- its head is valid, and the entry check refuses it: whom it is for is not said, or not in one
+  -- way
+  is_not_entered : (head : RequestHead) (framing : Framing) (len : ℕ) (why : Context)
+      → HasRequest bytes head framing len → Entered head (Some why) → answer ≡ generated 400
+      → error ≡ Some (refused_from Downstream why) → IsTurnedDown bytes answer error
+  -- its head passes the check, and asks for a tunnel to an authority
   asks_to_connect : (head : RequestHead) (framing : Framing) (len : ℕ)
-      → HasRequest bytes head framing len → IsConnect head → answer ≡ generated 405
-      → error ≡ None → IsTurnedDown bytes answer error
+      → HasRequest bytes head framing len → Entered head None → IsConnect head
+      → answer ≡ generated 405 → error ≡ None → IsTurnedDown bytes answer error
 
 -- what was sent and what was written, whatever the outcome: nothing; the front of a generated
 -- answer, with nothing sent; those of one exchange, whose request is of a form that is relayed; or
@@ -63,13 +71,16 @@ pub data IsInOrder (s : Start) (p : Passed) : Type 0 where
   is_nothing : p.written ≡ [] → p.sent ≡ [] → IsInOrder s p
   is_refusal : (answer : List ℕ) (error : Option Error) → IsTurnedDown (asked s p) answer error
       → IsFrontOf p.written answer → p.sent ≡ [] → IsInOrder s p
-  is_exchange : (head : RequestHead) (reused closed : Bool) → IsRelayable head
-      → exchange.IsInOrder (origin_of s head reused) p closed → IsInOrder s p
+  is_exchange : (head sent : RequestHead) (reused closed : Bool) → IsRelayable head
+      → Sends head sent → exchange.IsInOrder (origin_of s head sent reused) p closed
+      → IsInOrder s p
   is_unlinked : (head : RequestHead) → IsAccepted s p head
       → IsFrontOf p.written (generated 502) → p.sent ≡ [] → IsInOrder s p
-  is_failure : (head : RequestHead) (reused closed : Bool) (before : List ℕ) (e : Error)
-      → IsRelayable head
-      → (order : exchange.IsInOrder (origin_of s head reused) (past_at p before) closed)
+  is_unsent : (head : RequestHead) (e : Error) → IsAccepted s p head → RefusesToSend head e
+      → IsFrontOf p.written (generated 500) → p.sent ≡ [] → IsInOrder s p
+  is_failure : (head sent : RequestHead) (reused closed : Bool) (before : List ℕ) (e : Error)
+      → IsRelayable head → Sends head sent
+      → (order : exchange.IsInOrder (origin_of s head sent reused) (past_at p before) closed)
       → IsFrontOf p.written (owed_text order e) → IsInOrder s p
 
 -- an error of that side which tells of the fault
@@ -104,16 +115,17 @@ pub record EndsInHead (s : Start) (p : Passed) (w : World) : Type 0 where
   pub open_head : IsOpen (asked s p)
   pub ended : w.client.ended ≡ true
 
--- the head is valid, and is not of a form that is relayed or answered
+-- the head is valid and passes the entry check, and it names Upgrade, which is not relayed so far
 pub record IsUnrelayable (s : Start) (p : Passed) : Type 0 where
   pub head : RequestHead
   pub framing : Framing
   pub len : ℕ
   pub has : HasRequest (asked s p) head framing len
+  pub entered : Entered head None
   pub no_connect : ¬ (IsConnect head)
-  pub unrelayable : ¬ (IsRelayable head)
+  pub upgrade : NamesUpgrade head
 
--- why nothing is relayed and no answer is given: the head did not end, or is of another form
+-- why nothing is relayed and no answer is given: the head did not end, or it names Upgrade
 pub data IsLeftAlone (s : Start) (p : Passed) (w : World) (e : Error) : Type 0 where
   ends_in_head : EndsInHead s p w → e ≡ left_early → IsLeftAlone s p w e
   is_unrelayable : IsUnrelayable s p → e ≡ unrelayed Downstream → IsLeftAlone s p w e
@@ -218,21 +230,23 @@ pub record IsRelayedWhole
     (s : Start) (p : Passed) (w : World) (link : LinkState) (start : LinkStart) (keep reuse : Bool)
     : Type 0 where
   pub head : RequestHead
+  pub sent : RequestHead
   pub relayable : IsRelayable head
-  pub relayed : IsRelayed (origin_of s head start.reused) p link start
+  pub sends : Sends head sent
+  pub relayed : IsRelayed (origin_of s head sent start.reused) p link start
   -- no call of the client's link failed
   pub calm : w.client.faults ≡ s.faults
   -- the link is kept only where it may serve another request
   pub kept : keep ≡ true
-      → MayServe (origin_of s head start.reused) p link.ended relayed.order
+      → MayServe (origin_of s head sent start.reused) p link.ended relayed.order
   -- and where no call of it failed
   pub faultless : keep ≡ true → link.faults ≡ start.faults
   -- and a link that may serve another request is kept, where no call of it failed
-  pub keeps : MayServe (origin_of s head start.reused) p link.ended relayed.order
+  pub keeps : MayServe (origin_of s head sent start.reused) p link.ended relayed.order
       → ¬ (Rose start.faults link.faults) → keep ≡ true
   -- the client goes back exactly where it may ask for more
   pub goes_back : IsTrue reuse
-      ↔ IsClientReusable (origin_of s head start.reused) p link.ended relayed.order w.ahead
+      ↔ IsClientReusable (origin_of s head sent start.reused) p link.ended relayed.order w.ahead
   -- a request that has ended is all that was taken from the client's bytes
   pub behind : HasEnded relayed.order
       → IsWhole (asked s p) (body_of relayed.order.pieces) w.ahead
@@ -242,14 +256,39 @@ pub record HasFailed
     (s : Start) (p : Passed) (client link : LinkState) (start : LinkStart) (e : Error)
     : Type 0 where
   pub head : RequestHead
+  pub sent : RequestHead
   pub relayable : IsRelayable head
+  pub sends : Sends head sent
   pub before : List ℕ
-  pub why : FailsFor (origin_of s head start.reused) (past_at p before) client link start e
+  pub why : FailsFor (origin_of s head sent start.reused) (past_at p before) client link start e
 
 -- what was queued for the client in it, and then the answer to its error
 abbrev pub owed_by : {s : Start} {p : Passed} {client link : LinkState} {start : LinkStart}
     {e : Error} → HasFailed s p client link start e → List ℕ
 owed_by {e = e} failed = owed_text (order_of failed.why) e
+
+-- the head that was to be sent of the client's is refused with that error, before anything was
+-- asked of the link, which stands as it was handed out
+pub record IsRefusedAhead (s : Start) (p : Passed) (link : LinkState) (start : LinkStart)
+    (e : Error)
+    : Type 0 where
+  pub head : RequestHead
+  pub accepted : IsAccepted s p head
+  pub refused : RefusesToSend head e
+  -- which is answered so
+  pub status : answer_code e.esource e.etype ≡ 500
+  pub fresh : IsHandedOut link start start.reused
+  pub unsent : IsUnsent p
+
+-- why an attempt failed that had a link, what its client is owed, and whether the link is kept: its
+-- exchange failed; or the head was refused ahead of it, and a link that nobody asked is kept
+pub data Misses
+    (s : Start) (p : Passed) (client link : LinkState) (start : LinkStart) (keep : Bool) (e : Error)
+    (text : List ℕ) : Type 0 where
+  in_exchange : (failed : HasFailed s p client link start e) → text ≡ owed_by failed
+      → keep ≡ false → Misses s p client link start keep e text
+  ahead_of_it : IsRefusedAhead s p link start e → text ≡ generated 500 → keep ≡ true
+      → Misses s p client link start keep e text
 
 -- an attempt failed, for a cause that no valid exchange has, and its client was given what was
 -- queued for it and the answer: its link is not kept, and the client does not go back
@@ -257,36 +296,50 @@ pub record IsFailedAttempt
     (s : Start) (p : Passed) (w : World) (link : LinkState) (start : LinkStart) (keep reuse : Bool)
     (e : Error) : Type 0 where
   pub failed : HasFailed s p w.client link start e
-  pub invalid : ¬ (IsValid (origin_of s failed.head start.reused) p w.client link start)
+  pub invalid : ¬ (IsValid (origin_of s failed.head failed.sent start.reused) p w.client link start)
   pub answered : IsGiven s p w (owed_by failed)
   pub not_kept : keep ≡ false
+  pub stays : reuse ≡ false
+
+-- the head of an attempt was refused ahead of its exchange, and its client was given the answer to
+-- that: its link is kept, and the client does not go back
+pub record IsUnsentAttempt
+    (s : Start) (p : Passed) (w : World) (link : LinkState) (start : LinkStart) (keep reuse : Bool)
+    (e : Error) : Type 0 where
+  pub refused : IsRefusedAhead s p link start e
+  pub answered : IsGiven s p w (generated 500)
+  pub kept : keep ≡ true
   pub stays : reuse ≡ false
 
 -- what was sent and written so far of one exchange over this link, as the link came back
 pub record IsPartRelayed (s : Start) (p : Passed) (link : LinkState) (start : LinkStart)
     : Type 0 where
   pub head : RequestHead
+  pub sent : RequestHead
   pub relayable : IsRelayable head
-  pub order : exchange.IsInOrder (origin_of s head start.reused) p link.ended
+  pub sends : Sends head sent
+  pub order : exchange.IsInOrder (origin_of s head sent start.reused) p link.ended
 
--- the same of an exchange that failed with that error: a part of what the client is owed
+-- the same of an attempt that failed with that error: a part of what the client is owed
 pub record IsPartAnswered
-    (s : Start) (p : Passed) (w : World) (link : LinkState) (start : LinkStart) (e : Error)
-    : Type 0 where
-  pub failed : HasFailed s p w.client link start e
-  pub part : IsFrontOf p.written (owed_by failed)
+    (s : Start) (p : Passed) (w : World) (link : LinkState) (start : LinkStart) (keep : Bool)
+    (e : Error) : Type 0 where
+  pub text : List ℕ
+  pub misses : Misses s p w.client link start keep e text
+  pub part : IsFrontOf p.written text
 
--- what passed where the request was not brought to an end: a part of one exchange, by the error
--- with which it had failed, if it had
-abbrev pub IsPart : Start → Passed → World → LinkState → LinkStart → Option Error → Type 0
-IsPart s p w link start None = IsPartRelayed s p link start
-IsPart s p w link start (Some e) = IsPartAnswered s p w link start e
+-- what passed where the request was not brought to an end: a part of one exchange, whose link is
+-- not kept; or, by the error with which the attempt had failed, a part of what the client is owed
+abbrev pub IsPart : Start → Passed → World → LinkState → LinkStart → Bool → Option Error → Type 0
+IsPart s p w link start keep None = IsPartRelayed s p link start × (keep ≡ false)
+IsPart s p w link start keep (Some e) = IsPartAnswered s p w link start keep e
 
 -- what passed where memory was wanted: such a part, or nothing but bytes of the client
-abbrev pub IsPartOrNone : Start → Passed → World → LinkState → LinkStart → Option Error → Type 0
-IsPartOrNone s p w link start None =
-    IsPartRelayed s p link start ⊎ ((p.written ≡ []) × IsUnsent p)
-IsPartOrNone s p w link start (Some e) = IsPartAnswered s p w link start e
+abbrev pub IsPartOrNone : Start → Passed → World → LinkState → LinkStart → Bool → Option Error
+    → Type 0
+IsPartOrNone s p w link start keep None =
+    (IsPartRelayed s p link start ⊎ ((p.written ≡ []) × IsUnsent p)) × (keep ≡ false)
+IsPartOrNone s p w link start keep (Some e) = IsPartAnswered s p w link start keep e
 
 -- how a request ends that had this link, which was handed back with that mark, and whose attempt is
 -- recorded with that error
@@ -297,10 +350,9 @@ EndsLinked s p w link start keep told (Refused error) = ⊥
 EndsLinked s p w link start keep told (Served None reuse) =
     IsRelayedWhole s p w link start keep reuse
 EndsLinked s p w link start keep told (Served (Some e) reuse) =
-    IsFailedAttempt s p w link start keep reuse e
-EndsLinked s p w link start keep told TurnLimit = IsPart s p w link start told × (keep ≡ false)
-EndsLinked s p w link start keep told OutOfMemory =
-    IsPartOrNone s p w link start told × (keep ≡ false)
+    IsFailedAttempt s p w link start keep reuse e ⊎ IsUnsentAttempt s p w link start keep reuse e
+EndsLinked s p w link start keep told TurnLimit = IsPart s p w link start keep told
+EndsLinked s p w link start keep told OutOfMemory = IsPartOrNone s p w link start keep told
 
 -- how a request ends whose exchange failed
 abbrev pub outcome_of : Fail → Outcome

@@ -10,6 +10,7 @@ use Rattle.relay_valid.specs.Unfit.{IsUnfit}
 use Rattle.relay_valid.specs.Valid.{AsksFor, AnswersWith}
 use Rattle.relay_proxy.specs.Relayable.{IsRelayable}
 use Rattle.relay_proxy.specs.Passed.{World, Start, origin_of, asked}
+use Rattle.relay_proxy.specs.Sent.{Sends, RefusesToSend}
 use Rattle.relay_proxy.specs.Endings.{IsAccepted, IsTurnedDown, IsLeftAlone}
 use Rattle.relay_proxy.specs.declared.outcome.Outcome.{Outcome}
 use Rattle.relay_proxy.specs.declared.outcome.Outcome.TheVariants.{NoRequest, Refused, Served, TurnLimit, OutOfMemory}
@@ -50,20 +51,24 @@ module _ {L : Type 0} (state : L → LinkState) (start_at : L → LinkStart) whe
     -- the client ended before any byte
     pub no_request : asked s p ≡ [] → w.client.ended ≡ true
         → IsUnfinished outcome ⊎ (outcome ≡ NoRequest)
-    -- the head is refused or asks for a tunnel, and the generated answer was written whole
+    -- the head is refused, by the verdict or by the entry check, or asks for a tunnel, and the
+    -- generated answer was written whole
     pub refused : (answer : List ℕ) (error : Option Error)
         → IsTurnedDown (asked s p) answer error → p.written ≡ answer
         → IsUnfinished outcome ⊎ IsRefusal s p outcome
-    -- the client ended inside its head, or the head is of a form that is not relayed
+    -- the client ended inside its head, or the head names Upgrade
     pub not_relayed : (e : Error) → IsLeftAlone s p w e
         → IsUnfinished outcome ⊎ IsLeft s p w outcome
-    -- the response is broken, cut off, or switches protocols
+    -- the response is broken, cut off, or switches protocols, whatever head is sent of the client's
     pub unfit : (r : Returned L) (head : RequestHead) → own ≡ r ∷ [] → IsAccepted s p head
-        → IsUnfit head.method false p.got (state r.link).ended
+        → ((sent : RequestHead) → Sends head sent
+        → IsUnfit sent.method false p.got (state r.link).ended)
         → IsUnfinished outcome ⊎ IsMissed outcome
-    -- a valid request of a form that is relayed and a valid response, with no fault
-    pub whole : (head : RequestHead) → IsRelayable head
-        → AsksFor (origin_of s head false) p w.client
-        → ((r : Returned L) → own ≡ r ∷ [] → AnswersWith head.method false p (state r.link))
+    -- a valid request of a form that is relayed, of which a head can be sent, and a valid response
+    -- to whatever head is sent of it, with no fault
+    pub whole : (head : RequestHead) → IsRelayable head → ((e : Error) → ¬ (RefusesToSend head e))
+        → AsksFor (origin_of s head head false) p w.client
+        → ((r : Returned L) (sent : RequestHead) → own ≡ r ∷ [] → Sends head sent
+        → AnswersWith sent.method false p (state r.link))
         → IsFaultless s w own
         → IsUnfinished outcome ⊎ ((reuse : Bool) × (outcome ≡ Served None reuse))

@@ -15,6 +15,7 @@ use Rattle.relay_attempt.specs.Passed.{Passed}
 use Rattle.relay_proxy.specs.Endings.{FailsToWrite, IsPartRelayed}
 use Rattle.relay_proxy.specs.Passed.{Start, origin_of}
 use Rattle.relay_proxy.specs.Relayable.{IsRelayable}
+use Rattle.relay_proxy.specs.Sent.{Sends}
 
 -- an exchange failed with that error, and left that session: it answers the request, with the tasks
 -- that were queued, of whose text so much was written; where it keeps the fault of a write, a write
@@ -22,8 +23,10 @@ use Rattle.relay_proxy.specs.Relayable.{IsRelayable}
 pub record LeavesSession (s : Start) (p : Passed) (client link : LinkState) (start : LinkStart)
     (session : HttpSession) (e : Error) : Type 0 where
   pub head : RequestHead
+  pub sent : RequestHead
   pub relayable : IsRelayable head
-  pub why : FailsFor (origin_of s head start.reused) p client link start e
+  pub sends : Sends head sent
+  pub why : FailsFor (origin_of s head sent start.reused) p client link start e
   pub answers : session.writing.request ≡ request_of head
   pub holds : Holds session.writing ((order_of why).batched ++ (order_of why).closing) p.written
   pub broken : (fault : Fault) → session.writing.output ≡ outgoing.Broken fault

@@ -1,4 +1,5 @@
 pub mod Relayable
+pub mod Sent
 pub mod Passed
 pub mod Answer
 pub mod Endings
@@ -6,6 +7,7 @@ pub mod Owed
 pub mod Phases
 pub mod Work
 pub mod Uses
+pub mod Bound
 pub mod Turn
 pub mod Closing
 pub mod Exact

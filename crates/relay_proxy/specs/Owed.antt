@@ -10,7 +10,7 @@ use Rattle.relay_session.specs.declared.writing.Outgoing.{Outgoing}
 use Rattle.relay_peer.specs.Body.{IsFrontOf}
 use Rattle.relay_attempt.specs.Passed.{Passed}
 use Rattle.relay_proxy.specs.Answer.{WaitsOf}
-use Rattle.relay_proxy.specs.Endings.{IsTurnedDown, IsUnconnected, HasFailed, owed_by, IsAskedPeer, IsFailedRecord, IsRecordOf, fault_error}
+use Rattle.relay_proxy.specs.Endings.{IsTurnedDown, IsUnconnected, Misses, IsAskedPeer, IsFailedRecord, IsRecordOf, fault_error}
 use Rattle.relay_proxy.specs.Passed.{World, Start, asked, TellsLink, IsUnsent}
 use Rattle.relay_proxy.specs.declared.outcome.Outcome.{Outcome}
 use Rattle.relay_proxy.specs.declared.outcome.Outcome.TheVariants as outcome
@@ -30,21 +30,19 @@ outcome_failed (Served e) fault = outcome.Served (Some e) false
 
 module _ {L : Type 0} (state : L → LinkState) (start_at : L → LinkStart) where
   -- why the client is given that text, by the links that the request handed back: its head was
-  -- turned down; the connector gave no link; or the exchange over its link failed
+  -- turned down; the connector gave no link; or the attempt over its link failed
   abbrev pub Owes : Start → Passed → World → List (Returned L) → Owed → List ℕ → Type 0
   Owes s p w [] (Refused error) text = IsTurnedDown (asked s p) text error × IsUnsent p
   Owes s p w [] (Served e) text = IsUnconnected s p w e × (text ≡ generated 502)
   Owes s p w (r ∷ own) (Refused error) text = ⊥
   Owes s p w (r ∷ own) (Served e) text =
-      (failed : HasFailed s p w.client (state r.link) (start_at r.link) e)
-      × (text ≡ owed_by failed)
+      Misses s p w.client (state r.link) (start_at r.link) r.keep e text
 
-  -- the link of an attempt that failed was handed back, not kept, and the attempt was recorded
+  -- the link of an attempt that failed was handed back, and the attempt was recorded
   pub record IsGivenBack (p : Passed) (r : Returned L) (attempts : List AttemptRecord) (e : Error)
       : Type 0 where
     pub tells : TellsLink p (state r.link) (start_at r.link)
     pub peer : IsAskedPeer r.peer
-    pub not_kept : r.keep ≡ false
     pub attempt : AttemptRecord
     pub attempts_are : attempts ≡ attempt ∷ []
     pub is_record : IsRecordOf attempt (start_at r.link) r.keep

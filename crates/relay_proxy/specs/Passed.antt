@@ -37,11 +37,12 @@ start_of w = record {
   write_faults = told_length w.client.write_faults;
 }
 
--- where the exchange of a request began that has that head, over a link that had been used before
--- or not; a request that asks for an upgrade is not relayed
-abbrev pub origin_of : Start → RequestHead → Bool → Origin
-origin_of s head reused = record {
+-- where the exchange of a request began that has that head, and of which that head is sent, over a
+-- link that had been used before or not; a request that asks for an upgrade is not relayed
+abbrev pub origin_of : Start → RequestHead → RequestHead → Bool → Origin
+origin_of s head sent reused = record {
   head = head;
+  sent = sent;
   asked = false;
   ahead = s.ahead;
   given = s.given;

@@ -12,8 +12,9 @@ use Rattle.relay_attempt.specs.Passed.{Passed}
 use Rattle.relay_attempt.specs.Head.{link_of}
 use Rattle.relay_proxy.specs.Relayable.{IsRelayable}
 use Rattle.relay_proxy.specs.Passed.{World, Start, origin_of, asked, TellsClient, TellsLink, IsUnsent, IsUntouched}
+use Rattle.relay_proxy.specs.Sent.{Sends}
 use Rattle.relay_proxy.specs.Answer.{WaitsOf}
-use Rattle.relay_proxy.specs.Endings.{IsAccepted, IsInOrder, HasFailed, owed_by, error_of, EndsUnlinked, EndsLinked, EndsWith, IsAskedPeer, AttemptsUnlinked}
+use Rattle.relay_proxy.specs.Endings.{IsAccepted, IsInOrder, Misses, error_of, EndsUnlinked, EndsLinked, EndsWith, IsAskedPeer, AttemptsUnlinked}
 use Rattle.relay_proxy.specs.Owed.{IsAnswering}
 use Rattle.relay_proxy.specs.declared.outcome.Outcome.TheVariants.{TurnLimit}
 use Rattle.relay_proxy.specs.declared.machine.Attempt.{Attempt}
@@ -32,8 +33,8 @@ pub record IsConnecting (s : Start) (p : Passed) (w : World) (session : HttpSess
   pub head : RequestHead
   pub accepted : IsAccepted s p head
   pub is_head : head_of session.reading ≡ Some head
-  pub begins : (reused : Bool)
-      → BeginsBehind (origin_of s head reused) p.came w.client w.ahead session
+  pub begins : (sent : RequestHead) (reused : Bool)
+      → BeginsBehind (origin_of s head sent reused) p.came w.client w.ahead session
   pub written : p.written ≡ []
   pub unsent : IsUnsent p
 
@@ -45,11 +46,12 @@ pub record IsLeased (p : Passed) (link : LinkState) (start : LinkStart) (lease :
   pub reused : start.reused ≡ lease.reused
 
 module _ {L : Type 0} (state : L → LinkState) (start_at : L → LinkStart) where
-  -- the exchange of an attempt failed, and its client is owed an answer, or what was queued for it
-  pub record IsFailing (s : Start) (p : Passed) (w : World) (link : L) (session : HttpSession)
-      (e : Error) : Type 0 where
-    pub failed : HasFailed s p w.client (state link) (start_at link) e
-    pub waits : WaitsOf session.writing.output p.written (owed_by failed)
+  -- an attempt failed, and its client is owed an answer, or what was queued for it
+  pub record IsFailing (s : Start) (p : Passed) (w : World) (link : L) (keep : Bool)
+      (session : HttpSession) (e : Error) : Type 0 where
+    pub text : List ℕ
+    pub misses : Misses s p w.client (state link) (start_at link) keep e text
+    pub waits : WaitsOf session.writing.output p.written text
 
 module _ {L C : Type 0} (state : L → LinkState) (start_at : L → LinkStart) where
   -- the exchange of an attempt is under way
@@ -57,18 +59,20 @@ module _ {L C : Type 0} (state : L → LinkState) (start_at : L → LinkStart) w
     pub leased : IsLeased p (state (link_of a.exchange))
         (start_at (link_of a.exchange)) a.lease
     pub head : RequestHead
+    pub sent : RequestHead
     pub relayable : IsRelayable head
-    pub under_way : IsUnderWay state start_at (origin_of s head a.lease.reused) p w.client w.ahead
-        a.exchange
+    pub sends : Sends head sent
+    pub under_way : IsUnderWay state start_at (origin_of s head sent a.lease.reused) p w.client
+        w.ahead a.exchange
 
   -- what has passed in each phase
   abbrev pub IsAt : Start → Passed → World → Phase L C → Type 0
   IsAt s p w ReadHead = IsReadingHead s p w.ahead
   IsAt s p w (Connect context session) = IsConnecting s p w session.value
   IsAt s p w (Relay a) = IsRelaying s p w a.value
-  IsAt s p w (Fail link lease session error) =
+  IsAt s p w (Fail link lease keep session error) =
       IsLeased p (state link) (start_at link) lease
-      × IsFailing state start_at s p w link session.value error
+      × IsFailing state start_at s p w link keep session.value error
   IsAt s p w (Close link lease keep outcome) =
       IsLeased p (state link) (start_at link) lease
       × EndsLinked s p w (state link) (start_at link) keep (error_of outcome) outcome
@@ -84,7 +88,7 @@ module _ {L C : Type 0} (state : L → LinkState) (start_at : L → LinkStart) w
   PhaseHolds s p w (r ∷ own) ReadHead = ⊥
   PhaseHolds s p w (r ∷ own) (Connect context session) = ⊥
   PhaseHolds s p w (r ∷ own) (Relay a) = ⊥
-  PhaseHolds s p w (r ∷ own) (Fail link lease session error) = ⊥
+  PhaseHolds s p w (r ∷ own) (Fail link lease keep session error) = ⊥
   PhaseHolds s p w (r ∷ own) (Close link lease keep outcome) = ⊥
   PhaseHolds s p w (r ∷ own) (Answer session owed attempts) =
       IsAnswering state start_at s p w (r ∷ own) session.value.writing.output owed attempts
@@ -96,7 +100,7 @@ module _ {L C : Type 0} (state : L → LinkState) (start_at : L → LinkStart) w
   IsGoing ReadHead = Unit {0}
   IsGoing (Connect context session) = Unit {0}
   IsGoing (Relay a) = Unit {0}
-  IsGoing (Fail link lease session error) = Unit {0}
+  IsGoing (Fail link lease keep session error) = Unit {0}
   IsGoing (Answer session owed attempts) = Unit {0}
   IsGoing (Close link lease keep outcome) = outcome ≢ TurnLimit
   IsGoing (Ended outcome attempts) = outcome ≢ TurnLimit
@@ -106,7 +110,7 @@ module _ {L C : Type 0} (state : L → LinkState) (start_at : L → LinkStart) w
   IsCalm s w ReadHead = w.client.faults ≡ s.faults
   IsCalm s w (Connect context session) = w.client.faults ≡ s.faults
   IsCalm s w (Relay a) = w.client.faults ≡ s.faults
-  IsCalm s w (Fail link lease session error) = Unit {0}
+  IsCalm s w (Fail link lease keep session error) = Unit {0}
   IsCalm s w (Answer session owed attempts) = Unit {0}
   IsCalm s w (Close link lease keep outcome) = Unit {0}
   IsCalm s w (Ended outcome attempts) = Unit {0}

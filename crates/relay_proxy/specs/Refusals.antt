@@ -31,7 +31,7 @@ abbrev pub attempts_in : {L C : Type 0} → Phase L C → List AttemptRecord
 attempts_in ReadHead = []
 attempts_in (Connect context session) = []
 attempts_in (Relay a) = []
-attempts_in (Fail link lease session error) = []
+attempts_in (Fail link lease keep session error) = []
 attempts_in (Close link lease keep outcome) = []
 attempts_in (Answer session owed attempts) = attempts
 attempts_in (Ended outcome attempts) = attempts
@@ -45,7 +45,7 @@ abbrev pub faults_of_turn : {L C : Type 0} → Phase L C → Phase L C → List 
 faults_of_turn ReadHead next = faults_before [] next
 faults_of_turn (Connect context session) next = faults_before [] next
 faults_of_turn (Relay a) next = faults_before [] next
-faults_of_turn (Fail link lease session error) next = faults_before [] next
+faults_of_turn (Fail link lease keep session error) next = faults_before [] next
 faults_of_turn (Close link lease keep outcome) next = []
 faults_of_turn (Answer session owed attempts) next = []
 faults_of_turn (Ended outcome attempts) next = []

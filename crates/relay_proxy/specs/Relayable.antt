@@ -1,19 +1,26 @@
--- The forms of request that the proxy relays so far (RFC 9110, sections 7.1 and 9; RFC 9112,
--- section 3.2).
-use Rattle.std.specs.Prelude.{◌≡◌, ◌⊎◌, ℕ, List, codes, slice_get, Some}
+-- Which requests the proxy relays so far (RFC 9110, sections 7.2, 7.8 and 9; RFC 9112, section
+-- 3.2).
+use Rattle.std.specs.Prelude.{◌≡◌, codes, Option, None}
 use Rattle.http_header.specs.HeaderMap.{ContainsKey}
 use Rattle.relay_tasks.specs.Head.{RequestHead}
+use Rattle.relay_tasks.specs.declared.Context.{Context}
+use Rattle.relay_authority.specs.Entry.{Entered}
 
 -- a request for a tunnel, which the proxy does not make
 abbrev pub IsConnect : RequestHead → Type 0
 IsConnect head = head.method ≡ codes "CONNECT"
 
--- a target in origin form or in asterisk form
-abbrev pub IsKnownTarget : List ℕ → Type 0
-IsKnownTarget target = (slice_get target 0 ≡ Some 47) ⊎ (target ≡ codes "*")
+-- a request that asks to leave HTTP, which the proxy does not do
+abbrev pub NamesUpgrade : RequestHead → Type 0
+NamesUpgrade head = ContainsKey head.fields (codes "upgrade")
 
--- a request that is relayed, whatever its body
-pub record IsRelayable (head : RequestHead) : Type 0 where
+-- a request that is relayed behind that entry check, whatever its target and its body
+pub record IsRelayableBehind (check : RequestHead → Option Context → Type 0) (head : RequestHead)
+    : Type 0 where
+  pub entered : check head None
   pub method : ¬ (IsConnect head)
-  pub target : IsKnownTarget head.target
-  pub no_upgrade : ¬ (ContainsKey head.fields (codes "upgrade"))
+  pub no_upgrade : ¬ (NamesUpgrade head)
+
+-- the same behind the entry check of an HTTP/1 client's head
+abbrev pub IsRelayable : RequestHead → Type 0
+IsRelayable head = IsRelayableBehind Entered head

@@ -9,6 +9,7 @@ use Rattle.relay_core.specs.Causes.{says_failed}
 use Rattle.relay_core.specs.Past.{Origin}
 use Rattle.relay_core.specs.declared.step.Step.TheVariants as step
 use Rattle.relay_exchange.specs.declared.exchange.Turn.{Turn}
+use Rattle.relay_attempt.specs.Bound.{CountsOn, HasCounted}
 use Rattle.relay_attempt.specs.Exchange.{IsUnderWay, Turns, MeetsSilence, Asks, HasMoved}
 use Rattle.relay_attempt.specs.Head.{link_of}
 use Rattle.relay_attempt.specs.Passed.{Passed}
@@ -23,7 +24,7 @@ abbrev pub is_relaying : {L C : Type 0} → Phase L C → Bool
 is_relaying ReadHead = false
 is_relaying (Connect context session) = false
 is_relaying (Relay a) = true
-is_relaying (Fail link lease session error) = false
+is_relaying (Fail link lease keep session error) = false
 is_relaying (Close link lease keep outcome) = false
 is_relaying (Answer session owed attempts) = false
 is_relaying (Ended outcome attempts) = false
@@ -33,7 +34,7 @@ abbrev pub is_closing : {L C : Type 0} → Phase L C → Bool
 is_closing ReadHead = false
 is_closing (Connect context session) = false
 is_closing (Relay a) = false
-is_closing (Fail link lease session error) = true
+is_closing (Fail link lease keep session error) = true
 is_closing (Close link lease keep outcome) = true
 is_closing (Answer session owed attempts) = false
 is_closing (Ended outcome attempts) = false
@@ -43,7 +44,7 @@ abbrev pub is_answering : {L C : Type 0} → Phase L C → Bool
 is_answering ReadHead = false
 is_answering (Connect context session) = false
 is_answering (Relay a) = false
-is_answering (Fail link lease session error) = false
+is_answering (Fail link lease keep session error) = false
 is_answering (Close link lease keep outcome) = false
 is_answering (Answer session owed attempts) = true
 is_answering (Ended outcome attempts) = false
@@ -67,6 +68,9 @@ module _ {L : Type 0} (state : L → LinkState) (start_at : L → LinkStart) whe
     pub asks : Asks state start_at did.step before after x y
     pub moves : (s : Origin) (p : Passed) → IsUnderWay state start_at s p before ahead x
         → did.step ≡ step.Moved → HasMoved state start_at did.branch before after x y
+    pub counts : (s : Origin) (tasks ends : ℕ)
+        → HasCounted state start_at tasks ends s before ahead x
+        → CountsOn state start_at tasks ends s after left x y did.step
     pub calm : says_failed did.step ≡ false → after.faults ≡ before.faults
     pub same_start : start_at (link_of y) ≡ start_at (link_of x)
     pub measured : Measured before after (state (link_of x)) (state (link_of y)) asked

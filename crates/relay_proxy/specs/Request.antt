@@ -1,6 +1,6 @@
 -- One request over one proxy: what a step and the end make of its run so far, and what the whole
 -- call promises.
-use Rattle.std.specs.Prelude.{◌≡◌, ◌≢◌, ℕ, ◌⊎◌, Bool, true, false, List, ◌++◌, Option}
+use Rattle.std.specs.Prelude.{◌≡◌, ◌≢◌, ℕ, ◌+◌, ◌⊎◌, Bool, true, false, List, ◌++◌, Option}
 use Rattle.relay_links.specs.Connector.{Offer}
 use Rattle.relay_links.specs.Count.{up}
 use Rattle.relay_links.specs.Link.{LinkState, LinkStart}
@@ -10,6 +10,7 @@ use Rattle.relay_tasks.specs.declared.took.Pause.TheVariants.{NotReady, Silent}
 use Rattle.relay_links.specs.declared.Returned.{Returned}
 use Rattle.relay_attempt.specs.Passed.{Passed}
 use Rattle.relay_proxy.specs.Passed.{World, Start}
+use Rattle.relay_proxy.specs.Bound.{IsBounded, IsWithin, OwnGave, PhaseCounts, most_sides}
 use Rattle.relay_proxy.specs.Endings.{IsEnded}
 use Rattle.relay_proxy.specs.Exact.{IsExact}
 use Rattle.relay_proxy.specs.Taken.{Takes, TakesOn, offers_for, offers_before}
@@ -18,12 +19,14 @@ use Rattle.relay_proxy.specs.Refusals.{faults_for, faults_before, AnswersFaults}
 use Rattle.relay_proxy.specs.Turn.{IsStalled, is_over}
 use Rattle.relay_proxy.specs.Uses.{PhaseUses, OwnUses, StepCounts, CountsAll}
 use Rattle.relay_proxy.specs.Closing.{IsQuiet}
+use Rattle.relay_proxy.specs.Work.{added_work}
 use Rattle.relay_proxy.specs.declared.machine.Phase.{Phase}
 use Rattle.relay_proxy.specs.declared.machine.RunStep.{RunStep}
 use Rattle.relay_proxy.specs.declared.machine.RunStep.TheVariants as did
 use Rattle.relay_proxy.specs.declared.outcome.Outcome.{Outcome}
 use Rattle.relay_proxy.specs.declared.outcome.Outcome.TheVariants.{NoRequest, Refused, Served, TurnLimit, OutOfMemory}
 use Rattle.relay_proxy.specs.declared.outcome.Processed.{Processed}
+use Rattle.relay_proxy.specs.declared.work.Work.{Work}
 
 -- a step that moved or met a link that is not ready counts as a turn; one that met silence does not
 abbrev pub Counts : ℕ → ℕ → RunStep → Type 0
@@ -54,7 +57,7 @@ module _ {L C : Type 0} (state : L → LinkState) (start_at : L → LinkStart) w
   pub record StepsOn
       (s : Start) (p : Passed) (w : World) (own : List (Returned L))
       (before after : Option (List (Returned L))) (told_before told_after : Option (List Fault))
-      (had has : Option (List Offer)) (client : LinkState) (counted counts : ℕ)
+      (had has : Option (List Offer)) (client : LinkState) (ahead : List ℕ) (was now : Work)
       (phase next : Phase L C) : Type 0 where
     pub passed : Passed
     pub handed : List (Returned L)
@@ -64,7 +67,13 @@ module _ {L C : Type 0} (state : L → LinkState) (start_at : L → LinkStart) w
     pub offered : TakesOn start_at had has own phase (own ++ handed) next
     -- so often were both links asked
     pub uses : (n : ℕ) → PhaseUses state start_at n own phase
-        → StepCounts state start_at n client w.client counted counts (own ++ handed) next
+        → StepCounts state start_at n client w.client was.used now.used (own ++ handed) next
+    -- and so much it counted of tasks and ends
+    pub work : Work
+    pub adds : now ≡ added_work was work
+    pub bounded : (tasks ends : ℕ) → PhaseCounts state start_at tasks ends s client ahead own phase
+        → PhaseCounts state start_at (work.moved + tasks) (work.ended + ends) s w.client w.ahead
+        (own ++ handed) next
     -- a request that has ended passes nothing more
     pub rested : is_over phase ≡ true → passed ≡ p
 
@@ -85,6 +94,10 @@ module _ {L C : Type 0} (state : L → LinkState) (start_at : L → LinkStart) w
     -- no link was asked any more
     pub uses : (n : ℕ) → PhaseUses state start_at n own phase
         → OwnUses state start_at n (own ++ handed)
+    -- no more was counted
+    pub bounded : (tasks ends : ℕ)
+        → PhaseCounts state start_at tasks ends s w.client w.ahead own phase
+        → IsWithin tasks ends most_sides s w.client (OwnGave state start_at (own ++ handed))
     -- a request that has ended gives no `TurnLimit`
     pub over : is_over phase ≡ true → processed.outcome ≢ TurnLimit
     pub quiet : processed.outcome ≡ TurnLimit → IsStalled state start_at w phase
@@ -108,6 +121,8 @@ pub record Processes {L : Type 0} (state : L → LinkState) (start_at : L → Li
   pub offered : Takes had (offers_for start_at own processed.history.attempts) has
   -- what is recorded of uses are those of the client's link, and of the link that was handed back
   pub uses : CountsAll state start_at client w.client own processed.history.items_used
+  -- what is recorded of turns, of tasks and of ends is bounded by the bytes that both links gave
+  pub bounded : IsBounded state start_at s w.client own processed.history
   -- the other way round: where a cause stands, the outcome is its own
   pub exact : IsExact state start_at s passed w own processed.outcome
   -- a request that has not ended took all its turns, or all that it asks is silent

@@ -13,7 +13,7 @@ abbrev pub items_held : {L C : Type 0} → (L → LinkStart) → Phase L C → L
 items_held start ReadHead = []
 items_held start (Connect context session) = []
 items_held start (Relay a) = (start (link_of a.value.exchange)).items ∷ []
-items_held start (Fail link lease session error) = (start link).items ∷ []
+items_held start (Fail link lease keep session error) = (start link).items ∷ []
 items_held start (Close link lease keep outcome) = (start link).items ∷ []
 items_held start (Answer session owed attempts) = []
 items_held start (Ended outcome attempts) = []

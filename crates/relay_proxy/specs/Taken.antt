@@ -42,7 +42,7 @@ abbrev pub offers_of_turn : {L C : Type 0} → (L → LinkStart) → Phase L C �
 offers_of_turn start ReadHead next = offers_before start [] next
 offers_of_turn start (Connect context session) next = offers_before start [] next
 offers_of_turn start (Relay a) next = []
-offers_of_turn start (Fail link lease session error) next = []
+offers_of_turn start (Fail link lease keep session error) next = []
 offers_of_turn start (Close link lease keep outcome) next = []
 offers_of_turn start (Answer session owed attempts) next = []
 offers_of_turn start (Ended outcome attempts) next = []

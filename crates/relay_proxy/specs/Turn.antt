@@ -43,7 +43,7 @@ abbrev pub is_reading_head : {L C : Type 0} → Phase L C → Bool
 is_reading_head ReadHead = true
 is_reading_head (Connect context session) = false
 is_reading_head (Relay a) = false
-is_reading_head (Fail link lease session error) = false
+is_reading_head (Fail link lease keep session error) = false
 is_reading_head (Close link lease keep outcome) = false
 is_reading_head (Answer session owed attempts) = false
 is_reading_head (Ended outcome attempts) = false
@@ -53,7 +53,7 @@ abbrev pub held_state : {L C : Type 0} → (L → LinkState) → Phase L C → O
 held_state state ReadHead = None
 held_state state (Connect context session) = None
 held_state state (Relay a) = Some (state (link_of a.value.exchange))
-held_state state (Fail link lease session error) = Some (state link)
+held_state state (Fail link lease keep session error) = Some (state link)
 held_state state (Close link lease keep outcome) = Some (state link)
 held_state state (Answer session owed attempts) = None
 held_state state (Ended outcome attempts) = None
@@ -78,7 +78,7 @@ module _ {L C : Type 0} (state : L → LinkState) (start_at : L → LinkStart) w
   links_held ReadHead = 0
   links_held (Connect context session) = 0
   links_held (Relay a) = 1
-  links_held (Fail link lease session error) = 1
+  links_held (Fail link lease keep session error) = 1
   links_held (Close link lease keep outcome) = 1
   links_held (Answer session owed attempts) = 0
   links_held (Ended outcome attempts) = 0
@@ -101,7 +101,7 @@ module _ {L C : Type 0} (state : L → LinkState) (start_at : L → LinkStart) w
   IsStalled w (Connect context session) = ⊥
   IsStalled w (Relay a) =
       SilentIn state start_at w.client a.value.exchange
-  IsStalled w (Fail link lease session error) = ⊥
+  IsStalled w (Fail link lease keep session error) = ⊥
   IsStalled w (Close link lease keep outcome) = ⊥
   IsStalled w (Answer session owed attempts) = w.client.silent_on_write ≡ true
   IsStalled w (Ended outcome attempts) = ⊥
@@ -116,7 +116,7 @@ module _ {L C : Type 0} (state : L → LinkState) (start_at : L → LinkStart) w
   HasMoved w x (Relay a) next =
       ((branch : Option Branch) × ExchangeMoved state start_at branch w x a.value.exchange next)
       ⊎ OwesAnswer next
-  HasMoved w x (Fail link lease session error) next = OwesAnswer next
+  HasMoved w x (Fail link lease keep session error) next = OwesAnswer next
   HasMoved w x (Answer session owed attempts) next = HasTaken w.client x.client
   HasMoved w x (Close link lease keep outcome) next = ⊥
   HasMoved w x (Ended outcome attempts) next = ⊥
@@ -149,7 +149,7 @@ abbrev pub WorksIn : {L C : Type 0} → Phase L C → RunStep → Work → Type 
 WorksIn ReadHead did work = DoesWork did work
 WorksIn (Connect context session) did work = DoesWork did work
 WorksIn (Relay a) did work = DoesWork did work
-WorksIn (Fail link lease session error) did work = DoesWork did work
+WorksIn (Fail link lease keep session error) did work = DoesWork did work
 WorksIn (Answer session owed attempts) did work = DoesWork did work
 WorksIn (Close link lease keep outcome) did work = (total_work work ≡ 0) × (did ≡ step.Ended)
 WorksIn (Ended outcome attempts) did work = (total_work work ≡ 0) × (did ≡ step.Ended)
@@ -159,7 +159,7 @@ abbrev pub is_over : {L C : Type 0} → Phase L C → Bool
 is_over ReadHead = false
 is_over (Connect context session) = false
 is_over (Relay a) = false
-is_over (Fail link lease session error) = false
+is_over (Fail link lease keep session error) = false
 is_over (Close link lease keep outcome) = true
 is_over (Answer session owed attempts) = false
 is_over (Ended outcome attempts) = true

@@ -93,7 +93,7 @@ module _ {L C : Type 0} (state : L → LinkState) (start_at : L → LinkStart) w
   PhaseUses n own ReadHead = OwnUses state start_at n own
   PhaseUses n own (Connect context session) = OwnUses state start_at n own
   PhaseUses n own (Relay a) = LinkUses state start_at n (link_of a.value.exchange)
-  PhaseUses n own (Fail link lease session error) = LinkUses state start_at n link
+  PhaseUses n own (Fail link lease keep session error) = LinkUses state start_at n link
   PhaseUses n own (Close link lease keep outcome) = LinkUses state start_at n link
   PhaseUses n own (Answer session owed attempts) = OwnUses state start_at n own
   PhaseUses n own (Ended outcome attempts) = OwnUses state start_at n own
@@ -122,7 +122,7 @@ abbrev pub OwesAnswer : {L C : Type 0} → Phase L C → Type 0
 OwesAnswer ReadHead = ⊥
 OwesAnswer (Connect context session) = ⊥
 OwesAnswer (Relay a) = ⊥
-OwesAnswer (Fail link lease session error) = Unit {0}
+OwesAnswer (Fail link lease keep session error) = Unit {0}
 OwesAnswer (Close link lease keep outcome) = ⊥
 OwesAnswer (Answer session (Refused error) attempts) = ⊥
 OwesAnswer (Answer session (Served e) attempts) = Unit {0}

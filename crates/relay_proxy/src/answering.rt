@@ -3,6 +3,7 @@
 ghost use Rattle.std.specs.Prelude.{◌≡◌, ◌⊎◌, ◌<◌, ℕ, List, [], length};
 ghost use Rattle.relay_attempt.specs.Passed.{Passed};
 ghost use Rattle.relay_session.specs.Response.{pending, MayWrite, WritesPending};
+ghost use Rattle.relay_proxy.specs.Bound.{CountsAnswer};
 ghost use Rattle.relay_proxy.specs.Owed.{outcome_owed};
 ghost use Rattle.relay_proxy.specs.Passed.{Start};
 ghost use Rattle.relay_proxy.specs.Phases.{RunSoFar};
@@ -37,6 +38,8 @@ pub(crate) fn write_answer<D: ByteLink, U: Drop, L: ByteLink, C>(
         (world_of D.state client.old faults) (world_of D.state client.new faults)
         (Phase.Answer session owed attempts) result.phase result.step }
     ensures work { DoesWork result.step result.work }
+    ensures counts { CountsAnswer result.phase result.work }
+    ensures gives { (D.state client.new.link).given ≡ (D.state client.old.link).given }
     ensures over { is_over result.phase ≡ is_end result.step }
     ensures unlinked { links_held L.state L.start result.phase ≡ 0 }
     ensures no_items { items_held L.start result.phase ≡ [] }
@@ -68,6 +71,8 @@ fn write_on<D: ByteLink, U: Drop, L: ByteLink, C>(
         (world_of D.state client.old faults) (world_of D.state client.new faults)
         (Phase.Answer session owed attempts) result.phase result.step }
     ensures work { DoesWork result.step result.work }
+    ensures counts { CountsAnswer result.phase result.work }
+    ensures gives { (D.state client.new.link).given ≡ (D.state client.old.link).given }
     ensures over { is_over result.phase ≡ is_end result.step }
     ensures unlinked { links_held L.state L.start result.phase ≡ 0 }
     ensures no_items { items_held L.start result.phase ≡ [] }

@@ -1,9 +1,11 @@
 //! The client's head: read, judged, and refused where it must be (RFC 9112, sections 2 and 3).
-ghost use Rattle.std.specs.Prelude.{◌≡◌, ◌≤◌, ℕ, [], length};
+ghost use Rattle.std.specs.Prelude.{◌≡◌, ◌≤◌, ℕ, [], length, None};
 ghost use Rattle.relay_tasks.specs.Head.{IsStatus};
 ghost use Rattle.relay_h1.specs.Verdict.{IsOpen, HasRequest};
 ghost use Rattle.relay_h1.specs.Wire.{generated};
+ghost use Rattle.relay_authority.specs.Entry.{Entered};
 ghost use Rattle.relay_proxy.specs.Relayable.{IsConnect};
+ghost use Rattle.relay_proxy.specs.Bound.{CountsHead};
 ghost use Rattle.relay_proxy.specs.Endings.{IsTurnedDown, ended_outcome};
 ghost use Rattle.relay_attempt.specs.Passed.{Passed};
 ghost use Rattle.relay_proxy.specs.Passed.{World, Start};
@@ -19,8 +21,9 @@ use crate::machine::{Next, Phase, RunStep};
 use crate::outcome::Outcome;
 use crate::owed::Owed;
 use crate::record::AttemptList;
-use crate::relayable::{is_connect, is_relayable};
+use crate::relayable::{is_connect, names_upgrade};
 use crate::work::Work;
+use relay_authority::check_entry;
 use relay_h1::{Connection, RequestRead};
 use relay_links::{ByteLink, Got};
 use relay_session::HttpSession;
@@ -42,6 +45,7 @@ pub(crate) fn read_head<SV: ProxyHttp, D: ByteLink, U, L: ByteLink>(
         (world_of D.state client.old faults) (world_of D.state client.new faults)
         (Phase.ReadHead) result.phase result.step }
     ensures work { DoesWork result.step result.work }
+    ensures counts { CountsHead result.phase result.work }
     ensures over { is_over result.phase ≡ is_end result.step }
     ensures unlinked { links_held L.state L.start result.phase ≡ 0 }
     ensures no_items { items_held L.start result.phase ≡ [] }
@@ -73,6 +77,7 @@ fn await_head<D: ByteLink, U, L: ByteLink, C>(
         (world_of D.state client.old faults) (world_of D.state client.new faults)
         (Phase.ReadHead) result.phase result.step }
     ensures work { DoesWork result.step result.work }
+    ensures counts { CountsHead result.phase result.work }
     ensures over { is_over result.phase ≡ is_end result.step }
     ensures unlinked { links_held L.state L.start result.phase ≡ 0 }
     ensures no_items { items_held L.start result.phase ≡ [] }
@@ -131,7 +136,8 @@ fn end_of_client(came: &[u8]) -> Outcome
     }
 }
 
-/// A head that is valid: it asks for a tunnel, which is refused, or it is looked at further.
+/// A head that is valid: the entry check refuses it, or it asks for a tunnel, which is refused, or
+/// it is looked at further.
 fn take_head<SV: ProxyHttp, D: ByteLink, U, L: ByteLink>(
     alloc: Global,
     hooks: &SV,
@@ -149,6 +155,7 @@ fn take_head<SV: ProxyHttp, D: ByteLink, U, L: ByteLink>(
         (world_of D.state client.old faults) (world_of D.state client.new faults)
         (Phase.ReadHead) result.phase result.step }
     ensures work { DoesWork result.step result.work }
+    ensures counts { CountsHead result.phase result.work }
     ensures over { is_over result.phase ≡ is_end result.step }
     ensures unlinked { links_held L.state L.start result.phase ≡ 0 }
     ensures no_items { items_held L.start result.phase ≡ [] }
@@ -157,14 +164,17 @@ fn take_head<SV: ProxyHttp, D: ByteLink, U, L: ByteLink>(
     ensures kept { client.new.kept ≡ client.old.kept }
     ensures client_start { D.start client.new.link ≡ D.start client.old.link }
 {
+    if let Err(error) = check_entry(&read.head) {
+        return give_answer(alloc, 400, Some(error.into_down()));
+    }
     if is_connect(&read.head) {
         return give_answer(alloc, 405, None);
     }
     accept_head(alloc, hooks, client, read)
 }
 
-/// A head that is no request for a tunnel: it is taken from what is ahead, and a session begins
-/// behind it.
+/// A head that passed the entry check and is no request for a tunnel: it is taken from what is
+/// ahead, and a session begins behind it. One that names Upgrade is not relayed.
 fn accept_head<SV: ProxyHttp, D: ByteLink, U, L: ByteLink>(
     alloc: Global,
     hooks: &SV,
@@ -176,6 +186,7 @@ fn accept_head<SV: ProxyHttp, D: ByteLink, U, L: ByteLink>(
         → RunSoFar {C = SV.CTX} L.state L.start s p (world_of D.state client.old faults) []
         (Phase.ReadHead)
         → HasRequest client.old.ahead read.head read.framing read.len
+        → Entered read.head None
         → ¬ (IsConnect read.head)
         → Advances L.state L.start s (world_of D.state client.new faults)
         result.phase }
@@ -183,6 +194,7 @@ fn accept_head<SV: ProxyHttp, D: ByteLink, U, L: ByteLink>(
         (world_of D.state client.old faults) (world_of D.state client.new faults)
         (Phase.ReadHead) result.phase result.step }
     ensures work { DoesWork result.step result.work }
+    ensures counts { CountsHead result.phase result.work }
     ensures over { is_over result.phase ≡ is_end result.step }
     ensures unlinked { links_held L.state L.start result.phase ≡ 0 }
     ensures no_items { items_held L.start result.phase ≡ [] }
@@ -191,7 +203,7 @@ fn accept_head<SV: ProxyHttp, D: ByteLink, U, L: ByteLink>(
     ensures kept { client.new.kept ≡ client.old.kept }
     ensures client_start { D.start client.new.link ≡ D.start client.old.link }
 {
-    if !is_relayable(&read.head) {
+    if names_upgrade(&read.head) {
         let error = Error::new_down(ErrorType::Custom(1));
         return Next {
             phase: Phase::Ended(
@@ -227,6 +239,7 @@ fn give_answer<L: ByteLink, C>(alloc: Global, status: u16, error: Option<Error>)
     ensures cause { (w x : World) → HasCause {C = C} L.state L.start w x
         (Phase.ReadHead) result.phase result.step }
     ensures work { DoesWork result.step result.work }
+    ensures counts { CountsHead result.phase result.work }
     ensures over { is_over result.phase ≡ is_end result.step }
     ensures unlinked { links_held L.state L.start result.phase ≡ 0 }
     ensures no_items { items_held L.start result.phase ≡ [] }

@@ -1,5 +1,5 @@
 //! The connector: asked once for a link, over which the request's one attempt then goes.
-ghost use Rattle.std.specs.Prelude.{◌≡◌, ◌⊎◌, ◌+◌, ◌≤◌, [], ◌∷◌, ℕ, List, Some, IfSome, false};
+ghost use Rattle.std.specs.Prelude.{◌≡◌, ◌⊎◌, ◌+◌, ◌≤◌, [], ◌∷◌, ℕ, List, Some, IfSome, false, not};
 ghost use Rattle.std.specs.Global.{Box};
 ghost use Rattle.relay_links.specs.Connector.{IsConnectFault, connect_fault};
 ghost use Rattle.relay_links.specs.Count.{last_count, Rose};
@@ -7,12 +7,16 @@ ghost use Rattle.relay_links.specs.Link.{LinkState, IsHandedOut};
 ghost use Rattle.relay_links.specs.Told.{Gains};
 ghost use Rattle.relay_attempt.specs.Head.{link_of};
 ghost use Rattle.relay_attempt.specs.Passed.{Passed};
-ghost use Rattle.relay_session.specs.Reading.{head_of};
+ghost use Rattle.relay_authority.specs.Stage.{Makes};
+ghost use Rattle.relay_session.specs.Reading.{head_of, is_body_done};
+ghost use Rattle.relay_tasks.specs.Head.{RequestHead};
+ghost use Rattle.relay_proxy.specs.Bound.{CountsLink};
 ghost use Rattle.relay_proxy.specs.Endings.{IsInOrder, IsAskedPeer, outcome_of};
 ghost use Rattle.relay_proxy.specs.Taken.{Takes, offers_before};
 ghost use Rattle.relay_proxy.specs.Passed.{World, Start, TellsClient};
 ghost use Rattle.relay_proxy.specs.Phases.{IsRelaying, RunSoFar};
 ghost use Rattle.relay_proxy.specs.Refusals.{faults_before};
+ghost use Rattle.relay_proxy.specs.Sent.{MakesSent, RefusesToSend, Sends};
 ghost use Rattle.relay_proxy.specs.Stock.{items_held};
 ghost use Rattle.relay_proxy.specs.Uses.{LinkUses, PhaseUses};
 ghost use Rattle.relay_proxy.specs.Turn.{world_with, DoesWork, is_over, is_end, links_held, Advances, HasCause};
@@ -24,6 +28,7 @@ use crate::record::{AttemptList, AttemptRecord, AttemptRoom};
 use crate::work::Work;
 use bytes::Bytes;
 use relay_attempt::{H1Exchange, Unbegun};
+use relay_authority::{Client, Upstream, ready_head, sent_head};
 use relay_links::{ByteLink, Connector};
 use relay_session::HttpSession;
 use relay_tasks::{Error, Fail, Fault, Peer, RequestHeader};
@@ -53,8 +58,8 @@ pub(crate) fn out_of_memory<L, C>(alloc: Global) -> Next<L, C>
     }
 }
 
-/// Asks the connector for a link. Room for the attempt's record and the head that is to be sent are
-/// made first. Where it gives none the client is answered with 502.
+/// Asks the connector for a link. Room for the attempt's record and a copy of the head are made
+/// first. Where it gives none the client is answered with 502.
 pub(crate) fn connect<K: Connector, C: Drop>(
     alloc: Global,
     connector: &mut K,
@@ -71,6 +76,7 @@ pub(crate) fn connect<K: Connector, C: Drop>(
         (world_with client ahead (K.fault_count connector.new)) (Phase.Connect context session)
         result.phase result.step }
     ensures work { DoesWork result.step result.work }
+    ensures counts { CountsLink result.phase result.work }
     ensures unused { result.work.used ≡ 0 }
     ensures step { (result.step ≡ RunStep.Moved) ⊎ (result.step ≡ RunStep.Ended) }
     ensures over { is_over result.phase ≡ is_end result.step }
@@ -95,7 +101,7 @@ pub(crate) fn connect<K: Connector, C: Drop>(
     match connector.get(&peer) {
         Ok((link, reused)) => {
             let lease = Lease { peer, reused, room };
-            begin(alloc, context, session, head, link, lease)
+            send(alloc, context, session, head, link, lease)
         }
         Err(fault) => refused_link(session, room, peer, fault),
     }
@@ -122,6 +128,7 @@ fn refused_link<L: ByteLink, C>(
     ensures no_items { items_held L.start result.phase ≡ [] }
     ensures told { faults_before [] result.phase ≡ connect_fault fault.retry ∷ [] }
     ensures work { DoesWork result.step result.work }
+    ensures counts { CountsLink result.phase result.work }
     ensures unused { result.work.used ≡ 0 }
     ensures fresh { PhaseUses L.state L.start 0 [] result.phase }
 {
@@ -157,7 +164,113 @@ fn copied_head(session: &HttpSession) -> Option<RequestHeader>
     session.req_header().copy().ok()
 }
 
-/// Begins the attempt's exchange over a link that was just handed out.
+/// Makes the head that is sent of a copy of the session's, and begins the attempt over a link that
+/// was just handed out. A refusal of that head is the error of the attempt, whose link nobody
+/// asked.
+fn send<L: ByteLink, C: Drop>(
+    alloc: Global,
+    context: C,
+    session: Box<HttpSession>,
+    copy: RequestHeader,
+    link: L,
+    lease: Lease,
+) -> Next<L, C>
+    requires { head_of session.value.reading ≡ Some copy }
+    ensures run { (s : Start) (p : Passed) (w : World)
+        → RunSoFar {C = C} L.state L.start s p w [] (Phase.Connect context session)
+        → IsHandedOut (L.state link) (L.start link) lease.reused → IsAskedPeer lease.peer
+        → Advances {C = C} L.state L.start s w result.phase }
+    ensures cause { (w x : World) → HasCause L.state L.start w x (Phase.Connect context session)
+        result.phase result.step }
+    ensures work { DoesWork result.step result.work }
+    ensures counts { CountsLink result.phase result.work }
+    ensures unused { result.work.used ≡ 0 }
+    ensures step { (result.step ≡ RunStep.Moved) ⊎ (result.step ≡ RunStep.Ended) }
+    ensures over { is_over result.phase ≡ is_end result.step }
+    ensures linked { links_held L.state L.start result.phase ≡ 1 }
+    ensures items { items_held L.start result.phase ≡ (L.start link).items ∷ [] }
+    ensures fresh { IsHandedOut (L.state link) (L.start link) lease.reused
+        → PhaseUses L.state L.start 0 [] result.phase }
+{
+    match sent_of(alloc, &session, copy) {
+        Ok(sent) => begin(alloc, context, session, sent, link, lease),
+        Err(Fail::Error(error)) => refused_head(session, link, lease, error),
+        Err(Fail::OutOfMemory) => closed(link, lease, Outcome::OutOfMemory),
+    }
+}
+
+/// The head that is sent, of a copy of the session's: made ready, and settled. No hook stands
+/// between.
+fn sent_of(
+    alloc: Global,
+    session: &HttpSession,
+    copy: RequestHeader,
+) -> relay_tasks::Result<RequestHeader>
+    requires { head_of session.now.reading ≡ Some copy }
+    ensures { Makes (MakesSent
+        (record { custom = false; has_body = not (is_body_done session.now.reading) }) copy)
+        result }
+{
+    let client = Client {
+        custom: false,
+        has_body: !session.is_body_done(),
+    };
+    match ready_head(alloc, copy, Upstream::H1, client.custom) {
+        Ok(ready) => sent_head(alloc, session.req_header(), ready, Upstream::H1, client),
+        Err(failure) => Err(failure),
+    }
+}
+
+/// An attempt whose head was refused with that error: its link is to go back, kept, since nothing
+/// was asked of it, and the client is owed 500.
+fn refused_head<L: ByteLink, C>(
+    session: Box<HttpSession>,
+    link: L,
+    lease: Lease,
+    error: Error,
+) -> Next<L, C>
+    ensures run { (s : Start) (p : Passed) (w : World) (context : C) (head : RequestHead)
+        → RunSoFar {C = C} L.state L.start s p w [] (Phase.Connect context session)
+        → head_of session.value.reading ≡ Some head → RefusesToSend head error
+        → IsHandedOut (L.state link) (L.start link) lease.reused → IsAskedPeer lease.peer
+        → Advances {C = C} L.state L.start s w result.phase }
+    ensures cause { (w x : World) (context : C) → HasCause {C = C} L.state L.start w x
+        (Phase.Connect context session) result.phase result.step }
+    ensures work { DoesWork result.step result.work }
+    ensures counts { CountsLink result.phase result.work }
+    ensures unused { result.work.used ≡ 0 }
+    ensures step { (result.step ≡ RunStep.Moved) ⊎ (result.step ≡ RunStep.Ended) }
+    ensures over { is_over result.phase ≡ is_end result.step }
+    ensures linked { links_held L.state L.start result.phase ≡ 1 }
+    ensures items { items_held L.start result.phase ≡ (L.start link).items ∷ [] }
+    ensures fresh { IsHandedOut (L.state link) (L.start link) lease.reused
+        → PhaseUses L.state L.start 0 [] result.phase }
+{
+    let mut session = session;
+    let Ok(()) = session.respond_error(500) else {
+        return closed(link, lease, Outcome::OutOfMemory);
+    };
+    Next {
+        phase: Phase::Fail(link, lease, true, session, error),
+        step: RunStep::Moved,
+        work: Work::ENDED,
+    }
+}
+
+/// A request that ended over a link that is to go back, not kept.
+fn closed<L, C>(link: L, lease: Lease, outcome: Outcome) -> Next<L, C>
+    ensures phase { result.phase ≡ Phase.Close link lease false outcome }
+    ensures step { result.step ≡ RunStep.Ended }
+    ensures work { result.work ≡ Work.ENDED }
+{
+    Next {
+        phase: Phase::Close(link, lease, false, outcome),
+        step: RunStep::Ended,
+        work: Work::ENDED,
+    }
+}
+
+/// Begins the attempt's exchange over a link that was just handed out, with the head that is sent.
 fn begin<L: ByteLink, C: Drop>(
     alloc: Global,
     context: C,
@@ -166,14 +279,15 @@ fn begin<L: ByteLink, C: Drop>(
     link: L,
     lease: Lease,
 ) -> Next<L, C>
-    ensures run { (s : Start) (p : Passed) (w : World)
+    ensures run { (s : Start) (p : Passed) (w : World) (asked : RequestHead)
         → RunSoFar {C = C} L.state L.start s p w [] (Phase.Connect context session)
-        → head_of session.value.reading ≡ Some head
+        → head_of session.value.reading ≡ Some asked → Sends asked head
         → IsHandedOut (L.state link) (L.start link) lease.reused → IsAskedPeer lease.peer
         → Advances {C = C} L.state L.start s w result.phase }
     ensures cause { (w x : World) → HasCause L.state L.start w x (Phase.Connect context session)
         result.phase result.step }
     ensures work { DoesWork result.step result.work }
+    ensures counts { CountsLink result.phase result.work }
     ensures unused { result.work.used ≡ 0 }
     ensures step { (result.step ≡ RunStep.Moved) ⊎ (result.step ≡ RunStep.Ended) }
     ensures over { is_over result.phase ≡ is_end result.step }
@@ -191,11 +305,7 @@ fn begin<L: ByteLink, C: Drop>(
                 context,
             },
         ),
-        Err(Unbegun { link, why }) => Next {
-            phase: Phase::Close(link, lease, false, outcome_of(why)),
-            step: RunStep::Ended,
-            work: Work::ENDED,
-        },
+        Err(Unbegun { link, why }) => closed(link, lease, outcome_of(why)),
     }
 }
 
@@ -208,6 +318,7 @@ fn hold<L: ByteLink, C: Drop>(alloc: Global, attempt: Attempt<L, C>) -> Next<L, 
     ensures cause { (w x : World) (context : C) (session : Box HttpSession)
         → HasCause L.state L.start w x (Phase.Connect context session) result.phase result.step }
     ensures work { DoesWork result.step result.work }
+    ensures counts { CountsLink result.phase result.work }
     ensures unused { result.work.used ≡ 0 }
     ensures step { (result.step ≡ RunStep.Moved) ⊎ (result.step ≡ RunStep.Ended) }
     ensures over { is_over result.phase ≡ is_end result.step }

@@ -94,9 +94,9 @@ fn close<K: Connector, C: Drop>(connector: &mut K, phase: &mut Phase<K::Byte, C>
             let attempts = release(connector, link, lease, keep, outcome);
             phase.put(Phase::Ended(outcome, attempts));
         }
-        Phase::Fail(link, lease, session, error) => {
+        Phase::Fail(link, lease, keep, session, error) => {
             let owed = Owed::Served(error);
-            let attempts = release(connector, link, lease, false, owed.outcome());
+            let attempts = release(connector, link, lease, keep, owed.outcome());
             phase.put(Phase::Answer(session, owed, attempts));
         }
         Phase::ReadHead => unreachable!(),
@@ -166,9 +166,9 @@ pub(crate) fn finish<K: Connector, C: Drop>(
             } = Box::into_inner(attempt);
             give_link_up(connector, exchange.into_link(), lease)
         }
-        Phase::Fail(link, lease, _session, error) => Ending {
+        Phase::Fail(link, lease, keep, _session, error) => Ending {
             outcome: Outcome::TurnLimit,
-            attempts: release(connector, link, lease, false, Owed::Served(error).outcome()),
+            attempts: release(connector, link, lease, keep, Owed::Served(error).outcome()),
         },
         Phase::Answer(_session, _owed, attempts) => Ending {
             outcome: Outcome::TurnLimit,

@@ -5,6 +5,7 @@
 //!    |           |         |
 //!    |           |         +-> Fail -> Answer -> Ended (the exchange failed)
 //!    |           +-> Answer -> Ended (no link was given)
+//!    |           +-> Fail -> Answer -> Ended (the head that was to be sent is refused)
 //!    +-> Answer -> Ended (the head was turned down)
 //!    +-> Ended (nothing asked, nothing relayed)
 //! ```
@@ -58,9 +59,9 @@ pub(crate) enum Phase<L, C> {
     Connect(C, Box<HttpSession>),
     /// The request is sent, and the response comes back, over the attempt's link.
     Relay(Box<Attempt<L, C>>),
-    /// The attempt failed with that error: its link is to be handed back, and what waits in the
-    /// session is to be written.
-    Fail(L, Lease, Box<HttpSession>, Error),
+    /// The attempt failed with that error: its link is to be handed back with that mark, and what
+    /// waits in the session is to be written.
+    Fail(L, Lease, bool, Box<HttpSession>, Error),
     /// The request has ended, and its link is to be handed back.
     Close(L, Lease, bool, Outcome),
     /// What waits in the session is written, a generated answer last; no link is held.
@@ -97,7 +98,7 @@ impl<L, C> Phase<L, C> {
     {
         match self {
             Phase::ReadHead => true,
-            Phase::Connect(_, _) | Phase::Relay(_) | Phase::Fail(_, _, _, _) => false,
+            Phase::Connect(_, _) | Phase::Relay(_) | Phase::Fail(_, _, _, _, _) => false,
             Phase::Close(_, _, _, _) | Phase::Answer(_, _, _) | Phase::Ended(_, _) => false,
         }
     }
@@ -108,7 +109,7 @@ impl<L, C> Phase<L, C> {
     {
         match self {
             Phase::Relay(_) => true,
-            Phase::ReadHead | Phase::Connect(_, _) | Phase::Fail(_, _, _, _) => false,
+            Phase::ReadHead | Phase::Connect(_, _) | Phase::Fail(_, _, _, _, _) => false,
             Phase::Close(_, _, _, _) | Phase::Answer(_, _, _) | Phase::Ended(_, _) => false,
         }
     }
@@ -118,7 +119,7 @@ impl<L, C> Phase<L, C> {
         ensures { result ≡ is_closing self.now }
     {
         match self {
-            Phase::Fail(_, _, _, _) | Phase::Close(_, _, _, _) => true,
+            Phase::Fail(_, _, _, _, _) | Phase::Close(_, _, _, _) => true,
             Phase::ReadHead | Phase::Connect(_, _) | Phase::Relay(_) => false,
             Phase::Answer(_, _, _) | Phase::Ended(_, _) => false,
         }
@@ -134,7 +135,7 @@ impl<L, C> Phase<L, C> {
             Phase::Relay(attempt) => attempt,
             Phase::ReadHead => unreachable!(),
             Phase::Connect(_context, _session) => unreachable!(),
-            Phase::Fail(_link, _lease, _session, _error) => unreachable!(),
+            Phase::Fail(_link, _lease, _keep, _session, _error) => unreachable!(),
             Phase::Close(_link, _lease, _keep, _outcome) => unreachable!(),
             Phase::Answer(_session, _owed, _attempts) => unreachable!(),
             Phase::Ended(_outcome, _attempts) => unreachable!(),
@@ -150,7 +151,7 @@ impl<L, C> Phase<L, C> {
             Phase::ReadHead => {}
             Phase::Connect(_context, _session) => unreachable!(),
             Phase::Relay(_attempt) => unreachable!(),
-            Phase::Fail(_link, _lease, _session, _error) => unreachable!(),
+            Phase::Fail(_link, _lease, _keep, _session, _error) => unreachable!(),
             Phase::Close(_link, _lease, _keep, _outcome) => unreachable!(),
             Phase::Answer(_session, _owed, _attempts) => unreachable!(),
             Phase::Ended(_outcome, _attempts) => unreachable!(),

@@ -1,8 +1,10 @@
 //! The proxy: requests are begun, stepped and ended, or processed in one call.
-ghost use Rattle.std.specs.Prelude.{◌≡◌, ◌⊎◌, ◌+◌, ◌≤◌, [], List, None, true, false};
+ghost use Rattle.std.specs.Prelude.{◌≡◌, ◌⊎◌, ◌+◌, ◌≤◌, ℕ, [], List, None, true, false};
 ghost use Rattle.std.specs.Global.{Box};
 ghost use Rattle.relay_links.specs.Count.{Rose};
+ghost use Rattle.relay_links.specs.Link.{LinkState};
 ghost use Rattle.relay_attempt.specs.Passed.{Passed};
+ghost use Rattle.relay_proxy.specs.Bound.{PhaseCounts};
 ghost use Rattle.relay_proxy.specs.Passed.{Start, start_of, nothing};
 ghost use Rattle.relay_proxy.specs.Phases.{RunSoFar};
 ghost use Rattle.relay_proxy.specs.Refusals.{attempts_in};
@@ -121,6 +123,10 @@ impl<SV: ProxyHttp, K: Connector, P: Purger> HttpProxy<SV, K, P> {
             result.machine.phase }
         ensures no_turns { result.machine.turns ≡ 0 }
         ensures unused { result.machine.work.used ≡ 0 }
+        ensures unmoved { result.machine.work.moved ≡ 0 }
+        ensures unended { result.machine.work.ended ≡ 0 }
+        ensures uncounted { (s : Start) (link : LinkState) (ahead : List ℕ) (own : List _)
+            → PhaseCounts K.Byte.state K.Byte.start 0 0 s link ahead own result.machine.phase }
         ensures going { is_over result.machine.phase ≡ false }
         ensures no_link { links_held K.Byte.state K.Byte.start result.machine.phase ≡ 0 }
         ensures no_items { items_held K.Byte.start result.machine.phase ≡ [] }
@@ -151,7 +157,8 @@ impl<SV: ProxyHttp, K: Connector, P: Purger> HttpProxy<SV, K, P> {
         requires { links_held K.Byte.state K.Byte.start machine.old.machine.phase
             ≤ K.out self.old.connector }
         // The run so far goes on, these links were handed back, and of what the connector has the
-        // request took its link, or the one fault of which its attempt's error tells.
+        // request took its link, or the one fault of which its attempt's error tells. What it
+        // counts of tasks and ends is bounded by the bytes that both links gave.
         ensures steps { (s : Start) (p : Passed) (own : List _)
             → RunSoFar K.Byte.state K.Byte.start s p
             (world_of D.state client.old (K.fault_count self.old.connector)) own
@@ -161,8 +168,8 @@ impl<SV: ProxyHttp, K: Connector, P: Purger> HttpProxy<SV, K, P> {
             (K.returned self.old.connector) (K.returned self.new.connector)
             (K.refusals self.old.connector) (K.refusals self.new.connector)
             (K.stock self.old.connector) (K.stock self.new.connector)
-            (D.state client.old.link) machine.old.machine.work.used machine.new.machine.work.used
-            machine.old.machine.phase machine.new.machine.phase }
+            (D.state client.old.link) client.old.ahead machine.old.machine.work
+            machine.new.machine.work machine.old.machine.phase machine.new.machine.phase }
         // Before there is a link it moved something of the client, or went on to its next phase; in
         // an exchange it asked a link once, or none and it moved a task or brought an end, by the
         // branch that it took. It waits only where a link answered so in this step; and in silence

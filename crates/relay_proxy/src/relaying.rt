@@ -1,19 +1,21 @@
 //! The attempt: one turn of its exchange, and what becomes of the client and of the link once it
 //! has ended (RFC 9112, section 9.3).
-ghost use Rattle.std.specs.Prelude.{◌≡◌, ◌⊎◌, ◌<◌, ℕ, [], ◌∷◌, None, Some, true, false, if◌then◌else◌};
+ghost use Rattle.std.specs.Prelude.{◌≡◌, ◌⊎◌, ◌+◌, ◌<◌, ℕ, [], ◌∷◌, None, Some, true, false, if◌then◌else◌};
 ghost use Rattle.std.specs.Global.{Box};
 ghost use Rattle.relay_links.specs.Link.{LinkState};
 ghost use Rattle.relay_core.specs.Asked.{WaitRose};
 ghost use Rattle.relay_core.specs.Causes.{says_failed};
 ghost use Rattle.relay_core.specs.Past.{Origin};
+ghost use Rattle.relay_attempt.specs.Bound.{CountsOn, HasCounted};
 ghost use Rattle.relay_attempt.specs.Exchange.{IsUnderWay, Turns, MeetsSilence, Asks, HasMoved};
 ghost use Rattle.relay_attempt.specs.Head.{link_of, may_keep};
 ghost use Rattle.relay_attempt.specs.Passed.{Passed};
+ghost use Rattle.relay_proxy.specs.Bound.{LeavesLink, PhaseCounts, TurnedCounts};
 ghost use Rattle.relay_proxy.specs.Leaving.{LeavesBy, LeavesSession};
 ghost use Rattle.relay_proxy.specs.Passed.{World, Start, TellsClient};
 ghost use Rattle.relay_proxy.specs.Phases.{IsLeased, RunSoFar};
 ghost use Rattle.relay_proxy.specs.Relaying.{is_relaying, TurnsOver, TurnsWithin};
-ghost use Rattle.relay_proxy.specs.Reuse.{client_reusable, lets_ask_again};
+ghost use Rattle.relay_proxy.specs.Reuse.{client_reusable};
 ghost use Rattle.relay_proxy.specs.Stock.{items_held};
 ghost use Rattle.relay_proxy.specs.Turn.{world_of, DoesWork, is_over, is_end, held_state, links_held, Advances, HandsOn, HasCause};
 ghost use Rattle.relay_proxy.specs.Uses.{LinkUses, MovedBy, OwesAnswer, PhaseUses, TurnCounts, TurnUses};
@@ -24,11 +26,10 @@ use crate::outcome::Outcome;
 use crate::owed::{Owed, queue_answer};
 use crate::uses::Uses;
 use crate::work::{Work, work_of, work_of_failure};
-use http::Version;
 use relay_attempt::H1Exchange;
 use relay_core::Step;
 use relay_exchange::Turn;
-use relay_h1::{Connection, closes};
+use relay_h1::Connection;
 use relay_links::{ByteLink, Schedule};
 use relay_session::HttpSession;
 use relay_tasks::{Error, Fail, Pause};
@@ -69,6 +70,11 @@ pub(crate) fn relay<D: ByteLink, U: Drop, L: ByteLink, H: Schedule, C: Drop>(
         → LinkUses L.state L.start n (link_of a.value.exchange)
         → TurnCounts L.state L.start n (D.state client.old.link) (D.state client.new.link)
         result.work.used [] phase.new }
+    ensures bounds { (s : Start) (tasks ends : ℕ)
+        → PhaseCounts {C = C} L.state L.start tasks ends s (D.state client.old.link)
+        client.old.ahead [] phase.old
+        → TurnedCounts {C = C} L.state L.start (result.work.moved + tasks)
+        (result.work.ended + ends) s (D.state client.new.link) client.new.ahead [] phase.new }
     ensures moves { (faults : ℕ) (a : Box (Attempt L C)) → phase.old ≡ Phase.Relay a
         → result.step ≡ RunStep.Moved → MovedBy {C = C} L.state L.start
         (world_of D.state client.old faults) (world_of D.state client.new faults) result.work
@@ -107,6 +113,8 @@ fn close_finished<D, U, L: ByteLink, C: Drop>(
     ensures closes { (a : Box (Attempt L C)) → phase.old ≡ Phase.Relay a
         → let x = a.value.exchange in phase.new ≡ Phase.Close (link_of x) a.value.lease (may_keep x)
         (Outcome.Served None (client_reusable x client.now.ahead)) }
+    ensures leaves { (a : Box (Attempt L C)) → phase.old ≡ Phase.Relay a
+        → LeavesLink (link_of a.value.exchange) phase.new }
     ensures over { is_over phase.new ≡ true }
     ensures linked { links_held L.state L.start phase.new ≡ links_held L.state L.start phase.old }
     ensures items { items_held L.start phase.new ≡ items_held L.start phase.old }
@@ -155,6 +163,10 @@ fn leave_failed<L: ByteLink, C: Drop>(
     ensures items { items_held L.start phase.new ≡ items_held L.start phase.old }
     ensures work { 0 < total_work result.work }
     ensures used { result.work.used ≡ (if asked then 1 else 0) }
+    ensures unmoved { result.work.moved ≡ 0 }
+    ensures end { result.work.ended ≡ 1 }
+    ensures leaves { (a : Box (Attempt L C)) → phase.old ≡ Phase.Relay a
+        → LeavesLink (link_of a.value.exchange) phase.new }
 {
     let Attempt {
         exchange,
@@ -183,6 +195,7 @@ fn leave<L: ByteLink, C>(
     ensures owes { result.step ≡ RunStep.Moved → OwesAnswer result.phase }
     ensures step { (result.step ≡ RunStep.Moved) ⊎ (result.step ≡ RunStep.Ended) }
     ensures held { held_state L.state result.phase ≡ Some (L.state link) }
+    ensures leaves { LeavesLink link result.phase }
     ensures last { (n : ℕ) → LinkUses L.state L.start n link
         → PhaseUses L.state L.start n [] result.phase }
     ensures over { is_over result.phase ≡ is_end result.step }
@@ -212,6 +225,7 @@ fn owe<L: ByteLink, C>(
     ensures owes { result.step ≡ RunStep.Moved → OwesAnswer result.phase }
     ensures step { (result.step ≡ RunStep.Moved) ⊎ (result.step ≡ RunStep.Ended) }
     ensures held { held_state L.state result.phase ≡ Some (L.state link) }
+    ensures leaves { LeavesLink link result.phase }
     ensures last { (n : ℕ) → LinkUses L.state L.start n link
         → PhaseUses L.state L.start n [] result.phase }
     ensures over { is_over result.phase ≡ is_end result.step }
@@ -230,7 +244,7 @@ fn owe<L: ByteLink, C>(
         return closed(link, lease, Outcome::OutOfMemory, work);
     };
     Next {
-        phase: Phase::Fail(link, lease, session, error),
+        phase: Phase::Fail(link, lease, false, session, error),
         step: RunStep::Moved,
         work,
     }
@@ -269,7 +283,7 @@ fn turn_within<D: ByteLink, U: Drop, L: ByteLink, H: Schedule, C>(
         Phase::Relay(attempt) => turn_counted(&mut attempt.exchange, client, schedule),
         Phase::ReadHead => unreachable!(),
         Phase::Connect(_, _) => unreachable!(),
-        Phase::Fail(_, _, _, _) => unreachable!(),
+        Phase::Fail(_, _, _, _, _) => unreachable!(),
         Phase::Close(_, _, _, _) => unreachable!(),
         Phase::Answer(_, _, _) => unreachable!(),
         Phase::Ended(_, _) => unreachable!(),
@@ -312,6 +326,11 @@ fn turn_over<D: ByteLink, U: Drop, L: ByteLink, H: Schedule>(
         exchange.old exchange.new }
     ensures asks { Asks L.state L.start result.step (D.state client.old.link)
         (D.state client.new.link) exchange.old exchange.new }
+    ensures counts { (s : Origin) (tasks ends : ℕ)
+        → HasCounted L.state L.start tasks ends s (D.state client.old.link) client.old.ahead
+        exchange.old
+        → CountsOn L.state L.start tasks ends s (D.state client.new.link) client.new.ahead
+        exchange.old exchange.new result.step }
     ensures moves { (s : Origin) (p : Passed)
         → IsUnderWay L.state L.start s p (D.state client.old.link) client.old.ahead exchange.old
         → result.step ≡ Step.Moved
@@ -343,17 +362,5 @@ fn is_client_reusable<D, U, L: ByteLink>(
     if exchange.asks_to_close() || !client.ahead().is_empty() {
         return false;
     }
-    lets_ask_again(exchange.session())
-}
-
-/// Whether the request lets its client ask for more: it has ended, is of HTTP/1.1, and does not ask
-/// to close.
-fn lets_ask_again(session: &HttpSession) -> bool
-    ensures { result ≡ lets_ask_again session.now }
-{
-    if !session.has_head() || !session.is_body_done() {
-        return false;
-    }
-    let head = session.req_header();
-    head.version() == Version::HTTP_11 && !closes(head.headers())
+    exchange.session().lets_ask_again()
 }

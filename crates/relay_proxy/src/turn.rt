@@ -4,6 +4,7 @@ ghost use Rattle.std.specs.Global.{Box};
 ghost use Rattle.relay_links.specs.Link.{LinkState};
 ghost use Rattle.relay_links.specs.Told.{Gains};
 ghost use Rattle.relay_attempt.specs.Passed.{Passed};
+ghost use Rattle.relay_proxy.specs.Bound.{PhaseCounts, TurnedCounts};
 ghost use Rattle.relay_proxy.specs.Closing.{Rests, TurnOf};
 ghost use Rattle.relay_proxy.specs.Taken.{Takes, offers_before, offers_of_turn};
 ghost use Rattle.relay_proxy.specs.Passed.{Start};
@@ -63,6 +64,13 @@ pub(crate) fn take_turn<SV: ProxyHttp, K: Connector, D: ByteLink, U: Drop, H: Sc
         → PhaseUses K.Byte.state K.Byte.start n own phase.old
         → TurnCounts K.Byte.state K.Byte.start n (D.state client.old.link)
         (D.state client.new.link) result.work.used own phase.new }
+    ensures bounds { (s : Start) (p : Passed) (own : List _) (tasks ends : ℕ)
+        → RunSoFar {C = SV.CTX} K.Byte.state K.Byte.start s p
+        (world_of D.state client.old (K.fault_count connector.old)) own phase.old
+        → PhaseCounts {C = SV.CTX} K.Byte.state K.Byte.start tasks ends s
+        (D.state client.old.link) client.old.ahead own phase.old
+        → TurnedCounts {C = SV.CTX} K.Byte.state K.Byte.start (result.work.moved + tasks)
+        (result.work.ended + ends) s (D.state client.new.link) client.new.ahead own phase.new }
     ensures moves { (a : Box _) → phase.old ≡ Phase.Relay a → result.step ≡ RunStep.Moved
         → MovedBy {C = SV.CTX} K.Byte.state K.Byte.start
         (world_of D.state client.old (K.fault_count connector.old))
@@ -131,6 +139,13 @@ fn move_on<SV: ProxyHttp, K: Connector, D: ByteLink, U: Drop>(
         → PhaseUses K.Byte.state K.Byte.start n own phase.old
         → TurnCounts K.Byte.state K.Byte.start n (D.state client.old.link)
         (D.state client.new.link) result.work.used own phase.new }
+    ensures bounds { (s : Start) (p : Passed) (own : List _) (tasks ends : ℕ)
+        → RunSoFar {C = SV.CTX} K.Byte.state K.Byte.start s p
+        (world_of D.state client.old (K.fault_count connector.old)) own phase.old
+        → PhaseCounts {C = SV.CTX} K.Byte.state K.Byte.start tasks ends s
+        (D.state client.old.link) client.old.ahead own phase.old
+        → TurnedCounts {C = SV.CTX} K.Byte.state K.Byte.start (result.work.moved + tasks)
+        (result.work.ended + ends) s (D.state client.new.link) client.new.ahead own phase.new }
     ensures over { is_over phase.new ≡ is_end result.step }
     ensures out { K.out connector.new + links_held K.Byte.state K.Byte.start phase.old
         ≡ K.out connector.old + links_held K.Byte.state K.Byte.start phase.new }
@@ -157,8 +172,8 @@ fn move_on<SV: ProxyHttp, K: Connector, D: ByteLink, U: Drop>(
             phase.go_on(connect(alloc, connector, context, session))
         }
         Phase::Relay(_attempt) => unreachable!(),
-        Phase::Fail(link, lease, session, error) => phase.go_on(Next {
-            phase: Phase::Fail(link, lease, session, error),
+        Phase::Fail(link, lease, keep, session, error) => phase.go_on(Next {
+            phase: Phase::Fail(link, lease, keep, session, error),
             step: RunStep::Moved,
             work: Work::ENDED,
         }),

@@ -115,6 +115,8 @@ fn used_or_moved(asked: bool) -> Work
 pub(crate) fn work_of_failure(asked: bool) -> Work
     ensures some { 0 < total_work result }
     ensures used { result.used ≡ (if asked then 1 else 0) }
+    ensures unmoved { result.moved ≡ 0 }
+    ensures end { result.ended ≡ 1 }
 {
     if asked {
         Work::USED_AND_ENDED

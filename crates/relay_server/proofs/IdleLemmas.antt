@@ -1,16 +1,22 @@
 -- What an idle connection is.
-use Rattle.std.proofs.Common.{◌≡◌, Bool, true, false, ◌&&◌, true≢false, refl, sym}
+use Rattle.std.proofs.Common.{◌≡◌, ◌==◌, Bool, true, false, ◌&&◌, true≢false, List, [], ◌∷◌, length, refl, sym, ◌∙◌, arith}
+use Rattle.std.proofs.lemmas.Bool.Decides.{nat_tests}
+use Rattle.relay_links.specs.Link.{LinkState, LinkStart}
+use Rattle.relay_links.specs.declared.Returned.{Returned}
+use Rattle.relay_attempt.specs.Passed.{Passed}
+use Rattle.relay_proxy.specs.Passed.{World, Start}
+use Rattle.relay_proxy.specs.Phases.{RunSoFar}
 use Rattle.relay_proxy.specs.Turn.{is_reading_head, is_over}
 use Rattle.relay_proxy.specs.declared.machine.Phase.{Phase}
 use Rattle.relay_proxy.specs.declared.machine.Phase.TheVariants.{ReadHead, Connect, Relay, Fail, Close, Answer, Ended}
-use Rattle.relay_server.specs.Idle.{is_idle}
+use Rattle.relay_server.specs.Idle.{is_idle, HasNotBegun}
 use Rattle.relay_server.specs.Serving.{Visit}
 
 -- a request whose head is read has not ended
 reads_on : {L C : Type 0} (phase : Phase L C) (empty : Bool)
     → (is_reading_head phase && empty) ≡ true → is_over phase ≡ false
 reads_on ReadHead empty idle = refl
-reads_on (Fail l lease session error) empty idle = absurd (true≢false (sym idle))
+reads_on (Fail l lease keep session error) empty idle = absurd (true≢false (sym idle))
 reads_on (Connect context session) empty idle = absurd (true≢false (sym idle))
 reads_on (Relay a) empty idle = absurd (true≢false (sym idle))
 reads_on (Close l lease keep outcome) empty idle = absurd (true≢false (sym idle))
@@ -21,3 +27,34 @@ reads_on (Ended outcome attempts) empty idle = absurd (true≢false (sym idle))
 pub idle_goes : {D U L C : Type 0} (visit : Visit D U L C) → is_idle visit ≡ true
     → is_over visit.phase ≡ false
 idle_goes visit idle = reads_on visit.phase _ idle
+
+-- a list of no length is empty
+none_ahead : {X : Type 0} (xs : List X) → (length xs == 0) ≡ true → xs ≡ []
+none_ahead [] empty = refl
+none_ahead (x ∷ xs) empty =
+    let some : (length (x ∷ xs) == 0) ≡ false = grind (arith, nat_tests) in
+    absurd (true≢false (sym empty ∙ some))
+
+-- where the head of a request is read and no byte is ahead, nothing came and nothing was done
+pub not_begun : {L C : Type 0} (state : L → LinkState) (start_at : L → LinkStart) (s : Start)
+    (p : Passed) (w : World) (own : List (Returned L)) (phase : Phase L C)
+    → (is_reading_head phase && (length w.ahead == 0)) ≡ true
+    → RunSoFar {C = C} state start_at s p w own phase → HasNotBegun s p own
+not_begun state start_at s p w [] ReadHead idle run = record {
+  asked = sym run.holds.whole ∙ none_ahead w.ahead idle;
+  written = run.holds.written;
+  unsent = run.holds.unsent;
+  unlinked = refl;
+}
+not_begun state start_at s p w (r ∷ own) ReadHead idle run = absurd run.holds
+not_begun state start_at s p w own (Connect context session) idle run =
+    absurd (true≢false (sym idle))
+not_begun state start_at s p w own (Relay a) idle run = absurd (true≢false (sym idle))
+not_begun state start_at s p w own (Fail l lease keep session error) idle run =
+    absurd (true≢false (sym idle))
+not_begun state start_at s p w own (Close l lease keep outcome) idle run =
+    absurd (true≢false (sym idle))
+not_begun state start_at s p w own (Answer session owed attempts) idle run =
+    absurd (true≢false (sym idle))
+not_begun state start_at s p w own (Ended outcome attempts) idle run =
+    absurd (true≢false (sym idle))

@@ -20,6 +20,7 @@ use Rattle.relay_proxy.specs.Turn.{world_with, world_of, is_over, links_held}
 use Rattle.relay_proxy.specs.declared.machine.Phase.{Phase}
 use Rattle.relay_proxy.specs.declared.machine.Phase.TheVariants.{ReadHead, Connect, Relay, Fail, Close, Answer, Ended}
 use Rattle.relay_proxy.specs.declared.outcome.Outcome.{Outcome}
+use Rattle.relay_proxy.specs.declared.work.Work.{Work}
 use Rattle.relay_proxy.specs.declared.outcome.Outcome.TheVariants.{NoRequest, Refused, Served, TurnLimit, OutOfMemory}
 use Rattle.relay_proxy.specs.declared.outcome.Processed.{Processed}
 use Rattle.relay_proxy.specs.declared.owed.Owed.{Owed}
@@ -125,12 +126,14 @@ module _ {L C : Type 0} (state : L → LinkState) (start_at : L → LinkStart) w
   at_later s p link ahead f g (Relay a) going more_faults at = record {
     leased = at.leased;
     head = at.head;
+    sent = at.sent;
     relayable = at.relayable;
+    sends = at.sends;
     under_way = at.under_way;
   }
-  at_later s p link ahead f g (Fail l lease session error) going more_faults at = (
+  at_later s p link ahead f g (Fail l lease keep session error) going more_faults at = (
     at.0,
-    record { failed = at.1.failed; waits = at.1.waits },
+    record { text = at.1.text; misses = at.1.misses; waits = at.1.waits },
   )
   at_later s p link ahead f g (Close l lease keep outcome) going more_faults at =
       absurd (true≢false going)
@@ -147,7 +150,7 @@ module _ {L C : Type 0} (state : L → LinkState) (start_at : L → LinkStart) w
   calm_later s link ahead f g ReadHead calm = calm
   calm_later s link ahead f g (Connect context session) calm = calm
   calm_later s link ahead f g (Relay a) calm = calm
-  calm_later s link ahead f g (Fail l lease session error) calm = calm
+  calm_later s link ahead f g (Fail l lease keep session error) calm = calm
   calm_later s link ahead f g (Close l lease keep outcome) calm = calm
   calm_later s link ahead f g (Answer session owed attempts) calm = calm
   calm_later s link ahead f g (Ended outcome attempts) calm = calm
@@ -163,8 +166,8 @@ module _ {L C : Type 0} (state : L → LinkState) (start_at : L → LinkStart) w
   holds_later s p link ahead f g (r ∷ own) (Connect context session) going more_faults holds =
       absurd holds
   holds_later s p link ahead f g (r ∷ own) (Relay a) going more_faults holds = absurd holds
-  holds_later s p link ahead f g (r ∷ own) (Fail l lease session error) going more_faults holds =
-      absurd holds
+  holds_later s p link ahead f g (r ∷ own) (Fail l lease keep session error) going more_faults
+      holds = absurd holds
   holds_later s p link ahead f g (r ∷ own) (Close l lease keep outcome) going more_faults holds =
       absurd holds
   holds_later s p link ahead f g (r ∷ own) (Answer session owed attempts) going more_faults holds =
@@ -360,20 +363,20 @@ module _ {L C D U : Type 0}
 
   -- a turn of the first request: none is counted, and what passed goes on
   pub record TakesTurn (old now : Books L) (visit next : Visit D U L C) (t u : Option (List Fault))
-      (h k : Option (List Offer)) (i j : ℕ) : Type 0 where
+      (h k : Option (List Offer)) (i j : Work) : Type 0 where
     pub counted : now.requests_ended ≡ old.requests_ended
     pub faults : old.faults ≤ now.faults
     pub steps : (s : Start) (p : Passed) (own : List (Returned L))
         → RunSoFar state start_at s p (world_of client_state visit.client old.faults) own
         visit.phase
         → StepsOn state start_at s p (world_of client_state next.client now.faults) own
-        old.returned now.returned t u h k (client_state visit.client.link) i j visit.phase
-        next.phase
+        old.returned now.returned t u h k (client_state visit.client.link) visit.client.ahead i j
+        visit.phase next.phase
 
   -- a turn behind which the request goes on
   pub goes_on : (before old now : Books L) (visit next : Visit D U L C)
       (rest : List (Visit D U L C)) (t u : Option (List Fault)) (h k : Option (List Offer))
-      (i j : ℕ)
+      (i j : Work)
       → Serves state start_at client_state before old (visit ∷ rest)
       → TakesTurn old now visit next t u h k i j
       → is_over next.phase ≡ false
@@ -405,7 +408,7 @@ module _ {L C D U : Type 0}
   -- a turn behind which the request has ended
   pub ends_now : (before old now : Books L) (visit next : Visit D U L C)
       (rest : List (Visit D U L C)) (t u : Option (List Fault)) (h k : Option (List Offer))
-      (i j : ℕ)
+      (i j : Work)
       → Serves state start_at client_state before old (visit ∷ rest)
       → TakesTurn old now visit next t u h k i j
       → is_over next.phase ≡ true

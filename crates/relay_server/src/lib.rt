@@ -5,6 +5,7 @@
 mod floor;
 mod open_connection;
 mod serve;
+mod serving_schedule;
 mod stillness;
 #[cfg(test)]
 mod tests;

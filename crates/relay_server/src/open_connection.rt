@@ -7,20 +7,21 @@ ghost use Rattle.relay_proxy.specs.Turn.{links_held, is_over, is_end, world_of};
 ghost use Rattle.relay_server.specs.Idle.{is_idle, HasNotBegun};
 ghost use Rattle.relay_server.specs.Serving.{Books, Visit, books, CountRises, all_held, Serves, EndsOne, with_next, is_reused};
 
+use crate::serving_schedule::ServingSchedule;
 use crate::stillness::Stillness;
 use relay_h1::Connection;
-use relay_links::{ByteLink, Connector, CountDelay, Purger, RoundRobin, Schedule, ShutdownAt};
+use relay_links::{ByteLink, Connector, CountDelay, Purger, Schedule, ShutdownAt};
 use relay_proxy::{HttpProxy, Outcome, Outside, ProxyHttp, RequestMachine, RunStep};
 use std::alloc::Global;
 use std::marker::Model;
 
 /// A client's connection, the request under way on it, and what that asks beside its links: the
-/// branches of the duplex in turn, no shutdown, and no delay. It means the connection, and where
-/// the request stands.
+/// branches of the duplex by `ServingSchedule`, no shutdown, and no delay. It means the connection,
+/// and where the request stands.
 pub(crate) struct OpenConnection<SV: ProxyHttp, K: Connector, D> {
     client: Connection<D, SV::Kept>,
     machine: RequestMachine<SV, K>,
-    outside: Outside<RoundRobin, ShutdownAt, CountDelay>,
+    outside: Outside<ServingSchedule, ShutdownAt, CountDelay>,
     stillness: Stillness,
 }
 
@@ -52,7 +53,7 @@ impl<SV: ProxyHttp, K: Connector, D: ByteLink> OpenConnection<SV, K, D> {
             client,
             machine,
             outside: Outside {
-                schedule: RoundRobin::new(),
+                schedule: ServingSchedule::new(),
                 shutdown: ShutdownAt::new(None),
                 delay: CountDelay::new(),
             },
@@ -145,7 +146,10 @@ impl<SV: ProxyHttp, K: Connector, D: ByteLink> OpenConnection<SV, K, D> {
         AfterRequest::Goes(OpenConnection {
             client,
             machine,
-            outside,
+            outside: Outside {
+                schedule: ServingSchedule::new(),
+                ..outside
+            },
             stillness: Stillness::Moving,
         })
     }

@@ -1,2 +1,3 @@
 mod memory;
+mod serving_schedule;
 mod support;

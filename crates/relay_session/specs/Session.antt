@@ -1,11 +1,13 @@
 -- What a session keeps of the request that its response answers (RFC 9112, section 9.2).
-use Rattle.std.specs.Prelude.{◌≡◌, ℕ, List, Option, Some, None}
+use Rattle.std.specs.Prelude.{◌≡◌, ℕ, Bool, ◌&&◌, List, Option, Some, None}
 use Rattle.relay_tasks.specs.Head.{RequestHead}
 use Rattle.relay_h1.specs.declared.framing.Framing.{Framing}
 use Rattle.relay_h1.specs.Verdict.{HasRequest}
-use Rattle.relay_session.specs.Asked.{request_of, unread}
+use Rattle.relay_session.specs.Asked.{request_of, unread, lets_ask}
+use Rattle.relay_session.specs.Reading.{is_body_done}
 use Rattle.relay_session.specs.declared.reading.Reading.{Reading}
 use Rattle.relay_session.specs.declared.reading.Reading.TheVariants as reading
+use Rattle.relay_session.specs.declared.session.HttpSession.{HttpSession}
 use Rattle.relay_session.specs.declared.task_text.Request.{Request}
 use Rattle.relay_session.specs.declared.writing.Writing.{Writing}
 
@@ -28,3 +30,7 @@ AnswersRead given (reading.Body begun) response = BeginsAs given response.reques
 abbrev pub AnswersTo : Option RequestHead → Writing → Writing → Type 0
 AnswersTo None old new = new ≡ old
 AnswersTo (Some head) old new = new ≡ record old { request = request_of head }
+
+-- the request lets its client ask for more: its body is done, and so says its head, as it came
+abbrev pub lets_ask_again : HttpSession → Bool
+lets_ask_again session = is_body_done session.reading && lets_ask session.writing.request

@@ -12,7 +12,7 @@ ghost use Rattle.relay_session.specs.Front.{Watches, ends_with_head};
 ghost use Rattle.relay_session.specs.declared.writing.Outgoing.TheVariants.{Open};
 ghost use Rattle.relay_session.specs.HeadLent.{LendsSessionHead};
 ghost use Rattle.relay_session.specs.Asked.{request_of, unread};
-ghost use Rattle.relay_session.specs.Session.{AnswersRead, AnswersTo};
+ghost use Rattle.relay_session.specs.Session.{AnswersRead, AnswersTo, lets_ask_again};
 ghost use Rattle.relay_session.specs.Reading.{head_of, with_head, is_body_done, is_body_empty, received, RequestSoFar, IsWhole, IsItem, ReadsOn, ReadsRest, ReadsLink, EndsBy};
 ghost use Rattle.relay_session.specs.Summary.{without_body_fields, request_summary};
 ghost use Rattle.relay_session.specs.TaskWire.{refusal};
@@ -249,6 +249,15 @@ impl HttpSession {
         ensures { result ≡ is_body_empty self.now.reading }
     {
         self.reading.is_body_empty()
+    }
+
+    /// Whether the request lets its client ask for more on the connection: its body is done, it was
+    /// of HTTP/1.1, and no Connection field had the option `close` (RFC 9112, section 9.3). The version
+    /// and the option are those of the head as it came, whatever `req_header_mut` did since.
+    pub fn lets_ask_again(&self) -> bool
+        ensures { result ≡ lets_ask_again self.now }
+    {
+        self.reading.is_body_done() && self.writing.lets_ask()
     }
 
     /// How many bytes of the body were given out; the count stands still at its last value.

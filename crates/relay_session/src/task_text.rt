@@ -6,13 +6,13 @@ ghost use Rattle.relay_h1.specs.Framing.{response_framing};
 ghost use Rattle.relay_h1.specs.Wire.{response_text};
 ghost use Rattle.relay_h1.specs.BodyWire.{after_piece};
 ghost use Rattle.relay_h1.specs.ClientHead.{client_framing, client_head};
-ghost use Rattle.relay_session.specs.Asked.{method_of, asks_of, request_of, unread};
+ghost use Rattle.relay_session.specs.Asked.{method_of, asks_of, request_of, unread, is_http_11, lets_ask};
 ghost use Rattle.relay_session.specs.TaskWire.{piece_sent, piece_refusal, head_sent, head_refusal, with_text, framed_head_sent, framed_head_refusal, framing_of, shown, informed, head_at, head_refusal_at, piece_at, piece_refusal_at, IsFramedInside};
 ghost use Rattle.relay_session.specs.TaskSteps.{GoesOn, HeadGoesOn, HeadGoesOnAt, PieceGoesOnAt, HasPushed};
 
 use bytes::Bytes;
 use http::{Method, Version};
-use relay_h1::{BodyWriter, Framing, Output, client_framing, frame_for_client, is_sent_to};
+use relay_h1::{BodyWriter, Framing, Output, client_framing, closes, frame_for_client, is_sent_to};
 use relay_tasks::{Error, Fail, RequestHeader, ResponseHeader, Result};
 
 /// What a response depends on of its request's method: a response to HEAD has no body.
@@ -24,17 +24,20 @@ pub enum Asks {
     Other,
 }
 
-/// What a response depends on of its request: the method, the version of the client, and whether
-/// it asked for an upgrade.
+/// What a response and its client's connection depend on of the request, as it was read: the method,
+/// the version of the client, whether it asked for an upgrade, and whether it asked to close the
+/// connection: a Connection field has the option `close` (RFC 9112, section 9.6).
 #[derive(Clone, Copy)]
 pub struct Request {
     pub method: Asks,
     pub version: Version,
     pub asked: bool,
+    pub close: bool,
 }
 
 impl Request {
-    /// A request whose head has not come: no HEAD, of HTTP/1.1, that asks for no upgrade.
+    /// A request whose head has not come: no HEAD, of HTTP/1.1, that asks for no upgrade and not to
+    /// close.
     pub fn unread() -> Request
         ensures { result ≡ unread }
     {
@@ -42,6 +45,7 @@ impl Request {
             method: Asks::Other,
             version: Version::HTTP_11,
             asked: false,
+            close: false,
         }
     }
 
@@ -63,8 +67,23 @@ impl Request {
             method: asks_of(head.method()),
             version: head.version(),
             asked: false,
+            close: closes(head.headers()),
         }
     }
+
+    /// Whether it lets its client ask for more behind it: it is of HTTP/1.1, and does not ask to close
+    /// (RFC 9112, section 9.3).
+    pub(crate) fn lets_ask(&self) -> bool
+        ensures { result ≡ lets_ask self.now }
+    {
+        is_http_11(self.version) && !self.close
+    }
+}
+
+fn is_http_11(version: Version) -> bool
+    ensures { result ≡ is_http_11 version }
+{
+    version == Version::HTTP_11
 }
 
 /// What a response depends on of that method.

@@ -5,6 +5,7 @@ ghost use Rattle.relay_tasks.specs.declared.task.HttpTask.{HttpTask};
 ghost use Rattle.relay_tasks.specs.Head.{IsStatus};
 ghost use Rattle.relay_links.specs.Count.{last_count};
 ghost use Rattle.relay_h1.specs.Move.{taken};
+ghost use Rattle.relay_session.specs.Asked.{lets_ask};
 ghost use Rattle.relay_session.specs.TaskWire.{bytes_of, head_at, head_refusal_at, piece_at, piece_refusal_at, refusal};
 ghost use Rattle.relay_session.specs.TaskSteps.{HeadGoesOnAt, PieceGoesOnAt};
 ghost use Rattle.relay_session.specs.Generated.{answer_tasks, body_answer_tasks, AnswersText, IsKeptFault, IsFaultOrMemory};
@@ -59,6 +60,13 @@ impl Writing {
         ensures starts { (sent : List ℕ) → Holds self.old [] sent → Holds self.new [] sent }
     {
         self.request = request;
+    }
+
+    /// Whether the request that it answers lets its client ask for more, once its body is done.
+    pub(crate) fn lets_ask(&self) -> bool
+        ensures { result ≡ lets_ask self.now.request }
+    {
+        self.request.lets_ask()
     }
 
     /// Whether bytes wait for the link.

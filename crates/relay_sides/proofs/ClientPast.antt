@@ -48,11 +48,12 @@ begins s came link ahead session b = record {
     framing = b.framing;
     len = b.len;
     has = b.has;
-    is_head = b.is_head;
+    has_head = b.has_head;
     answers = b.answers;
     body = [];
     request = b.request;
     joined = refl;
+    some = tt;
     ended = λ none. absurd (cc);
     whole = λ done. inr (refl, sym b.done ∙ done);
     headed = λ has_none. b.done ∙ has_none;
@@ -120,6 +121,5 @@ pub no_head : (s : Origin) (p : DownPast) (link : LinkState) (ahead : List ℕ)
     → has ≡ false → (IsSome (head_of session.reading) → IsTrue has)
     → ¬ (HasPassed s p link ahead session done finished broken)
 no_head s p link ahead session done finished broken has none told h =
-    let some : IsSome (head_of session.reading) = rw h.client.is_head refl in
-    let wrong = sym none ∙ told some in
+    let wrong = sym none ∙ told h.client.has_head in
     absurd (cc)

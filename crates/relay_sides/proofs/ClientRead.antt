@@ -34,7 +34,7 @@ use Rattle.relay_core.specs.Down.{ReadsPiece}
 use Rattle.relay_core.specs.Past.{Origin, DownPast, GaveBytes, DownGoes, put_in, error_of_took}
 use Rattle.relay_core.specs.Piece.{put_of}
 use Rattle.relay_peer.specs.Body.{body_of}
-use Rattle.relay_sides.specs.Client.{IsClient, HasPassed, IsUnanswered, ClientBlames, state_of, piece_answer, told_read, given_to}
+use Rattle.relay_sides.specs.Client.{HaveSome, IsClient, HasPassed, IsUnanswered, ClientBlames, state_of, piece_answer, told_read, given_to}
 use Rattle.relay_sides.specs.Client as client
 use Rattle.relay_peer.specs.Faults.{TellsSince}
 use Rattle.relay_sides.proofs.ClientPast.{stands_at, reading_whole, body_of-append, rose_from, failed_still}
@@ -94,6 +94,15 @@ put_ends [] true = refl
 put_ends [] false = refl
 put_ends (x ∷ bytes) true = rw (some_items x bytes) refl
 put_ends (x ∷ bytes) false = rw (some_items x bytes) refl
+
+-- it has a byte, or it is the end
+put_some : (bytes : List ℕ) (done : Bool)
+    → HaveSome
+    (put_of false (record { bytes = Some bytes; upstream_end = done; client_end = done }))
+put_some [] true = (inr refl, tt)
+put_some [] false = tt
+put_some (x ∷ bytes) done =
+    rw (some_items x bytes) ((inl (omega (arith, length-append (x ∷ []) bytes)), tt))
 
 module _
     (before after : LinkState) (ahead left : List ℕ) (old new : HttpSession)
@@ -208,12 +217,19 @@ reads_more s p before after ahead left old new (took.Waited pause) done h l is =
 reads_more s p before after ahead left old new took.End done h l is = absurd (cc)
 reads_more s p before after ahead left old new (took.Failed why) done h l is = absurd (cc)
 
+-- pieces that have some, and more of them
+have_more : (tasks more : List HttpTask) → HaveSome tasks → HaveSome more
+    → HaveSome (tasks ++ more)
+have_more [] more have behind = behind
+have_more (task ∷ tasks) more have behind = (have.0, have_more tasks more have.1 behind)
+
 -- what a read puts, by the body before and behind it
 record Puts (old_done new_done : Bool) (answer : Took (List ℕ)) (put : List HttpTask) : Type 0 where
   ends : list_any is_end put ≡ true → new_done ≡ true
   ended : old_done ≡ false → new_done ≡ true → list_any is_end put ≡ true
   none : old_done ≡ true → put ≡ []
   body : body_of put ≡ piece_of answer
+  some : HaveSome put
 
 -- a read that puts nothing
 puts_nothing : (old_done new_done : Bool) (answer : Took (List ℕ)) → piece_of answer ≡ []
@@ -223,6 +239,7 @@ puts_nothing old_done new_done answer none is_open = record {
   ended = λ open_still done. let wrong = sym (is_open open_still) ∙ done in absurd (cc);
   none = λ done. refl;
   body = sym none;
+  some = tt;
 }
 
 -- what a read of the session puts, and what passed with it
@@ -235,6 +252,7 @@ puts before after ahead left old new (took.Item bytes) l = record {
   ended = λ open_still done. put_ends bytes (is_body_done new.reading) ∙ done;
   none = λ done. absurd (l.watches (l.is_still ∙ done));
   body = put_body bytes (is_body_done new.reading);
+  some = put_some bytes (is_body_done new.reading);
 }
 puts before after ahead left old new took.More l =
     puts_nothing _ _ took.More refl (λ open_still. l.ends (l.is_still ∙ open_still))
@@ -249,6 +267,7 @@ puts before after ahead left old new took.End l = record {
   ended = λ open_still done. refl;
   none = λ done. absurd (l.watches (l.is_still ∙ done));
   body = refl;
+  some = (inr refl, tt);
 }
 puts before after ahead left old new (took.Failed why) l =
     puts_nothing _ _ (took.Failed why) refl (λ open_still. l.ends (l.is_still ∙ open_still))
@@ -324,12 +343,13 @@ module _
     len = h.len;
     has = subst (λ (given : List ℕ). HasRequest given h.head h.framing h.len) (sym all_given)
         (HasRequest-append (given_to s p) r.came h.head h.framing h.len h.has);
-    is_head = l.head ∙ h.is_head;
+    has_head = rw l.head h.has_head;
     answers = ap (λ (w : Writing). w.request) l.response ∙ h.answers;
     body = h.body ++ piece_of answer;
     request = request_on;
     joined = body_of-append p.put put ∙ ap (λ (xs : List ℕ). xs ++ body_of put) h.joined
         ∙ ap (λ (xs : List ℕ). h.body ++ xs) puts.body;
+    some = have_more p.put put h.some puts.some;
     ended = ended_on;
     whole = whole_on;
     headed = λ has_none. done_stays before after ahead left old new answer l (h.headed has_none);

@@ -226,11 +226,12 @@ writes_on s p before after ahead left old new done finished broken answer (outgo
           framing = h.client.framing;
           len = h.client.len;
           has = h.client.has;
-          is_head = rw reading h.client.is_head;
+          has_head = rw reading h.client.has_head;
           answers = ap (λ (r : Writing). r.request) rest ∙ h.client.answers;
           body = h.client.body;
           request = rw (reading, kept) h.client.request;
           joined = h.client.joined;
+          some = h.client.some;
           ended = rw reading h.client.ended;
           whole = rw reading h.client.whole;
           headed = rw reading h.client.headed;

@@ -1,6 +1,6 @@
 -- The client's side: what passed between a client and its session since the request began, and why
 -- the side answers with an error (RFC 9112, sections 6 and 7).
-use Rattle.std.specs.Prelude.{◌≡◌, ℕ, ◌<◌, ◌≤◌, Bool, true, false, not, ◌||◌, ◌==◌, ◌⊎◌, List, [], ◌∷◌, ◌++◌, length, Option, Some, None, is_some, Result, Ok, Err}
+use Rattle.std.specs.Prelude.{◌≡◌, ℕ, ◌<◌, ◌≤◌, Bool, true, false, not, ◌||◌, ◌==◌, ◌⊎◌, List, [], ◌∷◌, ◌++◌, length, Option, Some, None, IsSome, is_some, Result, Ok, Err}
 use Rattle.std.specs.List.{list_any}
 use Rattle.relay_tasks.specs.declared.error.Error.{Error}
 use Rattle.relay_tasks.specs.declared.error.Fail.{Fail}
@@ -35,7 +35,7 @@ use Rattle.relay_core.specs.Pipe.{is_failure}
 use Rattle.relay_core.specs.declared.piece.Piece.{Piece}
 use Rattle.relay_core.specs.declared.told.Told.{Told}
 use Rattle.relay_core.specs.Told.{paused, failed}
-use Rattle.relay_peer.specs.Body.{body_of}
+use Rattle.relay_peer.specs.Body.{body_of, bytes_of}
 use Rattle.relay_peer.specs.Faults.{TellsSince, IsAmong, IsLast}
 
 -- the bytes of the client since its request began, those that were ahead then first
@@ -72,6 +72,15 @@ pub record AnsweredWrite (s : Origin) (link : LinkState) (fault : Fault) : Type 
 abbrev pub FailsWrite : Origin → LinkState → Fault → Type 0
 FailsWrite s link fault = Rose s.faults link.faults × AnsweredWrite s link fault
 
+-- a piece that was put has a byte of the body, or it is an end
+abbrev pub HasSome : HttpTask → Type 0
+HasSome task = (0 < length (bytes_of task)) ⊎ (is_end task ≡ true)
+
+-- so has each of them
+abbrev pub HaveSome : List HttpTask → Type 0
+HaveSome [] = Unit {0}
+HaveSome (task ∷ tasks) = HasSome task × HaveSome tasks
+
 -- what passed since the request began, which is told by the client's link: the request as far as it
 -- was read, whose body the pieces are, and the response as far as it was queued
 pub record IsClient
@@ -84,13 +93,14 @@ pub record IsClient
   pub framing : Framing
   pub len : ℕ
   pub has : HasRequest (given_to s p) head framing len
-  pub is_head : head_of session.reading ≡ Some head
+  pub has_head : IsSome (head_of session.reading)
   pub own : head ≡ s.head
   pub answers : session.writing.request ≡ request_of head
   pub body : List ℕ
   pub request : RequestSoFar (given_to s p) body ahead session.reading
   -- the pieces, joined, are the body that was given out; an end among them is the body's
   pub joined : body_of p.put ≡ body
+  pub some : HaveSome p.put
   pub ended : list_any is_end p.put ≡ true → is_body_done session.reading ≡ true
   pub whole : is_body_done session.reading ≡ true
       → (list_any is_end p.put ≡ true) ⊎ ((p.put ≡ []) × (ends_with_head framing ≡ true))
@@ -141,7 +151,7 @@ pub record BeginsBehind
   pub framing : Framing
   pub len : ℕ
   pub has : HasRequest (s.ahead ++ came) head framing len
-  pub is_head : head_of session.reading ≡ Some head
+  pub has_head : IsSome (head_of session.reading)
   pub own : head ≡ s.head
   pub answers : session.writing.request ≡ request_of head
   pub request : RequestSoFar (s.ahead ++ came) [] ahead session.reading

@@ -178,7 +178,7 @@ fn asks_to_close(task: &HttpTask) -> bool
 impl<U: Up> Up for Filtered<U> {
     ghost state = { λ f. state_over (U.state f.inner) f.upgraded f.stopped f.told };
 
-    ghost past = { λ f s q. IsFiltered (U.past f.inner s) s.head.method f.of_head f.closes f.stopped
+    ghost past = { λ f s q. IsFiltered (U.past f.inner s) s.sent.method f.of_head f.closes f.stopped
         f.told (U.state f.inner).told q };
 
     ghost blames = { λ f s q e. BlamesOver (U.blames f.inner s) f.stopped q e };

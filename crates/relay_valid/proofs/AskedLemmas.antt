@@ -13,6 +13,7 @@ use Rattle.relay_h1.specs.Verdict.{HasRequest, IsRefusedRequest}
 use Rattle.relay_h1.specs.declared.framing.Framing.{Framing}
 use Rattle.relay_h1.proofs.VerdictLemmas.{HasRequest-IsRefusedRequest, HasRequest-unique, HasRequest-append, IsRefusedRequest-append}
 use Rattle.relay_core.specs.Past.{Origin}
+use Rattle.relay_attempt.specs.Agrees.{Agrees}
 use Rattle.relay_attempt.specs.Passed.{Passed, asked}
 use Rattle.relay_valid.specs.Valid.{AsksFor, AnswersWith, IsValid}
 
@@ -37,10 +38,10 @@ asks_unrefused s p client why asks refused =
 
 -- a valid exchange, over a link that had been used before or not
 pub valid_over : (s : Origin) (p : Passed) (client link : LinkState) (start : LinkStart)
-    (reused : Bool) → AsksFor s p client → AnswersWith s.head.method s.asked p link
-    → ¬ (Rose s.faults client.faults) → ¬ (Rose start.faults link.faults)
+    (reused : Bool) → AsksFor s p client → AnswersWith s.sent.method s.asked p link
+    → Agrees s.head s.sent → ¬ (Rose s.faults client.faults) → ¬ (Rose start.faults link.faults)
     → IsValid (record s { reused = reused }) p client link start
-valid_over s p client link start reused asks answers calm still = record {
+valid_over s p client link start reused asks answers agrees calm still = record {
   asks = record {
     request = asks.request;
     gives = asks.gives;
@@ -48,6 +49,7 @@ valid_over s p client link start reused asks answers calm still = record {
     stays = asks.stays;
   };
   answers = answers;
+  agrees = agrees;
   client_faultless = calm;
   link_faultless = still;
 }

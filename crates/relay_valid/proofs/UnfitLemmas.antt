@@ -77,17 +77,17 @@ ended_or_cut n same = cc
 
 -- a response that was relayed whole is not unfit
 pub relayed_fit : (s : Origin) (p : Passed) (link : LinkState) (start : LinkStart)
-    → IsRelayed s p link start → IsUnfit s.head.method s.asked p.got link.ended → ⊥
+    → IsRelayed s p link start → IsUnfit s.sent.method s.asked p.got link.ended → ⊥
 relayed_fit s p link start relayed (unfit.IsUnfit.is_broken said tasks is) =
     ended_or_broken relayed.n
     (ap (λ (t : ResponseText). t.mark)
-    (Tasks-unique s.head.method s.asked p.got link.ended _ said relayed.whole tasks) ∙ is)
+    (Tasks-unique s.sent.method s.asked p.got link.ended _ said relayed.whole tasks) ∙ is)
 relayed_fit s p link start relayed (unfit.IsUnfit.is_cut_off said tasks is) =
     ended_or_cut relayed.n
     (ap (λ (t : ResponseText). t.mark)
-    (Tasks-unique s.head.method s.asked p.got link.ended _ said relayed.whole tasks) ∙ is)
+    (Tasks-unique s.sent.method s.asked p.got link.ended _ said relayed.whole tasks) ∙ is)
 relayed_fit s p link start relayed (unfit.IsUnfit.switches said final tasks is switch) =
     final_stays untold relayed.order.are_of.given relayed.order.are_of.stays (λ h none. absurd (cc))
     final
     (ap (λ (t : ResponseText). t.final)
-    (Tasks-unique s.head.method s.asked p.got link.ended _ said relayed.whole tasks) ∙ is) switch
+    (Tasks-unique s.sent.method s.asked p.got link.ended _ said relayed.whole tasks) ∙ is) switch

@@ -279,33 +279,34 @@ head_relayed method upgrade got response informed final given len is front has =
 -- the peer's side answers for no error
 pub peer_blameless : (s : Origin) (p : Passed) (client link : LinkState) (start : LinkStart)
     → IsValid s p client link start → (order : IsInOrder s p link.ended) (lost : Bool) → (e : Error)
-    → PeerBlames start link s.head s.asked (up_past order lost) e → ⊥
+    → PeerBlames start link s.sent s.asked (up_past order lost) e → ⊥
 peer_blameless s p client link start valid order lost e
     (peer_side.PeerBlames.link_failed fault is rose answered) = valid.link_faultless rose
 peer_blameless s p client link start valid order lost e
     (peer_side.PeerBlames.is_cut_off told gone is reads) =
-    response_uncut s.head.method s.asked valid.answers.response told valid.answers.is_response
-    (subst (λ (xs : List ℕ). Tasks s.head.method s.asked xs true (says told cut_off))
+    response_uncut s.sent.method s.asked valid.answers.response told valid.answers.is_response
+    (subst (λ (xs : List ℕ). Tasks s.sent.method s.asked xs true (says told cut_off))
     (valid.answers.ends gone) reads)
 peer_blameless s p client link start valid order lost e
     (peer_side.PeerBlames.is_broken why closed came told is front reads breaks) =
-    response_unbroken s.head.method s.asked came valid.answers.response closed told
+    response_unbroken s.sent.method s.asked came valid.answers.response closed told
     valid.answers.is_response
     (front_then came p.got valid.answers.response front valid.answers.gives) reads
 peer_blameless s p client link start valid order lost e
     (peer_side.PeerBlames.is_short_request front pieces first found joined short is) =
-    never_both short (request_unshort s p link.ended order front pieces first found joined)
+    never_both short (request_unshort s valid.agrees p link.ended order front pieces first found
+    joined)
 
 -- no head of its response is refused
 pub head_blameless : (s : Origin) (p : Passed) (client link : LinkState) (start : LinkStart)
-    → IsValid s p client link start → (e : Error) → RefusesHead s.head.method s.asked p.got e → ⊥
+    → IsValid s p client link start → (e : Error) → RefusesHead s.sent.method s.asked p.got e → ⊥
 head_blameless s p client link start valid e
     (filtered.RefusesHead.switches informed final given len has is_switch is) =
-    (head_relayed s.head.method s.asked p.got valid.answers.response informed final given len
+    (head_relayed s.sent.method s.asked p.got valid.answers.response informed final given len
     valid.answers.is_response valid.answers.gives has).stays is_switch
 head_blameless s p client link start valid e
     (filtered.RefusesHead.is_full informed final given len has lacks refuses is) =
-    (head_relayed s.head.method s.asked p.got valid.answers.response informed final given len
+    (head_relayed s.sent.method s.asked p.got valid.answers.response informed final given len
     valid.answers.is_response valid.answers.gives has).room lacks refuses
 
 -- no valid exchange fails

@@ -17,7 +17,7 @@ ValidNeverFails = (s : Origin) (p : Passed) (client link : LinkState) (start : L
 -- no response is relayed whole that is broken, cut off or switches protocols
 abbrev pub RelayedIsFit : Type 0
 RelayedIsFit = (s : Origin) (p : Passed) (link : LinkState) (start : LinkStart)
-    → IsRelayed s p link start → ¬ (IsUnfit s.head.method s.asked p.got link.ended)
+    → IsRelayed s p link start → ¬ (IsUnfit s.sent.method s.asked p.got link.ended)
 
 -- no head of a valid request is refused, however much of the request has come
 abbrev pub ValidNeverRefused : Type 0

@@ -12,6 +12,7 @@ use Rattle.relay_h1.specs.Verdict.{HasRequest}
 use Rattle.relay_h1.specs.declared.framing.Framing.{Framing}
 use Rattle.relay_core.specs.Past.{Origin}
 use Rattle.relay_peer.specs.Body.{IsFrontOf}
+use Rattle.relay_attempt.specs.Agrees.{Agrees}
 use Rattle.relay_attempt.specs.Passed.{Passed, asked}
 
 -- the text is a request with that head: its head, its body, and nothing behind them
@@ -55,10 +56,12 @@ pub record AnswersWith (method : List ℕ) (upgrade : Bool) (p : Passed) (link :
   pub is_response : IsResponse method upgrade response
   pub ends : link.ended ≡ true → p.got ≡ response
 
--- a valid exchange, in which no call of a link failed
+-- a valid exchange, in which no call of a link failed; the head that is sent agrees with the
+-- client's
 pub record IsValid (s : Origin) (p : Passed) (client link : LinkState) (start : LinkStart)
     : Type 0 where
   pub asks : AsksFor s p client
-  pub answers : AnswersWith s.head.method s.asked p link
+  pub answers : AnswersWith s.sent.method s.asked p link
+  pub agrees : Agrees s.head s.sent
   pub client_faultless : ¬ (Rose s.faults client.faults)
   pub link_faultless : ¬ (Rose start.faults link.faults)

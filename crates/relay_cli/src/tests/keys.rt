@@ -1,7 +1,8 @@
-//! What a script is read as where no report shows it: its turns, and each branch of its schedule.
+//! What a script is read as where no report shows it: its turns, each branch of its schedule, and
+//! how many peers and requests it may have.
 use crate::script::{ScriptError, read_script};
 use relay_links::{BRANCHES, Branch};
-use std::alloc::Global;
+use std::alloc::{AllocError, Global};
 
 /// Whether a text spells a script of so many turns and that schedule.
 fn spells(alloc: Global, text: &str, turns: u64, schedule: &[Branch]) -> bool {
@@ -32,4 +33,40 @@ fn reads_its_turns_and_each_branch_by_its_name(rt: HostRuntime) {
     let again = [Branch::DownRead, Branch::UpTake, Branch::DownRead];
     assert!(rt; spells(alloc, AGAIN, 1_000_000, &again));
     assert!(rt; spells(alloc, FULL, 7, &[Branch::UpRead]));
+}
+
+/// How many peers and requests a script has of so many peers, and with so many requests where a
+/// number is given; none where it is refused.
+fn counted(
+    alloc: Global,
+    peers: usize,
+    requests: Option<u64>,
+) -> Result<Option<(usize, u64)>, AllocError> {
+    let mut text = "{\"client\":[],\"peers\":[".to_string(alloc)?;
+    for at in 0..peers {
+        text.push_str(if at == 0 { "" } else { "," })?;
+        text.push_str("{\"name\":\"a\"}")?;
+    }
+    text.push_str("]")?;
+    if let Some(requests) = requests {
+        text.push_str(format!(in alloc; ",\"requests\":{requests}")?.as_str())?;
+    }
+    text.push_str("}")?;
+    match read_script(alloc, text.as_bytes()) {
+        Ok(script) => Ok(Some((script.peers.len(), script.requests))),
+        Err(ScriptError::Refused) => Ok(None),
+        Err(ScriptError::OutOfMemory) => Err(AllocError),
+    }
+}
+
+#[test]
+fn reads_up_to_1024_peers_and_requests(rt: HostRuntime) -> Result<(), AllocError> {
+    let alloc = rt.alloc();
+    assert_eq!(rt; counted(alloc, 0, None)?, Some((0, 1)));
+    assert_eq!(rt; counted(alloc, 2, Some(1_024))?, Some((2, 1_024)));
+    assert_eq!(rt; counted(alloc, 1_024, Some(1))?, Some((1_024, 1)));
+    assert_eq!(rt; counted(alloc, 1_025, None)?, None);
+    assert_eq!(rt; counted(alloc, 1, Some(0))?, None);
+    assert_eq!(rt; counted(alloc, 1, Some(1_025))?, None);
+    Ok(())
 }

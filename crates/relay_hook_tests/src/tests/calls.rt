@@ -1,20 +1,26 @@
-//! Each hook, called once over a session of its own: that of a request for `/a` without a body, of
-//! which nothing was answered. What comes of it is a plain value.
-ghost use Rattle.std.specs.Prelude.{IfOk};
+//! Each hook, and each filter of the modules through its wrapper, called once over a session of its
+//! own: that of a request for `/a` without a body, of which nothing was answered. What comes of it
+//! is a plain value.
+ghost use Rattle.std.specs.Prelude.{IfOk, IsSome};
 ghost use Rattle.relay_hooks.specs.Session.{IsReady};
 
 use bytes::Bytes;
 use http::Method;
 use http_header::{HeaderMap, VIA};
+use relay_calls::{
+    call_module_request_body, call_module_response_body, call_module_response_done,
+    call_module_response_header, call_module_response_trailer,
+};
 use relay_h1::Framing;
 use relay_hooks::{FailToProxy, ProxyHttp, ProxyWarnLogContext, PurgeStatus, Session};
 use relay_session::{HttpSession, generated_head};
 use relay_tasks::{Error, Fail, Peer, PurgeAction, RequestHeader, ResponseHeader, Result};
 use std::alloc::Global;
 
-/// The session of a request with that method.
+/// The session of a request with that method, of which modules were made.
 fn session_of<A: ProxyHttp>(app: &A, alloc: Global, method: &Method) -> Result<Session<A::Modules>>
-    ensures { IfOk result (λ session. IsReady session.seen) }
+    ensures ready { IfOk result (λ session. IsReady session.seen) }
+    ensures made { IfOk result (λ session. IsSome session.modules) }
 {
     let modules = app.init_downstream_modules(alloc)?;
     let head = RequestHeader::build(alloc, method, b"/a")?;
@@ -25,7 +31,7 @@ fn session_of<A: ProxyHttp>(app: &A, alloc: Global, method: &Method) -> Result<S
 /// Lets go of a value. To drop a session is dear to prove, so no other place does.
 fn release<T: Drop>(_value: T) {}
 
-fn peer() -> Peer {
+pub(crate) fn peer() -> Peer {
     Peer {
         address: Bytes::from_static(b"h"),
         tls: true,
@@ -459,4 +465,95 @@ fn filter_purge<A: ProxyHttp>(app: &A, alloc: Global, session: &Session<A::Modul
     let told = of_response(head);
     left?;
     Ok(told)
+}
+
+// ---- the filters of the modules, through their wrappers
+
+/// The first byte of what is left of the piece `hi` of the request, and how many calls were
+/// entered.
+pub(crate) fn module_request_body<A: ProxyHttp + Drop>(
+    app: A,
+    alloc: Global,
+) -> Result<(Option<u8>, usize)> {
+    let mut session = session_of(&app, alloc, &Method::GET)?;
+    let ctx = app.new_ctx();
+    let mut piece = Some(Bytes::from_static(b"hi"));
+    let answer = call_module_request_body(&app, &mut session, &ctx, &mut piece, true);
+    let entries = session.seen.log.len();
+    release(session);
+    let first = first_of(piece);
+    answer?;
+    Ok((first, entries))
+}
+
+/// The same of a piece of the response.
+pub(crate) fn module_response_body<A: ProxyHttp + Drop>(
+    app: A,
+    alloc: Global,
+) -> Result<(Option<u8>, usize)> {
+    let mut session = session_of(&app, alloc, &Method::GET)?;
+    let ctx = app.new_ctx();
+    let mut piece = Some(Bytes::from_static(b"hi"));
+    let answer = call_module_response_body(&app, &mut session, &ctx, &mut piece, true);
+    let entries = session.seen.log.len();
+    release(session);
+    let first = first_of(piece);
+    answer?;
+    Ok((first, entries))
+}
+
+/// What becomes of a head with the status 204, and how many calls were entered.
+pub(crate) fn module_response_header<A: ProxyHttp + Drop>(
+    app: A,
+    alloc: Global,
+) -> Result<(Told, usize)> {
+    let mut session = session_of(&app, alloc, &Method::GET)?;
+    let answer = pass_head(&app, alloc, &mut session);
+    let entries = session.seen.log.len();
+    release(session);
+    Ok((answer?, entries))
+}
+
+fn pass_head<A: ProxyHttp>(
+    app: &A,
+    alloc: Global,
+    session: &mut Session<A::Modules>,
+) -> Result<Told>
+    requires ready { IsReady session.old.seen }
+    requires made { IsSome session.old.modules }
+{
+    let mut head = ResponseHeader::build(alloc, 204)?;
+    let ctx = app.new_ctx();
+    let left = call_module_response_header(app, session, &ctx, &mut head, true);
+    let told = of_response(head);
+    left?;
+    Ok(told)
+}
+
+/// Whether bytes end the body in the place of trailer fields, and how many calls were entered.
+pub(crate) fn module_response_trailer<A: ProxyHttp + Drop>(
+    app: A,
+    alloc: Global,
+) -> Result<(bool, usize)> {
+    let mut session = session_of(&app, alloc, &Method::GET)?;
+    let ctx = app.new_ctx();
+    let mut trailers = Some(HeaderMap::new(alloc));
+    let answer = call_module_response_trailer(&app, &mut session, &ctx, &mut trailers);
+    let entries = session.seen.log.len();
+    release(session);
+    release(trailers);
+    Ok((answer?.is_some(), entries))
+}
+
+/// The same at the end of a response.
+pub(crate) fn module_response_done<A: ProxyHttp + Drop>(
+    app: A,
+    alloc: Global,
+) -> Result<(bool, usize)> {
+    let mut session = session_of(&app, alloc, &Method::GET)?;
+    let ctx = app.new_ctx();
+    let answer = call_module_response_done(&app, &mut session, &ctx);
+    let entries = session.seen.log.len();
+    release(session);
+    Ok((answer?.is_some(), entries))
 }

@@ -1,11 +1,13 @@
 //! Each public call of a session with modules once with ample memory, over a module that rewrites
-//! what passes.
+//! what passes; and each wrapper of a filter of the modules once, over modules that leave it.
 ghost use Rattle.std.specs.Prelude.{◌≡◌};
 
+use crate::tests::calls::{self, Told};
 use bytes::Bytes;
 use http::Method;
 use http_header::{CONTENT_LENGTH, HeaderMap, HeaderValue, TRANSFER_ENCODING, VIA};
 use relay_h1::{Connection, Framing};
+use relay_hooks::Defaults;
 use relay_links::{Put, ScriptLink, WriteItem};
 use relay_modules::{HttpModule, Session};
 use relay_session::HttpSession;
@@ -229,4 +231,23 @@ fn answers_without_the_modules(rt: HostRuntime) -> Checked {
     let want = "HTTP/1.1 403 Forbidden\r\nserver: Pingora\r\ncontent-length: 2\r\n\
         cache-control: private, no-store\r\n\r\nno";
     expect_written(&rt, rt.alloc(), &mut session, want)
+}
+
+/// An application whose modules leave what they are given.
+fn app() -> Defaults {
+    Defaults::new(calls::peer())
+}
+
+#[test]
+fn enters_each_call_of_the_modules_once(rt: HostRuntime) {
+    let alloc = rt.alloc();
+    let same = Told {
+        status: 204,
+        via: false,
+    };
+    assert!(rt; calls::module_request_body(app(), alloc) == Ok((Some(b'h'), 1)));
+    assert!(rt; calls::module_response_header(app(), alloc) == Ok((same, 1)));
+    assert!(rt; calls::module_response_body(app(), alloc) == Ok((Some(b'h'), 1)));
+    assert!(rt; calls::module_response_trailer(app(), alloc) == Ok((false, 1)));
+    assert!(rt; calls::module_response_done(app(), alloc) == Ok((false, 1)));
 }

@@ -19,7 +19,7 @@ fn peer() -> Peer {
 }
 
 /// The application with that rule alone.
-fn app_of(alloc: Global, hook: Hook, action: Action) -> Result<ScriptProxy> {
+pub(crate) fn app_of(alloc: Global, hook: Hook, action: Action) -> Result<ScriptProxy> {
     let mut rules = Vec::new(alloc);
     rules.push(Rule { hook, action }).map_err(AllocError::from)?;
     match CheckedRules::new(rules) {

@@ -1,7 +1,8 @@
 use crate::front::Front;
 use crate::session::HttpSession;
 use bytes::Bytes;
-use http_header::{CONTENT_LENGTH, HeaderValue};
+use http::Version;
+use http_header::{CONNECTION, CONTENT_LENGTH, HeaderValue};
 use relay_h1::{Connection, Framing};
 use relay_links::{Put, ReadItem, ScriptLink, WriteItem};
 use relay_tasks::{
@@ -259,4 +260,41 @@ fn refuses_a_head_that_never_stood(rt: HostRuntime) -> Checked {
         &mut client,
         "HTTP/1.1 400 Bad Request\r\nserver: Pingora\r\ncontent-length: 0\r\ncache-control: private, no-store\r\n\r\n",
     )
+}
+
+#[test]
+fn lets_its_client_ask_again(rt: HostRuntime) -> Checked {
+    assert!(rt; !HttpSession::new_http1(rt.alloc()).lets_ask_again());
+    for (text, want) in [
+        (b"GET / HTTP/1.1\r\nHost: h\r\n\r\n".as_slice(), true),
+        (
+            b"GET / HTTP/1.1\r\nHost: h\r\nConnection: te, Close\r\n\r\n".as_slice(),
+            false,
+        ),
+        (b"GET / HTTP/1.0\r\nHost: h\r\n\r\n".as_slice(), false),
+        (
+            b"PUT / HTTP/1.1\r\nHost: h\r\nContent-Length: 1\r\n\r\n".as_slice(),
+            false,
+        ),
+    ] {
+        let mut client = client(rt.alloc(), text)?;
+        let session = session_of(rt.alloc(), &mut client);
+        assert_eq!(rt; session.lets_ask_again(), want);
+    }
+    Ok(())
+}
+
+#[test]
+fn asks_again_by_the_head_as_it_came(rt: HostRuntime) -> Checked {
+    let mut client = client(rt.alloc(), b"GET / HTTP/1.1\r\nHost: h\r\n\r\n")?;
+    let mut session = session_of(rt.alloc(), &mut client);
+    if !session.has_head() {
+        assert!(rt; false, "a head");
+        return Ok(());
+    }
+    let head = session.req_header_mut();
+    head.set_version(Version::HTTP_10);
+    head.insert_header(CONNECTION, HeaderValue::from_bytes(rt.alloc(), b"close")?)?;
+    assert!(rt; session.lets_ask_again());
+    Ok(())
 }

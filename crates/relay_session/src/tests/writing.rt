@@ -22,6 +22,7 @@ fn response(alloc: Global, method: Asks, version: Version) -> Writing {
         method,
         version,
         asked: false,
+        close: false,
     };
     Writing::new(alloc, request)
 }

@@ -32,7 +32,7 @@ loop-turn-init g c =
     Goes (g.D.Down.past t.new.down t.new.client s) (g.D.Down.blames t.new.down t.new.client s)
     (g.D.Down.refuses t.new.down t.new.client s)
     (g.D.Down.cannot_end t.new.down t.new.client s) (g.U.Up.past t.new.up s)
-    (g.U.Up.blames t.new.up s) p q
+    (g.U.Up.blames t.new.up s) p q at
     (core t.new.self (g.D.Down.state t.new.down) (g.U.Up.state t.new.up)) r in
     let Says : Step → Type 0 = λ r. Tells r t.new.self in
     let Silent : Branch → Type 0 = λ b. enabled at b ≡ true → is_silent_for client up b ≡ true in
@@ -48,6 +48,7 @@ loop-turn-init g c =
       t.ensures.peer_start,
       (t.ensures.stands pause.Silent silent).duplex,
       (t.ensures.stands pause.Silent silent).pending,
+      (t.ensures.stands pause.Silent silent).body_finished,
       (t.ensures.stands pause.Silent silent).calls,
     )
 
@@ -74,6 +75,7 @@ loop-turn-preserved-then-not-enabled g c =
       i.8,
       i.9,
       i.10,
+      i.11,
     )
 
 -- the first branch that met no silence goes on from those before it
@@ -81,7 +83,7 @@ pub returns-then-not-is_silent-2-clause-goes : goal.returns-then-not-is_silent-2
 returns-then-not-is_silent-2-clause-goes g c =
     λ s p q f _ _.
     let before = c.loop-turn.invariant.0 s p q f in
-    goes_then _ _ _ _ _ _ p before.p q before.q _ _ before.extends
+    goes_then _ _ _ _ _ _ p before.p q before.q _ _ _ _ before.extends before.adds
     (c.step-step-in-loop-turn.ensures.goes s before.p before.q before.so_far)
 
 -- one more branch met silence, and was passed
@@ -99,6 +101,7 @@ loop-turn-preserved g c =
     (g.D.Down.refuses t.new.down t.new.client s)
     (g.D.Down.cannot_end t.new.down t.new.client s) (g.U.Up.past t.new.up s)
     (g.U.Up.blames t.new.up s) p q
+    (core c.loop-turn.duplex (g.D.Down.state c.loop-turn.down) (g.U.Up.state c.loop-turn.up))
     (core t.new.self (g.D.Down.state t.new.down) (g.U.Up.state t.new.up)) r in
     let Says : Step → Type 0 = λ r. Tells r t.new.self in
     let Silent : Branch → Type 0 = λ b. enabled at b ≡ true → is_silent_for client up b ≡ true in
@@ -106,7 +109,7 @@ loop-turn-preserved g c =
     let m = t.ensures.silent silent in (
       λ s p q f.
           let before = i.0 s p q f in
-          goes_then _ _ _ _ _ _ p before.p q before.q _ _ before.extends
+          goes_then _ _ _ _ _ _ p before.p q before.q _ _ _ _ before.extends before.adds
           (subst (On s before.p before.q) silent
           (t.ensures.goes s before.p before.q before.so_far)),
       subst Says silent t.ensures.tells,
@@ -121,7 +124,8 @@ loop-turn-preserved g c =
       t.ensures.peer_start ∙ i.7,
       (t.ensures.stands pause.Silent silent).duplex ∙ i.8,
       (t.ensures.stands pause.Silent silent).pending ∙ i.9,
-      (t.ensures.stands pause.Silent silent).calls ∙ i.10,
+      (t.ensures.stands pause.Silent silent).body_finished ∙ i.10,
+      (t.ensures.stands pause.Silent silent).calls ∙ i.11,
     )
 
 -- all branches were passed: each that can be taken asks a silent link
@@ -180,7 +184,7 @@ returns-then-not-is_silent-2-clause-moves g c = λ s p q f is.
     moved_from
     (core c.args.duplex.now (g.D.Down.state c.args.down.now) (g.U.Up.state c.args.up.now))
     (core c.loop-turn.duplex (g.D.Down.state c.loop-turn.down) (g.U.Up.state c.loop-turn.up))
-    (core t.new.self (g.D.Down.state t.new.down) (g.U.Up.state t.new.up)) i.8 i.9 i.10 _
+    (core t.new.self (g.D.Down.state t.new.down) (g.U.Up.state t.new.up)) i.8 i.9 i.10 i.11 _
     (g.D.Down.link c.args.client.now) (g.D.Down.link c.loop-turn.client)
     (g.D.Down.link t.new.client) (g.U.Up.link c.args.up.now) (g.U.Up.link c.loop-turn.up)
     (g.U.Up.link t.new.up) i.2 i.3 (t.ensures.moves s before.p before.q before.so_far is)

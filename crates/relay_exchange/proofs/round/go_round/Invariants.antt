@@ -23,7 +23,7 @@ invariant-loop-turn g l =
     (g.U.Up.blames l.fn.up s) at_first p q
     → Goes (g.D.Down.past l.down l.client s) (g.D.Down.blames l.down l.client s)
     (g.D.Down.refuses l.down l.client s) (g.D.Down.cannot_end l.down l.client s)
-    (g.U.Up.past l.up s) (g.U.Up.blames l.up s) p q at (step.Waited pause.Silent))
+    (g.U.Up.past l.up s) (g.U.Up.blames l.up s) p q at_first at (step.Waited pause.Silent))
     × Tells (step.Waited pause.Silent) l.duplex
     × (g.D.Down.link l.client ≡ g.D.Down.link l.fn.client)
     × (g.U.Up.link l.up ≡ g.U.Up.link l.fn.up)
@@ -34,4 +34,5 @@ invariant-loop-turn g l =
     × (g.U.Up.start l.up ≡ g.U.Up.start l.fn.up)
     × (l.duplex ≡ l.fn.duplex)
     × ((g.D.Down.state l.down).pending ≡ (g.D.Down.state l.fn.down).pending)
+    × ((g.D.Down.state l.down).body_finished ≡ (g.D.Down.state l.fn.down).body_finished)
     × ((g.D.Down.state l.down).calls ≡ (g.D.Down.state l.fn.down).calls)

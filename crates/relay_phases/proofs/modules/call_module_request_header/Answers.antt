@@ -3,6 +3,7 @@ use Rattle.std.proofs.Common.{◌≡◌, Some, ap, subst, ◌∙◌}
 use Rattle.std.proofs.lemmas.Result.{err_from_is_err_and}
 use Rattle.relay_tasks.specs.declared.log.Item.{Item}
 use Rattle.relay_modules.specs.Filtering.{FiltersRequest}
+use Rattle.relay_modules.specs.Module.{AllowsMade}
 use Rattle.relay_modules.specs.declared.seen.Seen.{Seen}
 use Rattle.relay_hooks.specs.Call.{changed}
 use Rattle.relay_hooks.specs.Session.{moment, request_head}
@@ -14,7 +15,7 @@ use Rattle.relay_phases.proofs.modules.call_module_request_header.Goals as goal
 pub returns-in_err-made-clause-calls : goal.returns-in_err-made-clause-calls
 returns-in_err-made-clause-calls g c =
     let log : c.filter_request_header-answer.new.self.seen.log ≡ c.args.session.now.seen.log =
-    filters_log (g.M.HttpModule.allows c.args.session.now.modules)
+    filters_log (AllowsMade g.M.HttpModule.allows c.args.session.now.modules)
     c.filter_request_header-answer.result c.begin_with_head.new.seen
     c.filter_request_header-answer.new.self.seen
     c.filter_request_header-answer.ensures.filters
@@ -27,12 +28,14 @@ returns-in_err-made-clause-calls g c =
 
 pub returns-clause-calls : goal.returns-clause-calls
 returns-clause-calls g c =
-    entered_head (g.M.HttpModule.allows c.args.session.now.modules) c.args.session.now.seen
+    entered_head (AllowsMade g.M.HttpModule.allows c.args.session.now.modules)
+    c.args.session.now.seen
     c.filter_request_header-answer.new.self.seen c.log_call.new.seen c.args.mark
     c.filter_request_header-answer.result c.in_ok-begun.begun c.in_ok-outcome.outcome
     (request_head c.filter_request_header-answer.new.self.seen)
     (subst
-    (λ (s : Seen). FiltersRequest (g.M.HttpModule.allows c.args.session.now.modules)
+    (λ (s : Seen).
+    FiltersRequest (AllowsMade g.M.HttpModule.allows c.args.session.now.modules)
     c.filter_request_header-answer.result s c.filter_request_header-answer.new.self.seen)
     c.in_ok-begun.ensures.seen c.filter_request_header-answer.ensures.filters)
     c.session_item.ensures.shown c.in_ok-begun.ensures.begun

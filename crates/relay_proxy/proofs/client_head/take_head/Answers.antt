@@ -1,18 +1,42 @@
--- A request for a tunnel is given its answer.
-use Rattle.std.proofs.Common.{refl}
+-- A head that the entry check refuses, and a request for a tunnel, are given their answers.
+use Rattle.std.proofs.Common.{refl, ap, ◌∙◌, Some}
+use Rattle.relay_tasks.specs.declared.Error.{Error}
+use Rattle.relay_tasks.specs.declared.ErrorSource.TheVariants.{Downstream}
 use Rattle.relay_proxy.specs.Endings as endings
 use Rattle.relay_proxy.specs.Turn.{world_of}
 use Rattle.relay_proxy.proofs.client_head.take_head.Goals as goal
 
+-- a head that the entry check refuses is turned down, for the first line that applies
+pub returns-in-Err-clause-run : goal.returns-in-Err-clause-run
+returns-in-Err-clause-run g c = λ s p faults run has.
+    let refused = c.in-Err.ensures in
+    c.give_answer.ensures.run s p _ run
+    (endings.IsTurnedDown.is_not_entered c.args.read.head c.args.read.framing c.args.read.len
+    refused.0 has refused.2 refl
+    (ap Some (c.into_down.ensures
+    ∙ ap (λ (e : Error). record e { esource = Downstream }) refused.1)))
+
+-- its cause is that of the answer
+pub returns-in-Err-clause-cause : goal.returns-in-Err-clause-cause
+returns-in-Err-clause-cause g c = λ faults.
+    let w = world_of g.D.ByteLink.state c.args.client.now faults in
+    c.give_answer.ensures.cause w w
+
 -- a request for a tunnel is turned down
 pub returns-then-is_connect-clause-run : goal.returns-then-is_connect-clause-run
 returns-then-is_connect-clause-run g c = λ s p faults run has.
-    c.give_answer.ensures.run s p _ run
+    c.give_answer-then-is_connect.ensures.run s p _ run
     (endings.IsTurnedDown.asks_to_connect c.args.read.head c.args.read.framing c.args.read.len has
-    (c.if-is_connect.ensures.0 refl) refl refl)
+    c.in_default.ensures (c.if-is_connect.ensures.0 refl) refl refl)
 
 -- the cause is that of the answer
 pub returns-then-is_connect-clause-cause : goal.returns-then-is_connect-clause-cause
 returns-then-is_connect-clause-cause g c = λ faults.
     let w = world_of g.D.ByteLink.state c.args.client.now faults in
-    c.give_answer.ensures.cause w w
+    c.give_answer-then-is_connect.ensures.cause w w
+
+-- any other is looked at further
+pub returns-clause-run : goal.returns-clause-run
+returns-clause-run g c = λ s p faults run has.
+    c.accept_head.ensures.run s p faults run has c.in_default.ensures
+    (λ asks. let clash = c.if-is_connect.ensures.1 asks in cc)

@@ -11,9 +11,13 @@ use Rattle.relay_proxy.proofs.connecting.connect.Goals as goal
 -- the run goes on over the link that the connector gave
 pub returns-in-Ok-get-clause-run : goal.returns-in-Ok-get-clause-run
 returns-in-Ok-get-clause-run g c = λ s p client ahead run.
-    rw c.in-Ok-get.ensures.no_fault (c.begin.ensures.run s p
+    rw c.in-Ok-get.ensures.no_fault (c.send.ensures.run s p
     (world_with client ahead (g.K.Connector.fault_count c.args.connector.now)) run
-    (rw c.deref.ensures at c.in-Some.ensures) c.in-Ok-get.ensures.handed c.asked_peer-peer.ensures)
+    c.in-Ok-get.ensures.handed c.asked_peer-peer.ensures)
+
+-- the copy is that of the session's head
+pub send-requires : goal.send-requires
+send-requires g c = rw c.deref.ensures at c.in-Some.ensures
 
 -- where it gave none the request ends with its fault
 pub returns-in-Err-clause-run : goal.returns-in-Err-clause-run
@@ -28,9 +32,9 @@ pub returns-in-Ok-get-clause-offers : goal.returns-in-Ok-get-clause-offers
 returns-in-Ok-get-clause-offers g c =
     subst (λ (os : List Offer).
     Takes (g.K.Connector.stock c.args.connector.now) os (g.K.Connector.stock c.get.new.self))
-    (sym (held_offers g.K.Byte.ByteLink.start c.begin.result.phase _ c.begin.ensures.items
-    (none_before_link g.K.Byte.ByteLink.state g.K.Byte.ByteLink.start c.begin.result.phase
-    c.begin.ensures.linked)))
+    (sym (held_offers g.K.Byte.ByteLink.start c.send.result.phase _ c.send.ensures.items
+    (none_before_link g.K.Byte.ByteLink.state g.K.Byte.ByteLink.start c.send.result.phase
+    c.send.ensures.linked)))
     (takes_link _ _ _ c.in-Ok-get.ensures.first)
 
 -- and so was the fault of one that was refused
@@ -46,7 +50,7 @@ returns-in-Err-clause-offers g c =
 -- over a link the cause is that of the beginning of the exchange
 pub returns-in-Ok-get-clause-cause : goal.returns-in-Ok-get-clause-cause
 returns-in-Ok-get-clause-cause g c = λ client ahead.
-    c.begin.ensures.cause
+    c.send.ensures.cause
     (world_with client ahead (g.K.Connector.fault_count c.args.connector.now))
     (world_with client ahead (g.K.Connector.fault_count c.get.new.self))
 
@@ -54,7 +58,7 @@ returns-in-Ok-get-clause-cause g c = λ client ahead.
 pub returns-in-Ok-get-clause-refusals : goal.returns-in-Ok-get-clause-refusals
 returns-in-Ok-get-clause-refusals g c =
     none_added _ _ _ (none_before_link g.K.Byte.ByteLink.state g.K.Byte.ByteLink.start
-    c.begin.result.phase c.begin.ensures.linked) c.in-Ok-get.ensures.calm
+    c.send.result.phase c.send.ensures.linked) c.in-Ok-get.ensures.calm
 
 -- one that was not given is one refusal more
 pub returns-in-Err-clause-refusals : goal.returns-in-Err-clause-refusals
@@ -71,4 +75,4 @@ returns-in-Err-clause-cause g c = λ client ahead.
 
 -- a link that was given was not asked yet
 pub returns-in-Ok-get-clause-fresh : goal.returns-in-Ok-get-clause-fresh
-returns-in-Ok-get-clause-fresh g c = c.begin.ensures.fresh c.in-Ok-get.ensures.handed
+returns-in-Ok-get-clause-fresh g c = c.send.ensures.fresh c.in-Ok-get.ensures.handed

@@ -2,6 +2,7 @@
 use Rattle.std.proofs.Common.{refl}
 use Rattle.relay_proxy.proofs.Tells.{sided}
 use Rattle.relay_proxy.proofs.ConnectSteps.{not_connected, not_answered, connecting_answer}
+use Rattle.relay_proxy.proofs.HeadSteps.{sent_502}
 use Rattle.relay_proxy.proofs.connecting.refused_link.Goals as goal
 
 -- the client is owed an answer
@@ -18,7 +19,7 @@ returns-clause-run g c = λ s p w failed context fits rose kind asked run.
       kept = refl;
       error = refl;
     })
-    (connecting_answer s p w c.args.session.value _ run.holds
+    (connecting_answer s p w 502 c.args.session.value _ run.holds (sent_502 _)
     (rw c.deref_mut.ensures.value at c.in-Ok.ensures.ok)
     (rw c.deref_mut.ensures.value at c.in-Ok.ensures.text)) run
 

@@ -4,6 +4,7 @@ use Rattle.relay_tasks.specs.declared.took.Pause.TheVariants.{NotReady, Silent}
 use Rattle.relay_core.specs.declared.step.Step.TheVariants as step
 use Rattle.relay_proxy.specs.Turn.{world_of}
 use Rattle.relay_proxy.proofs.AnswerSteps.{moved_or_ended}
+use Rattle.relay_proxy.proofs.BoundLemmas.{relay_moved, relay_waited, relay_finished, relay_failed}
 use Rattle.relay_proxy.proofs.RelaySteps.{moved_within, waited_within, finished_within, failed_within, moved_by, moved_cause, failed_cause, waited_cause, silent_cause, moved_uses_within, waited_uses_within, silent_uses_within, finished_uses_within, failed_uses_within, moved_counts_within, waited_counts_within, silent_counts_within, finished_counts_within, failed_counts_within}
 use Rattle.relay_proxy.proofs.relaying.relay.Goals as goal
 
@@ -197,3 +198,48 @@ returns-in-Failed-clause-counts g c = λ s p a n is under had.
     (world_of g.D.ByteLink.state c.args.client.now 0)
     (world_of g.D.ByteLink.state c.turn_within-asked.new.client 0) _ _ _ _
     c.turn_within-asked.ensures.turns _ c.in-Failed.is _ c.leave_failed.ensures.last a n is had)
+
+-- what a turn that moved counts
+pub returns-in-Moved-clause-bounds : goal.returns-in-Moved-clause-bounds
+returns-in-Moved-clause-bounds g c = λ s tasks ends had.
+    rw c.work_of.ensures.exact
+    (relay_moved g.L.ByteLink.state g.L.ByteLink.start s (g.D.ByteLink.state c.args.client.now.link)
+    (g.D.ByteLink.state c.turn_within-asked.new.client.link) c.args.client.now.ahead
+    c.turn_within-asked.new.client.ahead _ _ _ _ c.turn_within-asked.ensures.turns tasks ends had
+    c.in-Moved.is)
+
+-- a turn that waits counts neither a task nor an end
+pub returns-in-Waited-NotReady-clause-bounds : goal.returns-in-Waited-NotReady-clause-bounds
+returns-in-Waited-NotReady-clause-bounds g c = λ s tasks ends had.
+    relay_waited g.L.ByteLink.state g.L.ByteLink.start s (g.D.ByteLink.state c.args.client.now.link)
+    (g.D.ByteLink.state c.turn_within-asked.new.client.link) c.args.client.now.ahead
+    c.turn_within-asked.new.client.ahead _ _ _ _ c.turn_within-asked.ensures.turns tasks ends had
+    _ c.in-Waited-NotReady.is
+
+-- nor does one that meets silence
+pub returns-in-Waited-Silent-clause-bounds : goal.returns-in-Waited-Silent-clause-bounds
+returns-in-Waited-Silent-clause-bounds g c = λ s tasks ends had.
+    relay_waited g.L.ByteLink.state g.L.ByteLink.start s (g.D.ByteLink.state c.args.client.now.link)
+    (g.D.ByteLink.state c.turn_within-asked.new.client.link) c.args.client.now.ahead
+    c.turn_within-asked.new.client.ahead _ _ _ _ c.turn_within-asked.ensures.turns tasks ends had
+    _ c.in-Waited-Silent.is
+
+-- one that finishes counts an end
+pub returns-in-Finished-clause-bounds : goal.returns-in-Finished-clause-bounds
+returns-in-Finished-clause-bounds g c = λ s tasks ends had.
+    rw c.close_finished.ensures.work
+    (relay_finished g.L.ByteLink.state g.L.ByteLink.start s
+    (g.D.ByteLink.state c.args.client.now.link)
+    (g.D.ByteLink.state c.turn_within-asked.new.client.link) c.args.client.now.ahead
+    c.turn_within-asked.new.client.ahead _ _ _ _ c.turn_within-asked.ensures.turns tasks ends had
+    c.in-Finished.is c.close_finished.new.phase c.close_finished.ensures.leaves)
+
+-- and so does one that fails
+pub returns-in-Failed-clause-bounds : goal.returns-in-Failed-clause-bounds
+returns-in-Failed-clause-bounds g c = λ s tasks ends had.
+    rw (c.leave_failed.ensures.unmoved, c.leave_failed.ensures.end)
+    (relay_failed g.L.ByteLink.state g.L.ByteLink.start s
+    (g.D.ByteLink.state c.args.client.now.link)
+    (g.D.ByteLink.state c.turn_within-asked.new.client.link) c.args.client.now.ahead
+    c.turn_within-asked.new.client.ahead _ _ _ _ c.turn_within-asked.ensures.turns tasks ends had
+    _ c.in-Failed.is c.leave_failed.new.phase c.leave_failed.ensures.leaves)

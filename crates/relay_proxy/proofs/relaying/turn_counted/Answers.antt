@@ -11,6 +11,7 @@ returns-clause-turns g c = record {
   quiet = c.turn_over-turn.ensures.quiet;
   asks = c.turn_over-turn.ensures.asks;
   moves = c.turn_over-turn.ensures.moves;
+  counts = c.turn_over-turn.ensures.counts;
   calm = c.turn_over-turn.ensures.calm;
   same_start = c.turn_over-turn.ensures.peer_start;
   measured = measured (g.D.ByteLink.state c.args.client.now.link)

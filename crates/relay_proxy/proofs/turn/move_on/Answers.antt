@@ -1,7 +1,8 @@
 -- A turn of a phase that does not relay. One that does not ask the connector leaves its count of
 -- faults as it was.
-use Rattle.std.proofs.Common.{[], refl, sym, ◌∙◌, inr, true≢false, append-nil}
+use Rattle.std.proofs.Common.{[], refl, sym, ◌∙◌, inr, true≢false, append-nil, arith}
 use Rattle.relay_proxy.specs.Turn.{world_of}
+use Rattle.relay_proxy.proofs.BoundLemmas.{answer_bounds, head_turn_bounds, link_turn_bounds}
 use Rattle.relay_proxy.proofs.RefusalLemmas.{none_added, none_unmade}
 use Rattle.relay_proxy.proofs.TakenLemmas.{takes_nothing, one_out, no_offers}
 use Rattle.relay_proxy.proofs.TurnLemmas.{head_turn, connect_turn, head_counts, still_counts, connect_counts, unlinked_open, answer_offers}
@@ -226,3 +227,74 @@ returns-in-Ended-clause-counts g c =
     )
     (λ s p own n run had. still_counts g.K.Byte.ByteLink.state g.K.Byte.ByteLink.start n 0 _ own _
     refl had)
+
+-- a turn that reads the head counts no more than one end
+pub returns-in-ReadHead-clause-bounds : goal.returns-in-ReadHead-clause-bounds
+returns-in-ReadHead-clause-bounds g c =
+    rw (c.go_on.ensures.phase, c.go_on.ensures.work, sym c.replace.ensures.value ∙ c.in-ReadHead.is)
+    (λ s p own tasks ends run had. head_turn_bounds g.K.Byte.ByteLink.state g.K.Byte.ByteLink.start
+    s p
+    (world_of g.D.ByteLink.state c.args.client.now
+    (g.K.Connector.fault_count c.args.connector.now))
+    (world_of g.D.ByteLink.state c.read_head.new.client
+    (g.K.Connector.fault_count c.args.connector.now)) own c.read_head.result.phase
+    c.read_head.result.work tasks ends run
+    (λ first. c.read_head.ensures.run s p (g.K.Connector.fault_count c.args.connector.now) first)
+    c.read_head.ensures.counts had)
+
+-- one that asks the connector counts one head or one end
+pub returns-in-Connect-clause-bounds : goal.returns-in-Connect-clause-bounds
+returns-in-Connect-clause-bounds g c =
+    rw (
+      c.go_on-in-Connect.ensures.phase,
+      c.go_on-in-Connect.ensures.work,
+      sym c.replace.ensures.value ∙ c.in-Connect.is,
+    )
+    (λ s p own tasks ends run had. link_turn_bounds g.K.Byte.ByteLink.state
+    g.K.Byte.ByteLink.start s p
+    (world_of g.D.ByteLink.state c.args.client.now
+    (g.K.Connector.fault_count c.args.connector.now))
+    (world_of g.D.ByteLink.state c.args.client.now
+    (g.K.Connector.fault_count c.connect.new.connector)) own _ _ c.connect.result.phase
+    c.connect.result.work tasks ends run
+    (λ first. c.connect.ensures.run s p (g.D.ByteLink.state c.args.client.now.link)
+    c.args.client.now.ahead first) c.connect.ensures.counts had)
+
+-- one that writes the answer counts one end at most
+pub returns-in-Answer-clause-bounds : goal.returns-in-Answer-clause-bounds
+returns-in-Answer-clause-bounds g c =
+    rw (
+      c.go_on-in-Answer.ensures.phase,
+      c.go_on-in-Answer.ensures.work,
+      sym c.replace.ensures.value ∙ c.in-Answer.is,
+    )
+    (λ s p own tasks ends run had. answer_bounds g.K.Byte.ByteLink.state g.K.Byte.ByteLink.start s
+    _ _ _ own c.write_answer.result.phase c.write_answer.result.work tasks ends
+    c.write_answer.ensures.gives c.write_answer.ensures.counts had)
+
+-- one whose link is to go back is settled before it is turned
+pub returns-in-Fail-clause-bounds : goal.returns-in-Fail-clause-bounds
+returns-in-Fail-clause-bounds g c =
+    rw (sym c.replace.ensures.value ∙ c.in-Fail.is) (λ s p own tasks ends run had. absurd had)
+
+-- and so is one that is to be closed
+pub returns-in-Close-clause-bounds : goal.returns-in-Close-clause-bounds
+returns-in-Close-clause-bounds g c =
+    rw (sym c.replace.ensures.value ∙ c.in-Close.is) (λ s p own tasks ends run had. absurd had)
+
+-- one that has ended counts nothing
+pub returns-in-Ended-clause-bounds : goal.returns-in-Ended-clause-bounds
+returns-in-Ended-clause-bounds g c =
+    rw (
+      c.go_on-in-Ended.ensures.phase,
+      c.go_on-in-Ended.ensures.work,
+      sym c.replace.ensures.value ∙ c.in-Ended.is,
+    )
+    (λ s p own tasks ends run had. record {
+      came = had.came;
+      got = had.got;
+      client_gave = had.client_gave;
+      own_gave = had.own_gave;
+      tasks_within = omega (arith, had.tasks_within);
+      ends_within = omega (arith, had.ends_within);
+    })

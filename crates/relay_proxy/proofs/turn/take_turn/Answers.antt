@@ -1,6 +1,7 @@
 -- A turn of a phase that relays asks no connector, and is a turn of the request.
-use Rattle.std.proofs.Common.{refl, sym, ◌∙◌}
+use Rattle.std.proofs.Common.{◌+◌, refl, sym, ◌∙◌}
 use Rattle.relay_proxy.specs.Turn.{world_of}
+use Rattle.relay_proxy.proofs.BoundLemmas.{relay_turn_bounds}
 use Rattle.relay_proxy.proofs.RefusalLemmas.{none_added}
 use Rattle.relay_proxy.proofs.TakenLemmas.{takes_nothing}
 use Rattle.relay_proxy.proofs.TurnLemmas.{relaying_turn, relaying_rests, relaying_uses, relaying_counts, relaying_works, relaying_unrefused, relaying_takes, relaying_carries, not_relaying}
@@ -69,6 +70,18 @@ returns-then-is_relaying-clause-uses g c = λ s p own run.
     (g.K.Connector.fault_count c.args.connector.now))
     c.args.phase.now _ (sym c.is_relaying.ensures ∙ c.if-is_relaying.true) run
     c.relay.ensures.uses
+
+-- what it counted of tasks and ends is that of the exchange
+pub returns-then-is_relaying-clause-bounds : goal.returns-then-is_relaying-clause-bounds
+returns-then-is_relaying-clause-bounds g c = λ s p own tasks ends run had.
+    relay_turn_bounds g.K.Byte.ByteLink.state g.K.Byte.ByteLink.start s p
+    (world_of g.D.ByteLink.state c.args.client.now
+    (g.K.Connector.fault_count c.args.connector.now))
+    (world_of g.D.ByteLink.state c.relay.new.client
+    (g.K.Connector.fault_count c.args.connector.now)) own c.args.phase.now c.relay.new.phase tasks
+    ends (c.relay.result.work.moved + tasks) (c.relay.result.work.ended + ends)
+    (sym c.is_relaying.ensures ∙ c.if-is_relaying.true) run
+    (λ counted. c.relay.ensures.bounds s tasks ends counted) had
 
 -- and what it moved is what the exchange moved
 pub returns-then-is_relaying-clause-moves : goal.returns-then-is_relaying-clause-moves

@@ -6,6 +6,6 @@ use Rattle.relay_exchange.proofs.exchange.Exchange.turn.Goals as goal
 pub returns-clause-goes : goal.returns-clause-goes
 returns-clause-goes g c = λ s p q under.
     let ensured = c.go_round-step.ensures in
-    turns_on _ _ _ _ _ _ p q _ c.go_round-step.result.0
+    turns_on _ _ _ _ _ _ p q _ _ c.go_round-step.result.0
     (ensured.goes s p q under.so_far under.goes_on.unfinished under.goes_on.unfailed)
     (ensured.tells under.so_far.sound under.goes_on.unfinished under.goes_on.unfailed)

@@ -1,10 +1,11 @@
--- Before the first piece nothing passed.
+-- Before the first piece and the first task nothing passed.
 use Rattle.std.proofs.Common.{List, length, ap, ◌∙◌}
 use Rattle.relay_tasks.specs.declared.log.LogEntry.{LogEntry}
 use Rattle.relay_filters.proofs.SideLemmas.{begins}
 use Rattle.relay_filters.proofs.hooked.Hooked.new.Goals as goal
 
 pub returns-clause-begins : goal.returns-clause-begins
-returns-clause-begins g c = λ client s p head none h.
-    begins _ _ _ _ _ _ _ p
-    (c.len-first.ensures ∙ ap (λ (l : List LogEntry). length l) c.phase_log.ensures) head none h
+returns-clause-begins g c = λ client s p head none none' own h.
+    begins _ _ _ _ _ _ _ _ _ p
+    (c.len-first.ensures ∙ ap (λ (l : List LogEntry). length l) c.phase_log.ensures) head none none'
+    own h

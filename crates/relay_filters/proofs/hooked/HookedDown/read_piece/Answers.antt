@@ -9,7 +9,8 @@ pub returns-in-Ok-clause-goes : goal.returns-in-Ok-clause-goes
 returns-in-Ok-clause-goes g c =
     rw (c.either-self.ensures)
     (λ s p h.
-    reads_piece _ _ _ _ _ _ _ _ _ _ _ c.args.self.now.stopped p c.in-Item.piece c.in-Ok.made _
+    reads_piece _ _ _ _ _ _ _ _ _ _ _ _ _ _ _ _ c.args.self.now.stopped p c.in-Item.piece
+    c.in-Ok.made _
     _ c.in-None.is h (ap (λ (x : DownState). x.upgraded) c.in-Item.ensures.reads.exact)
     c.in-Ok.ensures.filters (c.in-Item.ensures.goes s _ h.holds))
 
@@ -21,27 +22,28 @@ returns-in-Ok-clause-puts g c = λ s p h piece is.
 -- the filter refused it, or memory was wanted
 pub returns-in-Err-clause-goes : goal.returns-in-Err-clause-goes
 returns-in-Err-clause-goes g c = λ s p h.
-    stops_at _ _ _ _ _ _ _ _ _ _ _ c.args.self.now.stopped p c.in-Item.piece c.in-Err.why _ _ _
+    stops_at _ _ _ _ _ _ _ _ _ _ _ _ _ _ _ _ c.args.self.now.stopped p c.in-Item.piece c.in-Err.why
+    _ _ _
     c.in-None.is h (ap (λ (x : DownState). x.upgraded) c.in-Item.ensures.reads.exact)
     (append-nil p.put) c.in-Err.ensures.filters (c.in-Item.ensures.goes s _ h.holds)
 
 -- the link gave bytes
 pub returns-in-More-clause-goes : goal.returns-in-More-clause-goes
 returns-in-More-clause-goes g c = λ s p h.
-    goes_on _ _ _ _ _ _ _ _ _ _ _ _ _ p _ _ _ _ _ h
+    goes_on _ _ _ _ _ _ _ _ _ _ _ _ _ _ _ _ _ p _ _ _ _ _ _ h
     (λ low. (sym (ap (λ (x : DownState). x.upgraded) c.in-More.ensures.reads) ∙ low, refl))
-    (append-nil h.came) (append-nil p.put) (c.in-More.ensures.goes s _ h.holds)
+    (append-nil h.came) (append-nil p.put) refl refl (c.in-More.ensures.goes s _ h.holds)
 
 -- the inner side has to wait
 pub returns-in-Waited-clause-goes : goal.returns-in-Waited-clause-goes
 returns-in-Waited-clause-goes g c = λ s p h.
-    goes_on _ _ _ _ _ _ _ _ _ _ _ _ _ p _ _ _ _ _ h
+    goes_on _ _ _ _ _ _ _ _ _ _ _ _ _ _ _ _ _ p _ _ _ _ _ _ h
     (λ low. (sym (ap (λ (x : DownState). x.upgraded) c.in-Waited.ensures.reads) ∙ low, refl))
-    (append-nil h.came) (append-nil p.put) (c.in-Waited.ensures.goes s _ h.holds)
+    (append-nil h.came) (append-nil p.put) refl refl (c.in-Waited.ensures.goes s _ h.holds)
 
 -- the inner side failed
 pub returns-in-Failed-clause-goes : goal.returns-in-Failed-clause-goes
 returns-in-Failed-clause-goes g c = λ s p h.
-    goes_on _ _ _ _ _ _ _ _ _ _ _ _ _ p _ _ _ _ _ h
+    goes_on _ _ _ _ _ _ _ _ _ _ _ _ _ _ _ _ _ p _ _ _ _ _ _ h
     (λ low. (sym (ap (λ (x : DownState). x.upgraded) c.in-Failed.ensures.reads) ∙ low, refl))
-    (append-nil h.came) (append-nil p.put) (c.in-Failed.ensures.goes s _ h.holds)
+    (append-nil h.came) (append-nil p.put) refl refl (c.in-Failed.ensures.goes s _ h.holds)

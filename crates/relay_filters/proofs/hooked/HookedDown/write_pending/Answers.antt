@@ -5,9 +5,9 @@ use Rattle.relay_filters.proofs.hooked.HookedDown.write_pending.Goals as goal
 
 pub returns-clause-goes : goal.returns-clause-goes
 returns-clause-goes g c = λ s p h.
-    goes_on _ _ _ _ _ _ _ _ _ _ _ _ _ p _ p.put _ _ _ h
+    goes_on _ _ _ _ _ _ _ _ _ _ _ _ _ _ _ _ _ p _ p.put _ p.batched _ _ h
     (λ low. (
       sym (writes_leave _ _ c.write_pending-put.result
           c.write_pending-put.ensures.writes) ∙ low,
       refl,
-    )) refl refl (c.write_pending-put.ensures.goes s _ h.holds)
+    )) refl refl refl refl (c.write_pending-put.ensures.goes s _ h.holds)

@@ -17,6 +17,7 @@ returns-clause-ends g c = λ s p own run.
       refused = e.refused;
       offered = e.offered;
       uses = e.uses;
+      bounded = e.bounded;
       over = over_end g.K.Byte.ByteLink.state g.K.Byte.ByteLink.start
           c.args.machine.machine.phase (g.K.Connector.returned c.args.self.now.connector)
           (g.K.Connector.returned c.finish-ending.new.connector) c.finish-ending.result run.going

@@ -1,5 +1,5 @@
 -- The steps add up to the whole request.
-use Rattle.std.proofs.Common.{◌≡◌, ◌∙◌, ◌+◌, ◌≤◌, arith, refl, ap, sym}
+use Rattle.std.proofs.Common.{◌≡◌, [], ◌∙◌, ◌+◌, ◌≤◌, arith, refl, ap, sym}
 use Rattle.relay_links.specs.Count.{last_count}
 use Rattle.relay_proxy.specs.Passed.{start_of}
 use Rattle.relay_proxy.specs.Turn.{world_of}
@@ -20,7 +20,8 @@ loop-turn-init g c =
           c.begin-machine.ensures.no_attempts c.begin-machine.ensures.no_link
           c.begin-machine.ensures.no_turns
           (rw (c.begin-machine.ensures.client, c.take_kept-kept.ensures.after) refl)
-          c.begin-machine.ensures.unused,
+          c.begin-machine.ensures.unused c.begin-machine.ensures.unmoved
+          c.begin-machine.ensures.unended (c.begin-machine.ensures.uncounted _ _ _ []),
       rw (c.begin-machine.ensures.client, c.take_kept-kept.ensures.after) refl,
       rw c.begin-machine.ensures.no_items refl,
       omega (arith, c.begin-machine.ensures.no_link),
@@ -54,7 +55,9 @@ returns-then-is_stop-clause-processes g c =
     (rw (c.close.ensures.client, c.close.ensures.faults) (refl
     {a = world_of g.D.ByteLink.state c.step-step.new.client
     (g.K.Connector.fault_count c.step-step.new.self.connector)})) ends.over)
-    (rw c.close.ensures.client refl) c.close.ensures.used
+    (rw c.close.ensures.client refl) (rw c.close.ensures.client refl) c.close.ensures.turns
+    c.close.ensures.used c.close.ensures.moved c.close.ensures.sides
+    (c.step-step.ensures.worked c.loop-turn.invariant.7)
 
 -- one more step leaves the request under way
 pub loop-turn-preserved : goal.loop-turn-preserved
@@ -102,4 +105,5 @@ returns-clause-processes g c =
     all_taken state start s _ _ _ _ _ _ _ _ _ _ _ _ c.loop-turn.machine.machine _ _ c.close-2.result
     under all ends c.close-2.ensures.refusals c.close-2.ensures.offers
     c.close-2.ensures.turns
-    (rw c.close-2.ensures.client refl) c.close-2.ensures.used
+    (rw c.close-2.ensures.client refl) (rw c.close-2.ensures.client refl) c.close-2.ensures.used
+    c.close-2.ensures.moved c.close-2.ensures.sides c.loop-turn.invariant.7

@@ -15,9 +15,9 @@ returns-clause-steps g c = λ s p own run.
     c.take_turn-step.ensures.rests c.take_turn-step.ensures.returned c.settle.ensures.settles
     c.take_turn-step.ensures.refusals c.take_turn-step.ensures.offers
     c.take_turn-step.ensures.carries run (g.D.ByteLink.state c.args.client.now.link)
-    c.args.machine.now.machine.work.used _ c.take_turn-step.result.work.used
-    (ap (λ (work : Work). work.used) c.plus-machine.ensures.sum)
-    (λ n had. c.take_turn-step.ensures.counts s p own n run had))
+    c.args.client.now.ahead c.args.machine.now.machine.work _ c.take_turn-step.result.work
+    c.plus-machine.ensures.sum (λ n had. c.take_turn-step.ensures.counts s p own n run had)
+    (λ tasks ends had. c.take_turn-step.ensures.bounds s p own tasks ends run had))
 
 -- its cause is that of the turn
 pub returns-clause-cause : goal.returns-clause-cause

@@ -32,7 +32,7 @@ pub returns-in-Ok-clause-goes : goal.returns-in-Ok-clause-goes
 returns-in-Ok-clause-goes g c = λ s q h.
     hands_on _ _ _ _ (g.met.U.Up.unread c.args.self.now.inner s)
     (g.met.U.Up.unread c.read_task.new.self s) _ _ _ c.args.self.now.stopped _ _ q h
-    c.in-Item.task c.in-Ok.task _ _ c.in-None.is (c.in-Ok.ensures s.head.method h.own)
+    c.in-Item.task c.in-Ok.task _ _ c.in-None.is (c.in-Ok.ensures s.sent.method h.own)
     (c.either-self-in-Ok.ensures
     ∙ ap (λ (b : Bool). c.args.self.now.closes || b) c.asks_to_close.ensures)
     (λ none. ap (λ (x : UpState). x.told.errors) c.in-Item.ensures.reads.exact ∙ h.quiet none)
@@ -49,7 +49,7 @@ pub returns-in-Err-clause-goes : goal.returns-in-Err-clause-goes
 returns-in-Err-clause-goes g c = λ s q h.
     stops _ _ _ _ (g.met.U.Up.unread c.args.self.now.inner s)
     (g.met.U.Up.unread c.read_task.new.self s) _ _ _ c.args.self.now.stopped _ _ q h
-    c.in-Item.task c.in-Err.why _ _ _ c.in-None.is (c.in-Err.ensures s.head.method h.own)
+    c.in-Item.task c.in-Err.why _ _ _ c.in-None.is (c.in-Err.ensures s.sent.method h.own)
     (append-nil q.read)
     (λ none. ap (λ (x : UpState). x.told.errors) c.in-Item.ensures.reads.exact
     ∙ quiet_alone c.in-Err.why c.args.self.now.told (g.U.Up.state c.args.self.now.inner).told

@@ -1,0 +1,13 @@
+-- What the head that is sent shares with the head that the client's bytes say (RFC 9110, section
+-- 9.3.2; RFC 9112, section 6).
+use Rattle.std.specs.Prelude.{◌≡◌}
+use Rattle.relay_tasks.specs.Head.{RequestHead}
+use Rattle.relay_h1.specs.Framing.{request_framing}
+use Rattle.relay_session.specs.Asked.{asks_of}
+
+-- the head that is sent agrees with the client's in what the two halves of an exchange share
+pub record Agrees (head sent : RequestHead) : Type 0 where
+  -- one is a HEAD exactly where the other is, so both halves frame the response alike
+  pub method : asks_of sent.method ≡ asks_of head.method
+  -- both frame the body of the request alike, so its pieces fit the head that is sent
+  pub framing : request_framing sent ≡ request_framing head

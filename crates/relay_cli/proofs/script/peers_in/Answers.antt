@@ -1,0 +1,17 @@
+-- A list of too many values has no peers, and any other has those that its values are.
+use Rattle.std.proofs.Common.{Option, List, Vec, Global, Result, subst, sym, arith}
+use Rattle.relay_cli.specs.Script.{PeerSpec, Reads, peer_specs}
+use Rattle.relay_cli.specs.declared.script.PeerEntry.{PeerEntry}
+use Rattle.relay_cli.proofs.ScriptLemmas.{peers_many, peers_few}
+use Rattle.relay_cli.proofs.script.peers_in.Goals as goal
+
+pub returns-then-values-gt-LIMIT : goal.returns-then-values-gt-LIMIT
+returns-then-values-gt-LIMIT c =
+    peers_many c.args.values.now (omega (arith, c.if-values-gt-LIMIT.true))
+
+pub returns : goal.returns
+returns c =
+    subst (λ (read : Option (List PeerSpec)).
+    Reads (λ (peers : Vec PeerEntry Global). peer_specs peers.items) c.each_peer.result read)
+    (sym (peers_few c.args.values.now (omega (arith, c.if-values-gt-LIMIT.false))))
+    c.each_peer.ensures

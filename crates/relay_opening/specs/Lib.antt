@@ -1,0 +1,4 @@
+pub mod Place
+pub mod Queued
+pub mod Opens
+pub mod Refusal

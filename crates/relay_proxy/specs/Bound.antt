@@ -1,0 +1,137 @@
+-- How much work a request counts at most: the tasks that it moves are no more than twice the bytes
+-- that its links gave, and each end comes once.
+use Rattle.std.specs.Prelude.{◌≡◌, ℕ, ◌+◌, ◌≤◌, List, [], ◌∷◌, length}
+use Rattle.relay_tasks.specs.Head.{RequestHead}
+use Rattle.relay_links.specs.Link.{LinkState, LinkStart}
+use Rattle.relay_links.specs.Told.{Since}
+use Rattle.relay_links.specs.declared.Returned.{Returned}
+use Rattle.relay_attempt.specs.Bound.{HasCounted, most_tasks}
+use Rattle.relay_proxy.specs.Passed.{Start, origin_of}
+use Rattle.relay_proxy.specs.declared.machine.Attempt.{Attempt}
+use Rattle.relay_proxy.specs.declared.machine.Phase.{Phase}
+use Rattle.relay_proxy.specs.declared.machine.Phase.TheVariants.{ReadHead, Connect, Relay, Fail, Close, Answer, Ended}
+use Rattle.relay_proxy.specs.declared.record.RunRecord.{RunRecord}
+use Rattle.relay_proxy.specs.declared.work.Work.{Work}
+
+-- how many ends a request has at most: its head was judged; the five of its exchange, or four and a
+-- failure; and its answer
+abbrev pub most_sides : ℕ
+most_sides = 7
+
+-- so many tasks were moved and so many ends came, since the client's link gave the one bytes and
+-- the request's own the others
+pub record IsWithin
+    (tasks ends most : ℕ) (s : Start) (client : LinkState) (gave : List ℕ → Type 0) : Type 0 where
+  pub came : List ℕ
+  pub got : List ℕ
+  pub client_gave : Since [] s.given client.given came
+  pub own_gave : gave got
+  pub tasks_within : tasks ≤ most_tasks (length s.ahead + length came) (length got)
+  pub ends_within : ends ≤ most
+
+module _ {L : Type 0} (state : L → LinkState) (start_at : L → LinkStart) where
+  -- a link gave these bytes since it was handed out
+  abbrev pub LinkGave : L → List ℕ → Type 0
+  LinkGave link got = Since [] (start_at link).given (state link).given got
+
+  -- the link that a request handed back gave these bytes; it has one at most
+  abbrev pub OwnGave : List (Returned L) → List ℕ → Type 0
+  OwnGave [] got = got ≡ []
+  OwnGave (r ∷ []) got = LinkGave r.link got
+  OwnGave (r ∷ q ∷ own) got = ⊥
+
+  -- what a request counted is bounded: each turn did some work, the tasks are no more than twice
+  -- the bytes that its links gave, and the ends are few
+  pub record IsBounded (s : Start) (client : LinkState) (own : List (Returned L))
+      (history : RunRecord) : Type 0 where
+    pub worked : history.turns_taken
+        ≤ history.items_used + history.tasks_moved + history.sides_ended
+    pub within : IsWithin history.tasks_moved history.sides_ended most_sides s client (OwnGave own)
+
+module _ {L C : Type 0} (state : L → LinkState) (start_at : L → LinkStart) where
+  -- an attempt whose exchange counted so much: the head that is sent is one more task, and the head
+  -- that was judged one more end
+  pub record AttemptCounts (tasks ends : ℕ) (s : Start) (client : LinkState) (ahead : List ℕ)
+      (a : Attempt L C) : Type 0 where
+    pub head : RequestHead
+    pub sent : RequestHead
+    pub of_tasks : ℕ
+    pub of_ends : ℕ
+    pub counted : HasCounted state start_at of_tasks of_ends (origin_of s head sent a.lease.reused)
+        client ahead a.exchange
+    pub tasks_are : tasks ≡ 1 + of_tasks
+    pub ends_are : ends ≡ 1 + of_ends
+
+  -- what a request counted up to that phase, none of whose links is to be handed back
+  abbrev pub PhaseCounts : ℕ → ℕ → Start → LinkState → List ℕ → List (Returned L) → Phase L C
+      → Type 0
+  PhaseCounts tasks ends s client ahead own ReadHead = (tasks ≡ 0) × (ends ≡ 0)
+  PhaseCounts tasks ends s client ahead own (Connect context session) =
+      (tasks ≡ 0) × (ends ≡ 1)
+  PhaseCounts tasks ends s client ahead own (Relay a) =
+      AttemptCounts tasks ends s client ahead a.value
+  PhaseCounts tasks ends s client ahead own (Fail link lease keep session error) = ⊥
+  PhaseCounts tasks ends s client ahead own (Close link lease keep outcome) = ⊥
+  PhaseCounts tasks ends s client ahead own (Answer session owed attempts) =
+      IsWithin tasks ends 6 s client (OwnGave state start_at own)
+  PhaseCounts tasks ends s client ahead own (Ended outcome attempts) =
+      IsWithin tasks ends most_sides s client (OwnGave state start_at own)
+
+  -- the same behind a turn, whose link may be to be handed back
+  abbrev pub TurnedCounts : ℕ → ℕ → Start → LinkState → List ℕ → List (Returned L) → Phase L C
+      → Type 0
+  TurnedCounts tasks ends s client ahead own ReadHead =
+      PhaseCounts tasks ends s client ahead own ReadHead
+  TurnedCounts tasks ends s client ahead own (Connect context session) =
+      PhaseCounts tasks ends s client ahead own (Connect context session)
+  TurnedCounts tasks ends s client ahead own (Relay a) =
+      PhaseCounts tasks ends s client ahead own (Relay a)
+  TurnedCounts tasks ends s client ahead own (Fail link lease keep session error) =
+      IsWithin tasks ends 6 s client (LinkGave state start_at link)
+  TurnedCounts tasks ends s client ahead own (Close link lease keep outcome) =
+      IsWithin tasks ends most_sides s client (LinkGave state start_at link)
+  TurnedCounts tasks ends s client ahead own (Answer session owed attempts) =
+      PhaseCounts tasks ends s client ahead own (Answer session owed attempts)
+  TurnedCounts tasks ends s client ahead own (Ended outcome attempts) =
+      PhaseCounts tasks ends s client ahead own (Ended outcome attempts)
+
+-- what a turn counts that reads or judges the head: nothing, or one end
+abbrev pub CountsHead : {L C : Type 0} → Phase L C → Work → Type 0
+CountsHead ReadHead work = (work.moved ≡ 0) × (work.ended ≡ 0)
+CountsHead (Connect context session) work = (work.moved ≡ 0) × (work.ended ≡ 1)
+CountsHead (Relay a) work = ⊥
+CountsHead (Fail link lease keep session error) work = ⊥
+CountsHead (Close link lease keep outcome) work = ⊥
+CountsHead (Answer session owed attempts) work = (work.moved ≡ 0) × (work.ended ≡ 1)
+CountsHead (Ended outcome attempts) work = (work.moved ≡ 0) × (work.ended ≡ 1)
+
+-- what a turn counts that asks for a link: the head that is to be sent, or one end, also where that
+-- head is refused
+abbrev pub CountsLink : {L C : Type 0} → Phase L C → Work → Type 0
+CountsLink ReadHead work = ⊥
+CountsLink (Connect context session) work = ⊥
+CountsLink (Relay a) work = (work.moved ≡ 1) × (work.ended ≡ 0)
+CountsLink (Fail link lease keep session error) work = (work.moved ≡ 0) × (work.ended ≡ 1)
+CountsLink (Close link lease keep outcome) work = (work.moved ≡ 0) × (work.ended ≡ 1)
+CountsLink (Answer session owed attempts) work = (work.moved ≡ 0) × (work.ended ≡ 1)
+CountsLink (Ended outcome attempts) work = (work.moved ≡ 0) × (work.ended ≡ 1)
+
+-- what a turn counts that writes an answer: nothing, or one end at most
+abbrev pub CountsAnswer : {L C : Type 0} → Phase L C → Work → Type 0
+CountsAnswer ReadHead work = ⊥
+CountsAnswer (Connect context session) work = ⊥
+CountsAnswer (Relay a) work = ⊥
+CountsAnswer (Fail link lease keep session error) work = ⊥
+CountsAnswer (Close link lease keep outcome) work = ⊥
+CountsAnswer (Answer session owed attempts) work = (work.moved ≡ 0) × (work.ended ≡ 0)
+CountsAnswer (Ended outcome attempts) work = (work.moved ≡ 0) × (work.ended ≤ 1)
+
+-- that link is to be handed back
+abbrev pub LeavesLink : {L C : Type 0} → L → Phase L C → Type 0
+LeavesLink link ReadHead = ⊥
+LeavesLink link (Connect context session) = ⊥
+LeavesLink link (Relay a) = ⊥
+LeavesLink link (Fail left lease keep session error) = left ≡ link
+LeavesLink link (Close left lease keep outcome) = left ≡ link
+LeavesLink link (Answer session owed attempts) = ⊥
+LeavesLink link (Ended outcome attempts) = ⊥
