@@ -234,21 +234,23 @@ module _ {L : Type 0} (state : L → LinkState) (start_at : L → LinkStart) whe
       misses_on s p written w.client x.client (state r.link) (start_at r.link) r.keep e text to owes
 
   -- the attempts are those that they were
-  attempts_on : (p : Passed) (written : List ℕ) (own : List (Returned L)) (owed : Owed)
-      (attempts : List AttemptRecord) → HasAttempts state start_at p own owed attempts
-      → HasAttempts state start_at (past_at p written) own owed attempts
-  attempts_on p written [] (Refused error) attempts made = made
-  attempts_on p written [] (Served e) attempts made = made
-  attempts_on p written (r ∷ []) (Refused error) attempts made = absurd made
-  attempts_on p written (r ∷ []) (Served e) attempts made = record {
+  attempts_on : (s : Start) (p : Passed) (written : List ℕ) (own : List (Returned L)) (owed : Owed)
+      (attempts : List AttemptRecord) → HasAttempts state start_at s p own owed attempts
+      → HasAttempts state start_at s (past_at p written) own owed attempts
+  attempts_on s p written [] (Refused error) attempts made = made
+  attempts_on s p written [] (Served e) attempts made = made
+  attempts_on s p written (r ∷ []) (Refused error) attempts made = absurd made
+  attempts_on s p written (r ∷ []) (Served e) attempts made = record {
     tells = record { got = made.tells.got; sent = made.tells.sent; faults = made.tells.faults };
     peer = made.peer;
+    tries = made.tries;
     attempt = made.attempt;
     attempts_are = made.attempts_are;
+    are_tries = made.are_tries;
     is_record = made.is_record;
     error = made.error;
   }
-  attempts_on p written (r ∷ q ∷ own) owed attempts made = absurd made
+  attempts_on s p written (r ∷ q ∷ own) owed attempts made = absurd made
 
   -- what was written of it is in order
   pub owes_order : (s : Start) (p : Passed) (w : World) (own : List (Returned L)) (owed : Owed)
@@ -287,7 +289,7 @@ module _ {L : Type 0} (state : L → LinkState) (start_at : L → LinkStart) whe
   pub ends_served : (s : Start) (p : Passed) (w : World) (own : List (Returned L)) (e : Error)
       (text : List ℕ) (attempts : List AttemptRecord)
       → Owes state start_at s p w own (Served e) text → IsGiven s p w text
-      → HasAttempts state start_at p own (Served e) attempts
+      → HasAttempts state start_at s p own (Served e) attempts
       → EndsWith state start_at s p w own attempts (outcome.Served (Some e) false)
   ends_served s p w [] e text attempts owes given made = (
     (
@@ -302,8 +304,10 @@ module _ {L : Type 0} (state : L → LinkState) (start_at : L → LinkStart) whe
   ends_served s p w (r ∷ []) e text attempts owes given made = record {
     tells = made.tells;
     peer = made.peer;
+    tries = made.tries;
     attempt = made.attempt;
     attempts_are = made.attempts_are;
+    are_tries = made.are_tries;
     is_record = made.is_record;
     error = made.error;
     ends = ends_missed s p w (state r.link) (start_at r.link) r.keep e text owes given;
@@ -314,7 +318,7 @@ module _ {L : Type 0} (state : L → LinkState) (start_at : L → LinkStart) whe
   pub ends_part : (s : Start) (p : Passed) (w : World) (own : List (Returned L)) (owed : Owed)
       (text : List ℕ) (attempts : List AttemptRecord)
       → Owes state start_at s p w own owed text → IsFrontOf p.written text
-      → HasAttempts state start_at p own owed attempts
+      → HasAttempts state start_at s p own owed attempts
       → EndsWith state start_at s p w own attempts outcome.TurnLimit
       × EndsWith state start_at s p w own attempts outcome.OutOfMemory
   ends_part s p w [] (Refused error) text attempts owes part made =
@@ -325,16 +329,18 @@ module _ {L : Type 0} (state : L → LinkState) (start_at : L → LinkStart) whe
         e = e;
         unconnected = owes.0;
         part = subst (λ (t : List ℕ). IsFrontOf p.written t) owes.1 part;
-        is_record = made;
+        made = made;
       } in
-      ((owes.0.unsent, inr half), (owes.0.unsent, inr half))
+      ((owes.0.unsent, inr (inr half)), (owes.0.unsent, inr (inr half)))
   ends_part s p w (r ∷ []) (Refused error) text attempts owes part made = absurd made
   ends_part s p w (r ∷ []) (Served e) text attempts owes part made = (
     record {
       tells = made.tells;
       peer = made.peer;
+      tries = made.tries;
       attempt = made.attempt;
       attempts_are = made.attempts_are;
+      are_tries = made.are_tries;
       is_record = made.is_record;
       error = tt;
       ends = subst
@@ -344,8 +350,10 @@ module _ {L : Type 0} (state : L → LinkState) (start_at : L → LinkStart) whe
     record {
       tells = made.tells;
       peer = made.peer;
+      tries = made.tries;
       attempt = made.attempt;
       attempts_are = made.attempts_are;
+      are_tries = made.are_tries;
       is_record = made.is_record;
       error = tt;
       ends = subst
@@ -359,7 +367,7 @@ module _ {L : Type 0} (state : L → LinkState) (start_at : L → LinkStart) whe
   ends_whole : (s : Start) (p : Passed) (w : World) (own : List (Returned L)) (owed : Owed)
       (text : List ℕ) (attempts : List AttemptRecord)
       → Owes state start_at s p w own owed text → p.written ≡ text
-      → HasAttempts state start_at p own owed attempts
+      → HasAttempts state start_at s p own owed attempts
       → EndsWith state start_at s p w own attempts (outcome_owed owed)
   ends_whole s p w [] (Refused error) text attempts owes whole made = (
     inl (record { answer = text; turned_down = owes.0; whole = whole; unsent = owes.1 }),
@@ -470,8 +478,8 @@ module _ {L C : Type 0} (state : L → LinkState) (start_at : L → LinkStart)
         holds.owes
 
     -- the attempts
-    made : (text : List ℕ) → HasAttempts state start_at (past_at p text) own owed attempts
-    made text = attempts_on state start_at p text own owed attempts holds.made
+    made : (text : List ℕ) → HasAttempts state start_at s (past_at p text) own owed attempts
+    made text = attempts_on state start_at s p text own owed attempts holds.made
 
     -- the client took some, and more is left or the answer was written whole
     pub answer_took : (n : ℕ) (session' : Box HttpSession) (next : Phase L C)
@@ -616,7 +624,7 @@ module _ {L C : Type 0} (state : L → LinkState) (start_at : L → LinkStart)
 
         by : (l : List (Returned L)) (o : Owed)
             → Owes state start_at s (past_at p p.written) x l o holds.text
-            → HasAttempts state start_at (past_at p p.written) l o attempts
+            → HasAttempts state start_at s (past_at p p.written) l o attempts
             → EndsWith state start_at s (past_at p p.written) x l attempts (outcome_failed o fault)
         by [] (Refused error) owes made = (
           inr (inr (record {

@@ -30,30 +30,43 @@ use Rattle.relay_attempt.specs.Head.{link_of}
 use Rattle.relay_attempt.specs.Passed.{Passed}
 use Rattle.relay_attempt.specs.declared.h1_exchange.H1Exchange.{H1Exchange}
 use Rattle.relay_attempt.proofs.BoundLemmas.{first_counted, counted_within}
-use Rattle.relay_proxy.specs.Bound.{AttemptCounts, CountsAnswer, CountsHead, CountsLink, IsBounded, IsWithin, LeavesLink, LinkGave, OwnGave, PhaseCounts, TurnedCounts, most_sides}
+use Rattle.relay_proxy.specs.Bound.{AttemptCounts, CountsAnswer, CountsHead, CountsLink, IsBounded, IsWithin, LeavesLink, LinkGave, OwnGave, PhaseCounts, TurnedCounts, most_sides, sides_before}
 use Rattle.relay_proxy.specs.Passed.{World, Start, origin_of}
 use Rattle.relay_proxy.specs.Phases.{RunSoFar}
+use Rattle.relay_proxy.specs.Refusals.{attempts_in}
 use Rattle.relay_proxy.specs.Relaying.{TurnsOver, TurnsWithin, is_closing, is_relaying, turned}
+use Rattle.relay_proxy.specs.Tries.{tries_in}
 use Rattle.relay_proxy.specs.Turn.{Advances}
 use Rattle.relay_proxy.specs.Uses.{Measured, work_by}
 use Rattle.relay_proxy.specs.declared.machine.Attempt.{Attempt}
+use Rattle.relay_proxy.specs.declared.machine.Lease.{Lease}
 use Rattle.relay_proxy.specs.declared.machine.Phase.{Phase}
 use Rattle.relay_proxy.specs.declared.machine.Phase.TheVariants.{ReadHead, Connect, Relay, Fail, Close, Answer, Ended}
+use Rattle.relay_proxy.specs.declared.record.AttemptRecord.{AttemptRecord}
 use Rattle.relay_proxy.specs.declared.record.RunRecord.{RunRecord}
 use Rattle.relay_proxy.specs.declared.work.Work.{Work}
 use Rattle.relay_proxy.proofs.UseLemmas.{either_rose}
 
 -- ---- the turns of a request
 
--- a request takes no more turns than its links answered, twice the bytes that they gave, and seven
+-- a request takes no more turns than its links answered, twice the bytes that they gave, and six and
+-- its attempts
 pub turns_bounded : {L : Type 0} (state : L → LinkState) (start_at : L → LinkStart) (s : Start)
     (client : LinkState) (own : List (Returned L)) (history : RunRecord)
     (b : IsBounded state start_at s client own history)
     → history.turns_taken
     ≤ history.items_used + most_tasks (length s.ahead + length b.within.came) (length b.within.got)
-    + most_sides
+    + most_sides (length history.attempts)
 turns_bounded state start_at s client own history b =
     omega (arith, b.worked, b.within.tasks_within, b.within.ends_within)
+
+-- the same attempts are as many
+as_many : {these those : List AttemptRecord} → these ≡ those → length these ≡ length those
+as_many same = ap (λ (xs : List AttemptRecord). length xs) same
+
+-- and so are those before the same lease
+same_tries : {this that : Lease} → this ≡ that → length (tries_in this) ≡ length (tries_in that)
+same_tries same = ap (λ (l : Lease). length (tries_in l)) same
 
 -- a link that gave nothing more
 still_gave : (s : Start) (client client' : LinkState) (came : List ℕ)
@@ -131,7 +144,7 @@ module _ {L C : Type 0} (state : L → LinkState) (start_at : L → LinkStart) w
       → TurnedCounts state start_at tasks ends s client ahead own next
       → PhaseCounts state start_at tasks ends s client ahead own next
   open_counts tasks ends s client ahead own ReadHead shut counts = counts
-  open_counts tasks ends s client ahead own (Connect context session) shut counts = counts
+  open_counts tasks ends s client ahead own (Connect context session tries) shut counts = counts
   open_counts tasks ends s client ahead own (Relay a) shut counts = counts
   open_counts tasks ends s client ahead own (Fail link lease keep session e) shut counts =
       absurd (true≢false shut)
@@ -143,7 +156,8 @@ module _ {L C : Type 0} (state : L → LinkState) (start_at : L → LinkStart) w
   -- what was counted of an attempt, by the bytes that both links gave
   pub within_link : (tasks ends : ℕ) (s : Start) (client : LinkState) (ahead : List ℕ)
       (a : Attempt L C) → AttemptCounts state start_at tasks ends s client ahead a
-      → IsWithin tasks ends 5 s client (LinkGave state start_at (link_of a.exchange))
+      → IsWithin tasks ends (5 + length (tries_in a.lease)) s client
+      (LinkGave state start_at (link_of a.exchange))
   within_link tasks ends s client ahead a counts =
       let w = counted_within state start_at counts.of_tasks counts.of_ends
       (origin_of s counts.head counts.sent a.lease.reused) client ahead a.exchange counts.counted in
@@ -166,8 +180,10 @@ module _ {L C : Type 0} (state : L → LinkState) (start_at : L → LinkStart) w
       next
   head_bounds s p w ReadHead work tasks ends run counts had =
       (omega (arith, counts.0, had.0), omega (arith, counts.1, had.1))
-  head_bounds s p w (Connect context session) work tasks ends run counts had =
-      (omega (arith, counts.0, had.0), omega (arith, counts.1, had.1))
+  head_bounds s p w (Connect context session tries) work tasks ends run counts had = (
+    omega (arith, counts.0, had.0),
+    omega (arith, counts.1, had.1, as_many counts.2),
+  )
   head_bounds s p w (Relay a) work tasks ends run counts had = absurd counts
   head_bounds s p w (Fail link lease keep session e) work tasks ends run counts had = absurd counts
   head_bounds s p w (Close link lease keep outcome) work tasks ends run counts had = absurd counts
@@ -190,13 +206,16 @@ module _ {L C : Type 0} (state : L → LinkState) (start_at : L → LinkStart) w
 
   -- a turn that asks for a link
   pub link_bounds : (s : Start) (p : Passed) (w : World) (next : Phase L C) (work : Work)
-      (tasks ends : ℕ) → RunSoFar state start_at s p w [] next → CountsLink next work
-      → (tasks ≡ 0) × (ends ≡ 1)
+      (before : List AttemptRecord) (tasks ends : ℕ) → RunSoFar state start_at s p w [] next
+      → CountsLink before next work → (tasks ≡ 0) × (ends ≡ 1 + length before)
       → TurnedCounts state start_at (work.moved + tasks) (work.ended + ends) s w.client w.ahead []
       next
-  link_bounds s p w ReadHead work tasks ends run counts had = absurd counts
-  link_bounds s p w (Connect context session) work tasks ends run counts had = absurd counts
-  link_bounds s p w (Relay a) work tasks ends run counts had = record {
+  link_bounds s p w ReadHead work before tasks ends run counts had = absurd counts
+  link_bounds s p w (Connect context session tries) work before tasks ends run counts had = (
+    omega (arith, counts.0, had.0),
+    omega (arith, counts.1, counts.2, had.1),
+  )
+  link_bounds s p w (Relay a) work before tasks ends run counts had = record {
     head = run.holds.head;
     sent = run.holds.sent;
     of_tasks = 0;
@@ -204,39 +223,39 @@ module _ {L C : Type 0} (state : L → LinkState) (start_at : L → LinkStart) w
     counted = first_counted state start_at (origin_of s run.holds.head run.holds.sent
         a.value.lease.reused) p w.client w.ahead a.value.exchange run.holds.under_way;
     tasks_are = omega (arith, counts.0, had.0);
-    ends_are = omega (arith, counts.1, had.1);
+    ends_are = omega (arith, counts.1, had.1, as_many counts.2);
   }
-  link_bounds s p w (Fail link lease keep session e) work tasks ends run counts had = record {
+  link_bounds s p w (Fail link lease keep session e) work before tasks ends run counts had = record {
     came = p.came;
     got = p.got;
     client_gave = run.tells.came;
     own_gave = run.holds.0.tells.got;
     tasks_within = omega (arith, counts.0, had.0);
-    ends_within = omega (arith, counts.1, had.1);
+    ends_within = omega (arith, counts.1, had.1, as_many counts.2);
   }
-  link_bounds s p w (Close link lease keep outcome) work tasks ends run counts had = record {
+  link_bounds s p w (Close link lease keep outcome) work before tasks ends run counts had = record {
     came = p.came;
     got = p.got;
     client_gave = run.tells.came;
     own_gave = run.holds.0.tells.got;
     tasks_within = omega (arith, counts.0, had.0);
-    ends_within = omega (arith, counts.1, had.1);
+    ends_within = omega (arith, counts.1, had.1, as_many counts.2);
   }
-  link_bounds s p w (Answer session owed attempts) work tasks ends run counts had = record {
+  link_bounds s p w (Answer session owed attempts) work before tasks ends run counts had = record {
     came = p.came;
     got = [];
     client_gave = run.tells.came;
     own_gave = refl;
     tasks_within = omega (arith, counts.0, had.0);
-    ends_within = omega (arith, counts.1, had.1);
+    ends_within = omega (arith, counts.1, counts.2, had.1);
   }
-  link_bounds s p w (Ended outcome attempts) work tasks ends run counts had = record {
+  link_bounds s p w (Ended outcome attempts) work before tasks ends run counts had = record {
     came = p.came;
     got = [];
     client_gave = run.tells.came;
     own_gave = refl;
     tasks_within = omega (arith, counts.0, had.0);
-    ends_within = omega (arith, counts.1, had.1);
+    ends_within = omega (arith, counts.1, counts.2, had.1);
   }
 
   -- ---- behind an exchange
@@ -245,36 +264,36 @@ module _ {L C : Type 0} (state : L → LinkState) (start_at : L → LinkStart) w
   pub answer_bounds : (s : Start) (client client' : LinkState) (ahead : List ℕ)
       (own : List (Returned L)) (next : Phase L C) (work : Work) (tasks ends : ℕ)
       → client'.given ≡ client.given → CountsAnswer next work
-      → IsWithin tasks ends 6 s client (OwnGave state start_at own)
+      → (attempts : List AttemptRecord) → attempts_in next ≡ attempts
+      → IsWithin tasks ends (sides_before (length attempts)) s client (OwnGave state start_at own)
       → TurnedCounts state start_at (work.moved + tasks) (work.ended + ends) s client' ahead own
       next
-  answer_bounds s client client' ahead own ReadHead work tasks ends same counts had = absurd counts
-  answer_bounds s client client' ahead own (Connect context session) work tasks ends same counts
-      had = absurd counts
-  answer_bounds s client client' ahead own (Relay a) work tasks ends same counts had =
+  answer_bounds s client client' ahead own ReadHead work tasks ends same counts attempts is had = absurd counts
+  answer_bounds s client client' ahead own (Connect context session tries) work tasks ends same
+      counts attempts is had = absurd counts
+  answer_bounds s client client' ahead own (Relay a) work tasks ends same counts attempts is had =
       absurd counts
   answer_bounds s client client' ahead own (Fail link lease keep session e) work tasks ends same
-      counts
-      had = absurd counts
+      counts attempts is had = absurd counts
   answer_bounds s client client' ahead own (Close link lease keep outcome) work tasks ends same
-      counts had = absurd counts
-  answer_bounds s client client' ahead own (Answer session owed attempts) work tasks ends same
-      counts had = record {
+      counts attempts is had = absurd counts
+  answer_bounds s client client' ahead own (Answer session owed made) work tasks ends same
+      counts attempts is had = record {
         came = had.came;
         got = had.got;
         client_gave = still_gave s client client' had.came same had.client_gave;
         own_gave = had.own_gave;
         tasks_within = omega (arith, counts.0, had.tasks_within);
-        ends_within = omega (arith, counts.1, had.ends_within);
+        ends_within = omega (arith, counts.1, had.ends_within, as_many is);
       }
-  answer_bounds s client client' ahead own (Ended outcome attempts) work tasks ends same counts
-      had = record {
+  answer_bounds s client client' ahead own (Ended outcome made) work tasks ends same counts
+      attempts is had = record {
         came = had.came;
         got = had.got;
         client_gave = still_gave s client client' had.came same had.client_gave;
         own_gave = had.own_gave;
         tasks_within = omega (arith, counts.0, had.tasks_within);
-        ends_within = omega (arith, counts.1, had.ends_within);
+        ends_within = omega (arith, counts.1, had.ends_within, as_many is);
       }
 
   -- ---- in an exchange
@@ -360,26 +379,26 @@ module _ {L C : Type 0} (state : L → LinkState) (start_at : L → LinkStart) w
       over_by : attempt.IsWithin before.of_tasks before.of_ends
           (origin_of s before.head before.sent t.attempt.value.lease.reused) client'
           (state (link_of t.exchange)) (start_at (link_of t.exchange))
-          → (settled : Phase L C) → LeavesLink (link_of t.exchange) settled
+          → (settled : Phase L C) → LeavesLink (link_of t.exchange) t.attempt.value.lease settled
           → TurnedCounts state start_at (0 + tasks) (1 + ends) s client' left [] settled
       over_by w ReadHead leaves = absurd leaves
-      over_by w (Connect context session) leaves = absurd leaves
+      over_by w (Connect context session tries) leaves = absurd leaves
       over_by w (Relay a) leaves = absurd leaves
       over_by w (Fail link lease keep session e) leaves = record {
         came = w.came;
         got = w.got;
         client_gave = w.client_gave;
-        own_gave = subst (λ (l : L). LinkGave state start_at l w.got) (sym leaves) w.peer_gave;
+        own_gave = subst (λ (l : L). LinkGave state start_at l w.got) (sym leaves.0) w.peer_gave;
         tasks_within = omega (arith, w.tasks_within, before.tasks_are);
-        ends_within = omega (arith, w.ends_within, before.ends_are);
+        ends_within = omega (arith, w.ends_within, before.ends_are, same_tries leaves.1);
       }
       over_by w (Close link lease keep outcome) leaves = record {
         came = w.came;
         got = w.got;
         client_gave = w.client_gave;
-        own_gave = subst (λ (l : L). LinkGave state start_at l w.got) (sym leaves) w.peer_gave;
+        own_gave = subst (λ (l : L). LinkGave state start_at l w.got) (sym leaves.0) w.peer_gave;
         tasks_within = omega (arith, w.tasks_within, before.tasks_are);
-        ends_within = omega (arith, w.ends_within, before.ends_are);
+        ends_within = omega (arith, w.ends_within, before.ends_are, same_tries leaves.1);
       }
       over_by w (Answer session owed attempts) leaves = absurd leaves
       over_by w (Ended outcome attempts) leaves = absurd leaves
@@ -387,7 +406,7 @@ module _ {L C : Type 0} (state : L → LinkState) (start_at : L → LinkStart) w
       -- one that finished it
       pub relay_finished : did.step ≡ step.Finished → (settled : Phase L C)
           → ((a : Box (Attempt L C)) → next ≡ Relay a
-          → LeavesLink (link_of a.value.exchange) settled)
+          → LeavesLink (link_of a.value.exchange) a.value.lease settled)
           → TurnedCounts state start_at (0 + tasks) (1 + ends) s client' left [] settled
       relay_finished is settled leaves =
           over_by (goes_by step.Finished is) settled (leaves (turned t.attempt t.exchange) t.stands)
@@ -395,7 +414,7 @@ module _ {L C : Type 0} (state : L → LinkState) (start_at : L → LinkStart) w
       -- one that failed it
       pub relay_failed : (why : Why) → did.step ≡ step.Failed why → (settled : Phase L C)
           → ((a : Box (Attempt L C)) → next ≡ Relay a
-          → LeavesLink (link_of a.value.exchange) settled)
+          → LeavesLink (link_of a.value.exchange) a.value.lease settled)
           → TurnedCounts state start_at (0 + tasks) (1 + ends) s client' left [] settled
       relay_failed why is settled leaves =
           over_by (goes_by (step.Failed why) is) settled
@@ -419,17 +438,19 @@ module _ {L C : Type 0} (state : L → LinkState) (start_at : L → LinkStart) w
 
   -- one that asks for a link
   pub link_turn_bounds : (s : Start) (p : Passed) (w x : World) (own : List (Returned L))
-      (context : C) (session : Box HttpSession) (next : Phase L C) (work : Work) (tasks ends : ℕ)
-      → RunSoFar state start_at s p w own (Connect context session)
-      → (RunSoFar state start_at s p w [] (Connect context session)
-      → Advances state start_at s x next) → CountsLink next work
-      → PhaseCounts state start_at tasks ends s w.client w.ahead own (Connect context session)
+      (context : C) (session : Box HttpSession) (tries : List AttemptRecord) (next : Phase L C)
+      (work : Work) (tasks ends : ℕ)
+      → RunSoFar state start_at s p w own (Connect context session tries)
+      → (RunSoFar state start_at s p w [] (Connect context session tries)
+      → Advances state start_at s x next) → CountsLink tries next work
+      → PhaseCounts state start_at tasks ends s w.client w.ahead own (Connect context session tries)
       → TurnedCounts state start_at (work.moved + tasks) (work.ended + ends) s x.client x.ahead own
       next
-  link_turn_bounds s p w x [] context session next work tasks ends run turn counts had =
+  link_turn_bounds s p w x [] context session tries next work tasks ends run turn counts had =
       let on = turn run in
-      link_bounds s on.passed x next work tasks ends on.run counts had
-  link_turn_bounds s p w x (r ∷ own) context session next work tasks ends run turn counts had =
+      link_bounds s on.passed x next work tries tasks ends on.run counts had
+  link_turn_bounds s p w x (r ∷ own) context session tries next work tasks ends run turn counts
+      had =
       absurd run.holds
 
   -- one of a phase that relays
@@ -442,7 +463,7 @@ module _ {L C : Type 0} (state : L → LinkState) (start_at : L → LinkStart) w
       → TurnedCounts state start_at more_tasks more_ends s x.client x.ahead own next
   relay_turn_bounds s p w x own ReadHead next tasks ends a b is run turn had =
       absurd (true≢false (sym is))
-  relay_turn_bounds s p w x own (Connect context session) next tasks ends a b is run turn had =
+  relay_turn_bounds s p w x own (Connect context session tries) next tasks ends a b is run turn had =
       absurd (true≢false (sym is))
   relay_turn_bounds s p w x [] (Relay k) next tasks ends a b is run turn had = turn had
   relay_turn_bounds s p w x (r ∷ own) (Relay k) next tasks ends a b is run turn had =

@@ -37,7 +37,8 @@ use Rattle.relay_attempt.specs.Order as exchange
 use Rattle.relay_attempt.specs.Head.{link_of}
 use Rattle.relay_proxy.specs.Relayable.{IsRelayable}
 use Rattle.relay_proxy.specs.Sent.{MakesSent, Sends, RefusesToSend, client_of}
-use Rattle.relay_proxy.specs.Endings.{IsInOrder, Misses, IsAskedPeer, IsPartRelayed, IsUnconnected, IsFailedRecord, EndsLinked, error_of, fault_error, outcome_of}
+use Rattle.relay_proxy.specs.Endings.{IsInOrder, Misses, IsPartRelayed, IsUnconnected, EndsLinked, error_of, outcome_of}
+use Rattle.relay_proxy.specs.Tries.{AreTries, EndsTrying, IsAskedPeer, fault_error, tries_in}
 use Rattle.relay_proxy.specs.Passed.{World, Start, origin_of, TellsClient, IsUnsent}
 use Rattle.relay_proxy.specs.Phases.{IsConnecting, IsLeased, IsRelaying, RunSoFar}
 use Rattle.relay_proxy.specs.Turn.{Advances, world_with}
@@ -57,9 +58,10 @@ use Rattle.relay_peer.proofs.FaultLemmas.{grew_same}
 use Rattle.relay_proxy.proofs.Tells.{Rose-le, client_still}
 
 -- a link that was just handed out gave and took nothing since
-leased_anew : (p : Passed) (link : LinkState) (start : LinkStart) (lease : Lease) → IsUnsent p
-    → IsHandedOut link start lease.reused → IsAskedPeer lease.peer → IsLeased p link start lease
-leased_anew p link start lease unsent handed peer = record {
+leased_anew : (s : Start) (p : Passed) (link : LinkState) (start : LinkStart) (lease : Lease)
+    → IsUnsent p → AreTries s (tries_in lease) → IsHandedOut link start lease.reused
+    → IsAskedPeer lease.peer → IsLeased s p link start lease
+leased_anew s p link start lease unsent tries handed peer = record {
   tells = record {
     got = rw handed.given (rw unsent.got (Since-start [] link.given));
     sent = rw handed.taken (rw unsent.sent (Since-start [] link.taken));
@@ -67,6 +69,7 @@ leased_anew p link start lease unsent handed peer = record {
   };
   peer = peer;
   reused = handed.marked;
+  tries = tries;
 }
 
 -- what passed is what the client gave, where nothing was written and no link of an attempt was used
@@ -82,10 +85,10 @@ same_head given own session is is_own = grind (arith, is, is_own)
 
 -- whether the client's body has bytes is what its session says, before any was read
 pub client_asked : (s : Start) (p : Passed) (w : World) (session : HttpSession)
-    (given : RequestHead)
-    → head_of session.reading ≡ Some given → IsConnecting s p w session
+    (tries : List AttemptRecord) (given : RequestHead)
+    → head_of session.reading ≡ Some given → IsConnecting s p w session tries
     → record { custom = false; has_body = not (is_body_done session.reading) } ≡ client_of given
-client_asked s p w session given is connecting =
+client_asked s p w session tries given is connecting =
     let b = connecting.begins given false in
     let framed : request_framing given ≡ Some b.framing =
     subst (λ (h : RequestHead). request_framing h ≡ Some b.framing)
@@ -95,13 +98,14 @@ client_asked s p w session given is connecting =
 
 -- so a head that is refused for such a client is one that is refused where it was to be sent
 pub refused_asked : (s : Start) (p : Passed) (w : World) (session read : HttpSession)
-    (given : RequestHead) (failure : Fail) (e told : Error) → told ≡ e → read ≡ session
-    → head_of session.reading ≡ Some given → IsConnecting s p w session → failure ≡ fail.Error e
+    (tries : List AttemptRecord) (given : RequestHead) (failure : Fail) (e told : Error) → told ≡ e → read ≡ session
+    → head_of session.reading ≡ Some given → IsConnecting s p w session tries
+    → failure ≡ fail.Error e
     → FailsToMake
     (MakesSent (record { custom = false; has_body = not (is_body_done read.reading) }) given)
     failure
     → RefusesToSend given told
-refused_asked s p w session read given failure e told one same is connecting failed refuses =
+refused_asked s p w session read tries given failure e told one same is connecting failed refuses =
     let own : FailsToMake
     (MakesSent (record { custom = false; has_body = not (is_body_done session.reading) }) given)
     failure =
@@ -115,7 +119,7 @@ refused_asked s p w session read given failure e told one same is connecting fai
     failed own in
     subst (λ (x : Error). RefusesToSend given x) (sym one)
     (subst (λ (k : Client). MakesSent k given (Err e))
-    (client_asked s p w session given is connecting)
+    (client_asked s p w session tries given is connecting)
     made)
 
 -- a framing that is there is not missing
@@ -159,11 +163,11 @@ part_relayed s p head sent reused link start relayable sends same order = record
 
 module _ {L : Type 0} (state : L → LinkState) (start_at : L → LinkStart) where
   -- an exchange that is under way is over a link that tells what passed
-  leased_under_way : (o : Origin) (p : Passed) (client : LinkState) (ahead : List ℕ)
+  leased_under_way : (s : Start) (o : Origin) (p : Passed) (client : LinkState) (ahead : List ℕ)
       (x : H1Exchange L) (lease : Lease) → o.reused ≡ lease.reused → IsAskedPeer lease.peer
-      → IsUnderWay state start_at o p client ahead x
-      → IsLeased p (state (link_of x)) (start_at (link_of x)) lease
-  leased_under_way o p client ahead x lease reused peer under = record {
+      → AreTries s (tries_in lease) → IsUnderWay state start_at o p client ahead x
+      → IsLeased s p (state (link_of x)) (start_at (link_of x)) lease
+  leased_under_way s o p client ahead x lease reused peer tries under = record {
     tells = record {
       got = subst (λ (xs : List ℕ). Since [] (start_at (link_of x)).given
           (state (link_of x)).given xs) under.got side.holds.peer.got;
@@ -173,6 +177,7 @@ module _ {L : Type 0} (state : L → LinkState) (start_at : L → LinkStart) whe
     };
     peer = peer;
     reused = side.holds.reused ∙ reused;
+    tries = tries;
   }
     where
       side : UpHolds state start_at x.exchange.up o under.up
@@ -190,11 +195,11 @@ module _ {L C : Type 0} (state : L → LinkState) (start_at : L → LinkStart) w
       → IsHandedOut (state link) (start_at link) reused → o.reused ≡ reused
       → IsUnderWay state start_at o
       (record { came = came; written = []; got = []; sent = [] }) client ahead a.exchange)
-      → IsConnecting s p w session → IsRelaying state start_at s p w a
+      → IsConnecting s p w session (tries_in a.lease) → IsRelaying state start_at s p w a
   begun s p w session head given link a is goes handed peer begins connecting =
       record {
-        leased = leased_under_way state start_at origin p w.client w.ahead a.exchange a.lease refl
-            peer under;
+        leased = leased_under_way state start_at s origin p w.client w.ahead a.exchange a.lease refl
+            peer connecting.are_tries under;
         head = connecting.head;
         sent = given;
         relayable = connecting.accepted.relayable;
@@ -270,7 +275,7 @@ module _ {L C : Type 0} (state : L → LinkState) (start_at : L → LinkStart) w
       → back ≡ link → end ≡ outcome_of why
       → IsMemoryOr (refused_from Internal BadFraming) why
       → (why ≡ fail.Error (refused_from Internal BadFraming) → request_framing given ≡ None)
-      → RunSoFar {C = C} state start_at s p w [] (Connect context session)
+      → RunSoFar {C = C} state start_at s p w [] (Connect context session (tries_in lease))
       → Advances {C = C} state start_at s w (Close back lease false end)
   not_begun s p w context session head given link back lease why end is goes handed peer same ends
       causes refused run =
@@ -283,8 +288,9 @@ module _ {L C : Type 0} (state : L → LinkState) (start_at : L → LinkStart) w
           going = λ limit. no_limit (sym is_memory ∙ limit);
           calm = tt;
           holds = (
-            subst (λ (l : L). IsLeased p (state l) (start_at l) lease) (sym same)
-                (leased_anew p (state link) (start_at link) lease run.holds.unsent handed peer),
+            subst (λ (l : L). IsLeased s p (state l) (start_at l) lease) (sym same)
+                (leased_anew s p (state link) (start_at link) lease run.holds.unsent
+                run.holds.are_tries handed peer),
             subst (λ (o : Outcome).
                 EndsLinked s p w (state back) (start_at back) false (error_of o) o)
                 (sym is_memory) (inr (run.holds.written, run.holds.unsent), refl),
@@ -309,7 +315,7 @@ module _ {L C : Type 0} (state : L → LinkState) (start_at : L → LinkStart) w
   pub not_made : (s : Start) (p : Passed) (w : World) (context : C) (session : Box HttpSession)
       (link : L) (lease : Lease) → IsHandedOut (state link) (start_at link) lease.reused
       → IsAskedPeer lease.peer
-      → RunSoFar {C = C} state start_at s p w [] (Connect context session)
+      → RunSoFar {C = C} state start_at s p w [] (Connect context session (tries_in lease))
       → Advances {C = C} state start_at s w (Close link lease false outcome.OutOfMemory)
   not_made s p w context session link lease handed peer run = record {
     passed = p;
@@ -320,7 +326,8 @@ module _ {L C : Type 0} (state : L → LinkState) (start_at : L → LinkStart) w
       going = no_limit;
       calm = tt;
       holds = (
-        leased_anew p (state link) (start_at link) lease run.holds.unsent handed peer,
+        leased_anew s p (state link) (start_at link) lease run.holds.unsent run.holds.are_tries
+            handed peer,
         (inr (run.holds.written, run.holds.unsent), refl),
       );
     };
@@ -332,7 +339,7 @@ module _ {L C : Type 0} (state : L → LinkState) (start_at : L → LinkStart) w
       (e : Error) → head_of session.value.reading ≡ Some head → RefusesToSend head e
       → IsHandedOut (state link) (start_at link) lease.reused → IsAskedPeer lease.peer
       → session'.value.writing.output ≡ Open (generated 500)
-      → RunSoFar {C = C} state start_at s p w [] (Connect context session)
+      → RunSoFar {C = C} state start_at s p w [] (Connect context session (tries_in lease))
       → Advances {C = C} state start_at s w (phase.Fail link lease true session' e)
   not_sent s p w context session session' head link lease e is refuses handed peer waits run =
       record {
@@ -344,7 +351,8 @@ module _ {L C : Type 0} (state : L → LinkState) (start_at : L → LinkStart) w
           going = tt;
           calm = tt;
           holds = (
-            leased_anew p (state link) (start_at link) lease run.holds.unsent handed peer,
+            leased_anew s p (state link) (start_at link) lease run.holds.unsent
+                run.holds.are_tries handed peer,
             record {
               text = generated 500;
               misses = Misses.ahead_of_it (record {
@@ -373,11 +381,11 @@ module _ {L C : Type 0} (state : L → LinkState) (start_at : L → LinkStart) w
 
   -- the connector gave no link
   unconnected : (s : Start) (p : Passed) (w : World) (failed : ℕ) (context : C)
-      (session : Box HttpSession) (fault : Fault) (e : Error) → Rose w.connect_faults failed
-      → IsConnectFault fault → e ≡ fault_error Upstream fault
-      → RunSoFar {C = C} state start_at s p w [] (Connect context session)
+      (session : Box HttpSession) (tries : List AttemptRecord) (fault : Fault) (e : Error)
+      → Rose w.connect_faults failed → IsConnectFault fault → e ≡ fault_error Upstream fault
+      → RunSoFar {C = C} state start_at s p w [] (Connect context session tries)
       → IsUnconnected s p (world_with w.client w.ahead failed) e
-  unconnected s p w failed context session fault e rose kind is run = record {
+  unconnected s p w failed context session tries fault e rose kind is run = record {
     fault = fault;
     kind = kind;
     error = is;
@@ -387,21 +395,48 @@ module _ {L C : Type 0} (state : L → LinkState) (start_at : L → LinkStart) w
     unsent = run.holds.unsent;
   }
 
+  -- it is asked again
+  pub tried_again : (s : Start) (p : Passed) (w : World) (failed : ℕ) (context : C)
+      (session : Box HttpSession) (tries attempts : List AttemptRecord)
+      → w.connect_faults ≤ last_count → Rose w.connect_faults failed → AreTries s attempts
+      → RunSoFar {C = C} state start_at s p w [] (Connect context session tries)
+      → Advances {C = C} state start_at s (world_with w.client w.ahead failed)
+      (Connect context session attempts)
+  tried_again s p w failed context session tries attempts fits rose are run = record {
+    passed = p;
+    run = record {
+      tells = unconnected_tells s p w failed fits rose run.tells;
+      order = run.order;
+      untouched = run.untouched;
+      going = tt;
+      calm = run.calm;
+      holds = record {
+        head = run.holds.head;
+        accepted = run.holds.accepted;
+        is_head = run.holds.is_head;
+        begins = run.holds.begins;
+        written = run.holds.written;
+        unsent = run.holds.unsent;
+        are_tries = are;
+      };
+    };
+  }
+
   -- the client is owed an answer for that
   pub not_connected : (s : Start) (p : Passed) (w : World) (failed : ℕ) (context : C)
-      (session session' : Box HttpSession) (fault : Fault) (e : Error)
+      (session session' : Box HttpSession) (tries : List AttemptRecord) (fault : Fault) (e : Error)
       (attempts : List AttemptRecord) → w.connect_faults ≤ last_count
       → Rose w.connect_faults failed → IsConnectFault fault → e ≡ fault_error Upstream fault
-      → IsFailedRecord attempts e → session'.value.writing.output ≡ Open (generated 502)
-      → RunSoFar {C = C} state start_at s p w [] (Connect context session)
+      → EndsTrying s attempts e → session'.value.writing.output ≡ Open (generated 502)
+      → RunSoFar {C = C} state start_at s p w [] (Connect context session tries)
       → Advances {C = C} state start_at s (world_with w.client w.ahead failed)
       (Answer session' (Served e) attempts)
-  not_connected s p w failed context session session' fault e attempts fits rose kind is made waits
-      run =
+  not_connected s p w failed context session session' tries fault e attempts fits rose kind is made
+      waits run =
       answer_on state start_at s p (world_with w.client w.ahead failed) [] session' (Served e)
       attempts (unconnected_tells s p w failed fits rose run.tells) (record {
         text = generated 502;
-        owes = (unconnected s p w failed context session fault e rose kind is run, refl);
+        owes = (unconnected s p w failed context session tries fault e rose kind is run, refl);
         waits = record {
           left = generated 502;
           is_open = waits;
@@ -411,45 +446,70 @@ module _ {L C : Type 0} (state : L → LinkState) (start_at : L → LinkStart) w
         made = made;
       })
 
-  -- memory was wanted for the answer
-  pub not_answered : (s : Start) (p : Passed) (w : World) (failed : ℕ) (context : C)
-      (session : Box HttpSession) (fault : Fault) (e : Error) (attempts : List AttemptRecord)
-      → w.connect_faults ≤ last_count → Rose w.connect_faults failed → IsConnectFault fault
-      → e ≡ fault_error Upstream fault → IsFailedRecord attempts e
-      → RunSoFar {C = C} state start_at s p w [] (Connect context session)
-      → Advances {C = C} state start_at s (world_with w.client w.ahead failed)
-      (Ended outcome.OutOfMemory attempts)
-  not_answered s p w failed context session fault e attempts fits rose kind is made run = record {
+  -- memory was wanted before the connector was asked
+  pub not_asked : (s : Start) (p : Passed) (w : World) (context : C) (session : Box HttpSession)
+      (tries attempts : List AttemptRecord) → attempts ≡ tries
+      → RunSoFar {C = C} state start_at s p w [] (Connect context session tries)
+      → Advances {C = C} state start_at s w (Ended outcome.OutOfMemory attempts)
+  not_asked s p w context session tries attempts same run = record {
     passed = p;
     run = record {
-      tells = unconnected_tells s p w failed fits rose run.tells;
+      tells = run.tells;
       order = run.order;
       untouched = run.untouched;
       going = no_limit;
       calm = tt;
       holds = (
         run.holds.unsent,
-        inr (record {
-          e = e;
-          unconnected = unconnected s p w failed context session fault e rose kind is run;
-          part = record {
-            rest = generated 502;
-            joined = ap (λ (xs : List ℕ). xs ++ generated 502) run.holds.written;
-          };
-          is_record = made;
-        }),
+        inr (inl (
+          subst (λ (xs : List AttemptRecord). AreTries s xs) (sym same) run.holds.are_tries,
+          run.holds.written,
+        )),
       );
     };
   }
 
+  -- memory was wanted for the answer
+  pub not_answered : (s : Start) (p : Passed) (w : World) (failed : ℕ) (context : C)
+      (session : Box HttpSession) (tries : List AttemptRecord) (fault : Fault) (e : Error)
+      (attempts : List AttemptRecord)
+      → w.connect_faults ≤ last_count → Rose w.connect_faults failed → IsConnectFault fault
+      → e ≡ fault_error Upstream fault → EndsTrying s attempts e
+      → RunSoFar {C = C} state start_at s p w [] (Connect context session tries)
+      → Advances {C = C} state start_at s (world_with w.client w.ahead failed)
+      (Ended outcome.OutOfMemory attempts)
+  not_answered s p w failed context session tries fault e attempts fits rose kind is made run =
+      record {
+        passed = p;
+        run = record {
+          tells = unconnected_tells s p w failed fits rose run.tells;
+          order = run.order;
+          untouched = run.untouched;
+          going = no_limit;
+          calm = tt;
+          holds = (
+            run.holds.unsent,
+            inr (inr (record {
+              e = e;
+              unconnected = unconnected s p w failed context session tries fault e rose kind is run;
+              part = record {
+                rest = generated 502;
+                joined = ap (λ (xs : List ℕ). xs ++ generated 502) run.holds.written;
+              };
+              made = made;
+            })),
+          );
+        };
+      }
+
 -- the session that wants a link has nothing but the answer queued, with a status that goes to each
 -- client
 pub connecting_answer : (s : Start) (p : Passed) (w : World) (status : ℕ) (session : HttpSession)
-    (new : Writing) → IsConnecting s p w session
+    (new : Writing) (tries : List AttemptRecord) → IsConnecting s p w session tries
     → is_sent_to session.writing.request.version status ≡ true
     → AreQueued session.writing (answer_tasks session.writing.place status) new
     → AnswersText status session.writing new → new.output ≡ Open (generated status)
-connecting_answer s p w status session new connecting sent queued text =
+connecting_answer s p w status session new tries connecting sent queued text =
     begun_answer status session.writing new (connecting.begins connecting.head false).response
     queued
     text sent

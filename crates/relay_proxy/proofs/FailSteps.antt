@@ -155,7 +155,7 @@ some_waits waits (x ∷ xs) is some = omega arith
 
 module _ {L C : Type 0} (state : L → LinkState) (start_at : L → LinkStart)
     (s : Start) (p : Passed) (w : World) (link : L) (lease : Lease)
-    (tells : TellsClient s p w) (leased : IsLeased p (state link) (start_at link) lease)
+    (tells : TellsClient s p w) (leased : IsLeased s p (state link) (start_at link) lease)
   where
     -- the request ends, and its link is to go back
     over : (end : Outcome) → IsPartRelayed s p (state link) (start_at link)

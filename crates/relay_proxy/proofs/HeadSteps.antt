@@ -35,7 +35,8 @@ use Rattle.relay_attempt.specs.Passed.{Passed}
 use Rattle.relay_authority.specs.Entry.{Entered}
 use Rattle.relay_proxy.specs.Relayable.{IsConnect, IsRelayable, NamesUpgrade}
 use Rattle.relay_proxy.specs.Passed.{World, Start, start_of, origin_of, nothing, asked, TellsClient, IsUnsent}
-use Rattle.relay_proxy.specs.Endings.{IsInOrder, IsLeftAlone, IsTurnedDown, EndsUnlinked, AttemptsUnlinked, ended_outcome, left_early, unrelayed, fault_error}
+use Rattle.relay_proxy.specs.Endings.{IsInOrder, IsLeftAlone, IsTurnedDown, EndsUnlinked, AttemptsUnlinked, ended_outcome, left_early, unrelayed}
+use Rattle.relay_proxy.specs.Tries.{fault_error}
 use Rattle.relay_proxy.specs.Phases.{RunSoFar}
 use Rattle.relay_proxy.specs.Turn.{Advances}
 use Rattle.relay_proxy.specs.declared.machine.Phase.TheVariants.{ReadHead, Connect, Answer, Ended}
@@ -43,6 +44,7 @@ use Rattle.relay_proxy.specs.declared.outcome.Outcome.{Outcome}
 use Rattle.relay_proxy.specs.declared.outcome.Outcome.TheVariants as outcome
 use Rattle.relay_proxy.specs.declared.owed.Owed.TheVariants as owed
 use Rattle.relay_proxy.specs.declared.record.AttemptRecord.{AttemptRecord}
+use Rattle.relay_proxy.proofs.TryLemmas.{no_tries}
 use Rattle.relay_proxy.proofs.AnswerSteps.{answer_on}
 use Rattle.relay_h1.proofs.VerdictLemmas.{HasRequest-IsOpen}
 use Rattle.relay_peer.proofs.FaultLemmas.{Grew, grew_same, grew_none, more_none, added_last, since_none}
@@ -168,9 +170,9 @@ ended_going (b ∷ bytes) limit = cc
 
 module _ {L C : Type 0} (state : L → LinkState) (start_at : L → LinkStart) where
   -- a request begins: nothing passed yet
-  pub begins_reading : (w : World)
-      → RunSoFar {C = C} state start_at (start_of w) nothing w [] ReadHead
-  begins_reading w = record {
+  pub begins_reading : (most : ℕ) (w : World)
+      → RunSoFar {C = C} state start_at (start_of most w) nothing w [] ReadHead
+  begins_reading most w = record {
     tells = record {
       came = Since-start [] w.client.given;
       written = Since-start [] w.client.taken;
@@ -348,14 +350,14 @@ module _ {L C : Type 0} (state : L → LinkState) (start_at : L → LinkStart) w
   -- the head was accepted and taken from what is ahead, and a session begins behind it
   pub head_accepted : (s : Start) (p : Passed) (w x : World) (head : RequestHead)
       (framing : Framing) (len : ℕ) (context : C)
-      (session : Box HttpSession) → x.client ≡ w.client → x.ahead ≡ drop len w.ahead
-      → x.connect_faults ≡ w.connect_faults
+      (session : Box HttpSession) (tries : List AttemptRecord) → x.client ≡ w.client
+      → x.ahead ≡ drop len w.ahead → x.connect_faults ≡ w.connect_faults → tries ≡ []
       → HasRequest w.ahead head framing len → IsRelayable head
       → StandsBehind head framing session.value
       → RunSoFar {C = C} state start_at s p w [] ReadHead
-      → Advances {C = C} state start_at s x (Connect context session)
-  head_accepted s p w x head framing len context session client ahead same has relayable stands
-      run =
+      → Advances {C = C} state start_at s x (Connect context session tries)
+  head_accepted s p w x head framing len context session tries client ahead same none has relayable
+      stands run =
       record {
         passed = p;
         run = record {
@@ -374,6 +376,7 @@ module _ {L C : Type 0} (state : L → LinkState) (start_at : L → LinkStart) w
                 (ahead ∙ ap (λ (xs : List ℕ). drop len xs) run.holds.whole) stands;
             written = run.holds.written;
             unsent = run.holds.unsent;
+            are_tries = no_tries s tries none;
           };
         };
       }

@@ -1,4 +1,5 @@
 pub mod Tells
+pub mod TryLemmas
 pub mod OpenHead
 pub mod SentLemmas
 pub mod AnswerSteps

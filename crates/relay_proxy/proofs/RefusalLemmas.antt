@@ -1,14 +1,19 @@
--- The faults of the connector that a turn answered: that of a request that ended without a link, or
--- none.
-use Rattle.std.proofs.Common.{◌≡◌, List, [], ◌∷◌, Option, refl, sym, ap, subst}
+-- The faults of the connector that a turn answered: that with which it refused a link, or none.
+use Rattle.std.proofs.Common.{◌≡◌, List, [], ◌∷◌, ◌++◌, drop, length, Option, Some, refl, sym, ap, subst, ◌∙◌, append_assoc, append-nil}
+use Rattle.std.proofs.Math.Seq.{drop-append_seam}
 use Rattle.relay_tasks.specs.declared.Fault.{Fault}
 use Rattle.relay_tasks.specs.declared.fault.FaultKind.{FaultKind}
 use Rattle.relay_links.specs.Connector.{IsConnectFault, connect_fault}
 use Rattle.relay_links.specs.Link.{LinkState, LinkStart}
 use Rattle.relay_links.specs.Told.{Gains}
 use Rattle.relay_links.proofs.GainsLemmas.{Gains-nothing}
-use Rattle.relay_proxy.specs.Refusals.{attempts_in, faults_before}
+use Rattle.relay_tasks.specs.declared.Error.{Error}
+use Rattle.relay_proxy.specs.Bound.{CountsLink}
+use Rattle.relay_proxy.specs.Refusals.{attempts_in, fault_told, faults_before, faults_told}
+use Rattle.relay_proxy.specs.Tries.{tries_of}
 use Rattle.relay_proxy.specs.Turn.{links_held}
+use Rattle.relay_proxy.specs.declared.record.AttemptRecord.{AttemptRecord}
+use Rattle.relay_proxy.specs.declared.work.Work.{Work}
 use Rattle.relay_proxy.specs.declared.machine.Phase.{Phase}
 use Rattle.relay_proxy.specs.declared.machine.Phase.TheVariants.{ReadHead, Connect, Relay, Fail, Close, Answer, Ended}
 
@@ -29,18 +34,57 @@ pub one_added : (fault : Fault) (before after : Option (List Fault)) → IsConne
 one_added fault before after kind gained =
     subst (λ (f : Fault). Gains before (f ∷ []) after) (sym (is_its_fault fault kind)) gained
 
--- a request that holds a link was refused none
-pub none_before_link : {L C : Type 0} (state : L → LinkState) (start_at : L → LinkStart)
-    (phase : Phase L C) → links_held state start_at phase ≡ 1 → faults_before [] phase ≡ []
-none_before_link state start_at ReadHead held = refl
-none_before_link state start_at (Connect context session) held = refl
-none_before_link state start_at (Relay a) held = refl
-none_before_link state start_at (Fail link lease keep session error) held = refl
-none_before_link state start_at (Close link lease keep outcome) held = refl
-none_before_link state start_at (Answer session owed attempts) held = cc
-none_before_link state start_at (Ended outcome attempts) held = cc
+-- the faults of attempts, and of those behind them
+pub told_append : (tries attempts : List AttemptRecord)
+    → faults_told (tries ++ attempts) ≡ faults_told tries ++ faults_told attempts
+told_append [] attempts = refl
+told_append (a ∷ tries) attempts =
+    ap (λ (fs : List Fault). fault_told a.error ++ fs) (told_append tries attempts)
+    ∙ sym (append_assoc (fault_told a.error) (faults_told tries) (faults_told attempts))
 
--- nor was one that made no attempt
+-- those of one attempt more, which failed with that error
+pub told_once : (tries attempts : List AttemptRecord) (a : AttemptRecord) (e : Error)
+    → attempts ≡ tries ++ a ∷ [] → a.error ≡ Some e
+    → faults_told attempts ≡ faults_told tries ++ connect_fault e.retry ∷ []
+told_once tries attempts a e are is =
+    ap (λ (xs : List AttemptRecord). faults_told xs) are ∙ told_append tries (a ∷ [])
+    ∙ ap (λ (o : Option Error). faults_told tries ++ (fault_told o ++ [])) is
+
+-- all attempts but the last are those before it
+pub tries_behind : (tries : List AttemptRecord) (a : AttemptRecord)
+    → tries_of (tries ++ a ∷ []) ≡ tries
+tries_behind [] a = refl
+tries_behind (b ∷ []) a = refl
+tries_behind (b ∷ c ∷ tries) a =
+    ap (λ (xs : List AttemptRecord). b ∷ xs) (tries_behind (c ∷ tries) a)
+
+pub tries_before : (tries attempts : List AttemptRecord) (a : AttemptRecord)
+    → attempts ≡ tries ++ a ∷ [] → tries_of attempts ≡ tries
+tries_before tries attempts a are =
+    ap (λ (xs : List AttemptRecord). tries_of xs) are ∙ tries_behind tries a
+
+-- a request that holds a link was refused those of the attempts before
+pub told_before_link : {L C : Type 0} (state : L → LinkState) (start_at : L → LinkStart)
+    (tries : List AttemptRecord) (phase : Phase L C) (work : Work) → CountsLink tries phase work
+    → links_held state start_at phase ≡ 1 → faults_before [] phase ≡ faults_told tries
+told_before_link state start_at tries ReadHead work counts held = absurd counts
+told_before_link state start_at tries (Connect context session again) work counts held = cc
+told_before_link state start_at tries (Relay a) work counts held =
+    ap (λ (xs : List AttemptRecord). faults_told xs) counts.2
+told_before_link state start_at tries (Fail link lease keep session error) work counts held =
+    ap (λ (xs : List AttemptRecord). faults_told xs) counts.2
+told_before_link state start_at tries (Close link lease keep outcome) work counts held =
+    ap (λ (xs : List AttemptRecord). faults_told xs) counts.2
+told_before_link state start_at tries (Answer session owed attempts) work counts held = cc
+told_before_link state start_at tries (Ended outcome attempts) work counts held = cc
+
+-- the faults behind those that were told before are the others
+pub others_told : (had faults all : List Fault) → had ++ faults ≡ all
+    → faults ≡ drop (length had) all
+others_told had faults all are =
+    sym (drop-append_seam had faults) ∙ ap (λ (fs : List Fault). drop (length had) fs) are
+
+-- a request that made no attempt was refused no link
 pub none_unmade : {L C : Type 0} (phase : Phase L C) → attempts_in phase ≡ []
     → faults_before [] phase ≡ []
 none_unmade phase none = rw none refl

@@ -163,13 +163,14 @@ module _ {L : Type 0} (state : L → LinkState) (start_at : L → LinkStart) whe
 
   -- the attempt's link tells what passed, and the lease still says what it was
   leased : (s : Start) (head sent : RequestHead) (p q : Passed) (client old peer : LinkState)
-      (old_start start : LinkStart) (lease : Lease) → IsLeased p old old_start lease
+      (old_start start : LinkStart) (lease : Lease) → IsLeased s p old old_start lease
       → AreTold state start_at (origin_of s head sent lease.reused) q client peer start
-      → IsLeased q peer start lease
+      → IsLeased s q peer start lease
   leased s head sent p q client old peer old_start start lease was told = record {
     tells = record { got = told.got; sent = told.sent; faults = told.peer_faults };
     peer = was.peer;
     reused = told.reused;
+    tries = was.tries;
   }
 
 -- ---- how an exchange ends
@@ -318,7 +319,7 @@ module _ {L C : Type 0} (state : L → LinkState) (start_at : L → LinkStart) w
       : Type 0 where
     passed : Passed
     tells : TellsClient s passed w
-    held : IsLeased passed (state (link_of x)) (start_at (link_of x)) a.value.lease
+    held : IsLeased s passed (state (link_of x)) (start_at (link_of x)) a.value.lease
     left : LeavesBy s passed w.client (state (link_of x)) (start_at (link_of x))
         x.exchange.down.session why
 
@@ -458,7 +459,7 @@ module _ {L C : Type 0} (state : L → LinkState) (start_at : L → LinkStart)
         → x.connect_faults ≡ w.connect_faults → (end : Phase L C)
         → ((a : Box (Attempt L C)) (s : Start) (p : Passed) (z : World) → next ≡ Relay a
         → TellsClient s p z
-        → IsLeased p (state (link_of a.value.exchange)) (start_at (link_of a.value.exchange))
+        → IsLeased s p (state (link_of a.value.exchange)) (start_at (link_of a.value.exchange))
         a.value.lease
         → LeavesBy s p z.client (state (link_of a.value.exchange))
         (start_at (link_of a.value.exchange)) a.value.exchange.exchange.down.session why

@@ -1,6 +1,6 @@
 -- A step takes the run so far on, and the end adds up what it says.
 use Rattle.std.specs.Global.{Box}
-use Rattle.std.proofs.Common.{◌≡◌, ◌≢◌, ℕ, ◌+◌, ◌≤◌, Bool, true, false, List, [], ◌∷◌, ◌++◌, Option, None, Some, Ok, Err, map, true≢false, ◌⊎◌, refl, sym, ap, subst, ◌∙◌, inl, inr, append_assoc, append-nil, arith}
+use Rattle.std.proofs.Common.{◌≡◌, ◌≢◌, ℕ, ◌+◌, ◌≤◌, Bool, true, false, List, [], ◌∷◌, ◌++◌, Option, None, Some, Ok, Err, map, true≢false, ◌⊎◌, refl, sym, ap, subst, ◌∙◌, inl, inr, append_assoc, append-nil, length, length-append, arith}
 use Rattle.relay_links.specs.Connector.{Offer}
 use Rattle.relay_links.specs.Link.{LinkState, LinkStart, LinkItems}
 use Rattle.relay_links.specs.Told.{more, Gains}
@@ -12,20 +12,24 @@ use Rattle.relay_h1.specs.Verdict.{IsOpen}
 use Rattle.relay_attempt.specs.Exchange.{IsUnderWay}
 use Rattle.relay_attempt.specs.Passed.{Passed}
 use Rattle.relay_attempt.specs.Head.{link_of}
-use Rattle.relay_proxy.specs.Bound.{IsWithin, LinkGave, OwnGave, PhaseCounts, TurnedCounts, most_sides}
+use Rattle.relay_proxy.specs.Bound.{IsWithin, LinkGave, OwnGave, PhaseCounts, TurnedCounts, most_sides, sides_before}
 use Rattle.relay_proxy.specs.Passed.{World, Start, origin_of, IsUnsent}
 use Rattle.relay_proxy.specs.Endings.{error_of, IsErrorOf, EndsLinked, EndsUnlinked, AttemptsUnlinked, EndsReturned, EndsWith}
 use Rattle.relay_proxy.specs.Owed.{IsGivenBack, IsAnswering, IsHalfGiven}
 use Rattle.relay_proxy.specs.Taken.{Takes, offers_for, offers_before, offers_of_turn}
 use Rattle.relay_proxy.specs.Phases.{IsLeased, IsFailing, IsGoing, IsRelaying, RunSoFar}
-use Rattle.relay_proxy.specs.Refusals.{faults_for, attempts_in, faults_before, faults_of_turn}
-use Rattle.relay_proxy.specs.Relaying.{is_answering, is_closing}
+use Rattle.relay_proxy.specs.Refusals.{faults_for, faults_told, attempts_in, faults_before, faults_of_turn}
+use Rattle.relay_proxy.specs.Tries.{AreTries, tries_in}
+use Rattle.relay_proxy.specs.Relaying.{is_closing}
 use Rattle.relay_proxy.specs.Request.{StepsOn}
-use Rattle.relay_proxy.specs.Stock.{items_back}
+use Rattle.relay_proxy.specs.Stock.{items_back, items_held}
 use Rattle.relay_proxy.specs.Turn.{Advances, HasMoved, HasCause, HandsOn, IsStalled, is_over, is_end, is_reading_head}
 use Rattle.relay_proxy.specs.Uses.{LinkUses, OwesAnswer, OwnUses, PhaseUses, TurnCounts}
 use Rattle.relay_proxy.specs.Work.{added_work}
-use Rattle.relay_proxy.specs.Closing.{Hands, HandsBack, Settles, GivesUp, GivesFailedUp, GivesAnswerUp, AnswersOn, Finishes, IsQuietExchange, IsQuiet, Rests, TurnOf, Ends}
+use Rattle.relay_proxy.specs.Closing.{Hands, HandsBack, Settles, GivesUp, GivesFailedUp, AnswersOn, Finishes, IsQuietExchange, IsQuiet, Rests, TurnOf, Ends}
+use Rattle.relay_proxy.proofs.RefusalLemmas.{tries_before}
+use Rattle.relay_proxy.proofs.TakenLemmas.{offers_are}
+use Rattle.relay_proxy.proofs.TryLemmas.{no_tries}
 use Rattle.relay_proxy.proofs.BoundLemmas.{open_counts, within_link}
 use Rattle.relay_proxy.proofs.ConnectSteps.{part_relayed}
 use Rattle.relay_proxy.proofs.AnswerSteps.{answering_of, ends_part, waits_front, waits_left}
@@ -68,14 +72,16 @@ module _ {L : Type 0} (state : L → LinkState) (start_at : L → LinkStart) whe
   -- an attempt whose link went back ends as it did while the link was held
   returned_ends : (s : Start) (p : Passed) (w : World) (link : L) (lease : Lease) (keep : Bool)
       (outcome : Outcome) (r : Returned L) (attempts : List AttemptRecord)
-      → IsLeased p (state link) (start_at link) lease → Hands link lease keep outcome r attempts
+      → IsLeased s p (state link) (start_at link) lease → Hands link lease keep outcome r attempts
       → EndsLinked s p w (state link) (start_at link) keep (error_of outcome) outcome
       → EndsReturned state start_at s p w r attempts outcome
   returned_ends s p w link lease keep outcome r attempts leased hands ends = record {
     tells = rw hands.is_link leased.tells;
     peer = hands.peer ∙ leased.peer;
+    tries = tries_in lease;
     attempt = hands.attempt;
     attempts_are = hands.attempts_are;
+    are_tries = leased.tries;
     is_record = record {
       peer = hands.asked;
       reused = rw hands.is_link (hands.reused ∙ sym leased.reused);
@@ -86,15 +92,17 @@ module _ {L : Type 0} (state : L → LinkState) (start_at : L → LinkStart) whe
   }
 
   -- the link of an attempt that failed went back, and its client is owed an answer
-  given_back : (p : Passed) (link : L) (lease : Lease) (keep : Bool) (e : Error) (r : Returned L)
-      (attempts : List AttemptRecord) → IsLeased p (state link) (start_at link) lease
+  given_back : (s : Start) (p : Passed) (link : L) (lease : Lease) (keep : Bool) (e : Error) (r : Returned L)
+      (attempts : List AttemptRecord) → IsLeased s p (state link) (start_at link) lease
       → Hands link lease keep (Served (Some e) false) r attempts
-      → IsGivenBack state start_at p r attempts e
-  given_back p link lease keep e r attempts leased hands = record {
+      → IsGivenBack state start_at s p r attempts e
+  given_back s p link lease keep e r attempts leased hands = record {
     tells = rw hands.is_link leased.tells;
     peer = hands.peer ∙ leased.peer;
+    tries = tries_in lease;
     attempt = hands.attempt;
     attempts_are = hands.attempts_are;
+    are_tries = leased.tries;
     is_record = record {
       peer = hands.asked;
       reused = rw hands.is_link (hands.reused ∙ sym leased.reused);
@@ -106,7 +114,7 @@ module _ {L : Type 0} (state : L → LinkState) (start_at : L → LinkStart) whe
   -- what it owes is that of the link that went back
   owes_back : (s : Start) (p : Passed) (w : World) (link : L) (lease : Lease) (keep : Bool)
       (e : Error) (r : Returned L) (attempts : List AttemptRecord) (session : HttpSession)
-      → IsLeased p (state link) (start_at link) lease
+      → IsLeased s p (state link) (start_at link) lease
       → Hands link lease keep (Served (Some e) false) r attempts
       → IsFailing state start_at s p w link keep session e
       → IsAnswering state start_at s p w (r ∷ []) session.writing.output (owed.Served e) attempts
@@ -119,7 +127,7 @@ module _ {L : Type 0} (state : L → LinkState) (start_at : L → LinkStart) whe
         text = back.text;
         owes = back.misses;
         waits = back.waits;
-        made = given_back p link lease keep e r attempts leased hands;
+        made = given_back s p link lease keep e r attempts leased hands;
       }
 
   -- where the client takes no more of what it is owed
@@ -129,10 +137,17 @@ module _ {L : Type 0} (state : L → LinkState) (start_at : L → LinkStart) whe
   quiet_answer s p w [] half silent = inr (half, silent)
   quiet_answer s p w (r ∷ own) half silent = inr (half, silent)
 
+-- one attempt more is one more
+length_behind : (tries attempts : List AttemptRecord) (a : AttemptRecord)
+    → attempts ≡ tries ++ a ∷ [] → length attempts ≡ 1 + length tries
+length_behind tries attempts a are =
+    omega (arith, ap (λ (xs : List AttemptRecord). length xs) are, length-append tries (a ∷ []))
+
 -- more ends may come
-more_room : (tasks ends : ℕ) (s : Start) (client : LinkState) (gave : List ℕ → Type 0)
-    → IsWithin tasks ends 6 s client gave → IsWithin tasks ends most_sides s client gave
-more_room tasks ends s client gave w = record {
+more_room : (tasks ends made : ℕ) (s : Start) (client : LinkState) (gave : List ℕ → Type 0)
+    → IsWithin tasks ends (sides_before made) s client gave
+    → IsWithin tasks ends (most_sides made) s client gave
+more_room tasks ends made s client gave w = record {
   came = w.came;
   got = w.got;
   client_gave = w.client_gave;
@@ -154,6 +169,30 @@ module _ {L : Type 0} (state : L → LinkState) (start_at : L → LinkStart) whe
     tasks_within = w.tasks_within;
     ends_within = w.ends_within;
   }
+
+  -- and by the attempts, the last of which had it
+  of_attempt : (tasks ends : ℕ) (most : ℕ → ℕ) (s : Start) (client : LinkState) (link : L)
+      (lease : Lease) (r : Returned L) (attempts : List AttemptRecord) (a : AttemptRecord)
+      → r.link ≡ link → attempts ≡ tries_in lease ++ a ∷ []
+      → IsWithin tasks ends (most (1 + length (tries_in lease))) s client
+      (LinkGave state start_at link)
+      → IsWithin tasks ends (most (length attempts)) s client (OwnGave state start_at (r ∷ []))
+  of_attempt tasks ends most s client link lease r attempts a is are w =
+      subst (λ (n : ℕ). IsWithin tasks ends (most n) s client (OwnGave state start_at (r ∷ [])))
+      (sym (length_behind (tries_in lease) attempts a are))
+      (of_link tasks ends (most (1 + length (tries_in lease))) s client link r is w)
+
+module _ {L : Type 0} (start_at : L → LinkStart) where
+  -- what was taken is the same, once the link was handed back
+  offered_back : (link : L) (lease : Lease) (r : Returned L) (attempts : List AttemptRecord)
+      (a : AttemptRecord) → r.link ≡ link → attempts ≡ tries_in lease ++ a ∷ []
+      → map Err (faults_told (tries_in lease)) ++ Ok (start_at link).items ∷ []
+      ≡ offers_for start_at (r ∷ []) attempts
+  offered_back link lease r attempts a is are =
+      ap (λ (l : L). map Err (faults_told (tries_in lease)) ++ Ok (start_at l).items ∷ []) (sym is)
+      ∙ ap (λ (xs : List AttemptRecord).
+      map Err (faults_told xs) ++ Ok (start_at r.link).items ∷ [])
+      (sym (tries_before (tries_in lease) attempts a are))
 
 module _ {L C : Type 0} (state : L → LinkState) (start_at : L → LinkStart) where
   -- what a turn counted is what its step counts, where the link of both phases was asked as often
@@ -221,8 +260,12 @@ module _ {L C : Type 0} (state : L → LinkState) (start_at : L → LinkStart) w
           holds = owes_back state start_at s p w link lease keep e does.2.entry does.0 session.value
               run.holds.0 does.2.hands run.holds.1;
         });
-    refused = ap (λ (n : Phase L C). faults_before (does.2.entry ∷ []) n) (sym does.1);
-    offered = ap (λ (l : L). Ok (start_at l).items ∷ []) (sym does.2.hands.is_link)
+    refused = ap (λ (xs : List AttemptRecord). faults_told xs)
+        (sym (tries_before (tries_in lease) does.0 does.2.hands.attempt
+        does.2.hands.attempts_are))
+        ∙ ap (λ (n : Phase L C). faults_before (does.2.entry ∷ []) n) (sym does.1);
+    offered = offered_back start_at link lease does.2.entry does.0 does.2.hands.attempt
+        does.2.hands.is_link does.2.hands.attempts_are
         ∙ ap (λ (n : Phase L C). offers_before start_at (does.2.entry ∷ []) n) (sym does.1);
     uses = λ n uses. subst
         (λ (k : Phase L C). PhaseUses state start_at n (does.2.entry ∷ []) k) (sym does.1)
@@ -230,11 +273,11 @@ module _ {L C : Type 0} (state : L → LinkState) (start_at : L → LinkStart) w
     bounded = λ tasks ends client ahead counts. subst
         (λ (k : Phase L C).
         PhaseCounts state start_at tasks ends s client ahead (does.2.entry ∷ []) k) (sym does.1)
-        (of_link state start_at tasks ends _ s client link does.2.entry does.2.hands.is_link
-        counts);
+        (of_attempt state start_at tasks ends sides_before s client link lease does.2.entry does.0
+        does.2.hands.attempt does.2.hands.is_link does.2.hands.attempts_are counts);
   }
-  settle_run s p w (Connect context session) settled before after does run =
-      stays s p w (Connect context session) settled before after does.0 does.1 refl run
+  settle_run s p w (Connect context session tries) settled before after does run =
+      stays s p w (Connect context session tries) settled before after does.0 does.1 refl run
   settle_run s p w (Relay a) settled before after does run =
       stays s p w (Relay a) settled before after does.0 does.1 refl run
   settle_run s p w (Close link lease keep outcome) settled before after does run = record {
@@ -250,8 +293,12 @@ module _ {L C : Type 0} (state : L → LinkState) (start_at : L → LinkStart) w
           holds = returned_ends state start_at s p w link lease keep outcome does.2.entry does.0
               run.holds.0 does.2.hands run.holds.1;
         });
-    refused = ap (λ (n : Phase L C). faults_before (does.2.entry ∷ []) n) (sym does.1);
-    offered = ap (λ (l : L). Ok (start_at l).items ∷ []) (sym does.2.hands.is_link)
+    refused = ap (λ (xs : List AttemptRecord). faults_told xs)
+        (sym (tries_before (tries_in lease) does.0 does.2.hands.attempt
+        does.2.hands.attempts_are))
+        ∙ ap (λ (n : Phase L C). faults_before (does.2.entry ∷ []) n) (sym does.1);
+    offered = offered_back start_at link lease does.2.entry does.0 does.2.hands.attempt
+        does.2.hands.is_link does.2.hands.attempts_are
         ∙ ap (λ (n : Phase L C). offers_before start_at (does.2.entry ∷ []) n) (sym does.1);
     uses = λ n uses. subst
         (λ (k : Phase L C). PhaseUses state start_at n (does.2.entry ∷ []) k) (sym does.1)
@@ -259,8 +306,8 @@ module _ {L C : Type 0} (state : L → LinkState) (start_at : L → LinkStart) w
     bounded = λ tasks ends client ahead counts. subst
         (λ (k : Phase L C).
         PhaseCounts state start_at tasks ends s client ahead (does.2.entry ∷ []) k) (sym does.1)
-        (of_link state start_at tasks ends _ s client link does.2.entry does.2.hands.is_link
-        counts);
+        (of_attempt state start_at tasks ends most_sides s client link lease does.2.entry does.0
+        does.2.hands.attempt does.2.hands.is_link does.2.hands.attempts_are counts);
   }
   settle_run s p w (Ended outcome attempts) settled before after does run =
       stays s p w (Ended outcome attempts) settled before after does.0 does.1 refl run
@@ -270,7 +317,7 @@ module _ {L C : Type 0} (state : L → LinkState) (start_at : L → LinkStart) w
       → Settles next before after settled → is_closing next ≡ false
       → (settled ≡ next) × (after ≡ before)
   settles_same ReadHead settled before after does shut = does
-  settles_same (Connect context session) settled before after does shut = does
+  settles_same (Connect context session tries) settled before after does shut = does
   settles_same (Relay a) settled before after does shut = does
   settles_same (Fail link lease keep session e) settled before after does shut =
       absurd (true≢false shut)
@@ -284,7 +331,7 @@ module _ {L C : Type 0} (state : L → LinkState) (start_at : L → LinkStart) w
       → Settles next before after settled → is_over next ≡ false
       → (settled ≡ next) ⊎ (OwesAnswer next × OwesAnswer settled)
   settles_live ReadHead settled before after does going = inl does.0
-  settles_live (Connect context session) settled before after does going = inl does.0
+  settles_live (Connect context session tries) settled before after does going = inl does.0
   settles_live (Relay a) settled before after does going = inl does.0
   settles_live (Fail link lease keep session e) settled before after does going =
       inr (
@@ -306,13 +353,13 @@ module _ {L C : Type 0} (state : L → LinkState) (start_at : L → LinkStart) w
     where
       owing : (k : Phase L C) → OwesAnswer k → is_reading_head k ≡ false
       owing ReadHead o = absurd o
-      owing (Connect context session) o = refl
+      owing (Connect context session tries) o = refl
       owing (Relay a) o = refl
       owing (Fail link lease keep session e) o = refl
       owing (Close link lease keep outcome) o = refl
       owing (Answer session owed attempts) o = refl
       owing (Ended outcome attempts) o = refl
-  owes_moved w x (Connect context session) next settled owes owes' moved = inr owes'
+  owes_moved w x (Connect context session tries) next settled owes owes' moved = inr (inr owes')
   owes_moved w x (Relay a) next settled owes owes' moved = inr owes'
   owes_moved w x (Fail link lease keep session e) next settled owes owes' moved = owes'
   owes_moved w x (Close link lease keep outcome) next settled owes owes' moved = absurd moved
@@ -340,26 +387,16 @@ module _ {L C : Type 0} (state : L → LinkState) (start_at : L → LinkStart) w
       unclosed true is = elim (waits is) [ inl m ↦ absurd (cc) | inr m ↦ absurd (cc) ]
   settled_cause w x phase next settled step.Ended before after does over waits cause = tt
 
-  -- a request whose attempt is not recorded was refused nothing, so far
-  live_unrefused : (phase next : Phase L C) → is_over phase ≡ false → is_answering phase ≡ false
-      → faults_before [] phase ++ faults_of_turn phase next ≡ faults_before [] next
-  live_unrefused ReadHead next live mute = refl
-  live_unrefused (Connect context session) next live mute = refl
-  live_unrefused (Relay a) next live mute = refl
-  live_unrefused (Fail link lease keep session e) next live mute = refl
-  live_unrefused (Close link lease keep outcome) next live mute = absurd (true≢false live)
-  live_unrefused (Answer session owed attempts) next live mute = absurd (true≢false mute)
-  live_unrefused (Ended outcome attempts) next live mute = absurd (true≢false live)
-
   -- a turn of a request that has not ended, settled, is a step
   live_on : (s : Start) (p : Passed) (x : World) (phase next settled : Phase L C)
       (before mid after : Option (List (Returned L))) (told_before told_after : Option (List Fault))
-      (had has : Option (List Offer)) → is_over phase ≡ false → is_answering phase ≡ false
+      (had has : Option (List Offer)) → is_over phase ≡ false
       → Advances state start_at s x next → mid ≡ before → Settles next mid after settled
       → Gains told_before (faults_of_turn phase next) told_after
       → Takes had (offers_of_turn start_at phase next) has
       → offers_before start_at [] phase ++ offers_of_turn start_at phase next
       ≡ offers_before start_at [] next
+      → faults_before [] phase ++ faults_of_turn phase next ≡ faults_before [] next
       → (client : LinkState) (ahead : List ℕ) (was now extra : Work) → now ≡ added_work was extra
       → ((n : ℕ) → PhaseUses state start_at n [] phase
       → TurnCounts state start_at n client x.client extra.used [] next)
@@ -369,8 +406,8 @@ module _ {L C : Type 0} (state : L → LinkState) (start_at : L → LinkStart) w
       x.ahead [] next)
       → StepsOn state start_at s p x [] before after told_before told_after had has client ahead
       was now phase settled
-  live_on s p x phase next settled before mid after told_before told_after had has live mute turn
-      kept does told takes carries client ahead was now extra adds uses bounds =
+  live_on s p x phase next settled before mid after told_before told_after had has live turn kept
+      does told takes carries tells client ahead was now extra adds uses bounds =
       let done = settle_run s turn.passed x next settled mid after does turn.run in
       record {
         passed = turn.passed;
@@ -380,7 +417,7 @@ module _ {L C : Type 0} (state : L → LinkState) (start_at : L → LinkStart) w
         refused = record {
           faults = faults_of_turn phase next;
           gained = told;
-          are = live_unrefused phase next live mute ∙ done.refused;
+          are = tells ∙ done.refused;
         };
         offered = record {
           taken = offers_of_turn start_at phase next;
@@ -488,8 +525,17 @@ module _ {L C : Type 0} (state : L → LinkState) (start_at : L → LinkStart) w
         gained = done.gained ∙ ap (λ (t : Option (List (Returned L))). more t done.handed) kept;
         run = subst (λ (y : World). RunSoFar state start_at s p y done.handed settled)
             (sym rests.2) done.run;
-        refused = record { faults = []; gained = told; are = done.refused };
-        offered = record { taken = []; takes = takes; are = done.offered };
+        refused = record {
+          faults = [];
+          gained = told;
+          are = append-nil (faults_told (tries_in lease)) ∙ done.refused;
+        };
+        offered = record {
+          taken = [];
+          takes = takes;
+          are = append-nil
+              (offers_before {C = C} start_at [] (Close link lease keep outcome)) ∙ done.offered;
+        };
         uses = λ n had. record {
           used = extra.used;
           turn = settled_counts n client x.client extra.used [] done.handed next settled
@@ -588,6 +634,8 @@ module _ {L C : Type 0} (state : L → LinkState) (start_at : L → LinkStart) w
       → (is_over phase ≡ false
       → offers_before start_at [] phase ++ offers_of_turn start_at phase next
       ≡ offers_before start_at [] next)
+      → (is_over phase ≡ false
+      → faults_before [] phase ++ faults_of_turn phase next ≡ faults_before [] next)
       → RunSoFar state start_at s p w own phase
       → (client : LinkState) (ahead : List ℕ) (was now extra : Work) → now ≡ added_work was extra
       → ((n : ℕ) → PhaseUses state start_at n own phase
@@ -599,46 +647,46 @@ module _ {L C : Type 0} (state : L → LinkState) (start_at : L → LinkStart) w
       → StepsOn state start_at s p x own before after told_before told_after had has client ahead
       was now phase settled
   step_on s p [] w x ReadHead next settled did before mid after t u h k
-      turn rests kept does told takes carries run c i j o m adds uses bounds =
-      live_on s p x ReadHead next settled before mid after t u h k refl refl
-      (turn run) kept does told takes (carries refl) c i j o m adds uses bounds
-  step_on s p [] w x (Connect context session) next settled did before mid after t u h k
-      turn rests kept does told takes carries run c i j o m adds uses bounds =
-      live_on s p x (Connect context session) next settled before mid after t u h k refl refl
-      (turn run) kept does told takes (carries refl) c i j o m adds uses bounds
+      turn rests kept does told takes carries tells run c i j o m adds uses bounds =
+      live_on s p x ReadHead next settled before mid after t u h k refl
+      (turn run) kept does told takes (carries refl) (tells refl) c i j o m adds uses bounds
+  step_on s p [] w x (Connect context session tries) next settled did before mid after t u h k
+      turn rests kept does told takes carries tells run c i j o m adds uses bounds =
+      live_on s p x (Connect context session tries) next settled before mid after t u h k refl
+      (turn run) kept does told takes (carries refl) (tells refl) c i j o m adds uses bounds
   step_on s p [] w x (Relay a) next settled did before mid after t u h k
-      turn rests kept does told takes carries run c i j o m adds uses bounds =
-      live_on s p x (Relay a) next settled before mid after t u h k refl refl
-      (turn run) kept does told takes (carries refl) c i j o m adds uses bounds
+      turn rests kept does told takes carries tells run c i j o m adds uses bounds =
+      live_on s p x (Relay a) next settled before mid after t u h k refl
+      (turn run) kept does told takes (carries refl) (tells refl) c i j o m adds uses bounds
   step_on s p [] w x (Fail link lease keep session e) next settled did before mid after t u h k
-      turn rests kept does told takes carries run c i j o m adds uses bounds =
-      live_on s p x (Fail link lease keep session e) next settled before mid after t u h k refl refl
-      (turn run) kept does told takes (carries refl) c i j o m adds uses bounds
+      turn rests kept does told takes carries tells run c i j o m adds uses bounds =
+      live_on s p x (Fail link lease keep session e) next settled before mid after t u h k refl
+      (turn run) kept does told takes (carries refl) (tells refl) c i j o m adds uses bounds
   step_on s p [] w x (Close link lease keep outcome) next settled did before mid after t u h k
-      turn rests kept does told takes carries run c i j o m adds uses bounds =
+      turn rests kept does told takes carries tells run c i j o m adds uses bounds =
       closed_on s p w x link lease keep outcome next settled did before mid after t u h k rests
       kept does told takes run c i j o m adds uses
   step_on s p (r ∷ own) w x ReadHead next settled did before mid after t u
-      h k turn rests kept does told takes carries run c i j o m adds uses bounds =
+      h k turn rests kept does told takes carries tells run c i j o m adds uses bounds =
       absurd run.holds
-  step_on s p (r ∷ own) w x (Connect context session) next settled did before mid after t u
-      h k turn rests kept does told takes carries run c i j o m adds uses bounds =
+  step_on s p (r ∷ own) w x (Connect context session tries) next settled did before mid after t u
+      h k turn rests kept does told takes carries tells run c i j o m adds uses bounds =
       absurd run.holds
   step_on s p (r ∷ own) w x (Relay a) next settled did before mid after t u
-      h k turn rests kept does told takes carries run c i j o m adds uses bounds =
+      h k turn rests kept does told takes carries tells run c i j o m adds uses bounds =
       absurd run.holds
   step_on s p (r ∷ own) w x (Fail link lease keep session e) next settled did before mid after t u
-      h k turn rests kept does told takes carries run c i j o m adds uses bounds =
+      h k turn rests kept does told takes carries tells run c i j o m adds uses bounds =
       absurd run.holds
   step_on s p (r ∷ own) w x (Close link lease keep outcome) next settled did before mid after t u
-      h k turn rests kept does told takes carries run c i j o m adds uses bounds =
+      h k turn rests kept does told takes carries tells run c i j o m adds uses bounds =
       absurd run.holds
   step_on s p own w x (Answer session owes attempts) next settled did before mid after t u h k
-      turn rests kept does told takes carries run c i j o m adds uses bounds =
+      turn rests kept does told takes carries tells run c i j o m adds uses bounds =
       answer_step s p own x session owes attempts next settled before mid after t u h k (turn run)
       kept does told takes c i j o m adds uses bounds
   step_on s p own w x (Ended outcome attempts) next settled did before mid after t u h k
-      turn rests kept does told takes carries run c i j o m adds uses bounds =
+      turn rests kept does told takes carries tells run c i j o m adds uses bounds =
       ended_on s p own w x outcome attempts next settled did before mid after t u h k rests kept
       does told takes run c i j o m adds uses bounds
 
@@ -664,14 +712,14 @@ module _ {L C : Type 0} (state : L → LinkState) (start_at : L → LinkStart) w
       (keep : Bool) (before after : Option (List (Returned L))) (ending : Ending)
       (outcome : Outcome) → ending.outcome ≡ outcome
       → HandsBack link lease keep outcome before after ending.attempts
-      → RunSoFar state start_at s p w [] phase → IsLeased p (state link) (start_at link) lease
+      → RunSoFar state start_at s p w [] phase → IsLeased s p (state link) (start_at link) lease
       → EndsLinked s p w (state link) (start_at link) keep (error_of outcome) outcome
       → (IsStalled state start_at w phase → IsQuietExchange state start_at s p w link)
-      → faults_before [] phase ≡ []
-      → offers_before start_at [] phase ≡ Ok (start_at link).items ∷ []
+      → attempts_in phase ≡ tries_in lease → items_held start_at phase ≡ (start_at link).items ∷ []
       → ((n : ℕ) → PhaseUses state start_at n [] phase → LinkUses state start_at n link)
       → ((tasks ends : ℕ) → PhaseCounts state start_at tasks ends s w.client w.ahead [] phase
-      → IsWithin tasks ends most_sides s w.client (LinkGave state start_at link))
+      → IsWithin tasks ends (most_sides (1 + length (tries_in lease))) s w.client
+      (LinkGave state start_at link))
       → Ends state start_at s p w [] before after phase ending
   linked_end s p w phase link lease keep before after ending outcome is back run leased ends
       stalled none holds linked within = record {
@@ -687,28 +735,36 @@ module _ {L C : Type 0} (state : L → LinkState) (start_at : L → LinkStart) w
               (returned_ends state start_at s p w link lease keep outcome back.entry ending.attempts
               leased back.hands ends);
         };
-        refused = sym none;
-        offered = ap (λ (l : L). Ok (start_at l).items ∷ []) back.hands.is_link ∙ sym holds;
+        refused = ap (λ (xs : List AttemptRecord). faults_told xs)
+            (tries_before (tries_in lease) ending.attempts back.hands.attempt
+            back.hands.attempts_are ∙ sym none);
+        offered = sym (offered_back start_at link lease back.entry ending.attempts back.hands.attempt
+            back.hands.is_link back.hands.attempts_are)
+            ∙ sym (offers_are start_at phase (faults_told (tries_in lease))
+            ((start_at link).items ∷ [])
+            (ap (λ (xs : List AttemptRecord). faults_told xs) none) holds);
         uses = λ n asked. subst (λ (l : L). LinkUses state start_at n l)
             (sym back.hands.is_link) (linked n asked);
-        bounded = λ tasks ends counted. of_link state start_at tasks ends most_sides s w.client link
-            back.entry
-            back.hands.is_link (within tasks ends counted);
+        bounded = λ tasks ends counted. of_attempt state start_at tasks ends most_sides s w.client
+            link lease back.entry ending.attempts back.hands.attempt back.hands.is_link
+            back.hands.attempts_are (within tasks ends counted);
         quiet = λ limit still. inl (subst (λ (l : L). IsQuietExchange state start_at s p w l)
             (sym back.hands.is_link) (stalled still));
       }
 
-  -- a request that had no link gave up
+  -- a request that had no link gave up, behind those attempts
   unlinked_end : (s : Start) (p : Passed) (w : World) (phase : Phase L C)
-      (before after : Option (List (Returned L))) (ending : Ending) → GivesUp before after ending
-      → RunSoFar state start_at s p w [] phase → IsUnsent p → p.written ≡ []
+      (attempts : List AttemptRecord) (before after : Option (List (Returned L))) (ending : Ending)
+      → GivesUp attempts before after ending
+      → RunSoFar state start_at s p w [] phase → IsUnsent p → p.written ≡ [] → AreTries s attempts
       → (IsStalled state start_at w phase → IsQuiet state start_at s p w [])
-      → faults_before [] phase ≡ [] → offers_before start_at [] phase ≡ []
+      → attempts_in phase ≡ attempts → items_held start_at phase ≡ []
       → ((n : ℕ) → PhaseUses state start_at n [] phase → OwnUses state start_at n [])
       → ((tasks ends : ℕ) → PhaseCounts state start_at tasks ends s w.client w.ahead [] phase
-      → (tasks ≡ 0) × (ends ≤ 1))
+      → (tasks ≡ 0) × (ends ≤ 1 + length attempts))
       → Ends state start_at s p w [] before after phase ending
-  unlinked_end s p w phase before after ending gives run unsent empty stalled none bare asked few =
+  unlinked_end s p w phase attempts before after ending gives run unsent empty are stalled made bare
+      asked few =
       record {
         handed = [];
         gained = gives.same ∙ more-nil before;
@@ -718,10 +774,18 @@ module _ {L C : Type 0} (state : L → LinkState) (start_at : L → LinkStart) w
           untouched = run.untouched;
           ends = subst
               (λ (o : Outcome). EndsUnlinked s p w o × AttemptsUnlinked s p w ending.attempts o)
-              (sym gives.limit) (unsent, inl (gives.none, inl empty));
+              (sym gives.limit) (
+                unsent,
+                inr (inl (
+                  subst (λ (l : List AttemptRecord). AreTries s l) (sym gives.made) are,
+                  empty,
+                )),
+              );
         };
-        refused = ap (λ (l : List AttemptRecord). faults_for {L = L} [] l) gives.none ∙ sym none;
-        offered = ap (λ (l : List AttemptRecord). offers_for start_at [] l) gives.none ∙ sym bare;
+        refused = ap (λ (l : List AttemptRecord). faults_told l) (gives.made ∙ sym made);
+        offered = ap (λ (l : List AttemptRecord). offers_for start_at [] l) gives.made
+            ∙ sym (offers_are start_at phase (faults_told attempts) []
+            (ap (λ (xs : List AttemptRecord). faults_told xs) made) bare);
         uses = asked;
         bounded = λ tasks ends counted.
             let little = few tasks ends counted in
@@ -731,7 +795,11 @@ module _ {L C : Type 0} (state : L → LinkState) (start_at : L → LinkStart) w
               client_gave = run.tells.came;
               own_gave = refl;
               tasks_within = omega (arith, little.0);
-              ends_within = omega (arith, little.1);
+              ends_within = omega (
+                arith,
+                little.1,
+                ap (λ (l : List AttemptRecord). length l) gives.made,
+              );
             };
         quiet = λ limit still. stalled still;
       }
@@ -761,13 +829,16 @@ module _ {L C : Type 0} (state : L → LinkState) (start_at : L → LinkStart) w
         ∙ ap (λ (rs : List (Returned L)). faults_for rs attempts) (append-nil own);
     offered = ap (λ (l : List AttemptRecord). offers_for start_at (own ++ []) l) same
         ∙ ap (λ (rs : List (Returned L)). offers_for start_at rs attempts) (append-nil own)
-        ∙ ap (λ (xs : List (Option LinkItems)). map Ok xs ++ map Err (faults_for own attempts))
+        ∙ ap (λ (xs : List (Option LinkItems)). map Err (faults_for own attempts) ++ map Ok xs)
         (sym (append-nil (items_back start_at own)));
     uses = λ n asked. subst (λ (rs : List (Returned L)). OwnUses state start_at n rs)
         (sym (append-nil own)) asked;
     bounded = λ tasks ends counted. subst (λ (rs : List (Returned L)).
-        IsWithin tasks ends most_sides s w.client (OwnGave state start_at rs))
-        (sym (append-nil own)) counted;
+        IsWithin tasks ends (most_sides (length ending.attempts)) s w.client
+        (OwnGave state start_at rs)) (sym (append-nil own))
+        (subst (λ (l : List AttemptRecord).
+        IsWithin tasks ends (most_sides (length l)) s w.client (OwnGave state start_at own))
+        (sym same) counted);
     quiet = λ limit never. absurd never;
   }
 
@@ -794,8 +865,11 @@ module _ {L C : Type 0} (state : L → LinkState) (start_at : L → LinkStart) w
               (ends_part state start_at s p w (gives.back.entry ∷ []) (owed.Served e) back.text
               ending.attempts back.owes (waits_front _ _ _ back.waits) back.made).0;
         };
-        refused = refl;
-        offered = ap (λ (l : L). Ok (start_at l).items ∷ []) gives.back.hands.is_link;
+        refused = ap (λ (xs : List AttemptRecord). faults_told xs)
+            (tries_before (tries_in lease) ending.attempts gives.back.hands.attempt
+            gives.back.hands.attempts_are);
+        offered = sym (offered_back start_at link lease gives.back.entry ending.attempts
+            gives.back.hands.attempt gives.back.hands.is_link gives.back.hands.attempts_are);
         uses = λ n asked. subst (λ (l : L). LinkUses state start_at n l)
             (sym gives.back.hands.is_link) asked;
         bounded = λ tasks ends counted. absurd counted;
@@ -806,7 +880,7 @@ module _ {L C : Type 0} (state : L → LinkState) (start_at : L → LinkStart) w
   answered_end : (s : Start) (p : Passed) (w : World) (own : List (Returned L))
       (session : Box HttpSession) (owes : Owed) (attempts : List AttemptRecord)
       (before after : Option (List (Returned L))) (ending : Ending)
-      → GivesAnswerUp attempts before after ending
+      → GivesUp attempts before after ending
       → RunSoFar {C = C} state start_at s p w own (Answer session owes attempts)
       → Ends {C = C} state start_at s p w own before after (Answer session owes attempts) ending
   answered_end s p w own session owes attempts before after ending gives run =
@@ -835,14 +909,17 @@ module _ {L C : Type 0} (state : L → LinkState) (start_at : L → LinkStart) w
             ∙ ap (λ (rs : List (Returned L)). faults_for rs attempts) (append-nil own);
         offered = ap (λ (l : List AttemptRecord). offers_for start_at (own ++ []) l) gives.made
             ∙ ap (λ (rs : List (Returned L)). offers_for start_at rs attempts) (append-nil own)
-            ∙ ap (λ (xs : List (Option LinkItems)). map Ok xs ++ map Err (faults_for own attempts))
+            ∙ ap (λ (xs : List (Option LinkItems)). map Err (faults_for own attempts) ++ map Ok xs)
             (sym (append-nil (items_back start_at own)));
         uses = λ n asked. subst (λ (rs : List (Returned L)). OwnUses state start_at n rs)
             (sym (append-nil own)) asked;
         bounded = λ tasks ends counted. subst (λ (rs : List (Returned L)).
-            IsWithin tasks ends most_sides s w.client (OwnGave state start_at rs))
-            (sym (append-nil own)) (more_room tasks ends s w.client
-            (OwnGave state start_at own) counted);
+            IsWithin tasks ends (most_sides (length ending.attempts)) s w.client
+            (OwnGave state start_at rs))
+            (sym (append-nil own)) (subst (λ (l : List AttemptRecord).
+            IsWithin tasks ends (most_sides (length l)) s w.client (OwnGave state start_at own))
+            (sym gives.made) (more_room tasks ends (length attempts) s w.client
+            (OwnGave state start_at own) counted));
         quiet = λ limit silent. subst (λ (rs : List (Returned L)). IsQuiet state start_at s p w rs)
             (sym (append-nil own))
             (quiet_answer state start_at s p w own (record {
@@ -860,12 +937,14 @@ module _ {L C : Type 0} (state : L → LinkState) (start_at : L → LinkStart) w
       → Finishes phase before after ending → RunSoFar state start_at s p w own phase
       → Ends state start_at s p w own before after phase ending
   end_of s p [] w ReadHead before after ending does run =
-      unlinked_end s p w ReadHead before after ending does run run.holds.unsent run.holds.written
+      unlinked_end s p w ReadHead [] before after ending does run run.holds.unsent
+      run.holds.written (no_tries s [] refl)
       (λ h. inl (subst (λ (xs : List ℕ). IsOpen xs) run.holds.whole h.0, h.1)) refl refl
       (λ n asked. asked) (λ tasks ends counted. (counted.0, omega (arith, counted.1)))
-  end_of s p [] w (Connect context session) before after ending does run =
-      unlinked_end s p w (Connect context session) before after ending does run run.holds.unsent
-      run.holds.written (λ h. absurd h) refl refl (λ n asked. asked)
+  end_of s p [] w (Connect context session tries) before after ending does run =
+      unlinked_end s p w (Connect context session tries) tries before after ending does run
+      run.holds.unsent run.holds.written run.holds.are_tries (λ h. absurd h) refl refl
+      (λ n asked. asked)
       (λ tasks ends counted. (counted.0, omega (arith, counted.1)))
   end_of s p [] w (Relay a) before after ending does run =
       linked_end s p w (Relay a) (link_of a.value.exchange) a.value.lease false before after
@@ -899,7 +978,7 @@ module _ {L C : Type 0} (state : L → LinkState) (start_at : L → LinkStart) w
   end_of s p (r ∷ own) w ReadHead before after ending does run = absurd run.holds
   end_of s p (r ∷ own) w (Fail link lease keep session e) before after ending does run =
       absurd run.holds
-  end_of s p (r ∷ own) w (Connect context session) before after ending does run = absurd run.holds
+  end_of s p (r ∷ own) w (Connect context session tries) before after ending does run = absurd run.holds
   end_of s p (r ∷ own) w (Relay a) before after ending does run = absurd run.holds
   end_of s p (r ∷ own) w (Close link lease keep outcome) before after ending does run =
       absurd run.holds
@@ -916,7 +995,7 @@ module _ {L C : Type 0} (state : L → LinkState) (start_at : L → LinkStart) w
       absurd (true≢false (sym over))
   over_end (Answer session owes attempts) before after ending going does over =
       absurd (true≢false (sym over))
-  over_end (Connect context session) before after ending going does over =
+  over_end (Connect context session tries) before after ending going does over =
       absurd (true≢false (sym over))
   over_end (Relay a) before after ending going does over = absurd (true≢false (sym over))
   over_end (Close link lease keep outcome) before after ending going does over =

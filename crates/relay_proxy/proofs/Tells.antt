@@ -10,7 +10,7 @@ use Rattle.relay_tasks.specs.declared.ErrorSource.{ErrorSource}
 use Rattle.relay_tasks.specs.declared.Fault.{Fault}
 use Rattle.relay_attempt.specs.Passed.{Passed}
 use Rattle.relay_peer.proofs.FaultLemmas.{Grew, grew_none, since_on}
-use Rattle.relay_proxy.specs.Endings.{fault_error}
+use Rattle.relay_proxy.specs.Tries.{fault_error}
 use Rattle.relay_proxy.specs.Passed.{World, Start, TellsClient}
 
 -- a count that rose is no lower

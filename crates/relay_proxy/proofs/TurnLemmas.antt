@@ -1,7 +1,9 @@
 -- What a turn of a phase that relays is, of the phase as it stands.
-use Rattle.std.proofs.Common.{◌≡◌, ℕ, ◌+◌, ◌∷◌, subst, arith, true, false, List, [], ◌++◌, Option, true≢false, refl, sym, ap, ◌∙◌}
+use Rattle.std.proofs.Common.{◌≡◌, ℕ, ◌+◌, ◌∷◌, subst, arith, true, false, List, [], ◌++◌, map, Ok, Err, Option, true≢false, refl, sym, ap, ◌∙◌, append-nil}
 use Rattle.std.specs.Global.{Box}
-use Rattle.relay_links.specs.Link.{LinkState, LinkStart}
+use Rattle.relay_tasks.specs.declared.Fault.{Fault}
+use Rattle.relay_links.specs.Connector.{Offer}
+use Rattle.relay_links.specs.Link.{LinkState, LinkStart, LinkItems}
 use Rattle.relay_links.specs.declared.Returned.{Returned}
 use Rattle.relay_proxy.specs.Closing.{Rests, Settles, TurnOf}
 use Rattle.relay_core.specs.Past.{Origin}
@@ -12,13 +14,11 @@ use Rattle.relay_session.specs.declared.session.HttpSession.{HttpSession}
 use Rattle.relay_proxy.specs.Passed.{World, Start, origin_of}
 use Rattle.relay_proxy.specs.Phases.{RunSoFar}
 use Rattle.relay_proxy.specs.Uses.{ClientUses, LinkUses, OwnUses, PhaseUses, TurnCounts}
-use Rattle.relay_proxy.specs.Refusals.{attempts_in, faults_of_turn}
+use Rattle.relay_proxy.specs.Refusals.{attempts_in, faults_before, faults_for, faults_of_turn}
 use Rattle.relay_proxy.specs.Relaying.{is_relaying, is_closing}
 use Rattle.relay_proxy.specs.Stock.{items_held}
 use Rattle.relay_proxy.specs.Taken.{offers_before, offers_of_turn}
 use Rattle.relay_proxy.specs.Turn.{Advances, AdvancesOn, DoesWork, WorksIn, links_held}
-use Rattle.relay_proxy.proofs.RefusalLemmas.{none_before_link}
-use Rattle.relay_proxy.proofs.TakenLemmas.{held_offers}
 use Rattle.relay_proxy.proofs.CountLemmas.{client_counts}
 use Rattle.relay_proxy.proofs.UseLemmas.{relaying_of}
 use Rattle.relay_proxy.specs.declared.machine.Attempt.{Attempt}
@@ -37,7 +37,7 @@ module _ {L C : Type 0} (state : L → LinkState) (start_at : L → LinkStart) w
       → (RunSoFar state start_at s p w [] phase → Advances {C = C} state start_at s x next)
       → TurnOf state start_at s x own phase next
   relaying_turn s p w x own ReadHead next is run turn = absurd (true≢false (sym is))
-  relaying_turn s p w x own (Connect context session) next is run turn =
+  relaying_turn s p w x own (Connect context session tries) next is run turn =
       absurd (true≢false (sym is))
   relaying_turn s p w x [] (Relay a) next is run turn = turn run
   relaying_turn s p w x (r ∷ own) (Relay a) next is run turn = absurd run.holds
@@ -60,13 +60,13 @@ module _ {L C : Type 0} (state : L → LinkState) (start_at : L → LinkStart) w
 
   -- and so is one that asks the connector
   pub connect_turn : (s : Start) (p : Passed) (w x : World) (own : List (Returned L)) (context : C)
-      (session : Box HttpSession) (next : Phase L C)
-      → RunSoFar state start_at s p w own (Connect context session)
-      → (RunSoFar state start_at s p w [] (Connect context session)
+      (session : Box HttpSession) (tries : List AttemptRecord) (next : Phase L C)
+      → RunSoFar state start_at s p w own (Connect context session tries)
+      → (RunSoFar state start_at s p w [] (Connect context session tries)
       → Advances state start_at s x next)
       → AdvancesOn state start_at s x own next
-  connect_turn s p w x [] context session next run turn = turn run
-  connect_turn s p w x (r ∷ own) context session next run turn = absurd run.holds
+  connect_turn s p w x [] context session tries next run turn = turn run
+  connect_turn s p w x (r ∷ own) context session tries next run turn = absurd run.holds
 
   -- it had not ended before
   pub relaying_rests : (w x : World) (phase next : Phase L C) (did : RunStep)
@@ -74,23 +74,30 @@ module _ {L C : Type 0} (state : L → LinkState) (start_at : L → LinkStart) w
   relaying_rests w x ReadHead next did is = absurd (true≢false (sym is))
   relaying_rests w x (Fail link lease keep session error) next did is = absurd (true≢false (sym is))
   relaying_rests w x (Answer session owed attempts) next did is = absurd (true≢false (sym is))
-  relaying_rests w x (Connect context session) next did is = absurd (true≢false (sym is))
+  relaying_rests w x (Connect context session tries) next did is = absurd (true≢false (sym is))
   relaying_rests w x (Relay a) next did is = tt
   relaying_rests w x (Close link lease keep outcome) next did is = absurd (true≢false (sym is))
   relaying_rests w x (Ended outcome attempts) next did is = absurd (true≢false (sym is))
 
-  -- it holds its link, so the connector refused it none
+  -- the connector refused it no link
   pub relaying_unrefused : (phase next : Phase L C) → is_relaying phase ≡ true
-      → links_held {C = C} state start_at next ≡ links_held {C = C} state start_at phase
       → faults_of_turn phase next ≡ []
-  relaying_unrefused ReadHead next is held = absurd (true≢false (sym is))
-  relaying_unrefused (Fail link lease keep session error) next is held = absurd
-      (true≢false (sym is))
-  relaying_unrefused (Answer session owed attempts) next is held = absurd (true≢false (sym is))
-  relaying_unrefused (Connect context session) next is held = absurd (true≢false (sym is))
-  relaying_unrefused (Relay a) next is held = none_before_link state start_at next held
-  relaying_unrefused (Close link lease keep outcome) next is held = absurd (true≢false (sym is))
-  relaying_unrefused (Ended outcome attempts) next is held = absurd (true≢false (sym is))
+  relaying_unrefused ReadHead next is = absurd (true≢false (sym is))
+  relaying_unrefused (Fail link lease keep session error) next is = absurd (true≢false (sym is))
+  relaying_unrefused (Answer session owed attempts) next is = absurd (true≢false (sym is))
+  relaying_unrefused (Connect context session tries) next is = absurd (true≢false (sym is))
+  relaying_unrefused (Relay a) next is = refl
+  relaying_unrefused (Close link lease keep outcome) next is = absurd (true≢false (sym is))
+  relaying_unrefused (Ended outcome attempts) next is = absurd (true≢false (sym is))
+
+  -- so it tells of those of the attempts before
+  pub relaying_tells : (phase next : Phase L C) → is_relaying phase ≡ true
+      → attempts_in next ≡ attempts_in phase
+      → faults_before [] phase ++ faults_of_turn phase next ≡ faults_before [] next
+  relaying_tells phase next is same =
+      ap (λ (fs : List Fault). faults_before [] phase ++ fs) (relaying_unrefused phase next is)
+      ∙ append-nil (faults_before [] phase)
+      ∙ ap (λ (xs : List AttemptRecord). faults_for {L = L} [] xs) (sym same)
 
   -- it takes none of the connector's offers
   pub relaying_takes : (phase next : Phase L C) → is_relaying phase ≡ true
@@ -98,26 +105,24 @@ module _ {L C : Type 0} (state : L → LinkState) (start_at : L → LinkStart) w
   relaying_takes ReadHead next is = absurd (true≢false (sym is))
   relaying_takes (Fail link lease keep session error) next is = absurd (true≢false (sym is))
   relaying_takes (Answer session owed attempts) next is = absurd (true≢false (sym is))
-  relaying_takes (Connect context session) next is = absurd (true≢false (sym is))
+  relaying_takes (Connect context session tries) next is = absurd (true≢false (sym is))
   relaying_takes (Relay a) next is = refl
   relaying_takes (Close link lease keep outcome) next is = absurd (true≢false (sym is))
   relaying_takes (Ended outcome attempts) next is = absurd (true≢false (sym is))
 
   -- and its next phase holds the same link
   pub relaying_carries : (phase next : Phase L C) → is_relaying phase ≡ true
-      → links_held {C = C} state start_at next ≡ links_held {C = C} state start_at phase
+      → attempts_in next ≡ attempts_in phase
       → items_held start_at next ≡ items_held start_at phase
       → offers_before start_at [] phase ++ offers_of_turn start_at phase next
       ≡ offers_before start_at [] next
-  relaying_carries ReadHead next is held items = absurd (true≢false (sym is))
-  relaying_carries (Fail link lease keep session error) next is held items = absurd
-      (true≢false (sym is))
-  relaying_carries (Answer session owed attempts) next is held items = absurd (true≢false (sym is))
-  relaying_carries (Connect context session) next is held items = absurd (true≢false (sym is))
-  relaying_carries (Relay a) next is held items =
-      sym (held_offers start_at next _ items (none_before_link state start_at next held))
-  relaying_carries (Close link lease keep outcome) next is held items = absurd (true≢false (sym is))
-  relaying_carries (Ended outcome attempts) next is held items = absurd (true≢false (sym is))
+  relaying_carries phase next is same items =
+      ap (λ (os : List Offer). offers_before start_at [] phase ++ os) (relaying_takes phase next is)
+      ∙ append-nil (offers_before start_at [] phase)
+      ∙ ap (λ (xs : List AttemptRecord). map Err (faults_for {L = L} [] xs)
+      ++ map Ok (items_held start_at phase)) (sym same)
+      ∙ ap (λ (xs : List (Option LinkItems)). map Err (faults_before [] next) ++ map Ok xs)
+      (sym items)
 
   -- its uses are those of its exchange, which is under way
   pub relaying_uses : (s : Start) (p : Passed) (own : List (Returned L)) (w : World)
@@ -130,7 +135,7 @@ module _ {L C : Type 0} (state : L → LinkState) (start_at : L → LinkStart) w
       absurd (true≢false (sym is))
   relaying_uses s p own w (Answer session owed attempts) T is run uses =
       absurd (true≢false (sym is))
-  relaying_uses s p own w (Connect context session) T is run uses = absurd (true≢false (sym is))
+  relaying_uses s p own w (Connect context session tries) T is run uses = absurd (true≢false (sym is))
   relaying_uses s p own w (Relay a) T is run uses =
       let relays = relaying_of state start_at s p w own a run in
       uses (origin_of s relays.head relays.sent a.value.lease.reused) p a refl relays.under_way
@@ -154,7 +159,7 @@ module _ {L C : Type 0} (state : L → LinkState) (start_at : L → LinkStart) w
       absurd (true≢false (sym is))
   relaying_counts s p own w client' n used (Answer session owed attempts) next is run had counts =
       absurd (true≢false (sym is))
-  relaying_counts s p own w client' n used (Connect context session) next is run had counts =
+  relaying_counts s p own w client' n used (Connect context session tries) next is run had counts =
       absurd (true≢false (sym is))
   relaying_counts s p [] w client' n used (Relay a) next is run had counts =
       counts (origin_of s run.holds.head run.holds.sent a.value.lease.reused) p a n refl
@@ -173,7 +178,7 @@ module _ {L C : Type 0} (state : L → LinkState) (start_at : L → LinkStart) w
   unlinked_asked n own ReadHead none had = had
   unlinked_asked n own (Fail link lease keep session error) none had = cc
   unlinked_asked n own (Answer session owed attempts) none had = had
-  unlinked_asked n own (Connect context session) none had = had
+  unlinked_asked n own (Connect context session tries) none had = had
   unlinked_asked n own (Relay a) none had = cc
   unlinked_asked n own (Close link lease keep outcome) none had = cc
   unlinked_asked n own (Ended outcome attempts) none had = had
@@ -211,14 +216,14 @@ module _ {L C : Type 0} (state : L → LinkState) (start_at : L → LinkStart) w
 
   -- the turn that asks the connector
   pub connect_counts : (s : Start) (p : Passed) (own : List (Returned L)) (w : World) (context : C)
-      (session : Box HttpSession) (n used : ℕ) (client : LinkState) (next : Phase L C)
-      → RunSoFar state start_at s p w own (Connect context session) → OwnUses state start_at n own
+      (session : Box HttpSession) (tries : List AttemptRecord) (n used : ℕ) (client : LinkState) (next : Phase L C)
+      → RunSoFar state start_at s p w own (Connect context session tries) → OwnUses state start_at n own
       → used ≡ 0 → PhaseUses state start_at 0 [] next
       → TurnCounts state start_at n client client used own next
-  connect_counts s p [] w context session n used client next run had none fresh =
+  connect_counts s p [] w context session tries n used client next run had none fresh =
       still_counts n used client [] next none
       (subst (λ (k : ℕ). PhaseUses state start_at k [] next) (sym had) fresh)
-  connect_counts s p (r ∷ own) w context session n used client next run had none fresh =
+  connect_counts s p (r ∷ own) w context session tries n used client next run had none fresh =
       absurd run.holds
 
 -- a phase that does not relay holds no attempt
@@ -233,7 +238,7 @@ pub relaying_works : {L C : Type 0} (phase : Phase L C) (did : RunStep) (work : 
 relaying_works ReadHead did work is does = absurd (true≢false (sym is))
 relaying_works (Fail link lease keep session error) did work is does = absurd (true≢false (sym is))
 relaying_works (Answer session owed attempts) did work is does = absurd (true≢false (sym is))
-relaying_works (Connect context session) did work is does = absurd (true≢false (sym is))
+relaying_works (Connect context session tries) did work is does = absurd (true≢false (sym is))
 relaying_works (Relay a) did work is does = does
 relaying_works (Close link lease keep outcome) did work is does = absurd (true≢false (sym is))
 relaying_works (Ended outcome attempts) did work is does = absurd (true≢false (sym is))
@@ -244,7 +249,7 @@ pub open_settles : {L C : Type 0} (phase : Phase L C) (told : Option (List (Retu
 open_settles ReadHead told is = (refl, refl)
 open_settles (Fail link lease keep session error) told is = absurd (true≢false is)
 open_settles (Answer session owed attempts) told is = (refl, refl)
-open_settles (Connect context session) told is = (refl, refl)
+open_settles (Connect context session tries) told is = (refl, refl)
 open_settles (Relay a) told is = (refl, refl)
 open_settles (Close link lease keep outcome) told is = absurd (true≢false is)
 open_settles (Ended outcome attempts) told is = (refl, refl)
@@ -253,7 +258,7 @@ open_settles (Ended outcome attempts) told is = (refl, refl)
 pub unlinked_open : {L C : Type 0} (state : L → LinkState) (start_at : L → LinkStart)
     (phase : Phase L C) → links_held state start_at phase ≡ 0 → is_closing phase ≡ false
 unlinked_open state start_at ReadHead none = refl
-unlinked_open state start_at (Connect context session) none = refl
+unlinked_open state start_at (Connect context session tries) none = refl
 unlinked_open state start_at (Relay a) none = refl
 unlinked_open state start_at (Fail link lease keep session error) none = cc
 unlinked_open state start_at (Close link lease keep outcome) none = cc
@@ -264,7 +269,7 @@ unlinked_open state start_at (Ended outcome attempts) none = refl
 pub relaying_open : {L C : Type 0} (phase : Phase L C) → is_relaying phase ≡ true
     → is_closing phase ≡ false
 relaying_open ReadHead is = refl
-relaying_open (Connect context session) is = refl
+relaying_open (Connect context session tries) is = refl
 relaying_open (Relay a) is = refl
 relaying_open (Fail link lease keep session error) is = absurd (true≢false (sym is))
 relaying_open (Close link lease keep outcome) is = absurd (true≢false (sym is))
@@ -275,7 +280,7 @@ relaying_open (Ended outcome attempts) is = refl
 pub unlinked_items : {L C : Type 0} (state : L → LinkState) (start_at : L → LinkStart)
     (phase : Phase L C) → links_held state start_at phase ≡ 0 → items_held start_at phase ≡ []
 unlinked_items state start_at ReadHead none = refl
-unlinked_items state start_at (Connect context session) none = refl
+unlinked_items state start_at (Connect context session tries) none = refl
 unlinked_items state start_at (Relay a) none = cc
 unlinked_items state start_at (Fail link lease keep session error) none = cc
 unlinked_items state start_at (Close link lease keep outcome) none = cc

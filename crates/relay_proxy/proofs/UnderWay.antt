@@ -1,5 +1,5 @@
 -- A request between two steps of one call.
-use Rattle.std.proofs.Common.{◌≡◌, ◌≢◌, ℕ, ◌+◌, min, ◌≤◌, true, false, List, [], ◌++◌, Option, true≢false, refl, sym, ap, subst, ◌∙◌, inl, inr, arith}
+use Rattle.std.proofs.Common.{◌≡◌, ◌≢◌, ℕ, ◌+◌, min, ◌≤◌, true, false, List, [], ◌++◌, Option, true≢false, refl, sym, ap, subst, ◌∙◌, inl, inr, arith, length}
 use Rattle.relay_links.specs.Count.{last_count, up}
 use Rattle.relay_links.specs.Connector.{Offer}
 use Rattle.relay_links.specs.Link.{LinkState, LinkStart}
@@ -55,7 +55,8 @@ module _ {L : Type 0} (state : L → LinkState) (start_at : L → LinkStart) whe
       → processed.history.items_used ≡ work.used → processed.history.tasks_moved ≡ work.moved
       → processed.history.sides_ended ≡ work.ended → turns ≤ total_work work
       → work.moved ≤ tasks → work.ended ≤ ends
-      → IsWithin tasks ends most_sides s client (OwnGave state start_at own)
+      → IsWithin tasks ends (most_sides (length processed.history.attempts)) s client
+      (OwnGave state start_at own)
       → IsBounded state start_at s client own processed.history
   bounded_by s client own processed turns work tasks ends taken used moved sides worked tasks_fit
       ends_fit within = record {
@@ -146,16 +147,16 @@ module _ {L C : Type 0} (state : L → LinkState) (start_at : L → LinkStart) w
   none_taken phase none bare = rw (none, bare) refl
 
   -- a request that was just begun
-  pub begun : (w x : World) (before now : Option (List (Returned L)))
+  pub begun : (most : ℕ) (w x : World) (before now : Option (List (Returned L)))
       (told_before told_now : Option (List Fault)) (had has : Option (List Offer))
       (first : LinkState) (m : Machine L C) → now ≡ before
       → told_now ≡ told_before → has ≡ had
-      → RunSoFar state start_at (start_of w) nothing x [] m.phase
+      → RunSoFar state start_at (start_of most w) nothing x [] m.phase
       → attempts_in m.phase ≡ [] → links_held state start_at m.phase ≡ 0 → m.turns ≡ 0
       → x.client ≡ first → m.work.used ≡ 0 → m.work.moved ≡ 0 → m.work.ended ≡ 0
-      → PhaseCounts state start_at 0 0 (start_of w) x.client x.ahead [] m.phase
-      → IsUnderWay (start_of w) x before now told_before told_now had has first m 0
-  begun w x before now told_before told_now had has first m same told kept run unmade unlinked none
+      → PhaseCounts state start_at 0 0 (start_of most w) x.client x.ahead [] m.phase
+      → IsUnderWay (start_of most w) x before now told_before told_now had has first m 0
+  begun most w x before now told_before told_now had has first m same told kept run unmade unlinked none
       is unused unmoved unended first_bound =
       record {
         passed = nothing;

@@ -156,7 +156,7 @@ module _ {L C : Type 0} (state : L → LinkState) (start_at : L → LinkStart) w
       → held_state state next ≡ Some link
       → StandsBehind state before after (held_state state settled) link
   settled_stands ReadHead settled before mid after link same does held = absurd (cc)
-  settled_stands (Connect context session) settled before mid after link same does held =
+  settled_stands (Connect context session tries) settled before mid after link same does held =
       absurd (cc)
   settled_stands (Relay a) settled before mid after link same does held =
       inl (ap (λ (n : Phase L C). held_state state n) does.0 ∙ held)
@@ -209,7 +209,7 @@ module _ {L C : Type 0} (state : L → LinkState) (start_at : L → LinkStart) w
   pub owes_settled : (next settled : Phase L C) (before after : Option (List (Returned L)))
       → Settles next before after settled → OwesAnswer next → OwesAnswer settled
   owes_settled ReadHead settled before after does owes = absurd owes
-  owes_settled (Connect context session) settled before after does owes = absurd owes
+  owes_settled (Connect context session tries) settled before after does owes = absurd owes
   owes_settled (Relay a) settled before after does owes = absurd owes
   owes_settled (Fail link lease keep session error) settled before after does owes =
       subst (λ (n : Phase L C). OwesAnswer n) (sym does.1) tt

@@ -7,16 +7,23 @@ use Rattle.relay_links.specs.Told.{Since}
 use Rattle.relay_links.specs.declared.Returned.{Returned}
 use Rattle.relay_attempt.specs.Bound.{HasCounted, most_tasks}
 use Rattle.relay_proxy.specs.Passed.{Start, origin_of}
+use Rattle.relay_proxy.specs.Tries.{tries_in}
 use Rattle.relay_proxy.specs.declared.machine.Attempt.{Attempt}
+use Rattle.relay_proxy.specs.declared.machine.Lease.{Lease}
 use Rattle.relay_proxy.specs.declared.machine.Phase.{Phase}
 use Rattle.relay_proxy.specs.declared.machine.Phase.TheVariants.{ReadHead, Connect, Relay, Fail, Close, Answer, Ended}
+use Rattle.relay_proxy.specs.declared.record.AttemptRecord.{AttemptRecord}
 use Rattle.relay_proxy.specs.declared.record.RunRecord.{RunRecord}
 use Rattle.relay_proxy.specs.declared.work.Work.{Work}
 
--- how many ends a request has at most: its head was judged; the five of its exchange, or four and a
--- failure; and its answer
-abbrev pub most_sides : ℕ
-most_sides = 7
+-- how many ends a request of so many attempts has before its answer: its head was judged; each
+-- attempt was refused, or had the five of an exchange, or four and a failure, which the last has
+abbrev pub sides_before : ℕ → ℕ
+sides_before made = 5 + made
+
+-- and with it
+abbrev pub most_sides : ℕ → ℕ
+most_sides made = 6 + made
 
 -- so many tasks were moved and so many ends came, since the client's link gave the one bytes and
 -- the request's own the others
@@ -46,11 +53,12 @@ module _ {L : Type 0} (state : L → LinkState) (start_at : L → LinkStart) whe
       (history : RunRecord) : Type 0 where
     pub worked : history.turns_taken
         ≤ history.items_used + history.tasks_moved + history.sides_ended
-    pub within : IsWithin history.tasks_moved history.sides_ended most_sides s client (OwnGave own)
+    pub within : IsWithin history.tasks_moved history.sides_ended
+        (most_sides (length history.attempts)) s client (OwnGave own)
 
 module _ {L C : Type 0} (state : L → LinkState) (start_at : L → LinkStart) where
   -- an attempt whose exchange counted so much: the head that is sent is one more task, and the head
-  -- that was judged one more end
+  -- that was judged and each attempt before it are one more end
   pub record AttemptCounts (tasks ends : ℕ) (s : Start) (client : LinkState) (ahead : List ℕ)
       (a : Attempt L C) : Type 0 where
     pub head : RequestHead
@@ -60,36 +68,38 @@ module _ {L C : Type 0} (state : L → LinkState) (start_at : L → LinkStart) w
     pub counted : HasCounted state start_at of_tasks of_ends (origin_of s head sent a.lease.reused)
         client ahead a.exchange
     pub tasks_are : tasks ≡ 1 + of_tasks
-    pub ends_are : ends ≡ 1 + of_ends
+    pub ends_are : ends ≡ 1 + length (tries_in a.lease) + of_ends
 
   -- what a request counted up to that phase, none of whose links is to be handed back
   abbrev pub PhaseCounts : ℕ → ℕ → Start → LinkState → List ℕ → List (Returned L) → Phase L C
       → Type 0
   PhaseCounts tasks ends s client ahead own ReadHead = (tasks ≡ 0) × (ends ≡ 0)
-  PhaseCounts tasks ends s client ahead own (Connect context session) =
-      (tasks ≡ 0) × (ends ≡ 1)
+  PhaseCounts tasks ends s client ahead own (Connect context session tries) =
+      (tasks ≡ 0) × (ends ≡ 1 + length tries)
   PhaseCounts tasks ends s client ahead own (Relay a) =
       AttemptCounts tasks ends s client ahead a.value
   PhaseCounts tasks ends s client ahead own (Fail link lease keep session error) = ⊥
   PhaseCounts tasks ends s client ahead own (Close link lease keep outcome) = ⊥
   PhaseCounts tasks ends s client ahead own (Answer session owed attempts) =
-      IsWithin tasks ends 6 s client (OwnGave state start_at own)
+      IsWithin tasks ends (sides_before (length attempts)) s client (OwnGave state start_at own)
   PhaseCounts tasks ends s client ahead own (Ended outcome attempts) =
-      IsWithin tasks ends most_sides s client (OwnGave state start_at own)
+      IsWithin tasks ends (most_sides (length attempts)) s client (OwnGave state start_at own)
 
   -- the same behind a turn, whose link may be to be handed back
   abbrev pub TurnedCounts : ℕ → ℕ → Start → LinkState → List ℕ → List (Returned L) → Phase L C
       → Type 0
   TurnedCounts tasks ends s client ahead own ReadHead =
       PhaseCounts tasks ends s client ahead own ReadHead
-  TurnedCounts tasks ends s client ahead own (Connect context session) =
-      PhaseCounts tasks ends s client ahead own (Connect context session)
+  TurnedCounts tasks ends s client ahead own (Connect context session tries) =
+      PhaseCounts tasks ends s client ahead own (Connect context session tries)
   TurnedCounts tasks ends s client ahead own (Relay a) =
       PhaseCounts tasks ends s client ahead own (Relay a)
   TurnedCounts tasks ends s client ahead own (Fail link lease keep session error) =
-      IsWithin tasks ends 6 s client (LinkGave state start_at link)
+      IsWithin tasks ends (sides_before (1 + length (tries_in lease))) s client
+      (LinkGave state start_at link)
   TurnedCounts tasks ends s client ahead own (Close link lease keep outcome) =
-      IsWithin tasks ends most_sides s client (LinkGave state start_at link)
+      IsWithin tasks ends (most_sides (1 + length (tries_in lease))) s client
+      (LinkGave state start_at link)
   TurnedCounts tasks ends s client ahead own (Answer session owed attempts) =
       PhaseCounts tasks ends s client ahead own (Answer session owed attempts)
   TurnedCounts tasks ends s client ahead own (Ended outcome attempts) =
@@ -98,40 +108,47 @@ module _ {L C : Type 0} (state : L → LinkState) (start_at : L → LinkStart) w
 -- what a turn counts that reads or judges the head: nothing, or one end
 abbrev pub CountsHead : {L C : Type 0} → Phase L C → Work → Type 0
 CountsHead ReadHead work = (work.moved ≡ 0) × (work.ended ≡ 0)
-CountsHead (Connect context session) work = (work.moved ≡ 0) × (work.ended ≡ 1)
+CountsHead (Connect context session tries) work =
+    (work.moved ≡ 0) × (work.ended ≡ 1) × (tries ≡ [])
 CountsHead (Relay a) work = ⊥
 CountsHead (Fail link lease keep session error) work = ⊥
 CountsHead (Close link lease keep outcome) work = ⊥
 CountsHead (Answer session owed attempts) work = (work.moved ≡ 0) × (work.ended ≡ 1)
 CountsHead (Ended outcome attempts) work = (work.moved ≡ 0) × (work.ended ≡ 1)
 
--- what a turn counts that asks for a link: the head that is to be sent, or one end, also where that
--- head is refused
-abbrev pub CountsLink : {L C : Type 0} → Phase L C → Work → Type 0
-CountsLink ReadHead work = ⊥
-CountsLink (Connect context session) work = ⊥
-CountsLink (Relay a) work = (work.moved ≡ 1) × (work.ended ≡ 0)
-CountsLink (Fail link lease keep session error) work = (work.moved ≡ 0) × (work.ended ≡ 1)
-CountsLink (Close link lease keep outcome) work = (work.moved ≡ 0) × (work.ended ≡ 1)
-CountsLink (Answer session owed attempts) work = (work.moved ≡ 0) × (work.ended ≡ 1)
-CountsLink (Ended outcome attempts) work = (work.moved ≡ 0) × (work.ended ≡ 1)
+-- what a turn counts that asks for a link behind those attempts: the head that is to be sent, or one
+-- end, also where that head is refused; one that is refused a link made one attempt more
+abbrev pub CountsLink : {L C : Type 0} → List AttemptRecord → Phase L C → Work → Type 0
+CountsLink before ReadHead work = ⊥
+CountsLink before (Connect context session tries) work =
+    (work.moved ≡ 0) × (work.ended ≡ 1) × (length tries ≡ 1 + length before)
+CountsLink before (Relay a) work =
+    (work.moved ≡ 1) × (work.ended ≡ 0) × (tries_in a.value.lease ≡ before)
+CountsLink before (Fail link lease keep session error) work =
+    (work.moved ≡ 0) × (work.ended ≡ 1) × (tries_in lease ≡ before)
+CountsLink before (Close link lease keep outcome) work =
+    (work.moved ≡ 0) × (work.ended ≡ 1) × (tries_in lease ≡ before)
+CountsLink before (Answer session owed attempts) work =
+    (work.moved ≡ 0) × (work.ended ≡ 1) × (length attempts ≡ 1 + length before)
+CountsLink before (Ended outcome attempts) work =
+    (work.moved ≡ 0) × (work.ended ≡ 1) × (length before ≤ length attempts)
 
 -- what a turn counts that writes an answer: nothing, or one end at most
 abbrev pub CountsAnswer : {L C : Type 0} → Phase L C → Work → Type 0
 CountsAnswer ReadHead work = ⊥
-CountsAnswer (Connect context session) work = ⊥
+CountsAnswer (Connect context session tries) work = ⊥
 CountsAnswer (Relay a) work = ⊥
 CountsAnswer (Fail link lease keep session error) work = ⊥
 CountsAnswer (Close link lease keep outcome) work = ⊥
 CountsAnswer (Answer session owed attempts) work = (work.moved ≡ 0) × (work.ended ≡ 0)
 CountsAnswer (Ended outcome attempts) work = (work.moved ≡ 0) × (work.ended ≤ 1)
 
--- that link is to be handed back
-abbrev pub LeavesLink : {L C : Type 0} → L → Phase L C → Type 0
-LeavesLink link ReadHead = ⊥
-LeavesLink link (Connect context session) = ⊥
-LeavesLink link (Relay a) = ⊥
-LeavesLink link (Fail left lease keep session error) = left ≡ link
-LeavesLink link (Close left lease keep outcome) = left ≡ link
-LeavesLink link (Answer session owed attempts) = ⊥
-LeavesLink link (Ended outcome attempts) = ⊥
+-- that link is to be handed back, by that lease
+abbrev pub LeavesLink : {L C : Type 0} → L → Lease → Phase L C → Type 0
+LeavesLink link lease ReadHead = ⊥
+LeavesLink link lease (Connect context session tries) = ⊥
+LeavesLink link lease (Relay a) = ⊥
+LeavesLink link lease (Fail left by keep session error) = (left ≡ link) × (by ≡ lease)
+LeavesLink link lease (Close left by keep outcome) = (left ≡ link) × (by ≡ lease)
+LeavesLink link lease (Answer session owed attempts) = ⊥
+LeavesLink link lease (Ended outcome attempts) = ⊥

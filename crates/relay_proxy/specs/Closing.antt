@@ -1,5 +1,5 @@
 -- How a request gives its link back, and what it leaves.
-use Rattle.std.specs.Prelude.{◌≡◌, ◌⊎◌, ℕ, Bool, true, false, List, [], ◌∷◌, ◌++◌, Option, Some}
+use Rattle.std.specs.Prelude.{◌≡◌, ◌⊎◌, ℕ, Bool, true, false, List, [], ◌∷◌, ◌++◌, length, Option, Some}
 use Rattle.relay_tasks.specs.Head.{RequestHead}
 use Rattle.relay_tasks.specs.declared.Error.{Error}
 use Rattle.relay_links.specs.Link.{LinkState, LinkStart}
@@ -13,11 +13,12 @@ use Rattle.relay_attempt.specs.Head.{link_of}
 use Rattle.relay_proxy.specs.Sent.{Sends}
 use Rattle.relay_proxy.specs.Bound.{IsWithin, OwnGave, PhaseCounts, most_sides}
 use Rattle.relay_proxy.specs.Passed.{World, Start, origin_of, asked}
-use Rattle.relay_proxy.specs.Endings.{error_of, IsAskedPeer, IsEnded}
+use Rattle.relay_proxy.specs.Endings.{error_of, IsEnded}
 use Rattle.relay_proxy.specs.Owed.{IsHalfGiven}
 use Rattle.relay_proxy.specs.Taken.{offers_for, offers_before}
 use Rattle.relay_proxy.specs.Refusals.{faults_for, attempts_in, faults_before}
 use Rattle.relay_proxy.specs.Relayable.{IsRelayable}
+use Rattle.relay_proxy.specs.Tries.{IsAskedPeer, tries_in}
 use Rattle.relay_proxy.specs.Turn.{links_held, IsStalled, AdvancesOn}
 use Rattle.relay_proxy.specs.Uses.{PhaseUses, OwnUses}
 use Rattle.relay_proxy.specs.declared.finish.Ending.{Ending}
@@ -40,7 +41,7 @@ pub record Hands {L : Type 0}
   pub peer : r.peer ≡ lease.peer
   pub kept : r.keep ≡ keep
   pub attempt : AttemptRecord
-  pub attempts_are : attempts ≡ attempt ∷ []
+  pub attempts_are : attempts ≡ tries_in lease ++ attempt ∷ []
   pub asked : IsAskedPeer attempt.peer
   pub reused : attempt.reused ≡ lease.reused
   pub record_kept : attempt.kept ≡ keep
@@ -59,8 +60,8 @@ pub record HandsBack {L : Type 0}
 abbrev pub Settles : {L C : Type 0} → Phase L C → Option (List (Returned L))
     → Option (List (Returned L)) → Phase L C → Type 0
 Settles ReadHead before after next = (next ≡ ReadHead) × (after ≡ before)
-Settles (Connect context session) before after next =
-    (next ≡ Connect context session) × (after ≡ before)
+Settles (Connect context session tries) before after next =
+    (next ≡ Connect context session tries) × (after ≡ before)
 Settles (Relay a) before after next = (next ≡ Relay a) × (after ≡ before)
 Settles (Fail link lease keep session error) before after next =
     (attempts : List AttemptRecord) × (next ≡ Answer session (Served error) attempts)
@@ -72,13 +73,6 @@ Settles (Close link lease keep outcome) before after next =
     × HandsBack link lease keep outcome before after attempts
 Settles (Ended outcome attempts) before after next =
     (next ≡ Ended outcome attempts) × (after ≡ before)
-
--- a request that has no link gives up
-pub record GivesUp {L : Type 0} (before after : Option (List (Returned L))) (ending : Ending)
-    : Type 0 where
-  pub limit : ending.outcome ≡ TurnLimit
-  pub none : ending.attempts ≡ []
-  pub same : after ≡ before
 
 -- a request that has a link gives up, and the link is not kept
 pub record GivesLinkUp {L : Type 0}
@@ -95,8 +89,8 @@ pub record GivesFailedUp {L : Type 0}
   pub back : HandsBack link lease keep (outcome.Served (Some e) false) before after
       ending.attempts
 
--- a request that has handed its link back, or was given none, gives up
-pub record GivesAnswerUp {L : Type 0}
+-- a request that holds no link gives up, behind those attempts
+pub record GivesUp {L : Type 0}
     (attempts : List AttemptRecord) (before after : Option (List (Returned L))) (ending : Ending)
     : Type 0 where
   pub limit : ending.outcome ≡ TurnLimit
@@ -106,14 +100,14 @@ pub record GivesAnswerUp {L : Type 0}
 -- how a request is brought to its end, wherever it stands
 abbrev pub Finishes : {L C : Type 0} → Phase L C → Option (List (Returned L))
     → Option (List (Returned L)) → Ending → Type 0
-Finishes ReadHead before after ending = GivesUp before after ending
-Finishes (Connect context session) before after ending = GivesUp before after ending
+Finishes ReadHead before after ending = GivesUp [] before after ending
+Finishes (Connect context session tries) before after ending = GivesUp tries before after ending
 Finishes (Relay a) before after ending =
     GivesLinkUp (link_of a.value.exchange) a.value.lease before after ending
 Finishes (Fail link lease keep session error) before after ending =
     GivesFailedUp link lease keep error before after ending
 Finishes (Answer session owed attempts) before after ending =
-    GivesAnswerUp attempts before after ending
+    GivesUp attempts before after ending
 Finishes (Close link lease keep outcome) before after ending =
     (ending.outcome ≡ outcome) × HandsBack link lease keep outcome before after ending.attempts
 Finishes (Ended outcome attempts) before after ending =
@@ -122,7 +116,7 @@ Finishes (Ended outcome attempts) before after ending =
 -- a request that has ended stays as it is, in the same world
 abbrev pub Rests : {L C : Type 0} → World → World → Phase L C → Phase L C → RunStep → Type 0
 Rests w x ReadHead next did = Unit {0}
-Rests w x (Connect context session) next did = Unit {0}
+Rests w x (Connect context session tries) next did = Unit {0}
 Rests w x (Relay a) next did = Unit {0}
 Rests w x (Fail link lease keep session error) next did = Unit {0}
 Rests w x (Answer session owed attempts) next did = Unit {0}
@@ -166,7 +160,7 @@ module _ {L C : Type 0} (state : L → LinkState) (start_at : L → LinkStart) w
   -- a turn of a request that has not ended
   abbrev pub TurnOf : Start → World → List (Returned L) → Phase L C → Phase L C → Type 0
   TurnOf s x own ReadHead next = AdvancesOn state start_at s x own next
-  TurnOf s x own (Connect context session) next = AdvancesOn state start_at s x own next
+  TurnOf s x own (Connect context session tries) next = AdvancesOn state start_at s x own next
   TurnOf s x own (Relay a) next = AdvancesOn state start_at s x own next
   TurnOf s x own (Fail link lease keep session error) next = AdvancesOn state start_at s x own next
   TurnOf s x own (Close link lease keep outcome) next = Unit {0}
@@ -192,6 +186,7 @@ module _ {L C : Type 0} (state : L → LinkState) (start_at : L → LinkStart) w
     -- nor was more counted
     pub bounded : (tasks ends : ℕ)
         → PhaseCounts state start_at tasks ends s w.client w.ahead own phase
-        → IsWithin tasks ends most_sides s w.client (OwnGave state start_at (own ++ handed))
+        → IsWithin tasks ends (most_sides (length ending.attempts)) s w.client
+        (OwnGave state start_at (own ++ handed))
     pub quiet : ending.outcome ≡ TurnLimit → IsStalled state start_at w phase
         → IsQuiet state start_at s p w (own ++ handed)

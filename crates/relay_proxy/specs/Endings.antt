@@ -1,8 +1,8 @@
 -- How a request may end: each outcome with its cause, in terms of what passed.
-use Rattle.std.specs.Prelude.{◌≡◌, ◌≢◌, ◌⊎◌, ◌↔◌, IsTrue, ℕ, Bool, true, false, List, [], ◌∷◌, Option, None, Some}
+use Rattle.std.specs.Prelude.{◌≡◌, ◌≢◌, ◌⊎◌, ◌↔◌, IsTrue, ℕ, Bool, true, false, List, [], ◌∷◌, ◌++◌, Option, None, Some}
 use Rattle.std.specs.List.{list_any}
 use Rattle.http.specs.declared.version.TheConstants.Version.{HTTP_11}
-use Rattle.relay_tasks.specs.Error.{new_error, error_of_fault, explained}
+use Rattle.relay_tasks.specs.Error.{new_error, explained}
 use Rattle.relay_tasks.specs.Head.{RequestHead}
 use Rattle.relay_tasks.specs.declared.Context.{Context}
 use Rattle.relay_tasks.specs.declared.Context.TheVariants.{ClientClosed}
@@ -13,7 +13,6 @@ use Rattle.relay_tasks.specs.declared.ErrorSource.TheVariants.{Upstream, Downstr
 use Rattle.relay_tasks.specs.declared.error.Fail.{Fail}
 use Rattle.relay_tasks.specs.declared.error.Fail.TheVariants as fail
 use Rattle.relay_tasks.specs.declared.Fault.{Fault}
-use Rattle.relay_tasks.specs.declared.Peer.{Peer}
 use Rattle.relay_links.specs.Count.{Rose}
 use Rattle.relay_links.specs.Connector.{IsConnectFault}
 use Rattle.relay_links.specs.Link.{LinkState, LinkStart, IsHandedOut, IsReadFault, IsWriteFault}
@@ -37,6 +36,7 @@ use Rattle.relay_proxy.specs.Answer.{owed_text, past_at}
 use Rattle.relay_proxy.specs.Relayable.{IsConnect, IsRelayable, NamesUpgrade}
 use Rattle.relay_proxy.specs.Passed.{World, Start, origin_of, asked, TellsClient, TellsLink, IsUnsent, IsUntouched}
 use Rattle.relay_proxy.specs.Sent.{Sends, RefusesToSend}
+use Rattle.relay_proxy.specs.Tries.{AreTries, EndsTrying, IsAskedPeer, fault_error}
 use Rattle.relay_proxy.specs.declared.outcome.Outcome.{Outcome}
 use Rattle.relay_proxy.specs.declared.outcome.Outcome.TheVariants.{NoRequest, Refused, Served, TurnLimit, OutOfMemory}
 use Rattle.relay_proxy.specs.declared.record.AttemptRecord.{AttemptRecord}
@@ -82,10 +82,6 @@ pub data IsInOrder (s : Start) (p : Passed) : Type 0 where
       → IsRelayable head → Sends head sent
       → (order : exchange.IsInOrder (origin_of s head sent reused) (past_at p before) closed)
       → IsFrontOf p.written (owed_text order e) → IsInOrder s p
-
--- an error of that side which tells of the fault
-abbrev pub fault_error : ErrorSource → Fault → Error
-fault_error side fault = record (error_of_fault fault) { esource = side }
 
 -- the error of a request that is not relayed
 abbrev pub unrelayed : ErrorSource → Error
@@ -367,10 +363,6 @@ error_of (Served error reuse) = error
 error_of TurnLimit = None
 error_of OutOfMemory = None
 
--- the peer that each attempt asks for
-abbrev pub IsAskedPeer : Peer → Type 0
-IsAskedPeer peer = peer ≡ record { address = []; tls = false; allows_h1 = true }
-
 -- the record of an attempt that had a link
 pub record IsRecordOf (a : AttemptRecord) (start : LinkStart) (keep : Bool) : Type 0 where
   pub peer : IsAskedPeer a.peer
@@ -386,22 +378,13 @@ IsErrorOf told (Served error reuse) = told ≡ error
 IsErrorOf told TurnLimit = Unit {0}
 IsErrorOf told OutOfMemory = Unit {0}
 
--- the record of an attempt that was given no link, for that error
-pub record IsFailedRecord (attempts : List AttemptRecord) (e : Error) : Type 0 where
-  pub attempt : AttemptRecord
-  pub attempts_are : attempts ≡ attempt ∷ []
-  pub peer : IsAskedPeer attempt.peer
-  pub reused : attempt.reused ≡ false
-  pub kept : attempt.kept ≡ false
-  pub error : attempt.error ≡ Some e
-
--- the connector gave the attempt no link, and the client was given a part of the answer
+-- the connector gave the attempts no link, and the client was given a part of the answer
 pub record IsHalfRefused (s : Start) (p : Passed) (w : World) (attempts : List AttemptRecord)
     : Type 0 where
   pub e : Error
   pub unconnected : IsUnconnected s p w e
   pub part : IsFrontOf p.written (generated 502)
-  pub is_record : IsFailedRecord attempts e
+  pub made : EndsTrying s attempts e
 
 -- what the client was given of a request that made no attempt, where it was not brought to an end:
 -- nothing, or the front of the answer to a head that is turned down
@@ -411,26 +394,33 @@ IsPartRefused s p =
     ⊎ ((answer : List ℕ) × (error : Option Error) × IsTurnedDown (asked s p) answer error
     × IsFrontOf p.written answer)
 
--- the attempts of a request that had no link: one where the connector gave none
+-- the attempts of a request that had no link and was not brought to an end: none; those before
+-- another one, with nothing written; or those behind which the client was owed an answer
+abbrev pub AttemptsUnfinished : Start → Passed → World → List AttemptRecord → Type 0
+AttemptsUnfinished s p w attempts =
+    ((attempts ≡ []) × IsPartRefused s p)
+    ⊎ ((AreTries s attempts × (p.written ≡ [])) ⊎ IsHalfRefused s p w attempts)
+
+-- the attempts of a request that had no link: those to which the connector gave none
 abbrev pub AttemptsUnlinked : Start → Passed → World → List AttemptRecord → Outcome → Type 0
 AttemptsUnlinked s p w attempts NoRequest = attempts ≡ []
 AttemptsUnlinked s p w attempts (Refused error) = attempts ≡ []
 AttemptsUnlinked s p w attempts (Served None reuse) = ⊥
-AttemptsUnlinked s p w attempts (Served (Some e) reuse) = IsFailedRecord attempts e
-AttemptsUnlinked s p w attempts TurnLimit =
-    ((attempts ≡ []) × IsPartRefused s p) ⊎ IsHalfRefused s p w attempts
-AttemptsUnlinked s p w attempts OutOfMemory =
-    ((attempts ≡ []) × IsPartRefused s p) ⊎ IsHalfRefused s p w attempts
+AttemptsUnlinked s p w attempts (Served (Some e) reuse) = EndsTrying s attempts e
+AttemptsUnlinked s p w attempts TurnLimit = AttemptsUnfinished s p w attempts
+AttemptsUnlinked s p w attempts OutOfMemory = AttemptsUnfinished s p w attempts
 
 module _ {L : Type 0} (state : L → LinkState) (start_at : L → LinkStart) where
-  -- how a request ends that handed back this link
+  -- how a request ends that handed back this link, which its last attempt had
   pub record EndsReturned
       (s : Start) (p : Passed) (w : World) (r : Returned L) (attempts : List AttemptRecord)
       (outcome : Outcome) : Type 0 where
     pub tells : TellsLink p (state r.link) (start_at r.link)
     pub peer : IsAskedPeer r.peer
+    pub tries : List AttemptRecord
     pub attempt : AttemptRecord
-    pub attempts_are : attempts ≡ attempt ∷ []
+    pub attempts_are : attempts ≡ tries ++ attempt ∷ []
+    pub are_tries : AreTries s tries
     pub is_record : IsRecordOf attempt (start_at r.link) r.keep
     pub error : IsErrorOf attempt.error outcome
     pub ends : EndsLinked s p w (state r.link) (start_at r.link) r.keep attempt.error outcome

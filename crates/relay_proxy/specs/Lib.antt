@@ -1,6 +1,7 @@
 pub mod Relayable
 pub mod Sent
 pub mod Passed
+pub mod Tries
 pub mod Answer
 pub mod Endings
 pub mod Owed

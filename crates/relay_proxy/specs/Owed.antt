@@ -1,5 +1,5 @@
 -- What a request still owes its client: why it is given a generated answer, and how it ends then.
-use Rattle.std.specs.Prelude.{◌≡◌, ◌≢◌, ℕ, false, List, [], ◌∷◌, Some}
+use Rattle.std.specs.Prelude.{◌≡◌, ◌≢◌, ℕ, false, List, [], ◌∷◌, ◌++◌, Some}
 use Rattle.relay_tasks.specs.declared.Error.{Error}
 use Rattle.relay_tasks.specs.declared.ErrorSource.TheVariants.{Downstream}
 use Rattle.relay_tasks.specs.declared.Fault.{Fault}
@@ -10,8 +10,9 @@ use Rattle.relay_session.specs.declared.writing.Outgoing.{Outgoing}
 use Rattle.relay_peer.specs.Body.{IsFrontOf}
 use Rattle.relay_attempt.specs.Passed.{Passed}
 use Rattle.relay_proxy.specs.Answer.{WaitsOf}
-use Rattle.relay_proxy.specs.Endings.{IsTurnedDown, IsUnconnected, Misses, IsAskedPeer, IsFailedRecord, IsRecordOf, fault_error}
+use Rattle.relay_proxy.specs.Endings.{IsTurnedDown, IsUnconnected, Misses, IsRecordOf}
 use Rattle.relay_proxy.specs.Passed.{World, Start, asked, TellsLink, IsUnsent}
+use Rattle.relay_proxy.specs.Tries.{AreTries, EndsTrying, IsAskedPeer, fault_error}
 use Rattle.relay_proxy.specs.declared.outcome.Outcome.{Outcome}
 use Rattle.relay_proxy.specs.declared.outcome.Outcome.TheVariants as outcome
 use Rattle.relay_proxy.specs.declared.owed.Owed.{Owed}
@@ -39,22 +40,24 @@ module _ {L : Type 0} (state : L → LinkState) (start_at : L → LinkStart) whe
       Misses s p w.client (state r.link) (start_at r.link) r.keep e text
 
   -- the link of an attempt that failed was handed back, and the attempt was recorded
-  pub record IsGivenBack (p : Passed) (r : Returned L) (attempts : List AttemptRecord) (e : Error)
-      : Type 0 where
+  pub record IsGivenBack (s : Start) (p : Passed) (r : Returned L)
+      (attempts : List AttemptRecord) (e : Error) : Type 0 where
     pub tells : TellsLink p (state r.link) (start_at r.link)
     pub peer : IsAskedPeer r.peer
+    pub tries : List AttemptRecord
     pub attempt : AttemptRecord
-    pub attempts_are : attempts ≡ attempt ∷ []
+    pub attempts_are : attempts ≡ tries ++ attempt ∷ []
+    pub are_tries : AreTries s tries
     pub is_record : IsRecordOf attempt (start_at r.link) r.keep
     pub error : attempt.error ≡ Some e
 
   -- the attempts of a request that owes its client an answer
-  abbrev pub HasAttempts : Passed → List (Returned L) → Owed → List AttemptRecord → Type 0
-  HasAttempts p [] (Refused error) attempts = attempts ≡ []
-  HasAttempts p [] (Served e) attempts = IsFailedRecord attempts e
-  HasAttempts p (r ∷ []) (Refused error) attempts = ⊥
-  HasAttempts p (r ∷ []) (Served e) attempts = IsGivenBack p r attempts e
-  HasAttempts p (r ∷ q ∷ own) owed attempts = ⊥
+  abbrev pub HasAttempts : Start → Passed → List (Returned L) → Owed → List AttemptRecord → Type 0
+  HasAttempts s p [] (Refused error) attempts = attempts ≡ []
+  HasAttempts s p [] (Served e) attempts = EndsTrying s attempts e
+  HasAttempts s p (r ∷ []) (Refused error) attempts = ⊥
+  HasAttempts s p (r ∷ []) (Served e) attempts = IsGivenBack s p r attempts e
+  HasAttempts s p (r ∷ q ∷ own) owed attempts = ⊥
 
   -- the client is given a generated answer, and something of it waits
   pub record IsAnswering (s : Start) (p : Passed) (w : World) (own : List (Returned L))
@@ -62,7 +65,7 @@ module _ {L : Type 0} (state : L → LinkState) (start_at : L → LinkStart) whe
     pub text : List ℕ
     pub owes : Owes s p w own owed text
     pub waits : WaitsOf output p.written text
-    pub made : HasAttempts p own owed attempts
+    pub made : HasAttempts s p own owed attempts
 
   -- the client was given a part of what it is owed
   pub record IsHalfGiven (s : Start) (p : Passed) (w : World) (own : List (Returned L))

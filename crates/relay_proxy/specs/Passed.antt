@@ -15,7 +15,7 @@ pub record World : Type 0 where
   pub ahead : List ℕ
   pub connect_faults : ℕ
 
--- the places and counts at which a request began
+-- the places and counts at which a request began, and how many attempts it may make
 pub record Start : Type 0 where
   pub ahead : List ℕ
   pub given : ℕ
@@ -24,10 +24,11 @@ pub record Start : Type 0 where
   pub connect_faults : ℕ
   pub read_faults : ℕ
   pub write_faults : ℕ
+  pub most : ℕ
 
--- where a request begins, as the world stands
-abbrev pub start_of : World → Start
-start_of w = record {
+-- where a request begins that may make so many attempts, as the world stands
+abbrev pub start_of : ℕ → World → Start
+start_of most w = record {
   ahead = w.ahead;
   given = told_length w.client.given;
   taken = told_length w.client.taken;
@@ -35,6 +36,7 @@ start_of w = record {
   connect_faults = w.connect_faults;
   read_faults = told_length w.client.read_faults;
   write_faults = told_length w.client.write_faults;
+  most = most;
 }
 
 -- where the exchange of a request began that has that head, and of which that head is sent, over a

@@ -14,12 +14,14 @@ use Rattle.relay_proxy.specs.Relayable.{IsRelayable}
 use Rattle.relay_proxy.specs.Passed.{World, Start, origin_of, asked, TellsClient, TellsLink, IsUnsent, IsUntouched}
 use Rattle.relay_proxy.specs.Sent.{Sends}
 use Rattle.relay_proxy.specs.Answer.{WaitsOf}
-use Rattle.relay_proxy.specs.Endings.{IsAccepted, IsInOrder, Misses, error_of, EndsUnlinked, EndsLinked, EndsWith, IsAskedPeer, AttemptsUnlinked}
+use Rattle.relay_proxy.specs.Endings.{IsAccepted, IsInOrder, Misses, error_of, EndsUnlinked, EndsLinked, EndsWith, AttemptsUnlinked}
 use Rattle.relay_proxy.specs.Owed.{IsAnswering}
+use Rattle.relay_proxy.specs.Tries.{AreTries, IsAskedPeer, tries_in}
 use Rattle.relay_proxy.specs.declared.outcome.Outcome.TheVariants.{TurnLimit}
 use Rattle.relay_proxy.specs.declared.machine.Attempt.{Attempt}
 use Rattle.relay_proxy.specs.declared.machine.Lease.{Lease}
 use Rattle.relay_proxy.specs.declared.machine.Phase.{Phase}
+use Rattle.relay_proxy.specs.declared.record.AttemptRecord.{AttemptRecord}
 use Rattle.relay_proxy.specs.declared.machine.Phase.TheVariants.{ReadHead, Connect, Relay, Fail, Close, Answer, Ended}
 
 -- the client's head is read: nothing was taken from what is ahead
@@ -28,8 +30,10 @@ pub record IsReadingHead (s : Start) (p : Passed) (ahead : List ℕ) : Type 0 wh
   pub written : p.written ≡ []
   pub unsent : IsUnsent p
 
--- the head was accepted, and a link is wanted for the session that begins behind it
-pub record IsConnecting (s : Start) (p : Passed) (w : World) (session : HttpSession) : Type 0 where
+-- the head was accepted, and a link is wanted for the session that begins behind it, after those
+-- attempts
+pub record IsConnecting (s : Start) (p : Passed) (w : World) (session : HttpSession)
+    (tries : List AttemptRecord) : Type 0 where
   pub head : RequestHead
   pub accepted : IsAccepted s p head
   pub is_head : head_of session.reading ≡ Some head
@@ -37,13 +41,16 @@ pub record IsConnecting (s : Start) (p : Passed) (w : World) (session : HttpSess
       → BeginsBehind (origin_of s head sent reused) p.came w.client w.ahead session
   pub written : p.written ≡ []
   pub unsent : IsUnsent p
+  pub are_tries : AreTries s tries
 
 -- the link of an attempt tells what passed, and the lease says of it what it was
-pub record IsLeased (p : Passed) (link : LinkState) (start : LinkStart) (lease : Lease)
+pub record IsLeased (s : Start) (p : Passed) (link : LinkState) (start : LinkStart) (lease : Lease)
     : Type 0 where
   pub tells : TellsLink p link start
   pub peer : IsAskedPeer lease.peer
   pub reused : start.reused ≡ lease.reused
+  -- and of the attempts before it
+  pub tries : AreTries s (tries_in lease)
 
 module _ {L : Type 0} (state : L → LinkState) (start_at : L → LinkStart) where
   -- an attempt failed, and its client is owed an answer, or what was queued for it
@@ -56,7 +63,7 @@ module _ {L : Type 0} (state : L → LinkState) (start_at : L → LinkStart) whe
 module _ {L C : Type 0} (state : L → LinkState) (start_at : L → LinkStart) where
   -- the exchange of an attempt is under way
   pub record IsRelaying (s : Start) (p : Passed) (w : World) (a : Attempt L C) : Type 0 where
-    pub leased : IsLeased p (state (link_of a.exchange))
+    pub leased : IsLeased s p (state (link_of a.exchange))
         (start_at (link_of a.exchange)) a.lease
     pub head : RequestHead
     pub sent : RequestHead
@@ -68,13 +75,13 @@ module _ {L C : Type 0} (state : L → LinkState) (start_at : L → LinkStart) w
   -- what has passed in each phase
   abbrev pub IsAt : Start → Passed → World → Phase L C → Type 0
   IsAt s p w ReadHead = IsReadingHead s p w.ahead
-  IsAt s p w (Connect context session) = IsConnecting s p w session.value
+  IsAt s p w (Connect context session tries) = IsConnecting s p w session.value tries
   IsAt s p w (Relay a) = IsRelaying s p w a.value
   IsAt s p w (Fail link lease keep session error) =
-      IsLeased p (state link) (start_at link) lease
+      IsLeased s p (state link) (start_at link) lease
       × IsFailing state start_at s p w link keep session.value error
   IsAt s p w (Close link lease keep outcome) =
-      IsLeased p (state link) (start_at link) lease
+      IsLeased s p (state link) (start_at link) lease
       × EndsLinked s p w (state link) (start_at link) keep (error_of outcome) outcome
   IsAt s p w (Answer session owed attempts) =
       IsAnswering state start_at s p w [] session.value.writing.output owed attempts
@@ -86,7 +93,7 @@ module _ {L C : Type 0} (state : L → LinkState) (start_at : L → LinkStart) w
   abbrev pub PhaseHolds : Start → Passed → World → List (Returned L) → Phase L C → Type 0
   PhaseHolds s p w [] phase = IsAt s p w phase
   PhaseHolds s p w (r ∷ own) ReadHead = ⊥
-  PhaseHolds s p w (r ∷ own) (Connect context session) = ⊥
+  PhaseHolds s p w (r ∷ own) (Connect context session tries) = ⊥
   PhaseHolds s p w (r ∷ own) (Relay a) = ⊥
   PhaseHolds s p w (r ∷ own) (Fail link lease keep session error) = ⊥
   PhaseHolds s p w (r ∷ own) (Close link lease keep outcome) = ⊥
@@ -98,7 +105,7 @@ module _ {L C : Type 0} (state : L → LinkState) (start_at : L → LinkStart) w
   -- a request that ended did not end by its turns
   abbrev pub IsGoing : Phase L C → Type 0
   IsGoing ReadHead = Unit {0}
-  IsGoing (Connect context session) = Unit {0}
+  IsGoing (Connect context session tries) = Unit {0}
   IsGoing (Relay a) = Unit {0}
   IsGoing (Fail link lease keep session error) = Unit {0}
   IsGoing (Answer session owed attempts) = Unit {0}
@@ -108,7 +115,7 @@ module _ {L C : Type 0} (state : L → LinkState) (start_at : L → LinkStart) w
   -- no call of the client's link failed before the request ended or its attempt failed
   abbrev pub IsCalm : Start → World → Phase L C → Type 0
   IsCalm s w ReadHead = w.client.faults ≡ s.faults
-  IsCalm s w (Connect context session) = w.client.faults ≡ s.faults
+  IsCalm s w (Connect context session tries) = w.client.faults ≡ s.faults
   IsCalm s w (Relay a) = w.client.faults ≡ s.faults
   IsCalm s w (Fail link lease keep session error) = Unit {0}
   IsCalm s w (Answer session owed attempts) = Unit {0}

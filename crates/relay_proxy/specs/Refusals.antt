@@ -1,10 +1,11 @@
--- The faults with which the connector refused a request its link.
-use Rattle.std.specs.Prelude.{◌≡◌, List, [], ◌∷◌, ◌++◌, Option, None, Some}
+-- The faults with which the connector refused a request its links.
+use Rattle.std.specs.Prelude.{◌≡◌, List, [], ◌∷◌, ◌++◌, drop, length, Option, None, Some}
 use Rattle.relay_tasks.specs.declared.Error.{Error}
 use Rattle.relay_tasks.specs.declared.Fault.{Fault}
 use Rattle.relay_links.specs.Connector.{connect_fault}
 use Rattle.relay_links.specs.Told.{Gains}
 use Rattle.relay_links.specs.declared.Returned.{Returned}
+use Rattle.relay_proxy.specs.Tries.{tries_in, tries_of}
 use Rattle.relay_proxy.specs.declared.machine.Phase.{Phase}
 use Rattle.relay_proxy.specs.declared.machine.Phase.TheVariants.{ReadHead, Connect, Relay, Fail, Close, Answer, Ended}
 use Rattle.relay_proxy.specs.declared.record.AttemptRecord.{AttemptRecord}
@@ -15,37 +16,38 @@ abbrev pub fault_told : Option Error → List Fault
 fault_told None = []
 fault_told (Some e) = connect_fault e.retry ∷ []
 
--- the same of the first attempt of a request, the only one
+-- the same of attempts, in order
 abbrev pub faults_told : List AttemptRecord → List Fault
 faults_told [] = []
-faults_told (a ∷ attempts) = fault_told a.error
+faults_told (a ∷ attempts) = fault_told a.error ++ faults_told attempts
 
 -- the faults that the connector answered for a request, by the links that it handed back and its
--- attempts: none where it handed one back
+-- attempts: of one that handed a link back the last attempt had it
 abbrev pub faults_for : {L : Type 0} → List (Returned L) → List AttemptRecord → List Fault
 faults_for [] attempts = faults_told attempts
-faults_for (r ∷ own) attempts = []
+faults_for (r ∷ own) attempts = faults_told (tries_of attempts)
 
--- the attempts that a phase has recorded
+-- the attempts that a phase has recorded: those before its own
 abbrev pub attempts_in : {L C : Type 0} → Phase L C → List AttemptRecord
 attempts_in ReadHead = []
-attempts_in (Connect context session) = []
-attempts_in (Relay a) = []
-attempts_in (Fail link lease keep session error) = []
-attempts_in (Close link lease keep outcome) = []
+attempts_in (Connect context session tries) = tries
+attempts_in (Relay a) = tries_in a.value.lease
+attempts_in (Fail link lease keep session error) = tries_in lease
+attempts_in (Close link lease keep outcome) = tries_in lease
 attempts_in (Answer session owed attempts) = attempts
 attempts_in (Ended outcome attempts) = attempts
 
--- the faults that the connector answered before that phase: none before the attempt is recorded
+-- the faults that the connector answered before that phase
 abbrev pub faults_before : {L C : Type 0} → List (Returned L) → Phase L C → List Fault
 faults_before own phase = faults_for own (attempts_in phase)
 
--- the faults of a turn: those before the next phase, and none once the attempt is recorded
+-- the faults of a turn: where a link is asked for those that the next phase has more, and else none
 abbrev pub faults_of_turn : {L C : Type 0} → Phase L C → Phase L C → List Fault
 faults_of_turn ReadHead next = faults_before [] next
-faults_of_turn (Connect context session) next = faults_before [] next
-faults_of_turn (Relay a) next = faults_before [] next
-faults_of_turn (Fail link lease keep session error) next = faults_before [] next
+faults_of_turn (Connect context session tries) next =
+    drop (length (faults_told tries)) (faults_before [] next)
+faults_of_turn (Relay a) next = []
+faults_of_turn (Fail link lease keep session error) next = []
 faults_of_turn (Close link lease keep outcome) next = []
 faults_of_turn (Answer session owed attempts) next = []
 faults_of_turn (Ended outcome attempts) next = []

@@ -22,7 +22,7 @@ use Rattle.relay_proxy.specs.declared.machine.Phase.TheVariants.{ReadHead, Conne
 -- the exchange of an attempt is under way
 abbrev pub is_relaying : {L C : Type 0} → Phase L C → Bool
 is_relaying ReadHead = false
-is_relaying (Connect context session) = false
+is_relaying (Connect context session tries) = false
 is_relaying (Relay a) = true
 is_relaying (Fail link lease keep session error) = false
 is_relaying (Close link lease keep outcome) = false
@@ -32,7 +32,7 @@ is_relaying (Ended outcome attempts) = false
 -- a link is to be handed back, the request having ended or its client being owed an answer
 abbrev pub is_closing : {L C : Type 0} → Phase L C → Bool
 is_closing ReadHead = false
-is_closing (Connect context session) = false
+is_closing (Connect context session tries) = false
 is_closing (Relay a) = false
 is_closing (Fail link lease keep session error) = true
 is_closing (Close link lease keep outcome) = true
@@ -42,7 +42,7 @@ is_closing (Ended outcome attempts) = false
 -- a generated answer is written
 abbrev pub is_answering : {L C : Type 0} → Phase L C → Bool
 is_answering ReadHead = false
-is_answering (Connect context session) = false
+is_answering (Connect context session tries) = false
 is_answering (Relay a) = false
 is_answering (Fail link lease keep session error) = false
 is_answering (Close link lease keep outcome) = false

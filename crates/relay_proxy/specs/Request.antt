@@ -1,6 +1,6 @@
 -- One request over one proxy: what a step and the end make of its run so far, and what the whole
 -- call promises.
-use Rattle.std.specs.Prelude.{◌≡◌, ◌≢◌, ℕ, ◌+◌, ◌⊎◌, Bool, true, false, List, ◌++◌, Option}
+use Rattle.std.specs.Prelude.{◌≡◌, ◌≢◌, ℕ, ◌+◌, ◌⊎◌, Bool, true, false, List, ◌++◌, length, Option}
 use Rattle.relay_links.specs.Connector.{Offer}
 use Rattle.relay_links.specs.Count.{up}
 use Rattle.relay_links.specs.Link.{LinkState, LinkStart}
@@ -97,14 +97,15 @@ module _ {L C : Type 0} (state : L → LinkState) (start_at : L → LinkStart) w
     -- no more was counted
     pub bounded : (tasks ends : ℕ)
         → PhaseCounts state start_at tasks ends s w.client w.ahead own phase
-        → IsWithin tasks ends most_sides s w.client (OwnGave state start_at (own ++ handed))
+        → IsWithin tasks ends (most_sides (length processed.history.attempts)) s w.client
+        (OwnGave state start_at (own ++ handed))
     -- a request that has ended gives no `TurnLimit`
     pub over : is_over phase ≡ true → processed.outcome ≢ TurnLimit
     pub quiet : processed.outcome ≡ TurnLimit → IsStalled state start_at w phase
         → IsQuiet state start_at s p w (own ++ handed)
 
 -- a whole request: what passed is told by the links, in order; the connector's lists gained the
--- links that were handed back, and the fault with which it refused one; and the outcome has its
+-- links that were handed back, and the faults with which it refused one; and the outcome has its
 -- cause
 pub record Processes {L : Type 0} (state : L → LinkState) (start_at : L → LinkStart)
     (s : Start) (w : World) (before after : Option (List (Returned L)))
@@ -114,10 +115,10 @@ pub record Processes {L : Type 0} (state : L → LinkState) (start_at : L → Li
   pub own : List (Returned L)
   pub gained : after ≡ more before own
   pub ended : IsEnded state start_at s passed w own processed.history.attempts processed.outcome
-  -- the connector refused a link exactly where the attempt had none, and its record tells of the
+  -- the connector refused a link exactly where an attempt had none, and its record tells of the
   -- fault
   pub refused : Gains told_before (faults_for own processed.history.attempts) told_after
-  -- of what the connector had it took the first: the link, or that fault
+  -- of what the connector had it took the first: those faults, and then the link
   pub offered : Takes had (offers_for start_at own processed.history.attempts) has
   -- what is recorded of uses are those of the client's link, and of the link that was handed back
   pub uses : CountsAll state start_at client w.client own processed.history.items_used

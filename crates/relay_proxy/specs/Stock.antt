@@ -11,7 +11,7 @@ use Rattle.relay_proxy.specs.declared.machine.Phase.TheVariants.{ReadHead, Conne
 -- the items of the link that a phase holds
 abbrev pub items_held : {L C : Type 0} → (L → LinkStart) → Phase L C → List (Option LinkItems)
 items_held start ReadHead = []
-items_held start (Connect context session) = []
+items_held start (Connect context session tries) = []
 items_held start (Relay a) = (start (link_of a.value.exchange)).items ∷ []
 items_held start (Fail link lease keep session error) = (start link).items ∷ []
 items_held start (Close link lease keep outcome) = (start link).items ∷ []

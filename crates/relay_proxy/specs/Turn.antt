@@ -1,5 +1,6 @@
 -- What one turn makes of a phase.
-use Rattle.std.specs.Prelude.{◌≡◌, ◌⊎◌, ℕ, ◌<◌, Bool, true, false, List, [], Option, None, Some}
+use Rattle.std.specs.Global.{Box}
+use Rattle.std.specs.Prelude.{◌≡◌, ◌⊎◌, ℕ, ◌<◌, Bool, true, false, List, [], ◌∷◌, ◌++◌, Option, None, Some}
 use Rattle.relay_links.specs.Count.{up}
 use Rattle.relay_links.specs.Link.{LinkState, LinkStart, GivesBytes, TakesBytes}
 use Rattle.relay_links.specs.declared.branch.Branch.{Branch}
@@ -7,6 +8,7 @@ use Rattle.relay_links.specs.declared.Returned.{Returned}
 use Rattle.relay_tasks.specs.declared.took.Pause.TheVariants.{NotReady, Silent}
 use Rattle.relay_h1.specs.Verdict.{IsOpen}
 use Rattle.relay_h1.specs.declared.Connection.{Connection}
+use Rattle.relay_session.specs.declared.session.HttpSession.{HttpSession}
 use Rattle.relay_attempt.specs.Exchange.{SilentIn}
 use Rattle.relay_attempt.specs.Passed.{Passed}
 use Rattle.relay_attempt.specs.Head.{link_of}
@@ -19,6 +21,7 @@ use Rattle.relay_proxy.specs.declared.machine.Phase.{Phase}
 use Rattle.relay_proxy.specs.declared.machine.Phase.TheVariants.{ReadHead, Connect, Relay, Fail, Close, Answer, Ended}
 use Rattle.relay_proxy.specs.declared.machine.RunStep.{RunStep}
 use Rattle.relay_proxy.specs.declared.machine.RunStep.TheVariants as step
+use Rattle.relay_proxy.specs.declared.record.AttemptRecord.{AttemptRecord}
 use Rattle.relay_proxy.specs.declared.work.Work.{Work}
 
 -- the world, by its parts
@@ -41,7 +44,7 @@ DoesWork (step.Waited Silent) work = total_work work ≡ 0
 -- the client's head is still read
 abbrev pub is_reading_head : {L C : Type 0} → Phase L C → Bool
 is_reading_head ReadHead = true
-is_reading_head (Connect context session) = false
+is_reading_head (Connect context session tries) = false
 is_reading_head (Relay a) = false
 is_reading_head (Fail link lease keep session error) = false
 is_reading_head (Close link lease keep outcome) = false
@@ -51,7 +54,7 @@ is_reading_head (Ended outcome attempts) = false
 -- the link that a phase holds, as it stands
 abbrev pub held_state : {L C : Type 0} → (L → LinkState) → Phase L C → Option LinkState
 held_state state ReadHead = None
-held_state state (Connect context session) = None
+held_state state (Connect context session tries) = None
 held_state state (Relay a) = Some (state (link_of a.value.exchange))
 held_state state (Fail link lease keep session error) = Some (state link)
 held_state state (Close link lease keep outcome) = Some (state link)
@@ -76,7 +79,7 @@ module _ {L C : Type 0} (state : L → LinkState) (start_at : L → LinkStart) w
   -- how many links a phase holds
   abbrev pub links_held : Phase L C → ℕ
   links_held ReadHead = 0
-  links_held (Connect context session) = 0
+  links_held (Connect context session tries) = 0
   links_held (Relay a) = 1
   links_held (Fail link lease keep session error) = 1
   links_held (Close link lease keep outcome) = 1
@@ -98,7 +101,7 @@ module _ {L C : Type 0} (state : L → LinkState) (start_at : L → LinkStart) w
   -- exchange what its next write or each of its branches asks
   abbrev pub IsStalled : World → Phase L C → Type 0
   IsStalled w ReadHead = IsOpen w.ahead × (w.client.silent_on_read ≡ true)
-  IsStalled w (Connect context session) = ⊥
+  IsStalled w (Connect context session tries) = ⊥
   IsStalled w (Relay a) =
       SilentIn state start_at w.client a.value.exchange
   IsStalled w (Fail link lease keep session error) = ⊥
@@ -106,13 +109,20 @@ module _ {L C : Type 0} (state : L → LinkState) (start_at : L → LinkStart) w
   IsStalled w (Answer session owed attempts) = w.client.silent_on_write ≡ true
   IsStalled w (Ended outcome attempts) = ⊥
 
+  -- a link is asked for once more, behind one more attempt
+  pub record TriesOn (tries : List AttemptRecord) (next : Phase L C) : Type 0 where
+    pub context : C
+    pub session : Box HttpSession
+    pub attempt : AttemptRecord
+    pub again : next ≡ Connect context session (tries ++ attempt ∷ [])
+
   -- what a turn moved: bytes of the client's head came, or it was judged; a link was given, or
-  -- none and the client is owed an answer; a branch of the exchange moved, or it failed and the
+  -- none and another is asked for or the client is owed an answer; a branch of the exchange moved, or it failed and the
   -- client is owed an answer; or bytes of that were taken
   abbrev pub HasMoved : World → World → Phase L C → Phase L C → Type 0
   HasMoved w x ReadHead next = HasGiven w.client x.client ⊎ (is_reading_head next ≡ false)
-  HasMoved w x (Connect context session) next =
-      (links_held next ≡ 1) ⊎ OwesAnswer next
+  HasMoved w x (Connect context session tries) next =
+      (links_held next ≡ 1) ⊎ (TriesOn tries next ⊎ OwesAnswer next)
   HasMoved w x (Relay a) next =
       ((branch : Option Branch) × ExchangeMoved state start_at branch w x a.value.exchange next)
       ⊎ OwesAnswer next
@@ -147,7 +157,7 @@ HandsOn next did = is_closing next ≡ true → (did ≡ step.Moved) ⊎ (did �
 -- a turn did its work; a request that has ended does none
 abbrev pub WorksIn : {L C : Type 0} → Phase L C → RunStep → Work → Type 0
 WorksIn ReadHead did work = DoesWork did work
-WorksIn (Connect context session) did work = DoesWork did work
+WorksIn (Connect context session tries) did work = DoesWork did work
 WorksIn (Relay a) did work = DoesWork did work
 WorksIn (Fail link lease keep session error) did work = DoesWork did work
 WorksIn (Answer session owed attempts) did work = DoesWork did work
@@ -157,7 +167,7 @@ WorksIn (Ended outcome attempts) did work = (total_work work ≡ 0) × (did ≡ 
 -- the request has ended
 abbrev pub is_over : {L C : Type 0} → Phase L C → Bool
 is_over ReadHead = false
-is_over (Connect context session) = false
+is_over (Connect context session tries) = false
 is_over (Relay a) = false
 is_over (Fail link lease keep session error) = false
 is_over (Close link lease keep outcome) = true

@@ -91,7 +91,7 @@ module _ {L C : Type 0} (state : L → LinkState) (start_at : L → LinkStart) w
   -- the link of a request was asked so many times up to that phase
   abbrev pub PhaseUses : ℕ → List (Returned L) → Phase L C → Type 0
   PhaseUses n own ReadHead = OwnUses state start_at n own
-  PhaseUses n own (Connect context session) = OwnUses state start_at n own
+  PhaseUses n own (Connect context session tries) = OwnUses state start_at n own
   PhaseUses n own (Relay a) = LinkUses state start_at n (link_of a.value.exchange)
   PhaseUses n own (Fail link lease keep session error) = LinkUses state start_at n link
   PhaseUses n own (Close link lease keep outcome) = LinkUses state start_at n link
@@ -120,7 +120,7 @@ module _ {L C : Type 0} (state : L → LinkState) (start_at : L → LinkStart) w
 -- the attempt failed, and its client is owed an answer, or what was queued for it
 abbrev pub OwesAnswer : {L C : Type 0} → Phase L C → Type 0
 OwesAnswer ReadHead = ⊥
-OwesAnswer (Connect context session) = ⊥
+OwesAnswer (Connect context session tries) = ⊥
 OwesAnswer (Relay a) = ⊥
 OwesAnswer (Fail link lease keep session error) = Unit {0}
 OwesAnswer (Close link lease keep outcome) = ⊥

@@ -222,7 +222,7 @@ fn accept_head<SV: ProxyHttp, D: ByteLink, U, L: ByteLink>(
     };
     client.consume(read.len);
     Next {
-        phase: Phase::Connect(hooks.new_ctx(), session),
+        phase: Phase::Connect(hooks.new_ctx(), session, AttemptList::new(alloc)),
         step: RunStep::Moved,
         work: Work::ENDED,
     }

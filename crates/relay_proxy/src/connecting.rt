@@ -1,24 +1,26 @@
-//! The connector: asked once for a link, over which the request's one attempt then goes.
-ghost use Rattle.std.specs.Prelude.{◌≡◌, ◌⊎◌, ◌+◌, ◌≤◌, [], ◌∷◌, ℕ, List, Some, IfSome, false, not};
+//! The connector: asked for a link, over which the attempt then goes. Where it refuses one with a
+//! fault that lets it be asked again, it is, while the request may make a further attempt (RFC 9110,
+//! section 9.2.2): nothing of the request was sent then.
+ghost use Rattle.std.specs.Prelude.{◌≡◌, ◌⊎◌, ◌↔◌, ◌+◌, ◌≤◌, [], ◌∷◌, ◌++◌, length, ℕ, List, Some, IsTrue, IfSome, false, not};
 ghost use Rattle.std.specs.Global.{Box};
 ghost use Rattle.relay_links.specs.Connector.{IsConnectFault, connect_fault};
 ghost use Rattle.relay_links.specs.Count.{last_count, Rose};
 ghost use Rattle.relay_links.specs.Link.{LinkState, IsHandedOut};
-ghost use Rattle.relay_links.specs.Told.{Gains};
 ghost use Rattle.relay_attempt.specs.Head.{link_of};
 ghost use Rattle.relay_attempt.specs.Passed.{Passed};
 ghost use Rattle.relay_authority.specs.Stage.{Makes};
 ghost use Rattle.relay_session.specs.Reading.{head_of, is_body_done};
 ghost use Rattle.relay_tasks.specs.Head.{RequestHead};
 ghost use Rattle.relay_proxy.specs.Bound.{CountsLink};
-ghost use Rattle.relay_proxy.specs.Endings.{IsInOrder, IsAskedPeer, outcome_of};
-ghost use Rattle.relay_proxy.specs.Taken.{Takes, offers_before};
+ghost use Rattle.relay_proxy.specs.Endings.{IsInOrder, outcome_of};
+ghost use Rattle.relay_proxy.specs.Taken.{TakesAfter};
 ghost use Rattle.relay_proxy.specs.Passed.{World, Start, TellsClient};
 ghost use Rattle.relay_proxy.specs.Phases.{IsRelaying, RunSoFar};
-ghost use Rattle.relay_proxy.specs.Refusals.{faults_before};
+ghost use Rattle.relay_proxy.specs.Refusals.{attempts_in, faults_before, faults_told};
 ghost use Rattle.relay_proxy.specs.Sent.{MakesSent, RefusesToSend, Sends};
 ghost use Rattle.relay_proxy.specs.Stock.{items_held};
 ghost use Rattle.relay_proxy.specs.Uses.{LinkUses, PhaseUses};
+ghost use Rattle.relay_proxy.specs.Tries.{EndsTrying, IsAskedPeer, MayTry, fault_error, tries_in};
 ghost use Rattle.relay_proxy.specs.Turn.{world_with, DoesWork, is_over, is_end, links_held, Advances, HasCause};
 
 use crate::machine::{Attempt, Lease, Next, Phase, RunStep};
@@ -31,7 +33,7 @@ use relay_attempt::{H1Exchange, Unbegun};
 use relay_authority::{Client, Upstream, ready_head, sent_head};
 use relay_links::{ByteLink, Connector};
 use relay_session::HttpSession;
-use relay_tasks::{Error, Fail, Fault, Peer, RequestHeader};
+use relay_tasks::{Error, ErrorSource, Fail, Fault, Peer, RequestHeader};
 use std::alloc::Global;
 
 /// The peer that each attempt asks for: the connector's only one.
@@ -58,44 +60,61 @@ pub(crate) fn out_of_memory<L, C>(alloc: Global) -> Next<L, C>
     }
 }
 
-/// Asks the connector for a link. Room for the attempt's record and a copy of the head are made
-/// first. Where it gives none the client is answered with 502.
+/// A request that ended without a link, behind those attempts, when out of memory.
+fn lacks_memory<L, C>(attempts: AttemptList) -> Next<L, C>
+    ensures phase { result.phase ≡ Phase.Ended Outcome.OutOfMemory attempts }
+    ensures step { result.step ≡ RunStep.Ended }
+    ensures work { result.work ≡ Work.ENDED }
+{
+    Next {
+        phase: Phase::Ended(Outcome::OutOfMemory, attempts),
+        step: RunStep::Ended,
+        work: Work::ENDED,
+    }
+}
+
+/// Asks the connector for a link, behind those attempts. Room for the attempt's record and a copy
+/// of the head are made first. Where it gives none it may be asked again, while the request has
+/// made less than `most` attempts; else the client is answered with 502.
 pub(crate) fn connect<K: Connector, C: Drop>(
     alloc: Global,
     connector: &mut K,
+    most: usize,
     context: C,
     session: Box<HttpSession>,
+    tries: AttemptList,
 ) -> Next<K::Byte, C>
-    ensures run { (s : Start) (p : Passed) (client : LinkState) (ahead : List ℕ)
+    ensures run { (s : Start) (p : Passed) (client : LinkState) (ahead : List ℕ) → s.most ≡ most
         → RunSoFar {C = C} K.Byte.state K.Byte.start s p
-        (world_with client ahead (K.fault_count connector.old)) [] (Phase.Connect context session)
+        (world_with client ahead (K.fault_count connector.old)) []
+        (Phase.Connect context session tries)
         → Advances {C = C} K.Byte.state K.Byte.start s
         (world_with client ahead (K.fault_count connector.new)) result.phase }
     ensures cause { (client : LinkState) (ahead : List ℕ) → HasCause K.Byte.state K.Byte.start
         (world_with client ahead (K.fault_count connector.old))
-        (world_with client ahead (K.fault_count connector.new)) (Phase.Connect context session)
-        result.phase result.step }
+        (world_with client ahead (K.fault_count connector.new))
+        (Phase.Connect context session tries) result.phase result.step }
     ensures work { DoesWork result.step result.work }
-    ensures counts { CountsLink result.phase result.work }
+    ensures counts { CountsLink tries result.phase result.work }
     ensures unused { result.work.used ≡ 0 }
     ensures step { (result.step ≡ RunStep.Moved) ⊎ (result.step ≡ RunStep.Ended) }
     ensures over { is_over result.phase ≡ is_end result.step }
     ensures out { K.out connector.new
         ≡ K.out connector.old + links_held K.Byte.state K.Byte.start result.phase }
     ensures returned { K.returned connector.new ≡ K.returned connector.old }
-    ensures offers { Takes (K.stock connector.old) (offers_before K.Byte.start [] result.phase)
-        (K.stock connector.new) }
     // A link that was given was not asked yet.
     ensures fresh { PhaseUses K.Byte.state K.Byte.start 0 [] result.phase }
-    ensures refusals { Gains (K.refusals connector.old) (faults_before [] result.phase)
-        (K.refusals connector.new) }
+    ensures asks { TakesAfter (faults_told tries) (faults_before [] result.phase)
+        (items_held K.Byte.start result.phase) (K.refusals connector.old)
+        (K.refusals connector.new) (K.stock connector.old) (K.stock connector.new) }
     ensures faults { K.fault_count connector.old ≤ K.fault_count connector.new }
 {
-    let Ok(room) = AttemptRoom::new(alloc) else {
-        return out_of_memory(alloc);
+    let room = match AttemptRoom::behind(tries) {
+        Ok(room) => room,
+        Err(tries) => return lacks_memory(tries),
     };
     let Some(head) = copied_head(&session) else {
-        return out_of_memory(alloc);
+        return lacks_memory(room.into_tries());
     };
     let peer = asked_peer();
     match connector.get(&peer) {
@@ -103,32 +122,36 @@ pub(crate) fn connect<K: Connector, C: Drop>(
             let lease = Lease { peer, reused, room };
             send(alloc, context, session, head, link, lease)
         }
-        Err(fault) => refused_link(session, room, peer, fault),
+        Err(fault) => refused_link(most, context, session, room, peer, fault),
     }
 }
 
-/// A request to which the connector gave no link: its attempt is recorded, and the client is owed
-/// 502.
-fn refused_link<L: ByteLink, C>(
+/// A request to which the connector gave no link: its attempt is recorded, and the connector is
+/// asked again where that may be.
+fn refused_link<L: ByteLink, C: Drop>(
+    most: usize,
+    context: C,
     session: Box<HttpSession>,
     room: AttemptRoom,
     peer: Peer,
     fault: Fault,
 ) -> Next<L, C>
-    ensures run { (s : Start) (p : Passed) (w : World) (failed : ℕ) (context : C)
+    ensures run { (s : Start) (p : Passed) (w : World) (failed : ℕ) → s.most ≡ most
         → w.connect_faults ≤ last_count → Rose w.connect_faults failed → IsConnectFault fault
         → IsAskedPeer peer
-        → RunSoFar {C = C} L.state L.start s p w [] (Phase.Connect context session)
+        → RunSoFar {C = C} L.state L.start s p w []
+        (Phase.Connect context session room.items.items)
         → Advances {C = C} L.state L.start s (world_with w.client w.ahead failed) result.phase }
-    ensures cause { (w x : World) (context : C) → HasCause {C = C} L.state L.start w x
-        (Phase.Connect context session) result.phase result.step }
+    ensures cause { (w x : World) → HasCause {C = C} L.state L.start w x
+        (Phase.Connect context session room.items.items) result.phase result.step }
     ensures step { (result.step ≡ RunStep.Moved) ⊎ (result.step ≡ RunStep.Ended) }
     ensures over { is_over result.phase ≡ is_end result.step }
     ensures unlinked { links_held L.state L.start result.phase ≡ 0 }
     ensures no_items { items_held L.start result.phase ≡ [] }
-    ensures told { faults_before [] result.phase ≡ connect_fault fault.retry ∷ [] }
+    ensures told { faults_before [] result.phase
+        ≡ faults_told room.items.items ++ connect_fault fault.retry ∷ [] }
     ensures work { DoesWork result.step result.work }
-    ensures counts { CountsLink result.phase result.work }
+    ensures counts { CountsLink room.items.items result.phase result.work }
     ensures unused { result.work.used ≡ 0 }
     ensures fresh { PhaseUses L.state L.start 0 [] result.phase }
 {
@@ -139,13 +162,52 @@ fn refused_link<L: ByteLink, C>(
         kept: false,
         error: Some(error),
     });
-    let mut session = session;
-    let Ok(()) = session.respond_error(502) else {
+    if may_try(most, attempts.len(), &error) {
         return Next {
-            phase: Phase::Ended(Outcome::OutOfMemory, attempts),
-            step: RunStep::Ended,
+            phase: Phase::Connect(context, session, attempts),
+            step: RunStep::Moved,
             work: Work::ENDED,
         };
+    }
+    answer_unlinked(session, attempts, error)
+}
+
+/// Whether a further attempt may be made behind so many, the last of which failed with that error.
+fn may_try(most: usize, made: usize, error: &Error) -> bool
+    ensures { IsTrue result ↔ MayTry most made error.now }
+{
+    error.retry() && made < most
+}
+
+/// A request whose last attempt was given no link, with that error: the client is owed 502.
+fn answer_unlinked<L: ByteLink, C>(
+    session: Box<HttpSession>,
+    attempts: AttemptList,
+    error: Error,
+) -> Next<L, C>
+    ensures run { (s : Start) (p : Passed) (w : World) (failed : ℕ) (context : C)
+        (tries : List AttemptRecord) (fault : Fault)
+        → w.connect_faults ≤ last_count → Rose w.connect_faults failed → IsConnectFault fault
+        → error ≡ fault_error ErrorSource.Upstream fault → EndsTrying s attempts error
+        → RunSoFar {C = C} L.state L.start s p w [] (Phase.Connect context session tries)
+        → Advances {C = C} L.state L.start s (world_with w.client w.ahead failed) result.phase }
+    ensures cause { (w x : World) (context : C) (tries : List AttemptRecord)
+        → HasCause {C = C} L.state L.start w x
+        (Phase.Connect context session tries) result.phase result.step }
+    ensures step { (result.step ≡ RunStep.Moved) ⊎ (result.step ≡ RunStep.Ended) }
+    ensures over { is_over result.phase ≡ is_end result.step }
+    ensures unlinked { links_held L.state L.start result.phase ≡ 0 }
+    ensures no_items { items_held L.start result.phase ≡ [] }
+    ensures attempts { attempts_in result.phase ≡ attempts }
+    ensures work { DoesWork result.step result.work }
+    ensures counts { (tries : List AttemptRecord) → length attempts ≡ length tries + 1
+        → CountsLink tries result.phase result.work }
+    ensures unused { result.work.used ≡ 0 }
+    ensures fresh { PhaseUses L.state L.start 0 [] result.phase }
+{
+    let mut session = session;
+    let Ok(()) = session.respond_error(502) else {
+        return lacks_memory(attempts);
     };
     Next {
         phase: Phase::Answer(session, Owed::Served(error), attempts),
@@ -177,13 +239,14 @@ fn send<L: ByteLink, C: Drop>(
 ) -> Next<L, C>
     requires { head_of session.value.reading ≡ Some copy }
     ensures run { (s : Start) (p : Passed) (w : World)
-        → RunSoFar {C = C} L.state L.start s p w [] (Phase.Connect context session)
+        → RunSoFar {C = C} L.state L.start s p w []
+        (Phase.Connect context session (tries_in lease))
         → IsHandedOut (L.state link) (L.start link) lease.reused → IsAskedPeer lease.peer
         → Advances {C = C} L.state L.start s w result.phase }
-    ensures cause { (w x : World) → HasCause L.state L.start w x (Phase.Connect context session)
+    ensures cause { (w x : World) → HasCause L.state L.start w x (Phase.Connect context session (tries_in lease))
         result.phase result.step }
     ensures work { DoesWork result.step result.work }
-    ensures counts { CountsLink result.phase result.work }
+    ensures counts { CountsLink (tries_in lease) result.phase result.work }
     ensures unused { result.work.used ≡ 0 }
     ensures step { (result.step ≡ RunStep.Moved) ⊎ (result.step ≡ RunStep.Ended) }
     ensures over { is_over result.phase ≡ is_end result.step }
@@ -230,14 +293,14 @@ fn refused_head<L: ByteLink, C>(
     error: Error,
 ) -> Next<L, C>
     ensures run { (s : Start) (p : Passed) (w : World) (context : C) (head : RequestHead)
-        → RunSoFar {C = C} L.state L.start s p w [] (Phase.Connect context session)
+        → RunSoFar {C = C} L.state L.start s p w [] (Phase.Connect context session (tries_in lease))
         → head_of session.value.reading ≡ Some head → RefusesToSend head error
         → IsHandedOut (L.state link) (L.start link) lease.reused → IsAskedPeer lease.peer
         → Advances {C = C} L.state L.start s w result.phase }
     ensures cause { (w x : World) (context : C) → HasCause {C = C} L.state L.start w x
-        (Phase.Connect context session) result.phase result.step }
+        (Phase.Connect context session (tries_in lease)) result.phase result.step }
     ensures work { DoesWork result.step result.work }
-    ensures counts { CountsLink result.phase result.work }
+    ensures counts { CountsLink (tries_in lease) result.phase result.work }
     ensures unused { result.work.used ≡ 0 }
     ensures step { (result.step ≡ RunStep.Moved) ⊎ (result.step ≡ RunStep.Ended) }
     ensures over { is_over result.phase ≡ is_end result.step }
@@ -280,14 +343,14 @@ fn begin<L: ByteLink, C: Drop>(
     lease: Lease,
 ) -> Next<L, C>
     ensures run { (s : Start) (p : Passed) (w : World) (asked : RequestHead)
-        → RunSoFar {C = C} L.state L.start s p w [] (Phase.Connect context session)
+        → RunSoFar {C = C} L.state L.start s p w [] (Phase.Connect context session (tries_in lease))
         → head_of session.value.reading ≡ Some asked → Sends asked head
         → IsHandedOut (L.state link) (L.start link) lease.reused → IsAskedPeer lease.peer
         → Advances {C = C} L.state L.start s w result.phase }
-    ensures cause { (w x : World) → HasCause L.state L.start w x (Phase.Connect context session)
+    ensures cause { (w x : World) → HasCause L.state L.start w x (Phase.Connect context session (tries_in lease))
         result.phase result.step }
     ensures work { DoesWork result.step result.work }
-    ensures counts { CountsLink result.phase result.work }
+    ensures counts { CountsLink (tries_in lease) result.phase result.work }
     ensures unused { result.work.used ≡ 0 }
     ensures step { (result.step ≡ RunStep.Moved) ⊎ (result.step ≡ RunStep.Ended) }
     ensures over { is_over result.phase ≡ is_end result.step }
@@ -316,9 +379,9 @@ fn hold<L: ByteLink, C: Drop>(alloc: Global, attempt: Attempt<L, C>) -> Next<L, 
         → w.client.faults ≡ s.faults → IsRelaying L.state L.start s p w attempt
         → Advances {C = C} L.state L.start s w result.phase }
     ensures cause { (w x : World) (context : C) (session : Box HttpSession)
-        → HasCause L.state L.start w x (Phase.Connect context session) result.phase result.step }
+        → HasCause L.state L.start w x (Phase.Connect context session (tries_in attempt.lease)) result.phase result.step }
     ensures work { DoesWork result.step result.work }
-    ensures counts { CountsLink result.phase result.work }
+    ensures counts { CountsLink (tries_in attempt.lease) result.phase result.work }
     ensures unused { result.work.used ≡ 0 }
     ensures step { (result.step ≡ RunStep.Moved) ⊎ (result.step ≡ RunStep.Ended) }
     ensures over { is_over result.phase ≡ is_end result.step }

@@ -100,21 +100,21 @@ fn close<K: Connector, C: Drop>(connector: &mut K, phase: &mut Phase<K::Byte, C>
             phase.put(Phase::Answer(session, owed, attempts));
         }
         Phase::ReadHead => unreachable!(),
-        Phase::Connect(_context, _session) => unreachable!(),
+        Phase::Connect(_context, _session, _tries) => unreachable!(),
         Phase::Relay(_attempt) => unreachable!(),
         Phase::Answer(_session, _owed, _attempts) => unreachable!(),
         Phase::Ended(_outcome, _attempts) => unreachable!(),
     }
 }
 
-/// A request that has no link gives up.
-fn give_up(alloc: Global) -> Ending
+/// A request that has no link gives up, behind those attempts.
+fn give_up(attempts: AttemptList) -> Ending
     ensures outcome { result.outcome ≡ Outcome.TurnLimit }
-    ensures attempts { result.attempts ≡ [] }
+    ensures attempts { result.attempts ≡ attempts }
 {
     Ending {
         outcome: Outcome::TurnLimit,
-        attempts: AttemptList::new(alloc),
+        attempts,
     }
 }
 
@@ -156,8 +156,8 @@ pub(crate) fn finish<K: Connector, C: Drop>(
         (items_held K.Byte.start phase) (K.stock connector.old) }
 {
     match phase {
-        Phase::ReadHead => give_up(alloc),
-        Phase::Connect(_context, _session) => give_up(alloc),
+        Phase::ReadHead => give_up(AttemptList::new(alloc)),
+        Phase::Connect(_context, _session, tries) => give_up(tries),
         Phase::Relay(attempt) => {
             let Attempt {
                 exchange,
@@ -170,10 +170,7 @@ pub(crate) fn finish<K: Connector, C: Drop>(
             outcome: Outcome::TurnLimit,
             attempts: release(connector, link, lease, keep, Owed::Served(error).outcome()),
         },
-        Phase::Answer(_session, _owed, attempts) => Ending {
-            outcome: Outcome::TurnLimit,
-            attempts,
-        },
+        Phase::Answer(_session, _owed, attempts) => give_up(attempts),
         Phase::Close(link, lease, keep, outcome) => Ending {
             outcome,
             attempts: release(connector, link, lease, keep, outcome),

@@ -2,7 +2,8 @@
 //!
 //! ```text
 //! ReadHead -> Connect -> Relay -> Close -> Ended (relayed)
-//!    |           |         |
+//!    |         |    |      |
+//!    |         | (again)   |
 //!    |           |         +-> Fail -> Answer -> Ended (the exchange failed)
 //!    |           +-> Answer -> Ended (no link was given)
 //!    |           +-> Fail -> Answer -> Ended (the head that was to be sent is refused)
@@ -55,8 +56,9 @@ pub(crate) struct Attempt<L, C> {
 pub(crate) enum Phase<L, C> {
     /// The client's head is read.
     ReadHead,
-    /// The head was accepted, and a link is wanted for the session that begins behind it.
-    Connect(C, Box<HttpSession>),
+    /// The head was accepted, and a link is wanted for the session that begins behind it. These
+    /// attempts were refused one, and the connector may be asked again.
+    Connect(C, Box<HttpSession>, AttemptList),
     /// The request is sent, and the response comes back, over the attempt's link.
     Relay(Box<Attempt<L, C>>),
     /// The attempt failed with that error: its link is to be handed back with that mark, and what
@@ -98,7 +100,7 @@ impl<L, C> Phase<L, C> {
     {
         match self {
             Phase::ReadHead => true,
-            Phase::Connect(_, _) | Phase::Relay(_) | Phase::Fail(_, _, _, _, _) => false,
+            Phase::Connect(_, _, _) | Phase::Relay(_) | Phase::Fail(_, _, _, _, _) => false,
             Phase::Close(_, _, _, _) | Phase::Answer(_, _, _) | Phase::Ended(_, _) => false,
         }
     }
@@ -109,7 +111,7 @@ impl<L, C> Phase<L, C> {
     {
         match self {
             Phase::Relay(_) => true,
-            Phase::ReadHead | Phase::Connect(_, _) | Phase::Fail(_, _, _, _, _) => false,
+            Phase::ReadHead | Phase::Connect(_, _, _) | Phase::Fail(_, _, _, _, _) => false,
             Phase::Close(_, _, _, _) | Phase::Answer(_, _, _) | Phase::Ended(_, _) => false,
         }
     }
@@ -120,7 +122,7 @@ impl<L, C> Phase<L, C> {
     {
         match self {
             Phase::Fail(_, _, _, _, _) | Phase::Close(_, _, _, _) => true,
-            Phase::ReadHead | Phase::Connect(_, _) | Phase::Relay(_) => false,
+            Phase::ReadHead | Phase::Connect(_, _, _) | Phase::Relay(_) => false,
             Phase::Answer(_, _, _) | Phase::Ended(_, _) => false,
         }
     }
@@ -134,7 +136,7 @@ impl<L, C> Phase<L, C> {
         match mem::replace(self, Phase::ReadHead) {
             Phase::Relay(attempt) => attempt,
             Phase::ReadHead => unreachable!(),
-            Phase::Connect(_context, _session) => unreachable!(),
+            Phase::Connect(_context, _session, _tries) => unreachable!(),
             Phase::Fail(_link, _lease, _keep, _session, _error) => unreachable!(),
             Phase::Close(_link, _lease, _keep, _outcome) => unreachable!(),
             Phase::Answer(_session, _owed, _attempts) => unreachable!(),
@@ -149,7 +151,7 @@ impl<L, C> Phase<L, C> {
     {
         match mem::replace(self, phase) {
             Phase::ReadHead => {}
-            Phase::Connect(_context, _session) => unreachable!(),
+            Phase::Connect(_context, _session, _tries) => unreachable!(),
             Phase::Relay(_attempt) => unreachable!(),
             Phase::Fail(_link, _lease, _keep, _session, _error) => unreachable!(),
             Phase::Close(_link, _lease, _keep, _outcome) => unreachable!(),

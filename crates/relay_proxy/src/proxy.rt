@@ -118,7 +118,8 @@ impl<SV: ProxyHttp, K: Connector, P: Purger> HttpProxy<SV, K, P> {
         kept: Option<SV::Kept>,
     ) -> RequestMachine<SV, K>
         ensures run { RunSoFar K.Byte.state K.Byte.start
-            (start_of (world_of D.state client.old (K.fault_count self.now.connector)))
+            (start_of self.now.conf.max_retries
+            (world_of D.state client.old (K.fault_count self.now.connector)))
             nothing (world_of D.state client.new (K.fault_count self.now.connector)) []
             result.machine.phase }
         ensures no_turns { result.machine.turns ≡ 0 }
@@ -160,7 +161,7 @@ impl<SV: ProxyHttp, K: Connector, P: Purger> HttpProxy<SV, K, P> {
         // request took its link, or the one fault of which its attempt's error tells. What it
         // counts of tasks and ends is bounded by the bytes that both links gave.
         ensures steps { (s : Start) (p : Passed) (own : List _)
-            → RunSoFar K.Byte.state K.Byte.start s p
+            → s.most ≡ self.old.conf.max_retries → RunSoFar K.Byte.state K.Byte.start s p
             (world_of D.state client.old (K.fault_count self.old.connector)) own
             machine.old.machine.phase
             → StepsOn K.Byte.state K.Byte.start s p
@@ -237,6 +238,7 @@ impl<SV: ProxyHttp, K: Connector, P: Purger> HttpProxy<SV, K, P> {
             self.alloc,
             &self.inner,
             &mut self.connector,
+            self.conf.max_retries,
             client,
             &mut outside.schedule,
             &mut machine.machine.phase,
@@ -324,7 +326,8 @@ impl<SV: ProxyHttp, K: Connector, P: Purger> HttpProxy<SV, K, P> {
         turns: u64,
     ) -> Processed
         ensures processes { Processes K.Byte.state K.Byte.start
-            (start_of (world_of D.state client.old (K.fault_count self.old.connector)))
+            (start_of self.old.conf.max_retries
+            (world_of D.state client.old (K.fault_count self.old.connector)))
             (world_of D.state client.new (K.fault_count self.new.connector))
             (K.returned self.old.connector) (K.returned self.new.connector)
             (K.refusals self.old.connector) (K.refusals self.new.connector)

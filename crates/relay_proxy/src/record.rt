@@ -1,5 +1,5 @@
 //! What was done for a request: its attempts, and how much work they took.
-ghost use Rattle.std.specs.Prelude.{◌≡◌, [], ◌∷◌, ◌++◌, length, slice_get, vec_len, vec_capacity, IsTrue, OnErr, OnOk, IfSome, IsSome, ◌↔◌, ◌<◌};
+ghost use Rattle.std.specs.Prelude.{◌≡◌, [], ◌∷◌, ◌++◌, length, slice_get, vec_len, vec_capacity, IsTrue, OnErr, OnOk, IfOk, IfErr, IfSome, IsSome, ◌↔◌, ◌<◌};
 
 use relay_tasks::{Error, Peer, PhaseLog};
 use std::alloc::{AllocError, Global};
@@ -72,25 +72,37 @@ impl AttemptList {
     }
 }
 
-/// Room for the record of one attempt, taken before the connector is asked, so that the end of the
-/// attempt takes no memory.
+/// The attempts so far, and room for the record of one more, taken before the connector is asked,
+/// so that the end of the attempt takes no memory.
 #[derive(Drop)]
 pub(crate) struct AttemptRoom {
     items: Vec<AttemptRecord>,
-    ghost none: { vec_len items ≡ 0 },
-    ghost room: { 0 < vec_capacity items },
+    ghost room: { vec_len items < vec_capacity items },
 }
 
 impl AttemptRoom {
-    /// Takes the room.
-    pub(crate) fn new(alloc: Global) -> Result<AttemptRoom, AllocError> {
-        let items = Vec::with_capacity(alloc, 1)?;
-        Ok(AttemptRoom { items })
+    /// Takes the room behind those attempts, which come back where there is no memory for it.
+    pub(crate) fn behind(tries: AttemptList) -> Result<AttemptRoom, AttemptList>
+        ensures ok { IfOk result (λ room. room.items.items ≡ tries) }
+        ensures err { IfErr result (λ attempts. attempts ≡ tries) }
+    {
+        let mut items = tries.items;
+        match items.reserve(1) {
+            Ok(()) => Ok(AttemptRoom { items }),
+            Err(AllocError) => Err(AttemptList { items }),
+        }
     }
 
-    /// The attempts of a request that made this one alone.
+    /// The attempts so far.
+    pub(crate) fn into_tries(self) -> AttemptList
+        ensures { result ≡ self.items.items }
+    {
+        AttemptList { items: self.items }
+    }
+
+    /// The attempts so far, and this one.
     pub(crate) fn fill(self, attempt: AttemptRecord) -> AttemptList
-        ensures { result ≡ attempt ∷ [] }
+        ensures { result ≡ self.items.items ++ attempt ∷ [] }
     {
         let mut items = self.items;
         items.push(attempt).unwrap();

@@ -14,6 +14,7 @@ ghost use Rattle.relay_proxy.specs.Bound.{LeavesLink, PhaseCounts, TurnedCounts}
 ghost use Rattle.relay_proxy.specs.Leaving.{LeavesBy, LeavesSession};
 ghost use Rattle.relay_proxy.specs.Passed.{World, Start, TellsClient};
 ghost use Rattle.relay_proxy.specs.Phases.{IsLeased, RunSoFar};
+ghost use Rattle.relay_proxy.specs.Refusals.{attempts_in};
 ghost use Rattle.relay_proxy.specs.Relaying.{is_relaying, TurnsOver, TurnsWithin};
 ghost use Rattle.relay_proxy.specs.Reuse.{client_reusable};
 ghost use Rattle.relay_proxy.specs.Stock.{items_held};
@@ -82,6 +83,7 @@ pub(crate) fn relay<D: ByteLink, U: Drop, L: ByteLink, H: Schedule, C: Drop>(
     ensures over { is_over phase.new ≡ is_end result.step }
     ensures linked { links_held L.state L.start phase.new ≡ links_held L.state L.start phase.old }
     ensures items { items_held L.start phase.new ≡ items_held L.start phase.old }
+    ensures tries { attempts_in phase.new ≡ attempts_in phase.old }
     ensures kept { client.new.kept ≡ client.old.kept }
     ensures client_start { D.start client.new.link ≡ D.start client.old.link }
 {
@@ -114,7 +116,7 @@ fn close_finished<D, U, L: ByteLink, C: Drop>(
         → let x = a.value.exchange in phase.new ≡ Phase.Close (link_of x) a.value.lease (may_keep x)
         (Outcome.Served None (client_reusable x client.now.ahead)) }
     ensures leaves { (a : Box (Attempt L C)) → phase.old ≡ Phase.Relay a
-        → LeavesLink (link_of a.value.exchange) phase.new }
+        → LeavesLink (link_of a.value.exchange) a.value.lease phase.new }
     ensures over { is_over phase.new ≡ true }
     ensures linked { links_held L.state L.start phase.new ≡ links_held L.state L.start phase.old }
     ensures items { items_held L.start phase.new ≡ items_held L.start phase.old }
@@ -148,7 +150,7 @@ fn leave_failed<L: ByteLink, C: Drop>(
     ensures run { (a : Box (Attempt L C)) (s : Start) (p : Passed) (w : World)
         → phase.old ≡ Phase.Relay a → TellsClient s p w
         → let link = link_of a.value.exchange in
-        IsLeased p (L.state link) (L.start link) a.value.lease
+        IsLeased s p (L.state link) (L.start link) a.value.lease
         → LeavesBy s p w.client (L.state link) (L.start link) a.value.exchange.exchange.down.session
         why → Advances {C = C} L.state L.start s w phase.new }
     ensures owes { result.step ≡ RunStep.Moved → OwesAnswer phase.new }
@@ -166,7 +168,7 @@ fn leave_failed<L: ByteLink, C: Drop>(
     ensures unmoved { result.work.moved ≡ 0 }
     ensures end { result.work.ended ≡ 1 }
     ensures leaves { (a : Box (Attempt L C)) → phase.old ≡ Phase.Relay a
-        → LeavesLink (link_of a.value.exchange) phase.new }
+        → LeavesLink (link_of a.value.exchange) a.value.lease phase.new }
 {
     let Attempt {
         exchange,
@@ -189,13 +191,13 @@ fn leave<L: ByteLink, C>(
     work: Work,
 ) -> Next<L, C>
     ensures run { (s : Start) (p : Passed) (w : World) → TellsClient s p w
-        → IsLeased p (L.state link) (L.start link) lease
+        → IsLeased s p (L.state link) (L.start link) lease
         → LeavesBy s p w.client (L.state link) (L.start link) session why
         → Advances {C = C} L.state L.start s w result.phase }
     ensures owes { result.step ≡ RunStep.Moved → OwesAnswer result.phase }
     ensures step { (result.step ≡ RunStep.Moved) ⊎ (result.step ≡ RunStep.Ended) }
     ensures held { held_state L.state result.phase ≡ Some (L.state link) }
-    ensures leaves { LeavesLink link result.phase }
+    ensures leaves { LeavesLink link lease result.phase }
     ensures last { (n : ℕ) → LinkUses L.state L.start n link
         → PhaseUses L.state L.start n [] result.phase }
     ensures over { is_over result.phase ≡ is_end result.step }
@@ -219,13 +221,13 @@ fn owe<L: ByteLink, C>(
     work: Work,
 ) -> Next<L, C>
     ensures run { (s : Start) (p : Passed) (w : World) → TellsClient s p w
-        → IsLeased p (L.state link) (L.start link) lease
+        → IsLeased s p (L.state link) (L.start link) lease
         → LeavesSession s p w.client (L.state link) (L.start link) session error
         → Advances {C = C} L.state L.start s w result.phase }
     ensures owes { result.step ≡ RunStep.Moved → OwesAnswer result.phase }
     ensures step { (result.step ≡ RunStep.Moved) ⊎ (result.step ≡ RunStep.Ended) }
     ensures held { held_state L.state result.phase ≡ Some (L.state link) }
-    ensures leaves { LeavesLink link result.phase }
+    ensures leaves { LeavesLink link lease result.phase }
     ensures last { (n : ℕ) → LinkUses L.state L.start n link
         → PhaseUses L.state L.start n [] result.phase }
     ensures over { is_over result.phase ≡ is_end result.step }
@@ -282,7 +284,7 @@ fn turn_within<D: ByteLink, U: Drop, L: ByteLink, H: Schedule, C>(
     match phase {
         Phase::Relay(attempt) => turn_counted(&mut attempt.exchange, client, schedule),
         Phase::ReadHead => unreachable!(),
-        Phase::Connect(_, _) => unreachable!(),
+        Phase::Connect(_, _, _) => unreachable!(),
         Phase::Fail(_, _, _, _, _) => unreachable!(),
         Phase::Close(_, _, _, _) => unreachable!(),
         Phase::Answer(_, _, _) => unreachable!(),

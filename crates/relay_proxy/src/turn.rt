@@ -9,7 +9,7 @@ ghost use Rattle.relay_proxy.specs.Closing.{Rests, TurnOf};
 ghost use Rattle.relay_proxy.specs.Taken.{Takes, offers_before, offers_of_turn};
 ghost use Rattle.relay_proxy.specs.Passed.{Start};
 ghost use Rattle.relay_proxy.specs.Phases.{RunSoFar};
-ghost use Rattle.relay_proxy.specs.Refusals.{faults_of_turn};
+ghost use Rattle.relay_proxy.specs.Refusals.{faults_before, faults_of_turn};
 ghost use Rattle.relay_proxy.specs.Relaying.{is_relaying};
 ghost use Rattle.relay_proxy.specs.Stock.{items_held, all_items};
 ghost use Rattle.relay_proxy.specs.Turn.{world_of, held_state, links_held, is_over, is_end, WorksIn, HandsOn, HasCause};
@@ -28,16 +28,17 @@ use std::alloc::Global;
 use std::mem;
 
 /// One turn: one call of one link or of the connector, one verdict on a head, or one branch of the
-/// duplex. A phase that relays is turned where it stands, since it has the most turns.
+/// duplex. A request makes `most` attempts at most. A phase that relays is turned where it stands, since it has the most turns.
 pub(crate) fn take_turn<SV: ProxyHttp, K: Connector, D: ByteLink, U: Drop, H: Schedule>(
     alloc: Global,
     hooks: &SV,
     connector: &mut K,
+    most: usize,
     client: &mut Connection<D, U>,
     schedule: &mut H,
     phase: &mut Phase<K::Byte, SV::CTX>,
 ) -> Did
-    ensures turn { (s : Start) (p : Passed) (own : List _)
+    ensures turn { (s : Start) (p : Passed) (own : List _) → s.most ≡ most
         → RunSoFar {C = SV.CTX} K.Byte.state K.Byte.start s p
         (world_of D.state client.old (K.fault_count connector.old)) own phase.old
         → TurnOf K.Byte.state K.Byte.start s
@@ -64,7 +65,7 @@ pub(crate) fn take_turn<SV: ProxyHttp, K: Connector, D: ByteLink, U: Drop, H: Sc
         → PhaseUses K.Byte.state K.Byte.start n own phase.old
         → TurnCounts K.Byte.state K.Byte.start n (D.state client.old.link)
         (D.state client.new.link) result.work.used own phase.new }
-    ensures bounds { (s : Start) (p : Passed) (own : List _) (tasks ends : ℕ)
+    ensures bounds { (s : Start) (p : Passed) (own : List _) (tasks ends : ℕ) → s.most ≡ most
         → RunSoFar {C = SV.CTX} K.Byte.state K.Byte.start s p
         (world_of D.state client.old (K.fault_count connector.old)) own phase.old
         → PhaseCounts {C = SV.CTX} K.Byte.state K.Byte.start tasks ends s
@@ -88,6 +89,10 @@ pub(crate) fn take_turn<SV: ProxyHttp, K: Connector, D: ByteLink, U: Drop, H: Sc
     ensures carries { is_over phase.old ≡ false → offers_before K.Byte.start [] phase.old
         ++ offers_of_turn K.Byte.start phase.old phase.new
         ≡ offers_before K.Byte.start [] phase.new }
+    // And so do the faults with which it was refused a link.
+    ensures tells { is_over phase.old ≡ false
+        → faults_before [] phase.old ++ faults_of_turn phase.old phase.new
+        ≡ faults_before [] phase.new }
     ensures faults { K.fault_count connector.old ≤ K.fault_count connector.new }
     ensures kept { client.new.kept ≡ client.old.kept }
     ensures client_start { D.start client.new.link ≡ D.start client.old.link }
@@ -99,7 +104,7 @@ pub(crate) fn take_turn<SV: ProxyHttp, K: Connector, D: ByteLink, U: Drop, H: Sc
     if phase.is_relaying() {
         return relay(alloc, client, schedule, phase);
     }
-    move_on(alloc, hooks, connector, client, phase)
+    move_on(alloc, hooks, connector, most, client, phase)
 }
 
 /// One turn of a phase that does not relay. It is taken out of its place, and the next is put
@@ -108,11 +113,12 @@ fn move_on<SV: ProxyHttp, K: Connector, D: ByteLink, U: Drop>(
     alloc: Global,
     hooks: &SV,
     connector: &mut K,
+    most: usize,
     client: &mut Connection<D, U>,
     phase: &mut Phase<K::Byte, SV::CTX>,
 ) -> Did
     requires { is_relaying phase.old ≡ false }
-    ensures turn { (s : Start) (p : Passed) (own : List _)
+    ensures turn { (s : Start) (p : Passed) (own : List _) → s.most ≡ most
         → RunSoFar {C = SV.CTX} K.Byte.state K.Byte.start s p
         (world_of D.state client.old (K.fault_count connector.old)) own phase.old
         → TurnOf K.Byte.state K.Byte.start s
@@ -139,7 +145,7 @@ fn move_on<SV: ProxyHttp, K: Connector, D: ByteLink, U: Drop>(
         → PhaseUses K.Byte.state K.Byte.start n own phase.old
         → TurnCounts K.Byte.state K.Byte.start n (D.state client.old.link)
         (D.state client.new.link) result.work.used own phase.new }
-    ensures bounds { (s : Start) (p : Passed) (own : List _) (tasks ends : ℕ)
+    ensures bounds { (s : Start) (p : Passed) (own : List _) (tasks ends : ℕ) → s.most ≡ most
         → RunSoFar {C = SV.CTX} K.Byte.state K.Byte.start s p
         (world_of D.state client.old (K.fault_count connector.old)) own phase.old
         → PhaseCounts {C = SV.CTX} K.Byte.state K.Byte.start tasks ends s
@@ -158,6 +164,10 @@ fn move_on<SV: ProxyHttp, K: Connector, D: ByteLink, U: Drop>(
     ensures carries { is_over phase.old ≡ false → offers_before K.Byte.start [] phase.old
         ++ offers_of_turn K.Byte.start phase.old phase.new
         ≡ offers_before K.Byte.start [] phase.new }
+    // And so do the faults with which it was refused a link.
+    ensures tells { is_over phase.old ≡ false
+        → faults_before [] phase.old ++ faults_of_turn phase.old phase.new
+        ≡ faults_before [] phase.new }
     ensures faults { K.fault_count connector.old ≤ K.fault_count connector.new }
     ensures kept { client.new.kept ≡ client.old.kept }
     ensures client_start { D.start client.new.link ≡ D.start client.old.link }
@@ -168,8 +178,8 @@ fn move_on<SV: ProxyHttp, K: Connector, D: ByteLink, U: Drop>(
 {
     match mem::replace(phase, Phase::ReadHead) {
         Phase::ReadHead => phase.go_on(read_head(alloc, hooks, client)),
-        Phase::Connect(context, session) => {
-            phase.go_on(connect(alloc, connector, context, session))
+        Phase::Connect(context, session, tries) => {
+            phase.go_on(connect(alloc, connector, most, context, session, tries))
         }
         Phase::Relay(_attempt) => unreachable!(),
         Phase::Fail(link, lease, keep, session, error) => phase.go_on(Next {

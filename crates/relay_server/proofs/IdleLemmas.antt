@@ -17,7 +17,7 @@ reads_on : {L C : Type 0} (phase : Phase L C) (empty : Bool)
     → (is_reading_head phase && empty) ≡ true → is_over phase ≡ false
 reads_on ReadHead empty idle = refl
 reads_on (Fail l lease keep session error) empty idle = absurd (true≢false (sym idle))
-reads_on (Connect context session) empty idle = absurd (true≢false (sym idle))
+reads_on (Connect context session tries) empty idle = absurd (true≢false (sym idle))
 reads_on (Relay a) empty idle = absurd (true≢false (sym idle))
 reads_on (Close l lease keep outcome) empty idle = absurd (true≢false (sym idle))
 reads_on (Answer session owed attempts) empty idle = absurd (true≢false (sym idle))
@@ -47,7 +47,7 @@ not_begun state start_at s p w [] ReadHead idle run = record {
   unlinked = refl;
 }
 not_begun state start_at s p w (r ∷ own) ReadHead idle run = absurd run.holds
-not_begun state start_at s p w own (Connect context session) idle run =
+not_begun state start_at s p w own (Connect context session tries) idle run =
     absurd (true≢false (sym idle))
 not_begun state start_at s p w own (Relay a) idle run = absurd (true≢false (sym idle))
 not_begun state start_at s p w own (Fail l lease keep session error) idle run =

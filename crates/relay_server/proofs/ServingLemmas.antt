@@ -115,13 +115,14 @@ module _ {L C : Type 0} (state : L → LinkState) (start_at : L → LinkStart) w
       → IsAt state start_at s p (world_with link ahead f) phase
       → IsAt state start_at s p (world_with link ahead g) phase
   at_later s p link ahead f g ReadHead going more_faults at = at
-  at_later s p link ahead f g (Connect context session) going more_faults at = record {
+  at_later s p link ahead f g (Connect context session tries) going more_faults at = record {
     head = at.head;
     accepted = at.accepted;
     is_head = at.is_head;
     begins = at.begins;
     written = at.written;
     unsent = at.unsent;
+    are_tries = at.are_tries;
   }
   at_later s p link ahead f g (Relay a) going more_faults at = record {
     leased = at.leased;
@@ -148,7 +149,7 @@ module _ {L C : Type 0} (state : L → LinkState) (start_at : L → LinkStart) w
       → IsCalm state start_at s (world_with link ahead f) phase
       → IsCalm state start_at s (world_with link ahead g) phase
   calm_later s link ahead f g ReadHead calm = calm
-  calm_later s link ahead f g (Connect context session) calm = calm
+  calm_later s link ahead f g (Connect context session tries) calm = calm
   calm_later s link ahead f g (Relay a) calm = calm
   calm_later s link ahead f g (Fail l lease keep session error) calm = calm
   calm_later s link ahead f g (Close l lease keep outcome) calm = calm
@@ -163,7 +164,7 @@ module _ {L C : Type 0} (state : L → LinkState) (start_at : L → LinkStart) w
   holds_later s p link ahead f g [] phase going more_faults holds =
       at_later s p link ahead f g phase going more_faults holds
   holds_later s p link ahead f g (r ∷ own) ReadHead going more_faults holds = absurd holds
-  holds_later s p link ahead f g (r ∷ own) (Connect context session) going more_faults holds =
+  holds_later s p link ahead f g (r ∷ own) (Connect context session tries) going more_faults holds =
       absurd holds
   holds_later s p link ahead f g (r ∷ own) (Relay a) going more_faults holds = absurd holds
   holds_later s p link ahead f g (r ∷ own) (Fail l lease keep session error) going more_faults
@@ -242,7 +243,7 @@ module _ {L : Type 0} (state : L → LinkState) (start_at : L → LinkStart) whe
   -- one more request has ended
   pub one_ended : (before : Books L) (count : ℕ) (returned : Option (List (Returned L)))
       (own others : List (Returned L)) (outcome : Outcome)
-      → EndedRequest state start_at own outcome
+      → EndedRequest state start_at before.most own outcome
       → HaveEnded state start_at before count returned (own ++ others)
       → HaveEnded state start_at before (ended_after count outcome) returned others
   one_ended before count returned own others outcome request ended = record {
@@ -284,34 +285,35 @@ held_by_one state start_at place visit rest visits out taken held =
 module _ {L C D U : Type 0}
     (state : L → LinkState) (start_at : L → LinkStart) (client_state : D → LinkState) where
   -- requests that are under way go on while calls of the connector fail for others
-  pub all_later : (f g : ℕ) → f ≤ g → (visits : List (Visit D U L C))
-      (links : List (Returned L)) → AreUnderWay state start_at client_state f visits links
-      → AreUnderWay state start_at client_state g visits links
-  all_later f g more_faults [] links under_way = under_way
-  all_later f g more_faults (visit ∷ rest) links under_way = record {
+  pub all_later : (most f g : ℕ) → f ≤ g → (visits : List (Visit D U L C))
+      (links : List (Returned L)) → AreUnderWay state start_at client_state most f visits links
+      → AreUnderWay state start_at client_state most g visits links
+  all_later most f g more_faults [] links under_way = under_way
+  all_later most f g more_faults (visit ∷ rest) links under_way = record {
     own = under_way.own;
     rest = under_way.rest;
     of_one = record {
       start = under_way.of_one.start;
+      limit = under_way.of_one.limit;
       passed = under_way.of_one.passed;
       run = run_later state start_at under_way.of_one.start under_way.of_one.passed
           (client_state visit.client.link) visit.client.ahead f g under_way.own visit.phase
           under_way.of_one.going more_faults under_way.of_one.run;
       going = under_way.of_one.going;
     };
-    of_others = all_later f g more_faults rest under_way.rest under_way.of_others;
+    of_others = all_later most f g more_faults rest under_way.rest under_way.of_others;
     joined = under_way.joined;
   }
 
   -- one of the requests is taken out
-  pub take_out : (f place : ℕ) (visit : Visit D U L C) (rest : List (Visit D U L C))
+  pub take_out : (most f place : ℕ) (visit : Visit D U L C) (rest : List (Visit D U L C))
       (links : List (Returned L))
-      → AreUnderWay state start_at client_state f (insert rest place visit) links
-      → AreUnderWay state start_at client_state f (visit ∷ rest) links
-  take_out f zero visit rest links under_way = under_way
-  take_out f (suc place) visit [] links under_way = under_way
-  take_out f (suc place) visit (next ∷ rest) links under_way =
-      let inner = take_out f place visit rest under_way.rest under_way.of_others in
+      → AreUnderWay state start_at client_state most f (insert rest place visit) links
+      → AreUnderWay state start_at client_state most f (visit ∷ rest) links
+  take_out most f zero visit rest links under_way = under_way
+  take_out most f (suc place) visit [] links under_way = under_way
+  take_out most f (suc place) visit (next ∷ rest) links under_way =
+      let inner = take_out most f place visit rest under_way.rest under_way.of_others in
       let one = under_way.own in
       let others = inner.rest in
       record {
@@ -333,13 +335,13 @@ module _ {L C D U : Type 0}
       }
 
   -- one more request is put at a place
-  pub put_in : (f place : ℕ) (visit : Visit D U L C) (rest : List (Visit D U L C))
+  pub put_in : (most f place : ℕ) (visit : Visit D U L C) (rest : List (Visit D U L C))
       (links : List (Returned L))
-      → AreUnderWay state start_at client_state f (visit ∷ rest) links
-      → AreUnderWay state start_at client_state f (insert rest place visit) links
-  put_in f zero visit rest links under_way = under_way
-  put_in f (suc place) visit [] links under_way = under_way
-  put_in f (suc place) visit (next ∷ rest) links under_way =
+      → AreUnderWay state start_at client_state most f (visit ∷ rest) links
+      → AreUnderWay state start_at client_state most f (insert rest place visit) links
+  put_in most f zero visit rest links under_way = under_way
+  put_in most f (suc place) visit [] links under_way = under_way
+  put_in most f (suc place) visit (next ∷ rest) links under_way =
       let own = under_way.own in
       let one = under_way.of_others.own in
       let others = under_way.of_others.rest in
@@ -347,7 +349,7 @@ module _ {L C D U : Type 0}
         own = one;
         rest = own ++ others;
         of_one = under_way.of_others.of_one;
-        of_others = put_in f place visit rest (own ++ others) (record {
+        of_others = put_in most f place visit rest (own ++ others) (record {
           own = own;
           rest = others;
           of_one = under_way.of_one;
@@ -361,12 +363,22 @@ module _ {L C D U : Type 0}
             under_way.of_others.joined)) under_way.joined;
       }
 
+  -- those that are under way beside a turn of another go on
+  others_later : (old now : Books L) (rest : List (Visit D U L C)) (links : List (Returned L))
+      → now.most ≡ old.most → old.faults ≤ now.faults
+      → AreUnderWay state start_at client_state old.most old.faults rest links
+      → AreUnderWay state start_at client_state now.most now.faults rest links
+  others_later old now rest links same more_faults under_way =
+      subst (λ (n : ℕ). AreUnderWay state start_at client_state n now.faults rest links) (sym same)
+      (all_later old.most old.faults now.faults more_faults rest links under_way)
+
   -- a turn of the first request: none is counted, and what passed goes on
   pub record TakesTurn (old now : Books L) (visit next : Visit D U L C) (t u : Option (List Fault))
       (h k : Option (List Offer)) (i j : Work) : Type 0 where
     pub counted : now.requests_ended ≡ old.requests_ended
     pub faults : old.faults ≤ now.faults
-    pub steps : (s : Start) (p : Passed) (own : List (Returned L))
+    pub most : now.most ≡ old.most
+    pub steps : (s : Start) (p : Passed) (own : List (Returned L)) → s.most ≡ old.most
         → RunSoFar state start_at s p (world_of client_state visit.client old.faults) own
         visit.phase
         → StepsOn state start_at s p (world_of client_state next.client now.faults) own
@@ -384,7 +396,7 @@ module _ {L C D U : Type 0}
   goes_on before old now visit next rest t u h k i j serves turn going =
       let all = serves.under_way in
       let under = all.of_one in
-      let taken = turn.steps under.start under.passed all.own under.run in
+      let taken = turn.steps under.start under.passed all.own under.limit under.run in
       record {
         links = serves.links ++ taken.handed;
         ended = subst (λ (n : ℕ). HaveEnded state start_at before n now.returned
@@ -396,13 +408,15 @@ module _ {L C D U : Type 0}
           rest = all.rest;
           of_one = record {
             start = under.start;
+            limit = under.limit ∙ sym turn.most;
             passed = taken.passed;
             run = taken.run;
             going = going;
           };
-          of_others = all_later old.faults now.faults turn.faults rest all.rest all.of_others;
+          of_others = others_later old now rest all.rest turn.most turn.faults all.of_others;
           joined = joins all.own all.rest serves.links taken.handed all.joined;
         };
+        same_most = turn.most ∙ serves.same_most;
       }
 
   -- a turn behind which the request has ended
@@ -416,7 +430,7 @@ module _ {L C D U : Type 0}
   ends_now before old now visit next rest t u h k i j serves turn over =
       let all = serves.under_way in
       let under = all.of_one in
-      let taken = turn.steps under.start under.passed all.own under.run in
+      let taken = turn.steps under.start under.passed all.own under.limit under.run in
       record {
         own = all.own ++ taken.handed;
         links = all.rest;
@@ -432,23 +446,27 @@ module _ {L C D U : Type 0}
         start = under.start;
         passed = taken.passed;
         run = taken.run;
+        limit = under.limit ∙ serves.same_most;
         over = over;
-        under_way = all_later old.faults now.faults turn.faults rest all.rest all.of_others;
+        under_way = others_later old now rest all.rest turn.most turn.faults all.of_others;
+        same_most = turn.most ∙ serves.same_most;
       }
 
   -- one more request came to its end
   pub comes_to_end : (before old now : Books L) (visit : Visit D U L C)
       (own links : List (Returned L)) (s : Start) (p : Passed) (x : World) (processed : Processed)
+      → s.most ≡ before.most
       → HaveEnded state start_at before old.requests_ended old.returned (own ++ links)
       → ComesToEnd state start_at s p x own old.returned now.returned visit.phase processed
       → now.requests_ended ≡ ended_after old.requests_ended processed.outcome
       → HaveEnded state start_at before now.requests_ended now.returned links
-  comes_to_end before old now visit own links s p x processed ended comes counted =
+  comes_to_end before old now visit own links s p x processed limit ended comes counted =
       let all = own ++ comes.handed in
       subst (λ (n : ℕ). HaveEnded state start_at before n now.returned links) (sym counted)
       (one_ended state start_at before old.requests_ended now.returned all links processed.outcome
       (record {
         start = s;
+        limit = limit;
         passed = p;
         world = x;
         attempts = processed.history.attempts;
@@ -466,7 +484,8 @@ module _ {L C D U : Type 0}
     links = [];
     ended = none_ended state start_at before;
     under_way = subst (λ (all : List (Visit D U L C)).
-        AreUnderWay state start_at client_state before.faults all []) (sym nobody) refl;
+        AreUnderWay state start_at client_state before.most before.faults all []) (sym nobody) refl;
+    same_most = refl;
   }
 
   -- a server at which nobody is left
@@ -475,10 +494,20 @@ module _ {L C D U : Type 0}
       → HaveEnded state start_at before now.requests_ended now.returned []
   last_serves before now visits nobody serves =
       let none_left : serves.links ≡ [] = subst (λ (all : List (Visit D U L C)).
-      AreUnderWay state start_at client_state now.faults all serves.links) nobody
+      AreUnderWay state start_at client_state now.most now.faults all serves.links) nobody
       serves.under_way in
       subst (λ (l : List (Returned L)). HaveEnded state start_at before now.requests_ended
       now.returned l) none_left serves.ended
+
+  -- those that are under way beside one that ends stay
+  others_same : (old now : Books L) (rest : List (Visit D U L C)) (links : List (Returned L))
+      → now.most ≡ old.most → now.faults ≡ old.faults
+      → AreUnderWay state start_at client_state old.most old.faults rest links
+      → AreUnderWay state start_at client_state now.most now.faults rest links
+  others_same old now rest links limit same under_way =
+      subst (λ (n : ℕ). AreUnderWay state start_at client_state n now.faults rest links) (sym limit)
+      (subst (λ (f : ℕ). AreUnderWay state start_at client_state old.most f rest links) (sym same)
+      under_way)
 
   -- the request that has ended is ended
   pub ends_one : (before old now : Books L) (visit : Visit D U L C) (rest : List (Visit D U L C))
@@ -488,14 +517,14 @@ module _ {L C D U : Type 0}
       → RunSoFar state start_at s p (world_of client_state visit.client old.faults) own visit.phase
       → ComesToEnd state start_at s p x own old.returned now.returned visit.phase processed)
       → now.requests_ended ≡ ended_after old.requests_ended processed.outcome
-      → now.faults ≡ old.faults
+      → now.faults ≡ old.faults → now.most ≡ old.most
       → Serves state start_at client_state before now rest
-  ends_one before old now visit rest x processed one comes counted same = record {
+  ends_one before old now visit rest x processed one comes counted same limit = record {
     links = one.links;
     ended = comes_to_end before old now visit one.own one.links one.start one.passed x processed
-        one.ended (comes one.start one.passed one.own one.run) counted;
-    under_way = subst (λ (f : ℕ). AreUnderWay state start_at client_state f rest one.links)
-        (sym same) one.under_way;
+        one.limit one.ended (comes one.start one.passed one.own one.run) counted;
+    under_way = others_same old now rest one.links limit same one.under_way;
+    same_most = limit ∙ one.same_most;
   }
 
   -- a request under way is given up
@@ -506,29 +535,29 @@ module _ {L C D U : Type 0}
       → RunSoFar state start_at s p (world_of client_state visit.client old.faults) own visit.phase
       → ComesToEnd state start_at s p x own old.returned now.returned visit.phase processed)
       → now.requests_ended ≡ ended_after old.requests_ended processed.outcome
-      → now.faults ≡ old.faults
+      → now.faults ≡ old.faults → now.most ≡ old.most
       → Serves state start_at client_state before now rest
-  gives_up before old now visit rest x processed serves comes counted same =
+  gives_up before old now visit rest x processed serves comes counted same limit =
       let all = serves.under_way in
       let under = all.of_one in
       record {
         links = all.rest;
         ended = comes_to_end before old now visit all.own all.rest under.start under.passed x
-            processed (ended_in_order state start_at before old.requests_ended old.returned
+            processed (under.limit ∙ serves.same_most) (ended_in_order state start_at before old.requests_ended old.returned
             serves.links (all.own ++ all.rest)
             (IsPermutation-sym (all.own ++ all.rest) serves.links all.joined) serves.ended)
             (comes under.start under.passed all.own under.run) counted;
-        under_way = subst (λ (f : ℕ). AreUnderWay state start_at client_state f rest all.rest)
-            (sym same) all.of_others;
+        under_way = others_same old now rest all.rest limit same all.of_others;
+        same_most = limit ∙ serves.same_most;
       }
 
   -- a request begins
   pub begins : (before now : Books L) (visit : Visit D U L C) (rest : List (Visit D U L C))
-      (s : Start) (p : Passed)
+      (s : Start) (p : Passed) → s.most ≡ now.most
       → RunSoFar state start_at s p (world_of client_state visit.client now.faults) [] visit.phase
       → is_over visit.phase ≡ false → Serves state start_at client_state before now rest
       → Serves state start_at client_state before now (visit ∷ rest)
-  begins before now visit rest s p run going serves = record {
+  begins before now visit rest s p limit run going serves = record {
     links = serves.links;
     ended = serves.ended;
     under_way = record {
@@ -536,6 +565,7 @@ module _ {L C D U : Type 0}
       rest = serves.links;
       of_one = record {
         start = s;
+        limit = limit;
         passed = p;
         run = run;
         going = going;
@@ -543,6 +573,7 @@ module _ {L C D U : Type 0}
       of_others = serves.under_way;
       joined = IsPermutation-refl serves.links;
     };
+    same_most = serves.same_most;
   }
 
 module _ {SV K P L C D U : Type 0}
@@ -583,8 +614,9 @@ module _ {SV K P L C D U : Type 0}
     serves = λ before serves. record {
       links = serves.links;
       ended = serves.ended;
-      under_way = take_out state start_at client_state (faults p.connector) place visit rest
-          serves.links serves.under_way;
+      under_way = take_out state start_at client_state p.conf.max_retries (faults p.connector) place
+          visit rest serves.links serves.under_way;
+      same_most = serves.same_most;
     };
     held = omega (arith, all_held-insert state start_at place visit rest);
     counted = λ fits. (omega arith, fits);
@@ -600,8 +632,9 @@ module _ {SV K P L C D U : Type 0}
     serves = λ before serves. record {
       links = serves.links;
       ended = serves.ended;
-      under_way = put_in state start_at client_state (faults p.connector) place visit rest
-          serves.links serves.under_way;
+      under_way = put_in state start_at client_state p.conf.max_retries (faults p.connector) place
+          visit rest serves.links serves.under_way;
+      same_most = serves.same_most;
     };
     held = omega (arith, all_held-insert state start_at place visit rest);
     counted = λ fits. (omega arith, fits);

@@ -26,6 +26,7 @@ pub record Books (L : Type 0) : Type 0 where
   pub requests_ended : ℕ
   pub returned : Option (List (Returned L))
   pub faults : ℕ
+  pub most : ℕ
 
 -- the books of a proxy
 abbrev pub books : {SV K P L : Type 0} → (K → Option (List (Returned L))) → (K → ℕ)
@@ -34,6 +35,7 @@ books returned faults proxy = record {
   requests_ended = proxy.requests_ended;
   returned = returned proxy.connector;
   faults = faults proxy.connector;
+  most = proxy.conf.max_retries;
 }
 
 -- the count does not fall, and stays one
@@ -54,10 +56,11 @@ is_reused TurnLimit = false
 is_reused OutOfMemory = false
 
 module _ {L : Type 0} (state : L → LinkState) (start_at : L → LinkStart) where
-  -- a request that came to its end: what passed is told by the links, in order, and the outcome has
-  -- its cause
-  pub record EndedRequest (own : List (Returned L)) (outcome : Outcome) : Type 0 where
+  -- a request that came to its end, and that might make so many attempts: what passed is told by the
+  -- links, in order, and the outcome has its cause
+  pub record EndedRequest (most : ℕ) (own : List (Returned L)) (outcome : Outcome) : Type 0 where
     pub start : Start
+    pub limit : start.most ≡ most
     pub passed : Passed
     pub world : World
     pub attempts : List AttemptRecord
@@ -65,11 +68,11 @@ module _ {L : Type 0} (state : L → LinkState) (start_at : L → LinkStart) whe
 
   -- requests came to their ends, one after the other: each that was served or refused is counted
   -- once, and these are the links that they handed back
-  pub data AreEnded (before : ℕ) : ℕ → List (Returned L) → Type 0 where
-    none : AreEnded before before []
-    one_more : (count : ℕ) (links : List (Returned L)) → AreEnded before count links
-        → (own : List (Returned L)) (outcome : Outcome) → EndedRequest own outcome
-        → AreEnded before (ended_after count outcome) (links ++ own)
+  pub data AreEnded (most before : ℕ) : ℕ → List (Returned L) → Type 0 where
+    none : AreEnded most before before []
+    one_more : (count : ℕ) (links : List (Returned L)) → AreEnded most before count links
+        → (own : List (Returned L)) (outcome : Outcome) → EndedRequest most own outcome
+        → AreEnded most before (ended_after count outcome) (links ++ own)
 
   -- the same, from these books on: the links that were handed back since then are theirs and those
   -- others, in some order, since a link may go back before its request ends
@@ -77,7 +80,7 @@ module _ {L : Type 0} (state : L → LinkState) (start_at : L → LinkStart) whe
       (others : List (Returned L)) : Type 0 where
     pub links : List (Returned L)
     pub gained : List (Returned L)
-    pub ended : AreEnded before.requests_ended count links
+    pub ended : AreEnded before.most before.requests_ended count links
     pub joined : IsPermutation (links ++ others) gained
     pub told : returned ≡ more before.returned gained
 
@@ -98,25 +101,28 @@ pub record Divides {L : Type 0} (one others : List (Returned L) → Type 0)
 module _ {L C D U : Type 0}
     (state : L → LinkState) (start_at : L → LinkStart) (client_state : D → LinkState) where
   -- the request is under way since some start, and handed these links back
-  pub record IsUnderWay (faults : ℕ) (visit : Visit D U L C) (own : List (Returned L))
+  pub record IsUnderWay (most faults : ℕ) (visit : Visit D U L C) (own : List (Returned L))
       : Type 0 where
     pub start : Start
+    pub limit : start.most ≡ most
     pub passed : Passed
     pub run : RunSoFar state start_at start passed (world_of client_state visit.client faults) own
         visit.phase
     pub going : is_over visit.phase ≡ false
 
   -- all requests are under way, and handed these links back
-  abbrev pub AreUnderWay : ℕ → List (Visit D U L C) → List (Returned L) → Type 0
-  AreUnderWay faults [] links = links ≡ []
-  AreUnderWay faults (visit ∷ rest) links =
-      Divides (IsUnderWay faults visit) (AreUnderWay faults rest) links
+  abbrev pub AreUnderWay : ℕ → ℕ → List (Visit D U L C) → List (Returned L) → Type 0
+  AreUnderWay most faults [] links = links ≡ []
+  AreUnderWay most faults (visit ∷ rest) links =
+      Divides (IsUnderWay most faults visit) (AreUnderWay most faults rest) links
 
   -- a server that began with the books `before`: requests have ended, and others are under way
   pub record Serves (before now : Books L) (visits : List (Visit D U L C)) : Type 0 where
     pub links : List (Returned L)
     pub ended : HaveEnded state start_at before now.requests_ended now.returned links
-    pub under_way : AreUnderWay now.faults visits links
+    pub under_way : AreUnderWay now.most now.faults visits links
+    -- the proxy is the one with which it began
+    pub same_most : now.most ≡ before.most
 
   -- the same, where one request has come to its end and was not counted yet
   pub record EndsOne (before now : Books L) (visit : Visit D U L C) (rest : List (Visit D U L C))
@@ -128,8 +134,10 @@ module _ {L C D U : Type 0}
     pub passed : Passed
     pub run : RunSoFar state start_at start passed
         (world_of client_state visit.client now.faults) own visit.phase
+    pub limit : start.most ≡ before.most
     pub over : is_over visit.phase ≡ true
-    pub under_way : AreUnderWay now.faults rest links
+    pub under_way : AreUnderWay now.most now.faults rest links
+    pub same_most : now.most ≡ before.most
 
   -- the requests that are open behind one that was ended: its connection's next one, or none
   abbrev pub with_next : AfterRequest (Visit D U L C) D → List (Visit D U L C) → List

@@ -18,8 +18,9 @@ returns-clause-run g c = λ s p faults run has entered no_connect.
     let world = ap (λ k. world_of g.D.ByteLink.state k faults) c.consume.ensures in
     let made = c.begun_http1.ensures in
     head_accepted g.L.ByteLink.state g.L.ByteLink.start s p _ _ c.args.read.head
-    c.args.read.framing c.args.read.len _ _
-    (ap (λ (x : World). x.client) world) (ap (λ (x : World). x.ahead) world) refl has
+    c.args.read.framing c.args.read.len _ _ _
+    (ap (λ (x : World). x.client) world) (ap (λ (x : World). x.ahead) world) refl
+    c.new-3.ensures has
     (record {
       entered = entered;
       method = no_connect;

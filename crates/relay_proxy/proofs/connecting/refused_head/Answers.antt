@@ -10,7 +10,7 @@ pub returns-clause-run : goal.returns-clause-run
 returns-clause-run g c = λ s p w context head run is refuses handed peer.
     not_sent g.L.ByteLink.state g.L.ByteLink.start s p w context c.args.session _ head c.args.link
     c.args.lease c.args.error is refuses handed peer
-    (connecting_answer s p w 500 c.args.session.value _ run.holds (sent_500 _)
+    (connecting_answer s p w 500 c.args.session.value _ _ run.holds (sent_500 _)
     (rw c.deref_mut.ensures.value at c.in-Ok.ensures.ok)
     (rw c.deref_mut.ensures.value at c.in-Ok.ensures.text)) run
 

@@ -10,7 +10,7 @@ pub returns-in-Ok-clause-run : goal.returns-in-Ok-clause-run
 returns-in-Ok-clause-run g c = λ s p w run handed peer.
     c.begin.ensures.run s p w c.args.copy run c.requires
     (subst (λ (k : Client). MakesSent k c.args.copy (Ok c.in-Ok.sent))
-    (client_asked s p w c.args.session.value c.args.copy c.requires run.holds)
+    (client_asked s p w c.args.session.value _ c.args.copy c.requires run.holds)
     (rw c.deref.ensures at c.in-Ok.ensures))
     handed peer
 
@@ -18,7 +18,8 @@ returns-in-Ok-clause-run g c = λ s p w run handed peer.
 pub returns-in-Err-Error-clause-run : goal.returns-in-Err-Error-clause-run
 returns-in-Err-Error-clause-run g c = λ s p w run handed peer.
     c.refused_head.ensures.run s p w c.args.context c.args.copy run c.requires
-    (refused_asked s p w c.args.session.value c.deref.result.now c.args.copy c.in-Err-Error.field-0
+    (refused_asked s p w c.args.session.value c.deref.result.now _ c.args.copy
+    c.in-Err-Error.field-0
     c.in-Err-Error.error _ (cc) c.deref.ensures c.requires run.holds c.in-Err-Error.field-0-is
     c.in-Err-Error.ensures)
     handed peer

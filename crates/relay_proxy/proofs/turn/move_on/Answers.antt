@@ -1,17 +1,21 @@
 -- A turn of a phase that does not relay. One that does not ask the connector leaves its count of
 -- faults as it was.
-use Rattle.std.proofs.Common.{[], refl, sym, ◌∙◌, inr, true≢false, append-nil, arith}
+use Rattle.std.proofs.Common.{[], ◌++◌, List, refl, sym, ap, subst, ◌∙◌, inr, true≢false, append-nil, arith}
+use Rattle.relay_tasks.specs.declared.Fault.{Fault}
+use Rattle.relay_links.specs.Told.{Gains}
+use Rattle.relay_proxy.specs.Refusals.{faults_told}
+use Rattle.relay_proxy.specs.declared.record.AttemptRecord.{AttemptRecord}
 use Rattle.relay_proxy.specs.Turn.{world_of}
 use Rattle.relay_proxy.proofs.BoundLemmas.{answer_bounds, head_turn_bounds, link_turn_bounds}
-use Rattle.relay_proxy.proofs.RefusalLemmas.{none_added, none_unmade}
-use Rattle.relay_proxy.proofs.TakenLemmas.{takes_nothing, one_out, no_offers}
+use Rattle.relay_proxy.proofs.RefusalLemmas.{none_added, none_unmade, others_told}
+use Rattle.relay_proxy.proofs.TakenLemmas.{takes_nothing, takes_more, took_more, one_out, no_offers}
 use Rattle.relay_proxy.proofs.TurnLemmas.{head_turn, connect_turn, head_counts, still_counts, connect_counts, unlinked_open, answer_offers}
 use Rattle.relay_proxy.proofs.turn.move_on.Goals as goal
 
 -- a turn that reads the head is a turn
 pub returns-in-ReadHead-clause-turn : goal.returns-in-ReadHead-clause-turn
 returns-in-ReadHead-clause-turn g c =
-    rw (c.go_on.ensures.phase, sym c.replace.ensures.value ∙ c.in-ReadHead.is) (λ s p own run.
+    rw (c.go_on.ensures.phase, sym c.replace.ensures.value ∙ c.in-ReadHead.is) (λ s p own most run.
     head_turn g.K.Byte.ByteLink.state g.K.Byte.ByteLink.start s p
     (world_of g.D.ByteLink.state c.args.client.now
     (g.K.Connector.fault_count c.args.connector.now))
@@ -23,7 +27,7 @@ returns-in-ReadHead-clause-turn g c =
 pub returns-in-Answer-clause-turn : goal.returns-in-Answer-clause-turn
 returns-in-Answer-clause-turn g c =
     rw (c.go_on-in-Answer.ensures.phase, sym c.replace.ensures.value ∙ c.in-Answer.is)
-    (λ s p own run. record {
+    (λ s p own most run. record {
       advances = c.write_answer.ensures.run s p own
           (g.K.Connector.fault_count c.args.connector.now) run;
       same = c.write_answer.ensures.attempts;
@@ -34,26 +38,26 @@ returns-in-Answer-clause-turn g c =
 pub returns-in-Fail-clause-turn : goal.returns-in-Fail-clause-turn
 returns-in-Fail-clause-turn g c =
     rw (c.go_on-in-Fail.ensures.phase, sym c.replace.ensures.value ∙ c.in-Fail.is)
-    (λ s p own run. record { passed = p; run = run })
+    (λ s p own most run. record { passed = p; run = run })
 
 -- a turn that asks the connector is a turn
 pub returns-in-Connect-clause-turn : goal.returns-in-Connect-clause-turn
 returns-in-Connect-clause-turn g c =
     rw (c.go_on-in-Connect.ensures.phase, sym c.replace.ensures.value ∙ c.in-Connect.is)
-    (λ s p own run. connect_turn g.K.Byte.ByteLink.state g.K.Byte.ByteLink.start s p
+    (λ s p own most run. connect_turn g.K.Byte.ByteLink.state g.K.Byte.ByteLink.start s p
     (world_of g.D.ByteLink.state c.args.client.now
     (g.K.Connector.fault_count c.args.connector.now))
     (world_of g.D.ByteLink.state c.args.client.now
-    (g.K.Connector.fault_count c.connect.new.connector)) own _ _ c.connect.result.phase run
+    (g.K.Connector.fault_count c.connect.new.connector)) own _ _ _ c.connect.result.phase run
     (λ first. c.connect.ensures.run s p (g.D.ByteLink.state c.args.client.now.link)
-    c.args.client.now.ahead first))
+    c.args.client.now.ahead most first))
 
 -- the link that the connector gave was the first of those that were left
 pub returns-in-Connect-clause-stock : goal.returns-in-Connect-clause-stock
 returns-in-Connect-clause-stock g c =
     rw (c.go_on-in-Connect.ensures.phase, sym c.replace.ensures.value ∙ c.in-Connect.is)
     (one_out g.K.Byte.ByteLink.start _ _ _ _ _ _ c.connect.ensures.returned
-    c.connect.ensures.offers)
+    c.connect.ensures.asks.takes)
 
 -- the cause of a turn that reads the head
 pub returns-in-ReadHead-clause-cause : goal.returns-in-ReadHead-clause-cause
@@ -111,7 +115,37 @@ returns-in-ReadHead-clause-refusals g c =
 pub returns-in-Connect-clause-refusals : goal.returns-in-Connect-clause-refusals
 returns-in-Connect-clause-refusals g c =
     rw (c.go_on-in-Connect.ensures.phase, sym c.replace.ensures.value ∙ c.in-Connect.is)
-    c.connect.ensures.refusals
+    (subst (λ (fs : List Fault). Gains (g.K.Connector.refusals c.args.connector.now) fs
+    (g.K.Connector.refusals c.connect.new.connector))
+    (others_told _ c.connect.ensures.asks.faults _ c.connect.ensures.asks.are)
+    c.connect.ensures.asks.gained)
+
+-- which are told behind those from before
+pub returns-in-Connect-clause-tells : goal.returns-in-Connect-clause-tells
+returns-in-Connect-clause-tells g c =
+    rw (c.go_on-in-Connect.ensures.phase, sym c.replace.ensures.value ∙ c.in-Connect.is) (λ live.
+    ap (λ (fs : List Fault). faults_told c.in-Connect.tries ++ fs)
+    (sym (others_told _ c.connect.ensures.asks.faults _ c.connect.ensures.asks.are))
+    ∙ c.connect.ensures.asks.are)
+
+-- a link that is to go back adds none
+pub returns-in-Fail-clause-tells : goal.returns-in-Fail-clause-tells
+returns-in-Fail-clause-tells g c =
+    rw (c.go_on-in-Fail.ensures.phase, sym c.replace.ensures.value ∙ c.in-Fail.is) (λ live.
+    append-nil _)
+
+-- nor does a write of the answer
+pub returns-in-Answer-clause-tells : goal.returns-in-Answer-clause-tells
+returns-in-Answer-clause-tells g c =
+    rw (c.go_on-in-Answer.ensures.phase, sym c.replace.ensures.value ∙ c.in-Answer.is) (λ live.
+    append-nil _ ∙ ap (λ (xs : List AttemptRecord). faults_told xs)
+    (sym c.write_answer.ensures.attempts))
+
+-- what was taken before a link is to go back stays so
+pub returns-in-Fail-clause-carries : goal.returns-in-Fail-clause-carries
+returns-in-Fail-clause-carries g c =
+    rw (c.go_on-in-Fail.ensures.phase, sym c.replace.ensures.value ∙ c.in-Fail.is) (λ live.
+    append-nil _)
 
 -- a turn that reads the head takes none of the offers
 pub returns-in-ReadHead-clause-offers : goal.returns-in-ReadHead-clause-offers
@@ -133,7 +167,13 @@ returns-in-Answer-clause-carries g c =
 pub returns-in-Connect-clause-offers : goal.returns-in-Connect-clause-offers
 returns-in-Connect-clause-offers g c =
     rw (c.go_on-in-Connect.ensures.phase, sym c.replace.ensures.value ∙ c.in-Connect.is)
-    c.connect.ensures.offers
+    (takes_more g.K.Byte.ByteLink.start _ c.connect.result.phase _ _ _ _ c.connect.ensures.asks)
+
+-- behind what was taken before
+pub returns-in-Connect-clause-carries : goal.returns-in-Connect-clause-carries
+returns-in-Connect-clause-carries g c =
+    rw (c.go_on-in-Connect.ensures.phase, sym c.replace.ensures.value ∙ c.in-Connect.is) (λ live.
+    took_more g.K.Byte.ByteLink.start _ c.connect.result.phase _ _ _ _ c.connect.ensures.asks)
 
 -- one that was to be closed, or had ended, asks no link
 pub returns-in-Close-clause-uses : goal.returns-in-Close-clause-uses
@@ -192,7 +232,7 @@ returns-in-Connect-clause-counts g c =
       sym c.replace.ensures.value ∙ c.in-Connect.is,
     )
     (λ s p own n run had. connect_counts g.K.Byte.ByteLink.state g.K.Byte.ByteLink.start s p own
-    _ _ _ n c.connect.result.work.used _ c.connect.result.phase run had c.connect.ensures.unused
+    _ _ _ _ n c.connect.result.work.used _ c.connect.result.phase run had c.connect.ensures.unused
     c.connect.ensures.fresh)
 
 -- nor does one of a request that is to be closed
@@ -232,7 +272,7 @@ returns-in-Ended-clause-counts g c =
 pub returns-in-ReadHead-clause-bounds : goal.returns-in-ReadHead-clause-bounds
 returns-in-ReadHead-clause-bounds g c =
     rw (c.go_on.ensures.phase, c.go_on.ensures.work, sym c.replace.ensures.value ∙ c.in-ReadHead.is)
-    (λ s p own tasks ends run had. head_turn_bounds g.K.Byte.ByteLink.state g.K.Byte.ByteLink.start
+    (λ s p own tasks ends most run had. head_turn_bounds g.K.Byte.ByteLink.state g.K.Byte.ByteLink.start
     s p
     (world_of g.D.ByteLink.state c.args.client.now
     (g.K.Connector.fault_count c.args.connector.now))
@@ -250,15 +290,15 @@ returns-in-Connect-clause-bounds g c =
       c.go_on-in-Connect.ensures.work,
       sym c.replace.ensures.value ∙ c.in-Connect.is,
     )
-    (λ s p own tasks ends run had. link_turn_bounds g.K.Byte.ByteLink.state
+    (λ s p own tasks ends most run had. link_turn_bounds g.K.Byte.ByteLink.state
     g.K.Byte.ByteLink.start s p
     (world_of g.D.ByteLink.state c.args.client.now
     (g.K.Connector.fault_count c.args.connector.now))
     (world_of g.D.ByteLink.state c.args.client.now
-    (g.K.Connector.fault_count c.connect.new.connector)) own _ _ c.connect.result.phase
+    (g.K.Connector.fault_count c.connect.new.connector)) own _ _ _ c.connect.result.phase
     c.connect.result.work tasks ends run
     (λ first. c.connect.ensures.run s p (g.D.ByteLink.state c.args.client.now.link)
-    c.args.client.now.ahead first) c.connect.ensures.counts had)
+    c.args.client.now.ahead most first) c.connect.ensures.counts had)
 
 -- one that writes the answer counts one end at most
 pub returns-in-Answer-clause-bounds : goal.returns-in-Answer-clause-bounds
@@ -268,19 +308,19 @@ returns-in-Answer-clause-bounds g c =
       c.go_on-in-Answer.ensures.work,
       sym c.replace.ensures.value ∙ c.in-Answer.is,
     )
-    (λ s p own tasks ends run had. answer_bounds g.K.Byte.ByteLink.state g.K.Byte.ByteLink.start s
+    (λ s p own tasks ends most run had. answer_bounds g.K.Byte.ByteLink.state g.K.Byte.ByteLink.start s
     _ _ _ own c.write_answer.result.phase c.write_answer.result.work tasks ends
-    c.write_answer.ensures.gives c.write_answer.ensures.counts had)
+    c.write_answer.ensures.gives c.write_answer.ensures.counts _ c.write_answer.ensures.attempts had)
 
 -- one whose link is to go back is settled before it is turned
 pub returns-in-Fail-clause-bounds : goal.returns-in-Fail-clause-bounds
 returns-in-Fail-clause-bounds g c =
-    rw (sym c.replace.ensures.value ∙ c.in-Fail.is) (λ s p own tasks ends run had. absurd had)
+    rw (sym c.replace.ensures.value ∙ c.in-Fail.is) (λ s p own tasks ends most run had. absurd had)
 
 -- and so is one that is to be closed
 pub returns-in-Close-clause-bounds : goal.returns-in-Close-clause-bounds
 returns-in-Close-clause-bounds g c =
-    rw (sym c.replace.ensures.value ∙ c.in-Close.is) (λ s p own tasks ends run had. absurd had)
+    rw (sym c.replace.ensures.value ∙ c.in-Close.is) (λ s p own tasks ends most run had. absurd had)
 
 -- one that has ended counts nothing
 pub returns-in-Ended-clause-bounds : goal.returns-in-Ended-clause-bounds
@@ -290,7 +330,7 @@ returns-in-Ended-clause-bounds g c =
       c.go_on-in-Ended.ensures.work,
       sym c.replace.ensures.value ∙ c.in-Ended.is,
     )
-    (λ s p own tasks ends run had. record {
+    (λ s p own tasks ends most run had. record {
       came = had.came;
       got = had.got;
       client_gave = had.client_gave;

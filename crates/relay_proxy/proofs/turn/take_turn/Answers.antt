@@ -4,13 +4,13 @@ use Rattle.relay_proxy.specs.Turn.{world_of}
 use Rattle.relay_proxy.proofs.BoundLemmas.{relay_turn_bounds}
 use Rattle.relay_proxy.proofs.RefusalLemmas.{none_added}
 use Rattle.relay_proxy.proofs.TakenLemmas.{takes_nothing}
-use Rattle.relay_proxy.proofs.TurnLemmas.{relaying_turn, relaying_rests, relaying_uses, relaying_counts, relaying_works, relaying_unrefused, relaying_takes, relaying_carries, not_relaying}
+use Rattle.relay_proxy.proofs.TurnLemmas.{relaying_turn, relaying_rests, relaying_uses, relaying_counts, relaying_works, relaying_tells, relaying_unrefused, relaying_takes, relaying_carries, not_relaying}
 use Rattle.relay_proxy.proofs.turn.take_turn.Goals as goal
 
 -- a turn of the attempt is a turn
 pub returns-then-is_relaying-clause-turn : goal.returns-then-is_relaying-clause-turn
 returns-then-is_relaying-clause-turn g c =
-    λ s p own run.
+    λ s p own most run.
     relaying_turn g.K.Byte.ByteLink.state g.K.Byte.ByteLink.start s p
     (world_of g.D.ByteLink.state c.args.client.now
     (g.K.Connector.fault_count c.args.connector.now))
@@ -46,8 +46,13 @@ returns-then-is_relaying-clause-work g c =
 pub returns-then-is_relaying-clause-refusals : goal.returns-then-is_relaying-clause-refusals
 returns-then-is_relaying-clause-refusals g c =
     none_added _ _ _ (relaying_unrefused g.K.Byte.ByteLink.state g.K.Byte.ByteLink.start
-    c.args.phase.now c.relay.new.phase (sym c.is_relaying.ensures ∙ c.if-is_relaying.true)
-    c.relay.ensures.linked) refl
+    c.args.phase.now c.relay.new.phase (sym c.is_relaying.ensures ∙ c.if-is_relaying.true)) refl
+
+-- and tells of those that were answered before
+pub returns-then-is_relaying-clause-tells : goal.returns-then-is_relaying-clause-tells
+returns-then-is_relaying-clause-tells g c = λ live.
+    relaying_tells g.K.Byte.ByteLink.state g.K.Byte.ByteLink.start c.args.phase.now
+    c.relay.new.phase (sym c.is_relaying.ensures ∙ c.if-is_relaying.true) c.relay.ensures.tries
 
 -- nor does it take any of the offers
 pub returns-then-is_relaying-clause-offers : goal.returns-then-is_relaying-clause-offers
@@ -59,7 +64,7 @@ returns-then-is_relaying-clause-offers g c =
 pub returns-then-is_relaying-clause-carries : goal.returns-then-is_relaying-clause-carries
 returns-then-is_relaying-clause-carries g c = λ live.
     relaying_carries g.K.Byte.ByteLink.state g.K.Byte.ByteLink.start c.args.phase.now
-    c.relay.new.phase (sym c.is_relaying.ensures ∙ c.if-is_relaying.true) c.relay.ensures.linked
+    c.relay.new.phase (sym c.is_relaying.ensures ∙ c.if-is_relaying.true) c.relay.ensures.tries
     c.relay.ensures.items
 
 -- its uses are those of both links
@@ -73,7 +78,7 @@ returns-then-is_relaying-clause-uses g c = λ s p own run.
 
 -- what it counted of tasks and ends is that of the exchange
 pub returns-then-is_relaying-clause-bounds : goal.returns-then-is_relaying-clause-bounds
-returns-then-is_relaying-clause-bounds g c = λ s p own tasks ends run had.
+returns-then-is_relaying-clause-bounds g c = λ s p own tasks ends most run had.
     relay_turn_bounds g.K.Byte.ByteLink.state g.K.Byte.ByteLink.start s p
     (world_of g.D.ByteLink.state c.args.client.now
     (g.K.Connector.fault_count c.args.connector.now))

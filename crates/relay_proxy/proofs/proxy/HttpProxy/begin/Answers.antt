@@ -7,5 +7,6 @@ use Rattle.relay_proxy.proofs.proxy.HttpProxy.begin.Goals as goal
 pub returns-clause-run : goal.returns-clause-run
 returns-clause-run g c =
     rw c.new.ensures (begins_reading g.K.Byte.ByteLink.state g.K.Byte.ByteLink.start
+    c.args.self.now.conf.max_retries
     (world_of g.D.ByteLink.state c.args.client.now
     (g.K.Connector.fault_count c.args.self.now.connector)))

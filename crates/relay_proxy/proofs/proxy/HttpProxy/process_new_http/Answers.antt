@@ -13,6 +13,7 @@ pub loop-turn-init : goal.loop-turn-init
 loop-turn-init g c =
     let faults = g.K.Connector.fault_count c.args.self.now.connector in (
       begun g.K.Byte.ByteLink.state g.K.Byte.ByteLink.start
+          c.args.self.now.conf.max_retries
           (world_of g.D.ByteLink.state c.args.client.now faults)
           (world_of g.D.ByteLink.state c.begin-machine.new.client faults) _ _ _ _ _ _ _
           c.begin-machine.result.machine refl refl refl
@@ -38,10 +39,12 @@ returns-then-is_stop-clause-processes g c =
     let state = g.K.Byte.ByteLink.state in
     let start = g.K.Byte.ByteLink.start in
     let under = c.loop-turn.invariant.0 in
-    let s = start_of
+    let s = start_of c.args.self.now.conf.max_retries
     (world_of g.D.ByteLink.state c.args.client.now
     (g.K.Connector.fault_count c.args.self.now.connector)) in
-    let steps = c.step-step.ensures.steps s under.passed under.own under.run in
+    let steps = c.step-step.ensures.steps s under.passed under.own
+    (ap (λ (k : HttpProxy g.row.SV.Denot g.row.K.Denot g.row.P.Denot). k.conf.max_retries)
+    (sym c.loop-turn.invariant.6)) under.run in
     let ends = c.close.ensures.ends s steps.passed _ steps.run in
     stopped state start s _ _ _ _ _ _ _ _ _ _ _ _ _ _ _ _ c.loop-turn.machine.machine
     c.step-step.new.machine.machine _ _ c.close.result under steps ends c.close.ensures.refusals
@@ -65,10 +68,12 @@ loop-turn-preserved g c =
     let state = g.K.Byte.ByteLink.state in
     let start = g.K.Byte.ByteLink.start in
     let under = c.loop-turn.invariant.0 in
-    let s = start_of
+    let s = start_of c.args.self.now.conf.max_retries
     (world_of g.D.ByteLink.state c.args.client.now
     (g.K.Connector.fault_count c.args.self.now.connector)) in
-    let steps = c.step-step.ensures.steps s under.passed under.own under.run in
+    let steps = c.step-step.ensures.steps s under.passed under.own
+    (ap (λ (k : HttpProxy g.row.SV.Denot g.row.K.Denot g.row.P.Denot). k.conf.max_retries)
+    (sym c.loop-turn.invariant.6)) under.run in
     let goes = sym c.is_stop.ensures ∙ c.if-is_stop.false in
     let few : c.loop-turn._turn + 1 ≤ last_count =
     omega (arith, c.loop-turn-test.true, c.ranges.turns.fits) in (
@@ -96,7 +101,7 @@ returns-clause-processes g c =
     let state = g.K.Byte.ByteLink.state in
     let start = g.K.Byte.ByteLink.start in
     let under = c.loop-turn.invariant.0 in
-    let s = start_of
+    let s = start_of c.args.self.now.conf.max_retries
     (world_of g.D.ByteLink.state c.args.client.now
     (g.K.Connector.fault_count c.args.self.now.connector)) in
     let ends = c.close-2.ensures.ends s under.passed under.own under.run in

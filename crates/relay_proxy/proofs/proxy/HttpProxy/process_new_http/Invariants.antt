@@ -11,7 +11,7 @@ use Rattle.relay_proxy.proofs.proxy.HttpProxy.process_new_http.Given as goal
 abbrev pub invariant-loop-turn : goal.invariant-loop-turn
 invariant-loop-turn g l =
     IsUnderWay g.K.Byte.ByteLink.state g.K.Byte.ByteLink.start
-    (start_of
+    (start_of l.fn.self.conf.max_retries
     (world_of g.D.ByteLink.state l.fn.client (g.K.Connector.fault_count l.fn.self.connector)))
     (world_of g.D.ByteLink.state l.client (g.K.Connector.fault_count l.self.connector))
     (g.K.Connector.returned l.fn.self.connector) (g.K.Connector.returned l.self.connector)

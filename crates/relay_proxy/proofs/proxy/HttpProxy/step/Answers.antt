@@ -7,17 +7,17 @@ use Rattle.relay_proxy.proofs.proxy.HttpProxy.step.Goals as goal
 
 -- a turn that was settled is a step
 pub returns-clause-steps : goal.returns-clause-steps
-returns-clause-steps g c = λ s p own run.
+returns-clause-steps g c = λ s p own most run.
     rw (c.settle.ensures.faults, c.settle.ensures.refusals, c.settle.ensures.offers)
     (step_on g.K.Byte.ByteLink.state g.K.Byte.ByteLink.start s p own _ _
     c.args.machine.now.machine.phase c.take_turn-step.new.phase c.settle.new.phase
-    c.take_turn-step.result.step _ _ _ _ _ _ _ (c.take_turn-step.ensures.turn s p own)
+    c.take_turn-step.result.step _ _ _ _ _ _ _ (c.take_turn-step.ensures.turn s p own most)
     c.take_turn-step.ensures.rests c.take_turn-step.ensures.returned c.settle.ensures.settles
     c.take_turn-step.ensures.refusals c.take_turn-step.ensures.offers
-    c.take_turn-step.ensures.carries run (g.D.ByteLink.state c.args.client.now.link)
+    c.take_turn-step.ensures.carries c.take_turn-step.ensures.tells run (g.D.ByteLink.state c.args.client.now.link)
     c.args.client.now.ahead c.args.machine.now.machine.work _ c.take_turn-step.result.work
     c.plus-machine.ensures.sum (λ n had. c.take_turn-step.ensures.counts s p own n run had)
-    (λ tasks ends had. c.take_turn-step.ensures.bounds s p own tasks ends run had))
+    (λ tasks ends had. c.take_turn-step.ensures.bounds s p own tasks ends most run had))
 
 -- its cause is that of the turn
 pub returns-clause-cause : goal.returns-clause-cause

@@ -1,5 +1,5 @@
 -- The request is ended, and the next one begins where the connection is reused.
-use Rattle.std.proofs.Common.{ap}
+use Rattle.std.proofs.Common.{ap, refl}
 use Rattle.relay_proxy.specs.declared.proxy.HttpProxy.{HttpProxy}
 use Rattle.relay_server.specs.Serving.{books}
 use Rattle.relay_server.proofs.ServingLemmas.{ends_one, begins}
@@ -17,6 +17,8 @@ returns-then-not-is_reused-clause-serves g c = λ before rest ends.
     (ap (λ (p : HttpProxy g.row.SV.Denot g.row.K.Denot g.row.P.Denot). p.requests_ended)
     c.end-processed.ensures.same)
     c.end-processed.ensures.faults
+    (ap (λ (p : HttpProxy g.row.SV.Denot g.row.K.Denot g.row.P.Denot). p.conf.max_retries)
+    c.end-processed.ensures.same)
 
 -- the next request begins
 pub returns-clause-serves : goal.returns-clause-serves
@@ -28,11 +30,13 @@ returns-clause-serves g c = λ before rest ends.
     (record {
       client = c.begin-machine.new.client;
       phase = c.begin-machine.result.machine.phase;
-    }) rest _ _ c.begin-machine.ensures.run c.begin-machine.ensures.going
+    }) rest _ _ refl c.begin-machine.ensures.run c.begin-machine.ensures.going
     (ends_one g.K.Byte.ByteLink.state g.K.Byte.ByteLink.start g.D.ByteLink.state before
     (books returned faults c.args.proxy.now) now
     (record { client = c.self.inside.client; phase = c.self.inside.machine.machine.phase }) rest
     _ c.end-processed.result.0 (rw c.self.view_is ends) c.end-processed.ensures.ends
     (ap (λ (p : HttpProxy g.row.SV.Denot g.row.K.Denot g.row.P.Denot). p.requests_ended)
     c.end-processed.ensures.same)
-    c.end-processed.ensures.faults)
+    c.end-processed.ensures.faults
+    (ap (λ (p : HttpProxy g.row.SV.Denot g.row.K.Denot g.row.P.Denot). p.conf.max_retries)
+    c.end-processed.ensures.same))

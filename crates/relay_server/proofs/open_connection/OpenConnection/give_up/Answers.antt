@@ -17,3 +17,5 @@ returns-clause-serves g c = λ before rest goes.
     (ap (λ (p : HttpProxy g.row.SV.Denot g.row.K.Denot g.row.P.Denot). p.requests_ended)
     c.end.ensures.same)
     c.end.ensures.faults
+    (ap (λ (p : HttpProxy g.row.SV.Denot g.row.K.Denot g.row.P.Denot). p.conf.max_retries)
+    c.end.ensures.same)

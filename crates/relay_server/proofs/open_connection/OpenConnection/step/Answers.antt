@@ -15,6 +15,8 @@ returns-clause-goes g c = λ before rest goes serves.
       counted = ap (λ (p : HttpProxy g.row.SV.Denot g.row.K.Denot g.row.P.Denot).
           p.requests_ended) c.step-step.ensures.same;
       faults = c.step-step.ensures.faults;
+      most = ap (λ (p : HttpProxy g.row.SV.Denot g.row.K.Denot g.row.P.Denot).
+          p.conf.max_retries) c.step-step.ensures.same;
       steps = c.step-step.ensures.steps;
     })
     (c.step-step.ensures.ended ∙ goes)
@@ -29,6 +31,8 @@ returns-clause-ends g c = λ before rest ends serves.
       counted = ap (λ (p : HttpProxy g.row.SV.Denot g.row.K.Denot g.row.P.Denot).
           p.requests_ended) c.step-step.ensures.same;
       faults = c.step-step.ensures.faults;
+      most = ap (λ (p : HttpProxy g.row.SV.Denot g.row.K.Denot g.row.P.Denot).
+          p.conf.max_retries) c.step-step.ensures.same;
       steps = c.step-step.ensures.steps;
     })
     (c.step-step.ensures.ended ∙ ends)
