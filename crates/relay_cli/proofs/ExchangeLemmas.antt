@@ -1,10 +1,14 @@
 -- The requests of a run: what each leaves of the script's peers, and what is reported of it.
-use Rattle.std.proofs.Common.{◌≡◌, ◌≢◌, inl, inr, ◌⊎◌, Option, None, Ok, Err, subst, ℕ, zero, suc, ◌+◌, ◌≤◌, List, [], ◌∷◌, ◌++◌, map, drop, take, length, Bool, true, false, IsTrue, Some, refl, sym, ap, ◌∙◌, add-one, append_assoc, append-nil, drop-cons, true≢false}
+use Rattle.std.proofs.Common.{◌≡◌, ◌≢◌, ◌<◌, ◌==◌, if◌then◌else◌, inl, inr, ◌⊎◌, Option, None, Ok, Err, subst, ℕ, zero, suc, ◌+◌, ◌≤◌, List, [], ◌∷◌, ◌++◌, map, drop, take, length, Bool, true, false, IsTrue, Some, refl, sym, ap, ◌∙◌, add-one, append_assoc, append-nil, drop-cons, true≢false, arith}
 use Rattle.std.specs.List.{slice_get, slice_range}
-use Rattle.std.proofs.Math.Seq.{drop-append_seam, take-length}
-use Rattle.std.proofs.lemmas.List.{length-drop}
+use Rattle.std.proofs.Math.Seq.{drop-append_seam, drop-nil, take-length}
+use Rattle.std.specs.List.{All}
+use Rattle.std.proofs.lemmas.Bool.Decides.{nat_tests}
+use Rattle.std.proofs.lemmas.List.{drop-drop, length-drop, length-append}
+use Rattle.std.proofs.lemmas.List.Elements.{All-append, All-cons, All-head, All-nil, All-tail}
 use Rattle.std.proofs.lemmas.Option.{slice_get_within, get_or_from_slice_get, same_Some}
 use Rattle.relay_tasks.specs.declared.error.Error.{Error}
+use Rattle.relay_tasks.specs.declared.ErrorSource.TheVariants.{Upstream}
 use Rattle.relay_tasks.specs.declared.error.RetryType.{RetryType}
 use Rattle.relay_tasks.specs.declared.fault.Fault.{Fault}
 use Rattle.relay_links.specs.Connector.{Offer, connect_fault}
@@ -15,8 +19,10 @@ use Rattle.relay_links.specs.Told.{Since, more}
 use Rattle.relay_links.specs.declared.connector.Returned.{Returned}
 use Rattle.relay_links.specs.declared.script_connector.PeerScript.{PeerScript}
 use Rattle.relay_links.specs.declared.script_link.ScriptLink.{ScriptLink}
-use Rattle.relay_proxy.specs.Endings.{EndsUnlinked, EndsWith, AttemptsUnlinked, IsFailedRecord, IsFailedAttempt, IsUnsentAttempt}
-use Rattle.relay_proxy.specs.Refusals.{fault_told}
+use Rattle.relay_proxy.specs.Endings.{EndsReturned, EndsUnlinked, EndsWith, AttemptsUnfinished, AttemptsUnlinked, IsFailedAttempt, IsUnsentAttempt}
+use Rattle.relay_proxy.specs.Refusals.{fault_told, faults_told}
+use Rattle.relay_proxy.specs.Tries.{EndsTrying, IsTry, fault_error, tries_of}
+use Rattle.relay_proxy.proofs.TryLemmas.{tries_before}
 use Rattle.relay_attempt.specs.Passed.{Passed}
 use Rattle.relay_proxy.specs.Passed.{World, Start, start_of}
 use Rattle.relay_proxy.specs.Request.{Processes}
@@ -25,10 +31,11 @@ use Rattle.relay_proxy.specs.declared.outcome.Outcome.{Outcome}
 use Rattle.relay_proxy.specs.declared.outcome.Outcome.TheVariants as ended
 use Rattle.relay_proxy.specs.declared.outcome.Processed.{Processed}
 use Rattle.relay_proxy.specs.declared.record.AttemptRecord.{AttemptRecord}
-use Rattle.relay_cli.specs.Exchange.{attempt_report, taken_of, sent_of, FirstStartsWithin, names_of, first_name, peer_offer, offers_of, IsEntryOf, AreEntriesOf, AreLinksOf, Place, world_at, first_place, reported, IsRequest, Follows, AreRun, place_of, IsAt, Begins, Runs, IsRun}
+use Rattle.relay_cli.specs.Exchange.{attempt_report, attempt_reports, peers_behind, sent_before, taken_of, sent_of, FirstStartsWithin, names_of, first_name, peer_offer, offers_of, IsEntryOf, AreEntriesOf, AreLinksOf, Place, world_at, first_place, reported, IsRequest, Follows, AreRun, place_of, IsAt, Begins, Runs, IsRun}
 use Rattle.relay_cli.specs.Report.{RequestSpec, outcome_reuse}
 use Rattle.relay_cli.specs.Script.{PeerSpec, ScriptSpec}
 use Rattle.relay_cli.specs.declared.exchange.Run.{Run}
+use Rattle.relay_cli.specs.declared.report.AttemptReport.{AttemptReport}
 
 -- the list from a place on begins with the item there
 drop_at : {A : Type 0} (xs : List A) (n : ℕ) (x : A) → slice_get xs n ≡ Some x
@@ -37,12 +44,47 @@ drop_at xs n x is =
     rw add-one (drop-cons xs n x (slice_get_within xs n x is)
     ∙ ap (λ y. y ∷ drop (suc n) xs) (get_or_from_slice_get xs n x x is))
 
--- one more item is read at a place
-pub map_more : {A B : Type 0} (f : A → B) (front : List B) (xs : List A) (n : ℕ) (x : A)
-    → slice_get xs n ≡ Some x
-    → (front ++ f x ∷ []) ++ map f (drop (n + 1) xs) ≡ front ++ map f (drop n xs)
-map_more f front xs n x is =
-    append_assoc front (f x ∷ []) _ ∙ ap (λ rest. front ++ map f rest) (sym (drop_at xs n x is))
+-- numbers that are the same are tested so, and others are not
+nat_same : (a b : ℕ) → a ≡ b → (a == b) ≡ true
+nat_same a b is = grind (arith, nat_tests, is)
+
+nat_other : (a b : ℕ) → a < b → (a == b) ≡ false
+nat_other a b less = grind (arith, nat_tests, less)
+
+-- one attempt more is reported, at the next of the names
+pub reports_more : (names : List (List ℕ)) (sent : List ℕ) (front : List AttemptReport)
+    (attempts : List AttemptRecord) (n : ℕ) (a : AttemptRecord) → slice_get attempts n ≡ Some a
+    → (front ++ attempt_report (first_name names) (sent_before sent (drop (n + 1) attempts)) a ∷ [])
+    ++ attempt_reports (drop 1 names) sent (drop (n + 1) attempts)
+    ≡ front ++ attempt_reports names sent (drop n attempts)
+reports_more names sent front attempts n a is =
+    append_assoc front _ _
+    ∙ ap (λ (xs : List AttemptRecord). front ++ attempt_reports names sent xs)
+    (sym (drop_at attempts n a is))
+
+-- the last attempt is the one behind which none is
+pub last_sent : (sent : List ℕ) (attempts : List AttemptRecord) (n : ℕ) (is_last : Bool)
+    → is_last ≡ (n + 1 == length attempts) → n < length attempts
+    → (if is_last then sent else []) ≡ sent_before sent (drop (n + 1) attempts)
+last_sent sent attempts n is_last decides within = by (drop (n + 1) attempts) refl
+  where
+    by : (rest : List AttemptRecord) → drop (n + 1) attempts ≡ rest
+        → (if is_last then sent else []) ≡ sent_before sent rest
+    by [] none =
+        let all : length attempts ≡ n + 1 = omega (
+          arith,
+          within,
+          length-drop (n + 1) attempts,
+          ap (λ (xs : List AttemptRecord). length xs) none,
+        ) in
+        rw (decides ∙ nat_same (n + 1) (length attempts) (sym all)) refl
+    by (b ∷ rest) some =
+        let more : n + 1 < length attempts = omega (
+          arith,
+          length-drop (n + 1) attempts,
+          ap (λ (xs : List AttemptRecord). length xs) some,
+        ) in
+        rw (decides ∙ nat_other (n + 1) (length attempts) more) refl
 
 -- ---- the peers of a script
 
@@ -87,67 +129,114 @@ one_taken [] (Err fault) left next = sym next
 one_taken (peer ∷ peers) (Ok items) left next = sym next.1
 one_taken (peer ∷ peers) (Err fault) left next = sym next.1
 
--- a request without an attempt took none
-none_taken : (peers : List PeerSpec) (attempts : List AttemptRecord) (left : List Offer)
-    → attempts ≡ [] → AreNext (offers_for script_start [] attempts) (offers_of peers) left
-    → left ≡ offers_of (drop (length attempts) peers)
-none_taken peers [] left none next = sym next
-none_taken peers (a ∷ attempts) left none next = cc
+-- an attempt that was given no link has an error
+abbrev pub HasFailed : AttemptRecord → Type 0
+HasFailed a = (e : Error) × (a.error ≡ Some e)
 
--- an error is told of one fault, which was the next of the offers
-fault_taken : (peers : List PeerSpec) (told : Option Error) (e : Error) (left : List Offer)
-    → told ≡ Some e → AreNext (map Err (fault_told told)) (offers_of peers) left
-    → left ≡ offers_of (drop 1 peers)
-fault_taken peers None e left is next = cc
-fault_taken peers (Some found) e left is next =
-    one_taken peers (Err (connect_fault found.retry)) left next
+-- the error of an attempt tells of one fault, and those of others follow
+one_told : (told : Option Error) (e : Error) (faults : List Fault) (rest offers left : List Offer)
+    → told ≡ Some e → AreNext (map Err (fault_told told ++ faults) ++ rest) offers left
+    → AreNext (Err (connect_fault e.retry) ∷ (map Err faults ++ rest)) offers left
+one_told told e faults rest offers left is next =
+    subst (λ (o : Option Error). AreNext (map Err (fault_told o ++ faults) ++ rest) offers left) is
+    next
 
--- one whose attempt was given no link took that fault
-failed_taken : (peers : List PeerSpec) (attempts : List AttemptRecord) (e : Error)
-    (left : List Offer)
-    → IsFailedRecord attempts e
-    → AreNext (offers_for script_start [] attempts) (offers_of peers) left
-    → left ≡ offers_of (drop (length attempts) peers)
-failed_taken peers attempts e left is next =
-    let one : AreNext (offers_for script_start [] (is.attempt ∷ [])) (offers_of peers) left =
-    subst (λ (xs : List AttemptRecord).
-    AreNext (offers_for script_start [] xs) (offers_of peers) left) is.attempts_are next in
-    subst (λ (xs : List AttemptRecord). left ≡ offers_of (drop (length xs) peers))
-    (sym is.attempts_are) (fault_taken peers is.attempt.error e left is.error one)
+-- behind the faults of such attempts the peers are left that they did not ask
+behind_faults : (peers : List PeerSpec) (tries : List AttemptRecord) (rest left : List Offer)
+    → All HasFailed tries
+    → AreNext (map Err (faults_told tries) ++ rest) (offers_of peers) left
+    → AreNext rest (offers_of (drop (length tries) peers)) left
+behind_faults peers [] rest left failed next = next
+behind_faults [] (a ∷ tries) rest left failed next =
+    let one = All-head HasFailed a tries failed in
+    subst (λ (ps : List PeerSpec). AreNext rest (offers_of ps) left)
+    (drop-nil (length tries) ∙ sym (drop-nil (length (a ∷ tries))))
+    (behind_faults [] tries rest left (All-tail HasFailed a tries failed)
+    (one_told a.error one.0 (faults_told tries) rest [] left one.1 next))
+behind_faults (peer ∷ peers) (a ∷ tries) rest left failed next =
+    let one = All-head HasFailed a tries failed in
+    behind_faults peers tries rest left (All-tail HasFailed a tries failed)
+    (one_told a.error one.0 (faults_told tries) rest (offers_of (peer ∷ peers)) left one.1 next).1
 
--- what is left of the peers where no link was handed back, by the outcome
-unlinked_left : (s : Start) (p : Passed) (w : World) (peers : List PeerSpec)
-    (attempts : List AttemptRecord) (outcome : Outcome) (left : List Offer)
-    → AttemptsUnlinked s p w attempts outcome
-    → AreNext (offers_for script_start [] attempts) (offers_of peers) left
-    → left ≡ offers_of (drop (length attempts) peers)
-unlinked_left s p w peers attempts ended.NoRequest left none next =
-    none_taken peers attempts left none next
-unlinked_left s p w peers attempts (ended.Refused error) left none next =
-    none_taken peers attempts left none next
-unlinked_left s p w peers attempts (ended.Served None reuse) left made next = absurd made
-unlinked_left s p w peers attempts (ended.Served (Some e) reuse) left made next =
-    failed_taken peers attempts e left made next
-unlinked_left s p w peers attempts ended.TurnLimit left (inl made) next =
-    none_taken peers attempts left made.0 next
-unlinked_left s p w peers attempts ended.TurnLimit left (inr made) next =
-    failed_taken peers attempts made.e left made.is_record next
-unlinked_left s p w peers attempts ended.OutOfMemory left (inl made) next =
-    none_taken peers attempts left made.0 next
-unlinked_left s p w peers attempts ended.OutOfMemory left (inr made) next =
-    failed_taken peers attempts made.e left made.is_record next
+-- attempts behind which another followed have errors
+tries_failed : (tries : List AttemptRecord) → All IsTry tries → All HasFailed tries
+tries_failed [] each = All-nil HasFailed
+tries_failed (a ∷ tries) each =
+    All-cons HasFailed a tries (
+      fault_error Upstream (All-head IsTry a tries each).fault,
+      (All-head IsTry a tries each).is_record.error,
+    )
+    (tries_failed tries (All-tail IsTry a tries each))
 
--- a request takes the next peer for its attempt, and leaves the others
+-- and so have all that ended without a link
+ends_failed : (s : Start) (attempts : List AttemptRecord) (e : Error) → EndsTrying s attempts e
+    → All HasFailed attempts
+ends_failed s attempts e ends =
+    subst (λ (xs : List AttemptRecord). All HasFailed xs) (sym ends.attempts_are)
+    (All-append HasFailed ends.tries (ends.last ∷ [])
+    (tries_failed ends.tries ends.are_tries.each)
+    (All-cons HasFailed ends.last [] (e, ends.is_record.error) (All-nil HasFailed)))
+
+-- a request without a link has attempts with errors alone
+unfinished_failed : (s : Start) (p : Passed) (w : World) (attempts : List AttemptRecord)
+    → AttemptsUnfinished s p w attempts → All HasFailed attempts
+unfinished_failed s p w attempts (inl none) =
+    subst (λ (xs : List AttemptRecord). All HasFailed xs) (sym none.0) (All-nil HasFailed)
+unfinished_failed s p w attempts (inr (inl between)) = tries_failed attempts between.0.each
+unfinished_failed s p w attempts (inr (inr half)) = ends_failed s attempts half.e half.made
+
+unlinked_failed : (s : Start) (p : Passed) (w : World) (attempts : List AttemptRecord)
+    (outcome : Outcome) → AttemptsUnlinked s p w attempts outcome → All HasFailed attempts
+unlinked_failed s p w attempts ended.NoRequest none =
+    subst (λ (xs : List AttemptRecord). All HasFailed xs) (sym none) (All-nil HasFailed)
+unlinked_failed s p w attempts (ended.Refused error) none =
+    subst (λ (xs : List AttemptRecord). All HasFailed xs) (sym none) (All-nil HasFailed)
+unlinked_failed s p w attempts (ended.Served None reuse) made = absurd made
+unlinked_failed s p w attempts (ended.Served (Some e) reuse) made = ends_failed s attempts e made
+unlinked_failed s p w attempts ended.TurnLimit made = unfinished_failed s p w attempts made
+unlinked_failed s p w attempts ended.OutOfMemory made = unfinished_failed s p w attempts made
+
+-- the attempts before one that had a link are all but the last
+linked_next : (s : Start) (p : Passed) (w : World) (r : Returned ScriptLink)
+    (peers : List PeerSpec) (attempts : List AttemptRecord) (outcome : Outcome) (left : List Offer)
+    → EndsReturned script_state script_start s p w r attempts outcome
+    → AreNext (offers_for script_start (r ∷ []) attempts) (offers_of peers) left
+    → AreNext (Ok (script_start r.link).items ∷ []) (offers_of (peers_behind peers attempts)) left
+linked_next s p w r peers attempts outcome left ends next =
+    behind_faults peers (tries_of attempts) (Ok (script_start r.link).items ∷ []) left
+    (subst (λ (xs : List AttemptRecord). All HasFailed xs)
+    (sym (tries_before ends.tries attempts ends.attempt ends.attempts_are))
+    (tries_failed ends.tries ends.are_tries.each)) next
+
+-- one peer is behind those of the attempts before
+behind_last : (peers : List PeerSpec) (tries attempts : List AttemptRecord) (a : AttemptRecord)
+    → attempts ≡ tries ++ a ∷ []
+    → drop 1 (peers_behind peers attempts) ≡ drop (length attempts) peers
+behind_last peers tries attempts a are =
+    let before : length (tries_of attempts) ≡ length tries =
+    ap (λ (xs : List AttemptRecord). length xs) (tries_before tries attempts a are) in
+    let all : length attempts ≡ length (tries_of attempts) + 1 =
+    omega (
+      arith,
+      before,
+      ap (λ (xs : List AttemptRecord). length xs) are,
+      length-append tries (a ∷ []),
+    ) in
+    drop-drop 1 (length (tries_of attempts)) peers ∙ ap (λ (n : ℕ). drop n peers) (sym all)
+
+-- a request takes the next peers for its attempts, and leaves the others
 pub left_after : (s : Start) (p : Passed) (w : World) (own : List (Returned ScriptLink))
     (peers : List PeerSpec) (attempts : List AttemptRecord) (outcome : Outcome) (left : List Offer)
     → EndsWith script_state script_start s p w own attempts outcome
     → AreNext (offers_for script_start own attempts) (offers_of peers) left
     → left ≡ offers_of (drop (length attempts) peers)
 left_after s p w [] peers attempts outcome left ends next =
-    unlinked_left s p w peers attempts outcome left ends.1 next
+    sym (behind_faults peers attempts [] left (unlinked_failed s p w attempts outcome ends.1) next)
 left_after s p w (r ∷ []) peers attempts outcome left ends next =
-    subst (λ (xs : List AttemptRecord). left ≡ offers_of (drop (length xs) peers))
-    (sym ends.attempts_are) (one_taken peers (Ok (script_start r.link).items) left next)
+    one_taken (peers_behind peers attempts) (Ok (script_start r.link).items) left
+    (linked_next s p w r peers attempts outcome left ends next)
+    ∙ ap (λ (ps : List PeerSpec). offers_of ps)
+    (behind_last peers ends.tries attempts ends.attempt ends.attempts_are)
 left_after s p w (r ∷ q ∷ rest) peers attempts outcome left ends next = absurd ends
 
 -- a link that a peer offers answers by the peer's items
@@ -157,16 +246,23 @@ answers_at : (connect : Option RetryType) (peer : PeerSpec) (link : ScriptLink)
 answers_at None peer link is = cc
 answers_at (Some retry) peer link is = cc
 
--- the link that a request handed back is that of its next peer
+-- the link that was given is that of the next peer
+link_is : (peers : List PeerSpec) (r : Returned ScriptLink) (left : List Offer)
+    → AreNext (Ok (script_start r.link).items ∷ []) (offers_of peers) left
+    → AreLinksOf peers (r ∷ [])
+link_is [] r left next = absurd next
+link_is (peer ∷ peers) r left next = (answers_at peer.connect peer r.link next.0, tt)
+
+-- the link that a request handed back is that of the peer which its last attempt asked
 pub links_are : (s : Start) (p : Passed) (w : World) (own : List (Returned ScriptLink))
     (peers : List PeerSpec) (attempts : List AttemptRecord) (outcome : Outcome) (left : List Offer)
     → EndsWith script_state script_start s p w own attempts outcome
     → AreNext (offers_for script_start own attempts) (offers_of peers) left
-    → AreLinksOf peers own
+    → AreLinksOf (peers_behind peers attempts) own
 links_are s p w [] peers attempts outcome left ends next = tt
-links_are s p w (r ∷ []) [] attempts outcome left ends next = absurd next
-links_are s p w (r ∷ []) (peer ∷ peers) attempts outcome left ends next =
-    (answers_at peer.connect peer r.link next.0, tt)
+links_are s p w (r ∷ []) peers attempts outcome left ends next =
+    link_is (peers_behind peers attempts) r left
+    (linked_next s p w r peers attempts outcome left ends next)
 links_are s p w (r ∷ q ∷ rest) peers attempts outcome left ends next = absurd ends
 
 -- the names of peers that are left are those that are left of the names
@@ -250,7 +346,7 @@ clear_again s p w own records ended.OutOfMemory ends back = cc
 -- what is reported of a request that the proxy made over the links of a script
 pub is_request : (script : ScriptSpec) (from to : Place) (written : List ℕ)
     (own : List (Returned ScriptLink)) (processed : Processed)
-    (run : Processes script_state script_start (start_of (world_at from)) (world_at to)
+    (run : Processes script_state script_start (start_of script.retries (world_at from)) (world_at to)
     (Some from.returned) (Some to.returned) from.refusals to.refusals
     (Some (offers_of from.peers)) (Some (offers_of to.peers))
     (script_state from.client) script.turns processed)
@@ -258,7 +354,7 @@ pub is_request : (script : ScriptSpec) (from to : Place) (written : List ℕ)
     → AnswersBy to.client script.client script.client_write → from.ahead ≡ []
     → processed.outcome ≢ ended.OutOfMemory → written ≡ run.passed.written → own ≡ run.own
     → IsRequest script from to
-    (reported (first_name (names_of from.peers)) processed written own)
+    (reported (names_of from.peers) processed written own)
 is_request script from to written own processed run asked client clear printable is_written is_own =
     record {
       processed = processed;
@@ -272,8 +368,7 @@ is_request script from to written own processed run asked client clear printable
       printable = printable;
       outcome = refl;
       written = is_written;
-      attempts = ap (λ sent. map (attempt_report (first_name (names_of from.peers)) sent)
-          processed.history.attempts)
+      attempts = ap (λ sent. attempt_reports (names_of from.peers) sent processed.history.attempts)
           (ap sent_of is_own
           ∙ sent_is _ run.passed (world_at to) run.own processed.history.attempts
           processed.outcome run.ended.ends);
@@ -281,9 +376,10 @@ is_request script from to written own processed run asked client clear printable
 
 -- what a run made of the next request, by the values that the code has
 pub run_next : (script : ScriptSpec) (peers : List PeerSpec) (old new : Run) (processed : Processed)
-    (turns : ℕ) (name written : List ℕ) (own : List (Returned ScriptLink)) (request : RequestSpec)
+    (turns : ℕ) (written : List ℕ) (own : List (Returned ScriptLink)) (request : RequestSpec)
     → script.turns ≡ turns → IsAt script old peers
-    → Processes script_state script_start (start_of (world_at (place_of old peers)))
+    → Processes script_state script_start
+    (start_of old.proxy.conf.max_retries (world_at (place_of old peers)))
     (world_at (place_of new peers))
     (Some (links_returned old.proxy.connector)) (Some (links_returned new.proxy.connector))
     (faults_answered old.proxy.connector) (faults_answered new.proxy.connector)
@@ -291,20 +387,20 @@ pub run_next : (script : ScriptSpec) (peers : List PeerSpec) (old new : Run) (pr
     (script_state old.client.link) turns processed
     → script_start new.client.link ≡ script_start old.client.link
     → new.names.items ≡ drop (length processed.history.attempts) old.names.items
+    → new.proxy.conf.max_retries ≡ old.proxy.conf.max_retries
     → processed.outcome ≢ ended.OutOfMemory
-    → name ≡ first_name old.names.items
     → written ≡ drop (length (taken_of old.client.link)) (taken_of new.client.link)
     → own ≡ drop (length (links_returned old.proxy.connector)) (links_returned new.proxy.connector)
-    → request ≡ reported name processed written own
+    → request ≡ reported old.names.items processed written own
     → Runs script peers old new request
-run_next script peers old new processed turns name written own request many at ran started left
-    printable named wrote back found =
+run_next script peers old new processed turns written own request many at ran started left set_up
+    printable wrote back found =
     record {
       left = rest;
       is_request = subst (λ (r : RequestSpec).
           IsRequest script (place_of old peers) (place_of new rest) r) (sym found)
-          (subst (λ (n : List ℕ). IsRequest script (place_of old peers) (place_of new rest)
-          (reported n processed written own)) (sym named_by)
+          (subst (λ (ns : List (List ℕ)). IsRequest script (place_of old peers) (place_of new rest)
+          (reported ns processed written own)) (sym at.names)
           (is_request script (place_of old peers) (place_of new rest) written own processed run refl
           client at.clear printable (wrote ∙ run.ended.tells.written.1)
           (back ∙ own_behind (links_returned old.proxy.connector)
@@ -313,6 +409,7 @@ run_next script peers old new processed turns name written own request many at r
         offers = offers;
         names = left ∙ ap (λ (ns : List (List ℕ)). drop (length processed.history.attempts) ns)
             at.names ∙ names_left (length processed.history.attempts) peers;
+        retries = set_up ∙ at.retries;
         client = client;
         clear = clear_again _ run.passed (world_at (place_of new rest)) run.own
             processed.history.attempts processed.outcome run.ended.ends
@@ -324,7 +421,7 @@ run_next script peers old new processed turns name written own request many at r
     rest = drop (length processed.history.attempts) peers
 
     -- with what the peers offer
-    offered : Processes script_state script_start (start_of (world_at (place_of old peers)))
+    offered : Processes script_state script_start (start_of script.retries (world_at (place_of old peers)))
         (world_at (place_of new rest))
         (Some (links_returned old.proxy.connector)) (Some (links_returned new.proxy.connector))
         (faults_answered old.proxy.connector) (faults_answered new.proxy.connector)
@@ -332,17 +429,23 @@ run_next script peers old new processed turns name written own request many at r
         (script_state old.client.link) script.turns processed
     offered =
         subst (λ (n : ℕ). Processes script_state script_start
-        (start_of (world_at (place_of old peers))) (world_at (place_of new rest))
+        (start_of script.retries (world_at (place_of old peers))) (world_at (place_of new rest))
         (Some (links_returned old.proxy.connector)) (Some (links_returned new.proxy.connector))
         (faults_answered old.proxy.connector) (faults_answered new.proxy.connector)
         (Some (offers_of peers)) (Some (offers_left new.proxy.connector))
         (script_state old.client.link) n processed) (sym many)
         (subst (λ (os : List Offer). Processes script_state script_start
-        (start_of (world_at (place_of old peers))) (world_at (place_of new rest))
+        (start_of script.retries (world_at (place_of old peers))) (world_at (place_of new rest))
         (Some (links_returned old.proxy.connector)) (Some (links_returned new.proxy.connector))
         (faults_answered old.proxy.connector) (faults_answered new.proxy.connector)
         (Some os) (Some (offers_left new.proxy.connector))
-        (script_state old.client.link) turns processed) at.offers ran)
+        (script_state old.client.link) turns processed) at.offers
+        (subst (λ (n : ℕ). Processes script_state script_start
+        (start_of n (world_at (place_of old peers))) (world_at (place_of new peers))
+        (Some (links_returned old.proxy.connector)) (Some (links_returned new.proxy.connector))
+        (faults_answered old.proxy.connector) (faults_answered new.proxy.connector)
+        (Some (offers_left old.proxy.connector)) (Some (offers_left new.proxy.connector))
+        (script_state old.client.link) turns processed) at.retries ran))
 
     -- what is left are the peers behind the one that was asked
     offers : offers_left new.proxy.connector ≡ offers_of rest
@@ -350,14 +453,14 @@ run_next script peers old new processed turns name written own request many at r
         processed.history.attempts processed.outcome (offers_left new.proxy.connector)
         offered.ended.ends offered.offered
 
-    run : Processes script_state script_start (start_of (world_at (place_of old peers)))
+    run : Processes script_state script_start (start_of script.retries (world_at (place_of old peers)))
         (world_at (place_of new rest))
         (Some (links_returned old.proxy.connector)) (Some (links_returned new.proxy.connector))
         (faults_answered old.proxy.connector) (faults_answered new.proxy.connector)
         (Some (offers_of peers)) (Some (offers_of rest))
         (script_state old.client.link) script.turns processed
     run = subst (λ (os : List Offer). Processes script_state script_start
-        (start_of (world_at (place_of old peers))) (world_at (place_of new rest))
+        (start_of script.retries (world_at (place_of old peers))) (world_at (place_of new rest))
         (Some (links_returned old.proxy.connector)) (Some (links_returned new.proxy.connector))
         (faults_answered old.proxy.connector) (faults_answered new.proxy.connector)
         (Some (offers_of peers)) (Some os)
@@ -365,9 +468,6 @@ run_next script peers old new processed turns name written own request many at r
 
     client : AnswersBy new.client.link script.client script.client_write
     client = ap (λ (s : LinkStart). s.items) started ∙ at.client
-
-    named_by : name ≡ first_name (names_of peers)
-    named_by = named ∙ ap first_name at.names
 
 -- ---- one request behind the other
 
@@ -429,6 +529,7 @@ first_at : (script : ScriptSpec) (run : Run) → Begins script run → IsAt scri
 first_at script run begins = record {
   offers = offers_are script.peers (next_entries run.proxy.connector) begins.offered.entries;
   names = begins.names;
+  retries = begins.retries;
   client = begins.fresh.items;
   clear = begins.clear;
 }

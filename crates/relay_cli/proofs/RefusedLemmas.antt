@@ -23,12 +23,13 @@ use Rattle.relay_proxy.proofs.BoundLemmas.{turns_bounded}
 use Rattle.relay_proxy.specs.Passed.{World, Start, start_of}
 use Rattle.relay_links.specs.declared.branch.Branch.{Branch}
 use Rattle.relay_proxy.specs.Refusals.{faults_for}
-use Rattle.relay_proxy.specs.Taken.{AreNext, offers_for}
+use Rattle.relay_proxy.specs.Stock.{items_back}
+use Rattle.relay_proxy.specs.Taken.{AreNext}
 use Rattle.relay_links.specs.ListSchedule.{branches_left}
 use Rattle.relay_links.specs.declared.list_schedule.ListSchedule.{ListSchedule}
 use Rattle.relay_proxy.specs.declared.outcome.Outcome.TheVariants as ended
 use Rattle.relay_proxy.specs.declared.record.AttemptRecord.{AttemptRecord}
-use Rattle.relay_cli.specs.Exchange.{peer_offer, offers_of, AreLinksOf, Place, world_at, first_place, IsRequest, Follows, AreRun, IsRun}
+use Rattle.relay_cli.specs.Exchange.{peer_offer, peers_behind, offers_of, AreLinksOf, Place, world_at, first_place, IsRequest, Follows, AreRun, IsRun}
 use Rattle.relay_cli.specs.Report.{RequestSpec, outcome_reuse}
 use Rattle.relay_cli.specs.Script.{PeerSpec, ScriptSpec}
 
@@ -74,7 +75,7 @@ never_none script request rest b bytes items begins run none =
     let from = first_place run.client script.peers in
     let first = first_of script script.requests from request rest run.runs in
     let one = first.is in
-    let s = start_of (world_at from) in
+    let s = start_of script.retries (world_at from) in
     let w = world_at first.to in
     let last = first.to.client in
     let outcome : one.processed.outcome ≡ ended.NoRequest = sym one.outcome ∙ none in
@@ -101,32 +102,24 @@ abbrev pub IsRefusedBy : List PeerSpec → Fault → Type 0
 IsRefusedBy [] fault = Unit {0}
 IsRefusedBy (peer ∷ peers) fault = peer_offer peer.connect peer ≡ Err fault
 
--- a fault that was next
-refused_next : (peers : List PeerSpec) (fault : Fault) (left : List Offer)
-    → AreNext (Err fault ∷ []) (offers_of peers) left → IsRefusedBy peers fault
-refused_next [] fault left next = tt
-refused_next (peer ∷ peers) fault left next = next.0
-
--- where a request handed no link back, what it took are the faults of its record
-refused_unlinked : (peers : List PeerSpec) (own : List (Returned ScriptLink))
-    (attempts : List AttemptRecord) (fault : Fault) (left : List Offer)
-    → faults_for own attempts ≡ fault ∷ []
-    → AreNext (offers_for script_start own attempts) (offers_of peers) left
-    → IsRefusedBy peers fault
-refused_unlinked peers [] attempts fault left is next =
-    refused_next peers fault left
-    (subst (λ (fs : List Fault). AreNext (map Err fs) (offers_of peers) left) is next)
-refused_unlinked peers (r ∷ own) attempts fault left is next = cc
+-- a fault that was next, whatever was behind it
+refused_next : (peers : List PeerSpec) (fault : Fault) (rest left : List Offer)
+    → AreNext (Err fault ∷ rest) (offers_of peers) left → IsRefusedBy peers fault
+refused_next [] fault rest left next = tt
+refused_next (peer ∷ peers) fault rest left next = next.0
 
 -- a request tells that its connector gave no link only where the script says so, or has no peer
 -- left
 pub is_refused : (script : ScriptSpec) (from to : Place) (request : RequestSpec)
-    (one : IsRequest script from to request)
-    → (fault : Fault) → faults_for one.run.own one.processed.history.attempts ≡ fault ∷ []
+    (one : IsRequest script from to request) (fault : Fault) (faults : List Fault)
+    → faults_for one.run.own one.processed.history.attempts ≡ fault ∷ faults
     → IsRefusedBy from.peers fault
-is_refused script from to request one fault is =
-    refused_unlinked from.peers one.run.own one.processed.history.attempts fault
-    (offers_of to.peers) is one.run.offered
+is_refused script from to request one fault faults is =
+    refused_next from.peers fault
+    (map Err faults ++ map Ok (items_back script_start one.run.own)) (offers_of to.peers)
+    (subst (λ (fs : List Fault).
+    AreNext (map Err fs ++ map Ok (items_back script_start one.run.own)) (offers_of from.peers)
+    (offers_of to.peers)) is one.run.offered)
 
 -- ---- the turns of a run
 
@@ -184,24 +177,28 @@ own_fits (peer ∷ peers) (r ∷ []) got are gave =
     link_fits r.link peer.read peer.write (script_start r.link).given got are.0 gave
 own_fits (peer ∷ peers) (r ∷ q ∷ own) got are gave = absurd gave
 
--- how many bytes the links of a request give at most: all of the client's, and those of its peer
-abbrev pub bytes_in : ScriptSpec → Place → ℕ
-bytes_in script from = length (reads.all_bytes script.client) + next_bytes from.peers
+-- how many bytes the links of a request give at most: all of the client's, and those of the peer
+-- which its last attempt asked
+abbrev pub bytes_in : ScriptSpec → Place → List AttemptRecord → ℕ
+bytes_in script from attempts =
+    length (reads.all_bytes script.client) + next_bytes (peers_behind from.peers attempts)
 
 -- a request of a run takes at most as many turns as its links answered, twice the bytes that they
--- have, and seven
+-- have, and six and its attempts
 pub turns_within : (script : ScriptSpec) (from to : Place) (request : RequestSpec)
     (one : IsRequest script from to request)
     → one.processed.history.turns_taken
-    ≤ one.processed.history.items_used + 2 * bytes_in script from + most_sides
+    ≤ one.processed.history.items_used + 2 * bytes_in script from one.processed.history.attempts
+    + most_sides (length one.processed.history.attempts)
 turns_within script from to request one =
     let bound = one.run.bounded in
     let w = bound.within in
     let came = link_fits to.client script.client script.client_write _ w.came one.is_client
     w.client_gave in
-    let got = own_fits from.peers one.run.own w.got one.are_links w.own_gave in
+    let got = own_fits (peers_behind from.peers one.processed.history.attempts) one.run.own w.got
+    one.are_links w.own_gave in
     let none = ap (λ (xs : List ℕ). length xs) one.clear in
-    let turns = turns_bounded script_state script_start (start_of (world_at from))
+    let turns = turns_bounded script_state script_start (start_of script.retries (world_at from))
     (script_state to.client) one.run.own one.processed.history bound in
     omega (arith, turns, came, got, none)
 
@@ -209,10 +206,11 @@ turns_within script from to request one =
 -- silent
 pub limited : (script : ScriptSpec) (from to : Place) (request : RequestSpec)
     (one : IsRequest script from to request)
-    → one.processed.history.items_used + 2 * bytes_in script from + most_sides < script.turns
+    → one.processed.history.items_used + 2 * bytes_in script from one.processed.history.attempts
+    + most_sides (length one.processed.history.attempts) < script.turns
     → request.outcome ≡ ended.TurnLimit
-    → IsQuiet script_state script_start (start_of (world_at from)) one.run.passed (world_at to)
-    one.run.own
+    → IsQuiet script_state script_start (start_of script.retries (world_at from)) one.run.passed
+    (world_at to) one.run.own
 limited script from to request one many is =
     elim (one.run.limit (sym one.outcome ∙ is)) [
       | inl all ↦ absurd (omega (arith, all, many, turns_within script from to request one))

@@ -13,6 +13,7 @@ use Rattle.relay_links.specs.declared.list_schedule.ListSchedule.{ListSchedule}
 use Rattle.relay_links.specs.ListSchedule.{branches_left}
 use Rattle.relay_proxy.specs.Passed.{World, start_of}
 use Rattle.relay_proxy.specs.Request.{Processes}
+use Rattle.relay_proxy.specs.Tries.{tries_of}
 use Rattle.relay_proxy.specs.declared.outcome.Processed.{Processed}
 use Rattle.relay_proxy.specs.declared.outcome.Outcome.TheVariants.{OutOfMemory}
 use Rattle.relay_proxy.specs.declared.record.AttemptRecord.{AttemptRecord}
@@ -76,6 +77,19 @@ abbrev pub attempt_report : List ℕ → List ℕ → AttemptRecord → AttemptR
 attempt_report name sent a =
     record { name = name; reused = a.reused; kept = a.kept; error = a.error; sent = sent }
 
+-- the bytes that the link of an attempt took, with so many behind it: only the last one has a link
+abbrev pub sent_before : List ℕ → List AttemptRecord → List ℕ
+sent_before sent [] = sent
+sent_before sent (a ∷ attempts) = []
+
+-- what is reported of attempts at the peers of those names, in order, the last of which had a link
+-- that took those bytes, or none
+abbrev pub attempt_reports : List (List ℕ) → List ℕ → List AttemptRecord → List AttemptReport
+attempt_reports names sent [] = []
+attempt_reports names sent (a ∷ attempts) =
+    attempt_report (first_name names) (sent_before sent attempts) a
+    ∷ attempt_reports (drop 1 names) sent attempts
+
 -- all bytes that a link took
 abbrev pub taken_of : ScriptLink → List ℕ
 taken_of link = unwrap_or (script_state link).taken []
@@ -97,13 +111,13 @@ abbrev pub FirstStartsWithin : List (Returned ScriptLink) → Type 0
 FirstStartsWithin [] = Unit {0}
 FirstStartsWithin (r ∷ rest) = StartsWithin r.link
 
--- what is reported of a request at the peer of that name, whose client's link took those bytes in
+-- what is reported of a request at the peers of those names, whose client's link took those bytes in
 -- it, and which handed these links back
-abbrev pub reported : List ℕ → Processed → List ℕ → List (Returned ScriptLink) → RequestSpec
-reported name processed written own = record {
+abbrev pub reported : List (List ℕ) → Processed → List ℕ → List (Returned ScriptLink) → RequestSpec
+reported names processed written own = record {
   outcome = processed.outcome;
   written = written;
-  attempts = map (attempt_report name (sent_of own)) processed.history.attempts;
+  attempts = attempt_reports names (sent_of own) processed.history.attempts;
 }
 
 -- ---- a run
@@ -135,16 +149,22 @@ first_place client peers = record {
   peers = peers;
 }
 
+-- the peers of which the last of those attempts asked the first
+abbrev pub peers_behind : List PeerSpec → List AttemptRecord → List PeerSpec
+peers_behind peers attempts = drop (length (tries_of attempts)) peers
+
 -- one request of a run, from one such place to the next, and what is reported of it
 pub record IsRequest (script : ScriptSpec) (from to : Place) (request : RequestSpec) : Type 0 where
   pub processed : Processed
-  -- it ran over the links of the script, from its begin to its end, and asked for its next peer
-  pub run : Processes script_state script_start (start_of (world_at from)) (world_at to)
+  -- it ran over the links of the script, from its begin to its end, and asked for its next peers,
+  -- one for each attempt
+  pub run : Processes script_state script_start (start_of script.retries (world_at from))
+      (world_at to)
       (Some from.returned) (Some to.returned) from.refusals to.refusals
       (Some (offers_of from.peers)) (Some (offers_of to.peers))
       (script_state from.client) script.turns processed
   pub asked : to.peers ≡ drop (length processed.history.attempts) from.peers
-  pub are_links : AreLinksOf from.peers run.own
+  pub are_links : AreLinksOf (peers_behind from.peers processed.history.attempts) run.own
   -- the client's link is the script's, and nothing was read ahead from it before
   pub is_client : AnswersBy to.client script.client script.client_write
   pub clear : from.ahead ≡ []
@@ -153,8 +173,7 @@ pub record IsRequest (script : ScriptSpec) (from to : Place) (request : RequestS
   pub outcome : request.outcome ≡ processed.outcome
   pub written : request.written ≡ run.passed.written
   pub attempts : request.attempts
-      ≡ map (attempt_report (first_name (names_of from.peers)) run.passed.sent)
-      processed.history.attempts
+      ≡ attempt_reports (names_of from.peers) run.passed.sent processed.history.attempts
 
 -- what follows a request: the next ones where the client goes back, and else none
 abbrev pub Follows : Bool → Type 0 → List RequestSpec → Type 0
@@ -187,6 +206,7 @@ place_of run peers = record {
 pub record IsAt (script : ScriptSpec) (run : Run) (peers : List PeerSpec) : Type 0 where
   pub offers : offers_left run.proxy.connector ≡ offers_of peers
   pub names : run.names.items ≡ names_of peers
+  pub retries : run.proxy.conf.max_retries ≡ script.retries
   pub client : AnswersBy run.client.link script.client script.client_write
   pub clear : run.client.ahead ≡ []
 
@@ -196,6 +216,7 @@ pub record Begins (script : ScriptSpec) (run : Run) : Type 0 where
   pub clear : run.client.ahead ≡ []
   pub offered : IsConnectorOf script.peers run.proxy.connector
   pub names : run.names.items ≡ names_of script.peers
+  pub retries : run.proxy.conf.max_retries ≡ script.retries
   pub named : branches_left run.outside.schedule ≡ script.schedule
 
 -- a request was run; where its client goes back, a next one may begin

@@ -32,13 +32,14 @@ pub record PeerSpec : Type 0 where
   pub connect : Option RetryType
 
 -- a script without where it lies in memory: what the client's link gives and takes, the peers in
--- the order in which they are asked, how many requests are run at most, how many turns each may
--- take, and the schedule over all of them
+-- the order in which they are asked, how many requests are run at most, how many attempts and how
+-- many turns each may take, and the schedule over all of them
 pub record ScriptSpec : Type 0 where
   pub client : List ReadItem
   pub client_write : List WriteItem
   pub peers : List PeerSpec
   pub requests : ℕ
+  pub retries : ℕ
   pub turns : ℕ
   pub schedule : List Branch
 
@@ -55,6 +56,7 @@ script_spec s = record {
   client_write = s.client_write.items;
   peers = peer_specs s.peers.items;
   requests = s.requests;
+  retries = s.retries.most;
   turns = s.turns;
   schedule = s.schedule.items;
 }
@@ -255,7 +257,7 @@ peer_of value =
     then where_there (get (codes "name") value) name_of None >>= named_peer value
     else None
 
--- how many peers a script has at most, and how many requests
+-- how many peers a script has at most, how many requests, and how many attempts each
 abbrev pub list_limit : ℕ
 list_limit = 1024
 
@@ -268,7 +270,7 @@ abbrev pub peers_of : Data → Option (List PeerSpec)
 peers_of (array values) = peers_in values
 peers_of _ = None
 
--- how many requests are run: 1 at least, and at most 1,024
+-- how many requests are run, or attempts made: 1 at least, and at most 1,024
 abbrev pub limit_of : ℕ → Option ℕ
 limit_of n = if nat_le 1 n && nat_le n list_limit then Some n else None
 
@@ -277,6 +279,12 @@ limit_of n = if nat_le 1 n && nat_le n list_limit then Some n else None
 abbrev pub requests_of : Data → Option ℕ
 requests_of value =
     where_there (get (codes "requests") value) (λ number. count_of number >>= limit_of) (Some 1)
+
+-- how many attempts each request of a script may make: what is at `retries`, and two where there is
+-- no such key
+abbrev pub retries_of : Data → Option ℕ
+retries_of value =
+    where_there (get (codes "retries") value) (λ number. count_of number >>= limit_of) (Some 2)
 
 -- how many turns a request may take where its script does not say
 abbrev pub turn_limit : ℕ
@@ -318,30 +326,33 @@ abbrev pub schedule_of : Data → Option (List Branch)
 schedule_of value = where_there (get (codes "schedule") value) branches_of (Some [])
 
 -- a script with those items of the client: its `client_write`, empty where it is not there, its
--- `peers`, its requests, its turns and its schedule
+-- `peers`, its requests, its attempts, its turns and its schedule
 abbrev pub client_script : Data → List ReadItem → Option ScriptSpec
 client_script value items =
     writes_at (codes "client_write") value >>= (λ writes.
     where_there (get (codes "peers") value) peers_of None >>= (λ peers.
     requests_of value >>= (λ requests.
+    retries_of value >>= (λ retries.
     turns_of value >>= (λ turns.
     option_map (λ schedule. record {
       client = items;
       client_write = writes;
       peers = peers;
       requests = requests;
+      retries = retries;
       turns = turns;
       schedule = schedule;
-    }) (schedule_of value)))))
+    }) (schedule_of value))))))
 
 -- how many keys of a script an object has
 abbrev pub script_keys : Data → ℕ
 script_keys value =
     has (codes "client") value + has (codes "client_write") value + has (codes "peers") value
-    + has (codes "requests") value + has (codes "turns") value + has (codes "schedule") value
+    + has (codes "requests") value + has (codes "retries") value + has (codes "turns") value
+    + has (codes "schedule") value
 
--- a script: an object with `client` and `peers`, and each of `client_write`, `requests`, `turns`
--- and `schedule` or not
+-- a script: an object with `client` and `peers`, and each of `client_write`, `requests`, `retries`,
+-- `turns` and `schedule` or not
 abbrev pub script_of : Data → Option ScriptSpec
 script_of value =
     if key_count value == script_keys value

@@ -1,8 +1,8 @@
 //! The requests of a client over scripted links: the proxy between the client and the peers of a
 //! script, one request behind the other while the client goes back (RFC 9112, section 9.3).
-ghost use Rattle.std.specs.Prelude.{◌≡◌, ◌↔◌, ◌≤◌, ◌+◌, List, map, drop, length, IsTrue, IfOk};
+ghost use Rattle.std.specs.Prelude.{◌≡◌, ◌↔◌, ◌≤◌, ◌+◌, [], List, drop, length, if◌then◌else◌, IsTrue, IfOk, OnOk};
 ghost use Rattle.relay_links.specs.ListSchedule.{branches_left};
-ghost use Rattle.relay_cli.specs.Exchange.{attempt_report, taken_since, StartsWithin, sent_of, FirstStartsWithin, first_name, names_of, AreEntriesOf, IsConnectorOf, IsAt, Begins, Runs, IsRun, reported};
+ghost use Rattle.relay_cli.specs.Exchange.{attempt_report, attempt_reports, taken_since, StartsWithin, sent_of, FirstStartsWithin, first_name, names_of, AreEntriesOf, IsConnectorOf, IsAt, Begins, Runs, IsRun, reported};
 ghost use Rattle.relay_cli.specs.Report.{request_spec, request_specs};
 ghost use Rattle.relay_cli.specs.Script.{PeerSpec, ScriptSpec, peer_spec, peer_specs, script_spec};
 
@@ -20,9 +20,6 @@ use relay_proxy::{
 use relay_tasks::Purged;
 use std::alloc::{AllocError, Global};
 use std::collections::VecDeque;
-
-/// How the proxy of a script is set up.
-const CONF: ServerConf = ServerConf { max_retries: 2 };
 
 /// How an attempt is named for which no peer of the script was left.
 const NO_NAME: &[u8] = b"-";
@@ -68,6 +65,7 @@ impl Run {
             client_write,
             peers,
             requests: _,
+            retries,
             turns: _,
             schedule,
         } = script;
@@ -75,8 +73,11 @@ impl Run {
         let connector = connector_of(alloc, peers)?;
         let link = ScriptLink::new(alloc, client, client_write);
         let purger = MemoryPurger::new(alloc, Purged::NotFound);
+        let conf = ServerConf {
+            max_retries: retries.most(),
+        };
         Ok(Run {
-            proxy: HttpProxy::new(alloc, NoHooks, CONF, connector, purger),
+            proxy: HttpProxy::new(alloc, NoHooks, conf, connector, purger),
             client: Connection::new(alloc, link),
             outside: outside_of(schedule),
             names,
@@ -97,11 +98,9 @@ impl Run {
         if wants_memory(processed.outcome) {
             return Err(AllocError);
         }
-        let name = next_name(&self.names)?;
-        leave_names(&mut self.names, processed.history.attempts.len());
         request_report(
             alloc,
-            &name,
+            &mut self.names,
             &processed,
             &self.client.link().taken()[taken..],
             &self.proxy.connector().returned()[back..],
@@ -109,22 +108,14 @@ impl Run {
     }
 }
 
-/// The name of the next peer, and a dash where none is left.
-fn next_name(names: &VecDeque<Bytes>) -> Result<Bytes, AllocError>
-    ensures { IfOk result (λ name. name ≡ first_name names.now.items) }
+/// Takes the name of the next peer, and a dash where none is left.
+fn take_name(names: &mut VecDeque<Bytes>) -> Bytes
+    ensures name { result ≡ first_name names.old.items }
+    ensures left { names.new.items ≡ drop 1 names.old.items }
 {
-    match names.front() {
-        Some(name) => name.clone(),
-        None => Ok(Bytes::from_static(NO_NAME)),
-    }
-}
-
-/// Drops the names of so many peers, which were asked.
-fn leave_names(names: &mut VecDeque<Bytes>, asked: usize)
-    ensures { names.new.items ≡ drop asked names.old.items }
-{
-    for _peer in 0..asked {
-        names.pop_front();
+    match names.pop_front() {
+        Some(name) => name,
+        None => Bytes::from_static(NO_NAME),
     }
 }
 
@@ -189,22 +180,23 @@ fn entries_of(alloc: Global, peers: Vec<PeerEntry>) -> Result<Vec<PeerScript>, A
     Ok(entries)
 }
 
-/// What a request at the peer of that name came to, from what the client's link took in it, and
-/// the links that it handed back.
+/// What a request at the next of the peers came to, from what the client's link took in it, and the
+/// links that it handed back. The names of the peers that it asked are taken.
 fn request_report(
     alloc: Global,
-    name: &Bytes,
+    names: &mut VecDeque<Bytes>,
     processed: &Processed,
     written: &[u8],
     own: &[Returned<ScriptLink>],
 ) -> Result<RequestReport, AllocError>
     requires { FirstStartsWithin own.now }
-    ensures { IfOk result (λ request. request_spec request
-        ≡ reported name.now processed.now written.now own.now) }
+    ensures { IfOk result (λ request. (request_spec request
+        ≡ reported names.old.items processed.now written.now own.now)
+        × (names.new.items ≡ drop (length processed.now.history.attempts) names.old.items)) }
 {
     let written = Bytes::copy_from_slice(alloc, written)?;
     let sent = sent_bytes(alloc, own)?;
-    let attempts = attempt_reports(alloc, name, &sent, &processed.history.attempts)?;
+    let attempts = attempt_reports(alloc, names, &sent, &processed.history.attempts)?;
     Ok(RequestReport {
         outcome: processed.outcome,
         written,
@@ -212,40 +204,50 @@ fn request_report(
     })
 }
 
-/// What the attempts came to, of which each asked for the peer of that name, and whose
-/// link took those bytes.
+/// What the attempts came to, each at the next of the peers, whose name is taken; the link of the
+/// last one took those bytes, or it had none.
 fn attempt_reports(
     alloc: Global,
-    name: &Bytes,
+    names: &mut VecDeque<Bytes>,
     sent: &Bytes,
     attempts: &AttemptList,
 ) -> Result<Vec<AttemptReport>, AllocError>
-    ensures { IfOk result (λ reports. reports.items
-        ≡ map (attempt_report name.now sent.now) attempts.now) }
+    ensures reports { IfOk result (λ reports. reports.items
+        ≡ attempt_reports names.old.items sent.now attempts.now) }
+    ensures left { OnOk result (names.new.items ≡ drop (length attempts.now) names.old.items) }
 {
     let mut reports = Vec::new(alloc);
     while let Some(attempt) = attempts.get(reports.len()) {
-        let report = attempt_report(name, sent, attempt)?;
+        let is_last = reports.len() + 1 == attempts.len();
+        let sent = sent_before(sent, is_last)?;
+        let report = attempt_report(take_name(names), sent, attempt);
         reports.push(report)?;
     }
     Ok(reports)
 }
 
-/// What an attempt at the peer of that name came to, whose link took those bytes.
-fn attempt_report(
-    name: &Bytes,
-    sent: &Bytes,
-    attempt: &AttemptRecord,
-) -> Result<AttemptReport, AllocError>
-    ensures { IfOk result (λ report. report ≡ attempt_report name.now sent.now attempt.now) }
+/// What the link of an attempt took: these bytes where it is the last, and else none.
+fn sent_before(sent: &Bytes, is_last: bool) -> Result<Bytes, AllocError>
+    ensures { IfOk result (λ bytes. bytes ≡ (if is_last then sent.now else [])) }
 {
-    Ok(AttemptReport {
-        name: name.clone()?,
+    if is_last {
+        sent.clone()
+    } else {
+        Ok(Bytes::new())
+    }
+}
+
+/// What an attempt at the peer of that name came to, whose link took those bytes.
+fn attempt_report(name: Bytes, sent: Bytes, attempt: &AttemptRecord) -> AttemptReport
+    ensures { result ≡ attempt_report name sent attempt.now }
+{
+    AttemptReport {
+        name,
         reused: attempt.reused,
         kept: attempt.kept,
         error: attempt.error,
-        sent: sent.clone()?,
-    })
+        sent,
+    }
 }
 
 /// The bytes that the first link of a list took since it was handed out.

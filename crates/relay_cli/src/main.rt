@@ -5,6 +5,7 @@
 mod announcer;
 mod exchange;
 mod report;
+mod retries;
 mod run;
 mod script;
 mod serve;

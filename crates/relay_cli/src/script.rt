@@ -1,11 +1,12 @@
 //! Scripts: what the client and the peers of a run give, read from JSON. A reader for each kind of
 //! thing; a script is read whole before anything runs.
-ghost use Rattle.std.specs.Prelude.{◌≡◌, is_some, codes, if◌then◌else◌, option_map, Some};
+ghost use Rattle.std.specs.Prelude.{◌≡◌, ◌≤◌, IfOk, is_some, codes, if◌then◌else◌, option_map, Some};
 ghost use Rattle.hex.specs.Hex.{decode_of};
 ghost use Rattle.serde_json.specs.Find.{get};
 ghost use Rattle.serde_json.specs.View.{view, items_view};
-ghost use Rattle.relay_cli.specs.Script.{Reads, script_spec, reads_script, reads_value, script_of, peer_spec, peer_specs, peer_keys, peer_of, peers_in, peers_of, named_peer, connect_of, limit_of, requests_of, name_of, items_of, write_items_of, writes_at, each_of, item_of, write_item_of, item_at_key, write_item_at_key, client_script, script_keys, turns_of, branch_of, branches_of, schedule_of, take_item, text_item, spelt, hex_item, count_of, wait_item, after_item, end_item, read_kind, write_kind, retry_of, mark_of, fault_of, key_count, has};
+ghost use Rattle.relay_cli.specs.Script.{Reads, script_spec, reads_script, reads_value, script_of, peer_spec, peer_specs, peer_keys, peer_of, peers_in, peers_of, named_peer, connect_of, limit_of, requests_of, retries_of, name_of, items_of, write_items_of, writes_at, each_of, item_of, write_item_of, item_at_key, write_item_at_key, client_script, script_keys, turns_of, branch_of, branches_of, schedule_of, take_item, text_item, spelt, hex_item, count_of, wait_item, after_item, end_item, read_kind, write_kind, retry_of, mark_of, fault_of, key_count, has};
 
+use crate::retries::Retries;
 use bytes::Bytes;
 use hex::FromHexError;
 use relay_links::{Branch, ReadItem, WriteItem};
@@ -16,7 +17,10 @@ use std::alloc::{AllocError, AllocFailed, Global};
 /// How many turns a request may take where its script does not say.
 const TURNS: u64 = 1_000_000;
 
-/// How many peers a script has at most, and how many requests.
+/// How many attempts a request may make where its script does not say.
+const RETRIES: usize = 2;
+
+/// How many peers a script has at most, how many requests, and how many attempts each.
 const LIMIT: usize = 1_024;
 
 /// A peer of a script: its name, what its link gives and takes, and the mark of the fault that is
@@ -30,14 +34,15 @@ pub struct PeerEntry {
 }
 
 /// A script: what the client's link gives and takes, the peers in the order in which they are
-/// asked, how many requests are run at most, how many turns each may take, and the schedule over
-/// all of them.
+/// asked, how many requests are run at most, how many attempts and how many turns each may take, and
+/// the schedule over all of them.
 #[derive(Drop)]
 pub struct Script {
     pub client: Vec<ReadItem>,
     pub client_write: Vec<WriteItem>,
     pub peers: Vec<PeerEntry>,
     pub requests: u64,
+    pub retries: Retries,
     pub turns: u64,
     pub schedule: Vec<Branch>,
 }
@@ -113,6 +118,7 @@ fn script_keys(value: &Value) -> usize
         + has(value, "client_write")
         + has(value, "peers")
         + has(value, "requests")
+        + has(value, "retries")
         + has(value, "turns")
         + has(value, "schedule")
 }
@@ -124,6 +130,7 @@ fn client_script(alloc: Global, value: &Value, client: Vec<ReadItem>) -> Result<
     let client_write = writes_at(alloc, value, "client_write")?;
     let peers = peers(alloc, required(value, "peers")?)?;
     let requests = requests(value)?;
+    let retries = retries(value)?;
     let turns = turns(value)?;
     let schedule = schedule(alloc, value)?;
     Ok(Script {
@@ -131,6 +138,7 @@ fn client_script(alloc: Global, value: &Value, client: Vec<ReadItem>) -> Result<
         client_write,
         peers,
         requests,
+        retries,
         turns,
         schedule,
     })
@@ -141,17 +149,28 @@ fn requests(value: &Value) -> Result<u64, ScriptError>
     ensures { Reads (λ requests. requests) result (requests_of (view value.now)) }
 {
     match value.get("requests") {
-        Some(number) => limit(count(number)?),
+        Some(number) => Ok(u64::from(limit(count(number)?)?)),
         None => Ok(1),
     }
 }
 
-/// A number of requests, from 1 to 1,024.
-fn limit(number: u32) -> Result<u64, ScriptError>
-    ensures { Reads (λ requests. requests) result (limit_of number) }
+/// How many attempts each request of a script may make: two where it does not say.
+fn retries(value: &Value) -> Result<Retries, ScriptError>
+    ensures { Reads (λ retries. retries.most) result (retries_of (view value.now)) }
+{
+    match value.get("retries") {
+        Some(number) => Ok(Retries::new(limit(count(number)?)? as usize)),
+        None => Ok(Retries::new(RETRIES)),
+    }
+}
+
+/// A number of requests or of attempts, from 1 to 1,024.
+fn limit(number: u32) -> Result<u32, ScriptError>
+    ensures reads { Reads (λ number. number) result (limit_of number) }
+    ensures some { IfOk result (λ number. 1 ≤ number) }
 {
     if number >= 1 && number as usize <= LIMIT {
-        return Ok(u64::from(number));
+        return Ok(number);
     }
     Err(ScriptError::Refused)
 }

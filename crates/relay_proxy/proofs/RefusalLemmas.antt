@@ -10,7 +10,6 @@ use Rattle.relay_links.proofs.GainsLemmas.{Gains-nothing}
 use Rattle.relay_tasks.specs.declared.Error.{Error}
 use Rattle.relay_proxy.specs.Bound.{CountsLink}
 use Rattle.relay_proxy.specs.Refusals.{attempts_in, fault_told, faults_before, faults_told}
-use Rattle.relay_proxy.specs.Tries.{tries_of}
 use Rattle.relay_proxy.specs.Turn.{links_held}
 use Rattle.relay_proxy.specs.declared.record.AttemptRecord.{AttemptRecord}
 use Rattle.relay_proxy.specs.declared.work.Work.{Work}
@@ -49,19 +48,6 @@ pub told_once : (tries attempts : List AttemptRecord) (a : AttemptRecord) (e : E
 told_once tries attempts a e are is =
     ap (λ (xs : List AttemptRecord). faults_told xs) are ∙ told_append tries (a ∷ [])
     ∙ ap (λ (o : Option Error). faults_told tries ++ (fault_told o ++ [])) is
-
--- all attempts but the last are those before it
-pub tries_behind : (tries : List AttemptRecord) (a : AttemptRecord)
-    → tries_of (tries ++ a ∷ []) ≡ tries
-tries_behind [] a = refl
-tries_behind (b ∷ []) a = refl
-tries_behind (b ∷ c ∷ tries) a =
-    ap (λ (xs : List AttemptRecord). b ∷ xs) (tries_behind (c ∷ tries) a)
-
-pub tries_before : (tries attempts : List AttemptRecord) (a : AttemptRecord)
-    → attempts ≡ tries ++ a ∷ [] → tries_of attempts ≡ tries
-tries_before tries attempts a are =
-    ap (λ (xs : List AttemptRecord). tries_of xs) are ∙ tries_behind tries a
 
 -- a request that holds a link was refused those of the attempts before
 pub told_before_link : {L C : Type 0} (state : L → LinkState) (start_at : L → LinkStart)

@@ -27,9 +27,8 @@ use Rattle.relay_proxy.specs.Turn.{Advances, HasMoved, HasCause, HandsOn, IsStal
 use Rattle.relay_proxy.specs.Uses.{LinkUses, OwesAnswer, OwnUses, PhaseUses, TurnCounts}
 use Rattle.relay_proxy.specs.Work.{added_work}
 use Rattle.relay_proxy.specs.Closing.{Hands, HandsBack, Settles, GivesUp, GivesFailedUp, AnswersOn, Finishes, IsQuietExchange, IsQuiet, Rests, TurnOf, Ends}
-use Rattle.relay_proxy.proofs.RefusalLemmas.{tries_before}
 use Rattle.relay_proxy.proofs.TakenLemmas.{offers_are}
-use Rattle.relay_proxy.proofs.TryLemmas.{no_tries}
+use Rattle.relay_proxy.proofs.TryLemmas.{no_tries, tries_before}
 use Rattle.relay_proxy.proofs.BoundLemmas.{open_counts, within_link}
 use Rattle.relay_proxy.proofs.ConnectSteps.{part_relayed}
 use Rattle.relay_proxy.proofs.AnswerSteps.{answering_of, ends_part, waits_front, waits_left}

@@ -1,5 +1,5 @@
--- The attempts to which no link was given: none yet, one more, and the last.
-use Rattle.std.proofs.Common.{◌≡◌, ◌≢◌, ℕ, ◌<◌, true, List, [], ◌∷◌, ◌++◌, length, sym, ap, subst, ◌∙◌, arith}
+-- The attempts to which no link was given: none yet, one more, the last, and those before it.
+use Rattle.std.proofs.Common.{◌≡◌, ◌≢◌, ℕ, ◌<◌, true, List, [], ◌∷◌, ◌++◌, length, refl, sym, ap, subst, ◌∙◌, arith}
 use Rattle.std.specs.List.{All}
 use Rattle.std.proofs.lemmas.List.Elements.{All-append, All-cons, All-nil}
 use Rattle.relay_tasks.specs.Error.{may_retry}
@@ -8,7 +8,7 @@ use Rattle.relay_tasks.specs.declared.ErrorSource.TheVariants.{Upstream}
 use Rattle.relay_tasks.specs.declared.Fault.{Fault}
 use Rattle.relay_links.specs.Connector.{IsConnectFault}
 use Rattle.relay_proxy.specs.Passed.{Start}
-use Rattle.relay_proxy.specs.Tries.{AreTries, EndsTrying, IsFailedRecord, IsTry, MayTry, fault_error}
+use Rattle.relay_proxy.specs.Tries.{AreTries, EndsTrying, IsFailedRecord, IsTry, MayTry, fault_error, tries_of}
 use Rattle.relay_proxy.specs.declared.record.AttemptRecord.{AttemptRecord}
 
 -- a request that made no attempt
@@ -52,3 +52,16 @@ last_one s most tries attempts a e limit are before failed over = record {
   is_record = failed;
   over = λ may. over (may.0, subst (λ (n : ℕ). length attempts < n) limit may.1);
 }
+
+-- all attempts but the last are those before it
+pub tries_behind : (tries : List AttemptRecord) (a : AttemptRecord)
+    → tries_of (tries ++ a ∷ []) ≡ tries
+tries_behind [] a = refl
+tries_behind (b ∷ []) a = refl
+tries_behind (b ∷ c ∷ tries) a =
+    ap (λ (xs : List AttemptRecord). b ∷ xs) (tries_behind (c ∷ tries) a)
+
+pub tries_before : (tries attempts : List AttemptRecord) (a : AttemptRecord)
+    → attempts ≡ tries ++ a ∷ [] → tries_of attempts ≡ tries
+tries_before tries attempts a are =
+    ap (λ (xs : List AttemptRecord). tries_of xs) are ∙ tries_behind tries a

@@ -1,5 +1,5 @@
 //! What a script is read as where no report shows it: its turns, each branch of its schedule, and
-//! how many peers and requests it may have.
+//! how many peers, requests and attempts it may have.
 use crate::script::{ScriptError, read_script};
 use relay_links::{BRANCHES, Branch};
 use std::alloc::{AllocError, Global};
@@ -35,25 +35,26 @@ fn reads_its_turns_and_each_branch_by_its_name(rt: HostRuntime) {
     assert!(rt; spells(alloc, FULL, 7, &[Branch::UpRead]));
 }
 
-/// How many peers and requests a script has of so many peers, and with so many requests where a
+/// How many peers, requests and attempts a script has of so many peers, and with such a key where a
 /// number is given; none where it is refused.
 fn counted(
     alloc: Global,
     peers: usize,
-    requests: Option<u64>,
-) -> Result<Option<(usize, u64)>, AllocError> {
+    key: &str,
+    number: Option<u64>,
+) -> Result<Option<(usize, u64, usize)>, AllocError> {
     let mut text = "{\"client\":[],\"peers\":[".to_string(alloc)?;
     for at in 0..peers {
         text.push_str(if at == 0 { "" } else { "," })?;
         text.push_str("{\"name\":\"a\"}")?;
     }
     text.push_str("]")?;
-    if let Some(requests) = requests {
-        text.push_str(format!(in alloc; ",\"requests\":{requests}")?.as_str())?;
+    if let Some(number) = number {
+        text.push_str(format!(in alloc; ",\"{key}\":{number}")?.as_str())?;
     }
     text.push_str("}")?;
     match read_script(alloc, text.as_bytes()) {
-        Ok(script) => Ok(Some((script.peers.len(), script.requests))),
+        Ok(script) => Ok(Some((script.peers.len(), script.requests, script.retries.most()))),
         Err(ScriptError::Refused) => Ok(None),
         Err(ScriptError::OutOfMemory) => Err(AllocError),
     }
@@ -62,11 +63,23 @@ fn counted(
 #[test]
 fn reads_up_to_1024_peers_and_requests(rt: HostRuntime) -> Result<(), AllocError> {
     let alloc = rt.alloc();
-    assert_eq!(rt; counted(alloc, 0, None)?, Some((0, 1)));
-    assert_eq!(rt; counted(alloc, 2, Some(1_024))?, Some((2, 1_024)));
-    assert_eq!(rt; counted(alloc, 1_024, Some(1))?, Some((1_024, 1)));
-    assert_eq!(rt; counted(alloc, 1_025, None)?, None);
-    assert_eq!(rt; counted(alloc, 1, Some(0))?, None);
-    assert_eq!(rt; counted(alloc, 1, Some(1_025))?, None);
+    let key = "requests";
+    assert_eq!(rt; counted(alloc, 0, key, None)?, Some((0, 1, 2)));
+    assert_eq!(rt; counted(alloc, 2, key, Some(1_024))?, Some((2, 1_024, 2)));
+    assert_eq!(rt; counted(alloc, 1_024, key, Some(1))?, Some((1_024, 1, 2)));
+    assert_eq!(rt; counted(alloc, 1_025, key, None)?, None);
+    assert_eq!(rt; counted(alloc, 1, key, Some(0))?, None);
+    assert_eq!(rt; counted(alloc, 1, key, Some(1_025))?, None);
+    Ok(())
+}
+
+#[test]
+fn reads_up_to_1024_attempts(rt: HostRuntime) -> Result<(), AllocError> {
+    let alloc = rt.alloc();
+    let key = "retries";
+    assert_eq!(rt; counted(alloc, 1, key, Some(1))?, Some((1, 1, 1)));
+    assert_eq!(rt; counted(alloc, 1, key, Some(1_024))?, Some((1, 1, 1_024)));
+    assert_eq!(rt; counted(alloc, 1, key, Some(0))?, None);
+    assert_eq!(rt; counted(alloc, 1, key, Some(1_025))?, None);
     Ok(())
 }

@@ -4,7 +4,11 @@ use Rattle.std.specs.List.{slice_range}
 use Rattle.std.proofs.lemmas.Option.{same_Some}
 use Rattle.std.proofs.lemmas.Result.{IfOk-weaker}
 use Rattle.relay_links.specs.ScriptEntries.{links_returned}
+use Rattle.relay_links.specs.declared.script_connector.ScriptConnector.{ScriptConnector}
+use Rattle.relay_links.specs.declared.memory_purger.MemoryPurger.{MemoryPurger}
+use Rattle.relay_proxy.specs.declared.hooks.NoHooks.{NoHooks}
 use Rattle.relay_proxy.specs.declared.outcome.Outcome.TheVariants.{OutOfMemory}
+use Rattle.relay_proxy.specs.declared.proxy.HttpProxy.{HttpProxy}
 use Rattle.relay_cli.specs.Exchange.{reported, taken_of}
 use Rattle.relay_cli.specs.Report.{request_spec}
 use Rattle.relay_cli.specs.declared.report.RequestReport.{RequestReport}
@@ -37,16 +41,20 @@ returns c = λ script peers many at.
     (links_returned c.process_new_http-processed.new.self.connector) =
     range_end behind (length before) ∙ rw (had, has) refl in
     IfOk-weaker c.request_report.result
-    (λ (request : RequestReport). request_spec request
-    ≡ reported c.in_ok-name.name processed
+    (λ (request : RequestReport). (request_spec request
+    ≡ reported c.args.self.now.names.items processed
     (slice_range last (length first) (length last))
     (slice_range behind (length before) (length behind)))
+    × (c.request_report.new.names.items
+    ≡ drop (length processed.history.attempts) c.args.self.now.names.items))
     _
     (λ request found. run_next script peers c.args.self.now _ processed c.args.turns
-    c.in_ok-name.name (slice_range last (length first) (length last))
+    (slice_range last (length first) (length last))
     (slice_range behind (length before) (length behind))
     (request_spec request) many at c.process_new_http-processed.ensures.processes
     c.process_new_http-processed.ensures.client_start
-    (c.leave_names.ensures ∙ ap (λ n. drop n c.args.self.now.names.items) c.len.ensures)
-    printable c.in_ok-name.ensures wrote back found)
+    found.1
+    (ap (λ (p : HttpProxy NoHooks ScriptConnector MemoryPurger). p.conf.max_retries)
+    c.process_new_http-processed.ensures.same)
+    printable wrote back found.0)
     c.request_report.ensures
