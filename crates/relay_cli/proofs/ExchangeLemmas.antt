@@ -346,8 +346,8 @@ clear_again s p w own records ended.OutOfMemory ends back = cc
 -- what is reported of a request that the proxy made over the links of a script
 pub is_request : (script : ScriptSpec) (from to : Place) (written : List ℕ)
     (own : List (Returned ScriptLink)) (processed : Processed)
-    (run : Processes script_state script_start (start_of script.retries (world_at from)) (world_at to)
-    (Some from.returned) (Some to.returned) from.refusals to.refusals
+    (run : Processes script_state script_start (start_of script.retries (world_at from))
+    (world_at to) (Some from.returned) (Some to.returned) from.refusals to.refusals
     (Some (offers_of from.peers)) (Some (offers_of to.peers))
     (script_state from.client) script.turns processed)
     → to.peers ≡ drop (length processed.history.attempts) from.peers
@@ -421,8 +421,8 @@ run_next script peers old new processed turns written own request many at ran st
     rest = drop (length processed.history.attempts) peers
 
     -- with what the peers offer
-    offered : Processes script_state script_start (start_of script.retries (world_at (place_of old peers)))
-        (world_at (place_of new rest))
+    offered : Processes script_state script_start
+        (start_of script.retries (world_at (place_of old peers))) (world_at (place_of new rest))
         (Some (links_returned old.proxy.connector)) (Some (links_returned new.proxy.connector))
         (faults_answered old.proxy.connector) (faults_answered new.proxy.connector)
         (Some (offers_of peers)) (Some (offers_left new.proxy.connector))
@@ -453,8 +453,8 @@ run_next script peers old new processed turns written own request many at ran st
         processed.history.attempts processed.outcome (offers_left new.proxy.connector)
         offered.ended.ends offered.offered
 
-    run : Processes script_state script_start (start_of script.retries (world_at (place_of old peers)))
-        (world_at (place_of new rest))
+    run : Processes script_state script_start
+        (start_of script.retries (world_at (place_of old peers))) (world_at (place_of new rest))
         (Some (links_returned old.proxy.connector)) (Some (links_returned new.proxy.connector))
         (faults_answered old.proxy.connector) (faults_answered new.proxy.connector)
         (Some (offers_of peers)) (Some (offers_of rest))

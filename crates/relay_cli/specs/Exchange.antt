@@ -111,8 +111,8 @@ abbrev pub FirstStartsWithin : List (Returned ScriptLink) → Type 0
 FirstStartsWithin [] = Unit {0}
 FirstStartsWithin (r ∷ rest) = StartsWithin r.link
 
--- what is reported of a request at the peers of those names, whose client's link took those bytes in
--- it, and which handed these links back
+-- what is reported of a request at the peers of those names, whose client's link took those bytes
+-- in it, and which handed these links back
 abbrev pub reported : List (List ℕ) → Processed → List ℕ → List (Returned ScriptLink) → RequestSpec
 reported names processed written own = record {
   outcome = processed.outcome;

@@ -34,8 +34,8 @@ pub struct PeerEntry {
 }
 
 /// A script: what the client's link gives and takes, the peers in the order in which they are
-/// asked, how many requests are run at most, how many attempts and how many turns each may take, and
-/// the schedule over all of them.
+/// asked, how many requests are run at most, how many attempts and how many turns each may take,
+/// and the schedule over all of them.
 #[derive(Drop)]
 pub struct Script {
     pub client: Vec<ReadItem>,

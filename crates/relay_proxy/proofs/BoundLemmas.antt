@@ -49,7 +49,7 @@ use Rattle.relay_proxy.proofs.UseLemmas.{either_rose}
 
 -- ---- the turns of a request
 
--- a request takes no more turns than its links answered, twice the bytes that they gave, and six and
+-- a request takes no more turns than its links answered, twice the bytes that they gave, six and
 -- its attempts
 pub turns_bounded : {L : Type 0} (state : L → LinkState) (start_at : L → LinkStart) (s : Start)
     (client : LinkState) (own : List (Returned L)) (history : RunRecord)
@@ -225,14 +225,15 @@ module _ {L C : Type 0} (state : L → LinkState) (start_at : L → LinkStart) w
     tasks_are = omega (arith, counts.0, had.0);
     ends_are = omega (arith, counts.1, had.1, as_many counts.2);
   }
-  link_bounds s p w (Fail link lease keep session e) work before tasks ends run counts had = record {
-    came = p.came;
-    got = p.got;
-    client_gave = run.tells.came;
-    own_gave = run.holds.0.tells.got;
-    tasks_within = omega (arith, counts.0, had.0);
-    ends_within = omega (arith, counts.1, had.1, as_many counts.2);
-  }
+  link_bounds s p w (Fail link lease keep session e) work before tasks ends run counts
+      had = record {
+        came = p.came;
+        got = p.got;
+        client_gave = run.tells.came;
+        own_gave = run.holds.0.tells.got;
+        tasks_within = omega (arith, counts.0, had.0);
+        ends_within = omega (arith, counts.1, had.1, as_many counts.2);
+      }
   link_bounds s p w (Close link lease keep outcome) work before tasks ends run counts had = record {
     came = p.came;
     got = p.got;
@@ -268,7 +269,8 @@ module _ {L C : Type 0} (state : L → LinkState) (start_at : L → LinkStart) w
       → IsWithin tasks ends (sides_before (length attempts)) s client (OwnGave state start_at own)
       → TurnedCounts state start_at (work.moved + tasks) (work.ended + ends) s client' ahead own
       next
-  answer_bounds s client client' ahead own ReadHead work tasks ends same counts attempts is had = absurd counts
+  answer_bounds s client client' ahead own ReadHead work tasks ends same counts attempts is had =
+      absurd counts
   answer_bounds s client client' ahead own (Connect context session tries) work tasks ends same
       counts attempts is had = absurd counts
   answer_bounds s client client' ahead own (Relay a) work tasks ends same counts attempts is had =
@@ -463,8 +465,8 @@ module _ {L C : Type 0} (state : L → LinkState) (start_at : L → LinkStart) w
       → TurnedCounts state start_at more_tasks more_ends s x.client x.ahead own next
   relay_turn_bounds s p w x own ReadHead next tasks ends a b is run turn had =
       absurd (true≢false (sym is))
-  relay_turn_bounds s p w x own (Connect context session tries) next tasks ends a b is run turn had =
-      absurd (true≢false (sym is))
+  relay_turn_bounds s p w x own (Connect context session tries) next tasks ends a b is run turn
+      had = absurd (true≢false (sym is))
   relay_turn_bounds s p w x [] (Relay k) next tasks ends a b is run turn had = turn had
   relay_turn_bounds s p w x (r ∷ own) (Relay k) next tasks ends a b is run turn had =
       absurd run.holds

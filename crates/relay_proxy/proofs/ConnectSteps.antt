@@ -98,7 +98,8 @@ client_asked s p w session tries given is connecting =
 
 -- so a head that is refused for such a client is one that is refused where it was to be sent
 pub refused_asked : (s : Start) (p : Passed) (w : World) (session read : HttpSession)
-    (tries : List AttemptRecord) (given : RequestHead) (failure : Fail) (e told : Error) → told ≡ e → read ≡ session
+    (tries : List AttemptRecord) (given : RequestHead) (failure : Fail) (e told : Error)
+    → told ≡ e → read ≡ session
     → head_of session.reading ≡ Some given → IsConnecting s p w session tries
     → failure ≡ fail.Error e
     → FailsToMake

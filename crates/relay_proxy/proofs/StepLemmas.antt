@@ -91,8 +91,9 @@ module _ {L : Type 0} (state : L → LinkState) (start_at : L → LinkStart) whe
   }
 
   -- the link of an attempt that failed went back, and its client is owed an answer
-  given_back : (s : Start) (p : Passed) (link : L) (lease : Lease) (keep : Bool) (e : Error) (r : Returned L)
-      (attempts : List AttemptRecord) → IsLeased s p (state link) (start_at link) lease
+  given_back : (s : Start) (p : Passed) (link : L) (lease : Lease) (keep : Bool) (e : Error)
+      (r : Returned L) (attempts : List AttemptRecord)
+      → IsLeased s p (state link) (start_at link) lease
       → Hands link lease keep (Served (Some e) false) r attempts
       → IsGivenBack state start_at s p r attempts e
   given_back s p link lease keep e r attempts leased hands = record {
@@ -737,8 +738,8 @@ module _ {L C : Type 0} (state : L → LinkState) (start_at : L → LinkStart) w
         refused = ap (λ (xs : List AttemptRecord). faults_told xs)
             (tries_before (tries_in lease) ending.attempts back.hands.attempt
             back.hands.attempts_are ∙ sym none);
-        offered = sym (offered_back start_at link lease back.entry ending.attempts back.hands.attempt
-            back.hands.is_link back.hands.attempts_are)
+        offered = sym (offered_back start_at link lease back.entry ending.attempts
+            back.hands.attempt back.hands.is_link back.hands.attempts_are)
             ∙ sym (offers_are start_at phase (faults_told (tries_in lease))
             ((start_at link).items ∷ [])
             (ap (λ (xs : List AttemptRecord). faults_told xs) none) holds);
@@ -977,7 +978,8 @@ module _ {L C : Type 0} (state : L → LinkState) (start_at : L → LinkStart) w
   end_of s p (r ∷ own) w ReadHead before after ending does run = absurd run.holds
   end_of s p (r ∷ own) w (Fail link lease keep session e) before after ending does run =
       absurd run.holds
-  end_of s p (r ∷ own) w (Connect context session tries) before after ending does run = absurd run.holds
+  end_of s p (r ∷ own) w (Connect context session tries) before after ending does run =
+      absurd run.holds
   end_of s p (r ∷ own) w (Relay a) before after ending does run = absurd run.holds
   end_of s p (r ∷ own) w (Close link lease keep outcome) before after ending does run =
       absurd run.holds

@@ -135,7 +135,8 @@ module _ {L C : Type 0} (state : L → LinkState) (start_at : L → LinkStart) w
       absurd (true≢false (sym is))
   relaying_uses s p own w (Answer session owed attempts) T is run uses =
       absurd (true≢false (sym is))
-  relaying_uses s p own w (Connect context session tries) T is run uses = absurd (true≢false (sym is))
+  relaying_uses s p own w (Connect context session tries) T is run uses =
+      absurd (true≢false (sym is))
   relaying_uses s p own w (Relay a) T is run uses =
       let relays = relaying_of state start_at s p w own a run in
       uses (origin_of s relays.head relays.sent a.value.lease.reused) p a refl relays.under_way
@@ -216,9 +217,9 @@ module _ {L C : Type 0} (state : L → LinkState) (start_at : L → LinkStart) w
 
   -- the turn that asks the connector
   pub connect_counts : (s : Start) (p : Passed) (own : List (Returned L)) (w : World) (context : C)
-      (session : Box HttpSession) (tries : List AttemptRecord) (n used : ℕ) (client : LinkState) (next : Phase L C)
-      → RunSoFar state start_at s p w own (Connect context session tries) → OwnUses state start_at n own
-      → used ≡ 0 → PhaseUses state start_at 0 [] next
+      (session : Box HttpSession) (tries : List AttemptRecord) (n used : ℕ) (client : LinkState)
+      (next : Phase L C) → RunSoFar state start_at s p w own (Connect context session tries)
+      → OwnUses state start_at n own → used ≡ 0 → PhaseUses state start_at 0 [] next
       → TurnCounts state start_at n client client used own next
   connect_counts s p [] w context session tries n used client next run had none fresh =
       still_counts n used client [] next none

@@ -156,8 +156,8 @@ module _ {L C : Type 0} (state : L → LinkState) (start_at : L → LinkStart) w
       → x.client ≡ first → m.work.used ≡ 0 → m.work.moved ≡ 0 → m.work.ended ≡ 0
       → PhaseCounts state start_at 0 0 (start_of most w) x.client x.ahead [] m.phase
       → IsUnderWay (start_of most w) x before now told_before told_now had has first m 0
-  begun most w x before now told_before told_now had has first m same told kept run unmade unlinked none
-      is unused unmoved unended first_bound =
+  begun most w x before now told_before told_now had has first m same told kept run unmade
+      unlinked none is unused unmoved unended first_bound =
       record {
         passed = nothing;
         own = [];

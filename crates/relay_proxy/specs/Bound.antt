@@ -116,8 +116,8 @@ CountsHead (Close link lease keep outcome) work = ⊥
 CountsHead (Answer session owed attempts) work = (work.moved ≡ 0) × (work.ended ≡ 1)
 CountsHead (Ended outcome attempts) work = (work.moved ≡ 0) × (work.ended ≡ 1)
 
--- what a turn counts that asks for a link behind those attempts: the head that is to be sent, or one
--- end, also where that head is refused; one that is refused a link made one attempt more
+-- what a turn counts that asks for a link behind those attempts: the head that is to be sent, or
+-- one end, also where that head is refused; one that is refused a link made one attempt more
 abbrev pub CountsLink : {L C : Type 0} → List AttemptRecord → Phase L C → Work → Type 0
 CountsLink before ReadHead work = ⊥
 CountsLink before (Connect context session tries) work =

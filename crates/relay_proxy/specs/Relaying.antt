@@ -39,16 +39,6 @@ is_closing (Close link lease keep outcome) = true
 is_closing (Answer session owed attempts) = false
 is_closing (Ended outcome attempts) = false
 
--- a generated answer is written
-abbrev pub is_answering : {L C : Type 0} → Phase L C → Bool
-is_answering ReadHead = false
-is_answering (Connect context session tries) = false
-is_answering (Relay a) = false
-is_answering (Fail link lease keep session error) = false
-is_answering (Close link lease keep outcome) = false
-is_answering (Answer session owed attempts) = true
-is_answering (Ended outcome attempts) = false
-
 -- an attempt where it stands, once its exchange has come to that
 abbrev pub turned : {L C : Type 0} → Box (Attempt L C) → H1Exchange L → Box (Attempt L C)
 turned a x =

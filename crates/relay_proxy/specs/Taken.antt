@@ -53,8 +53,9 @@ offers_of_turn start (Ended outcome attempts) next = []
 -- behind those that it had answered, the connector answered the others of all these faults, which
 -- its list gained where it tells one; they and then these links were the next that it had
 pub record TakesAfter
-    (had all : List Fault) (held : List (Option LinkItems)) (told_before told_after : Option (List Fault))
-    (before after : Option (List Offer)) : Type 0 where
+    (had all : List Fault) (held : List (Option LinkItems))
+    (told_before told_after : Option (List Fault)) (before after : Option (List Offer))
+    : Type 0 where
   pub faults : List Fault
   pub are : had ++ faults ≡ all
   pub gained : Gains told_before faults told_after

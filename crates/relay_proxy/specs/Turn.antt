@@ -117,8 +117,8 @@ module _ {L C : Type 0} (state : L → LinkState) (start_at : L → LinkStart) w
     pub again : next ≡ Connect context session (tries ++ attempt ∷ [])
 
   -- what a turn moved: bytes of the client's head came, or it was judged; a link was given, or
-  -- none and another is asked for or the client is owed an answer; a branch of the exchange moved, or it failed and the
-  -- client is owed an answer; or bytes of that were taken
+  -- none and another is asked for or the client is owed an answer; a branch of the exchange moved,
+  -- or it failed and the client is owed an answer; or bytes of that were taken
   abbrev pub HasMoved : World → World → Phase L C → Phase L C → Type 0
   HasMoved w x ReadHead next = HasGiven w.client x.client ⊎ (is_reading_head next ≡ false)
   HasMoved w x (Connect context session tries) next =

@@ -1,6 +1,6 @@
 //! The connector: asked for a link, over which the attempt then goes. Where it refuses one with a
-//! fault that lets it be asked again, it is, while the request may make a further attempt (RFC 9110,
-//! section 9.2.2): nothing of the request was sent then.
+//! fault that lets it be asked again, it is, while the request may make a further attempt (RFC
+//! 9110, section 9.2.2): nothing of the request was sent then.
 ghost use Rattle.std.specs.Prelude.{◌≡◌, ◌⊎◌, ◌↔◌, ◌+◌, ◌≤◌, [], ◌∷◌, ◌++◌, length, ℕ, List, Some, IsTrue, IfSome, false, not};
 ghost use Rattle.std.specs.Global.{Box};
 ghost use Rattle.relay_links.specs.Connector.{IsConnectFault, connect_fault};
@@ -243,8 +243,8 @@ fn send<L: ByteLink, C: Drop>(
         (Phase.Connect context session (tries_in lease))
         → IsHandedOut (L.state link) (L.start link) lease.reused → IsAskedPeer lease.peer
         → Advances {C = C} L.state L.start s w result.phase }
-    ensures cause { (w x : World) → HasCause L.state L.start w x (Phase.Connect context session (tries_in lease))
-        result.phase result.step }
+    ensures cause { (w x : World) → HasCause L.state L.start w x
+        (Phase.Connect context session (tries_in lease)) result.phase result.step }
     ensures work { DoesWork result.step result.work }
     ensures counts { CountsLink (tries_in lease) result.phase result.work }
     ensures unused { result.work.used ≡ 0 }
@@ -347,8 +347,8 @@ fn begin<L: ByteLink, C: Drop>(
         → head_of session.value.reading ≡ Some asked → Sends asked head
         → IsHandedOut (L.state link) (L.start link) lease.reused → IsAskedPeer lease.peer
         → Advances {C = C} L.state L.start s w result.phase }
-    ensures cause { (w x : World) → HasCause L.state L.start w x (Phase.Connect context session (tries_in lease))
-        result.phase result.step }
+    ensures cause { (w x : World) → HasCause L.state L.start w x
+        (Phase.Connect context session (tries_in lease)) result.phase result.step }
     ensures work { DoesWork result.step result.work }
     ensures counts { CountsLink (tries_in lease) result.phase result.work }
     ensures unused { result.work.used ≡ 0 }
@@ -379,7 +379,8 @@ fn hold<L: ByteLink, C: Drop>(alloc: Global, attempt: Attempt<L, C>) -> Next<L, 
         → w.client.faults ≡ s.faults → IsRelaying L.state L.start s p w attempt
         → Advances {C = C} L.state L.start s w result.phase }
     ensures cause { (w x : World) (context : C) (session : Box HttpSession)
-        → HasCause L.state L.start w x (Phase.Connect context session (tries_in attempt.lease)) result.phase result.step }
+        → HasCause L.state L.start w x (Phase.Connect context session (tries_in attempt.lease))
+        result.phase result.step }
     ensures work { DoesWork result.step result.work }
     ensures counts { CountsLink (tries_in attempt.lease) result.phase result.work }
     ensures unused { result.work.used ≡ 0 }

@@ -543,8 +543,9 @@ module _ {L C D U : Type 0}
       record {
         links = all.rest;
         ended = comes_to_end before old now visit all.own all.rest under.start under.passed x
-            processed (under.limit ∙ serves.same_most) (ended_in_order state start_at before old.requests_ended old.returned
-            serves.links (all.own ++ all.rest)
+            processed (under.limit ∙ serves.same_most)
+            (ended_in_order state start_at before old.requests_ended old.returned serves.links
+            (all.own ++ all.rest)
             (IsPermutation-sym (all.own ++ all.rest) serves.links all.joined) serves.ended)
             (comes under.start under.passed all.own under.run) counted;
         under_way = others_same old now rest all.rest limit same all.of_others;

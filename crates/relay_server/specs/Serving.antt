@@ -56,8 +56,8 @@ is_reused TurnLimit = false
 is_reused OutOfMemory = false
 
 module _ {L : Type 0} (state : L → LinkState) (start_at : L → LinkStart) where
-  -- a request that came to its end, and that might make so many attempts: what passed is told by the
-  -- links, in order, and the outcome has its cause
+  -- a request that came to its end, and that might make so many attempts: what passed is told by
+  -- the links, in order, and the outcome has its cause
   pub record EndedRequest (most : ℕ) (own : List (Returned L)) (outcome : Outcome) : Type 0 where
     pub start : Start
     pub limit : start.most ≡ most

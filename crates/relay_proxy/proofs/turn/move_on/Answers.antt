@@ -272,8 +272,8 @@ returns-in-Ended-clause-counts g c =
 pub returns-in-ReadHead-clause-bounds : goal.returns-in-ReadHead-clause-bounds
 returns-in-ReadHead-clause-bounds g c =
     rw (c.go_on.ensures.phase, c.go_on.ensures.work, sym c.replace.ensures.value ∙ c.in-ReadHead.is)
-    (λ s p own tasks ends most run had. head_turn_bounds g.K.Byte.ByteLink.state g.K.Byte.ByteLink.start
-    s p
+    (λ s p own tasks ends most run had.
+    head_turn_bounds g.K.Byte.ByteLink.state g.K.Byte.ByteLink.start s p
     (world_of g.D.ByteLink.state c.args.client.now
     (g.K.Connector.fault_count c.args.connector.now))
     (world_of g.D.ByteLink.state c.read_head.new.client
@@ -308,9 +308,11 @@ returns-in-Answer-clause-bounds g c =
       c.go_on-in-Answer.ensures.work,
       sym c.replace.ensures.value ∙ c.in-Answer.is,
     )
-    (λ s p own tasks ends most run had. answer_bounds g.K.Byte.ByteLink.state g.K.Byte.ByteLink.start s
-    _ _ _ own c.write_answer.result.phase c.write_answer.result.work tasks ends
-    c.write_answer.ensures.gives c.write_answer.ensures.counts _ c.write_answer.ensures.attempts had)
+    (λ s p own tasks ends most run had.
+    answer_bounds g.K.Byte.ByteLink.state g.K.Byte.ByteLink.start s _ _ _ own
+    c.write_answer.result.phase c.write_answer.result.work tasks ends
+    c.write_answer.ensures.gives c.write_answer.ensures.counts _ c.write_answer.ensures.attempts
+    had)
 
 -- one whose link is to go back is settled before it is turned
 pub returns-in-Fail-clause-bounds : goal.returns-in-Fail-clause-bounds

@@ -14,7 +14,8 @@ returns-clause-steps g c = λ s p own most run.
     c.take_turn-step.result.step _ _ _ _ _ _ _ (c.take_turn-step.ensures.turn s p own most)
     c.take_turn-step.ensures.rests c.take_turn-step.ensures.returned c.settle.ensures.settles
     c.take_turn-step.ensures.refusals c.take_turn-step.ensures.offers
-    c.take_turn-step.ensures.carries c.take_turn-step.ensures.tells run (g.D.ByteLink.state c.args.client.now.link)
+    c.take_turn-step.ensures.carries c.take_turn-step.ensures.tells run
+    (g.D.ByteLink.state c.args.client.now.link)
     c.args.client.now.ahead c.args.machine.now.machine.work _ c.take_turn-step.result.work
     c.plus-machine.ensures.sum (λ n had. c.take_turn-step.ensures.counts s p own n run had)
     (λ tasks ends had. c.take_turn-step.ensures.bounds s p own tasks ends most run had))
