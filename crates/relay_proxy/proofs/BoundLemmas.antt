@@ -28,13 +28,12 @@ use Rattle.relay_attempt.specs.Bound.{CountsOn, HasCounted, core_in, most_tasks}
 use Rattle.relay_attempt.specs.Bound as attempt
 use Rattle.relay_attempt.specs.Head.{link_of}
 use Rattle.relay_attempt.specs.Passed.{Passed}
-use Rattle.relay_attempt.specs.declared.h1_exchange.H1Exchange.{H1Exchange}
 use Rattle.relay_attempt.proofs.BoundLemmas.{first_counted, counted_within}
 use Rattle.relay_proxy.specs.Bound.{AttemptCounts, CountsAnswer, CountsHead, CountsLink, IsBounded, IsWithin, LeavesLink, LinkGave, OwnGave, PhaseCounts, TurnedCounts, most_sides, sides_before}
 use Rattle.relay_proxy.specs.Passed.{World, Start, origin_of}
 use Rattle.relay_proxy.specs.Phases.{RunSoFar}
 use Rattle.relay_proxy.specs.Refusals.{attempts_in}
-use Rattle.relay_proxy.specs.Relaying.{TurnsOver, TurnsWithin, is_closing, is_relaying, turned}
+use Rattle.relay_proxy.specs.Relaying.{TurnsWithin, is_closing, is_relaying, turned}
 use Rattle.relay_proxy.specs.Tries.{tries_in}
 use Rattle.relay_proxy.specs.Turn.{Advances}
 use Rattle.relay_proxy.specs.Uses.{Measured, work_by}

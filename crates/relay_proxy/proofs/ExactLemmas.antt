@@ -437,7 +437,8 @@ module _ {L : Type 0} (state : L → LinkState) (start_at : L → LinkStart) whe
     not_relayed = λ e cause. exact_unrelayed s p w outcome ends e cause;
     unfit = λ r head one accepted unfit. absurd (one_not_none one);
     whole = λ head relayable goes asks answers faultless.
-        whole_unlinked s p w outcome ends head relayable asks faultless.client faultless.connector;
+        whole_unlinked s p w outcome ends head relayable asks faultless.client
+            (faultless.connector refl);
   }
 
   -- a request that had this link

@@ -1,5 +1,5 @@
 -- The faults of the connector that a turn answered: that with which it refused a link, or none.
-use Rattle.std.proofs.Common.{◌≡◌, List, [], ◌∷◌, ◌++◌, drop, length, Option, Some, refl, sym, ap, subst, ◌∙◌, append_assoc, append-nil}
+use Rattle.std.proofs.Common.{◌≡◌, List, [], ◌∷◌, ◌++◌, drop, length, Option, Some, refl, sym, ap, subst, ◌∙◌, append_assoc}
 use Rattle.std.proofs.Math.Seq.{drop-append_seam}
 use Rattle.relay_tasks.specs.declared.Fault.{Fault}
 use Rattle.relay_tasks.specs.declared.fault.FaultKind.{FaultKind}

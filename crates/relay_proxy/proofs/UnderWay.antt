@@ -27,6 +27,7 @@ use Rattle.relay_proxy.specs.declared.outcome.Processed.{Processed}
 use Rattle.relay_proxy.specs.declared.record.AttemptRecord.{AttemptRecord}
 use Rattle.relay_proxy.specs.declared.work.Work.{Work}
 use Rattle.relay_proxy.specs.Work.{total_work}
+use Rattle.relay_proxy.proofs.TryLemmas.{at_most}
 use Rattle.relay_proxy.proofs.StepLemmas.{more-nil, more-more}
 use Rattle.relay_proxy.proofs.CountLemmas.{ups_twice, min_twice}
 use Rattle.relay_proxy.proofs.ExactLemmas.{exact_of}
@@ -252,6 +253,8 @@ module _ {L C : Type 0} (state : L → LinkState) (start_at : L → LinkStart) w
             (ends.bounded under.tasks under.ends
             (still_counts under.tasks under.ends s w x under.own m.phase same kept_ahead
             under.bounded));
+        attempts = at_most state start_at s under.passed x (under.own ++ ends.handed)
+            processed.history.attempts processed.outcome ends.ended.ends;
         exact = exact_of state start_at s under.passed x (under.own ++ ends.handed)
             processed.history.attempts processed.outcome ends.ended;
         limit = λ is. inl (taken ∙ under.counted ∙ sym all);
@@ -313,6 +316,9 @@ module _ {L C : Type 0} (state : L → LinkState) (start_at : L → LinkStart) w
             (ends.bounded so_many so_often
             (still_counts so_many so_often s x y (under.own ++ steps.handed) n.phase same
             kept_ahead (steps.bounded under.tasks under.ends under.bounded)));
+        attempts = at_most state start_at s steps.passed y
+            ((under.own ++ steps.handed) ++ ends.handed) processed.history.attempts
+            processed.outcome ends.ended.ends;
         exact = exact_of state start_at s steps.passed y
             ((under.own ++ steps.handed) ++ ends.handed) processed.history.attempts
             processed.outcome ends.ended;

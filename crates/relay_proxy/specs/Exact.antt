@@ -37,10 +37,10 @@ abbrev pub IsMissed : Outcome → Type 0
 IsMissed outcome = (e : Error) × (outcome ≡ Served (Some e) false)
 
 module _ {L : Type 0} (state : L → LinkState) (start_at : L → LinkStart) where
-  -- no link and no call of the connector failed
+  -- no call of a link failed, nor, where no link was handed back, one of the connector
   pub record IsFaultless (s : Start) (w : World) (own : List (Returned L)) : Type 0 where
     pub client : ¬ (Rose s.faults w.client.faults)
-    pub connector : ¬ (Rose s.connect_faults w.connect_faults)
+    pub connector : own ≡ [] → ¬ (Rose s.connect_faults w.connect_faults)
     pub link : (r : Returned L) → own ≡ r ∷ []
         → ¬ (Rose (start_at r.link).faults (state r.link).faults)
 

@@ -1,6 +1,6 @@
 -- One request over one proxy: what a step and the end make of its run so far, and what the whole
 -- call promises.
-use Rattle.std.specs.Prelude.{◌≡◌, ◌≢◌, ℕ, ◌+◌, ◌⊎◌, Bool, true, false, List, ◌++◌, length, Option}
+use Rattle.std.specs.Prelude.{◌≡◌, ◌≢◌, ℕ, ◌+◌, ◌≤◌, ◌⊎◌, Bool, true, false, List, ◌++◌, length, Option}
 use Rattle.relay_links.specs.Connector.{Offer}
 use Rattle.relay_links.specs.Count.{up}
 use Rattle.relay_links.specs.Link.{LinkState, LinkStart}
@@ -120,6 +120,8 @@ pub record Processes {L : Type 0} (state : L → LinkState) (start_at : L → Li
   pub refused : Gains told_before (faults_for own processed.history.attempts) told_after
   -- of what the connector had it took the first: those faults, and then the link
   pub offered : Takes had (offers_for start_at own processed.history.attempts) has
+  -- a request makes no more attempts than it may
+  pub attempts : 1 ≤ s.most → length processed.history.attempts ≤ s.most
   -- what is recorded of uses are those of the client's link, and of the link that was handed back
   pub uses : CountsAll state start_at client w.client own processed.history.items_used
   -- what is recorded of turns, of tasks and of ends is bounded by the bytes that both links gave

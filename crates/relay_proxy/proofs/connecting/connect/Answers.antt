@@ -1,8 +1,5 @@
 -- Over a link that the connector gave the exchange begins; where it gave none, its count rose.
-use Rattle.std.proofs.Common.{List, sym, ap, ◌∙◌}
-use Rattle.relay_proxy.specs.Refusals.{faults_told}
 use Rattle.relay_proxy.specs.Turn.{world_with}
-use Rattle.relay_proxy.specs.declared.record.AttemptRecord.{AttemptRecord}
 use Rattle.relay_proxy.proofs.RefusalLemmas.{told_before_link}
 use Rattle.relay_proxy.proofs.TakenLemmas.{took_fault, took_link}
 use Rattle.relay_proxy.proofs.connecting.connect.Goals as goal

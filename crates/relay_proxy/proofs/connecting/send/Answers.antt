@@ -1,5 +1,5 @@
 -- The attempt begins with the head that is sent of the client's; one whose head is refused fails.
-use Rattle.std.proofs.Common.{refl, sym, subst, Ok}
+use Rattle.std.proofs.Common.{sym, subst, Ok}
 use Rattle.relay_authority.specs.declared.upstream.Client.{Client}
 use Rattle.relay_proxy.specs.Sent.{MakesSent}
 use Rattle.relay_proxy.proofs.ConnectSteps.{client_asked, not_made, refused_asked}
