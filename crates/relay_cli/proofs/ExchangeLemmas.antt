@@ -1,5 +1,5 @@
 -- The requests of a run: what each leaves of the script's peers, and what is reported of it.
-use Rattle.std.proofs.Common.{◌≡◌, ◌≢◌, ◌<◌, ◌==◌, if◌then◌else◌, inl, inr, ◌⊎◌, Option, None, Ok, Err, subst, ℕ, zero, suc, ◌+◌, ◌≤◌, List, [], ◌∷◌, ◌++◌, map, drop, take, length, Bool, true, false, IsTrue, Some, refl, sym, ap, ◌∙◌, add-one, append_assoc, append-nil, drop-cons, true≢false, arith}
+use Rattle.std.proofs.Common.{◌≡◌, ◌≢◌, ◌<◌, ◌==◌, if◌then◌else◌, inl, inr, ◌⊎◌, Option, None, Ok, Err, subst, ℕ, zero, suc, ◌+◌, List, [], ◌∷◌, ◌++◌, map, drop, take, length, Bool, true, false, Some, refl, sym, ap, ◌∙◌, add-one, append_assoc, append-nil, drop-cons, true≢false, arith}
 use Rattle.std.specs.List.{slice_get, slice_range}
 use Rattle.std.proofs.Math.Seq.{drop-append_seam, drop-nil, take-length}
 use Rattle.std.specs.List.{All}
@@ -15,7 +15,7 @@ use Rattle.relay_links.specs.Connector.{Offer, connect_fault}
 use Rattle.relay_links.specs.Link.{LinkItems, LinkStart}
 use Rattle.relay_links.specs.ScriptLink.{script_state, script_start, AnswersBy}
 use Rattle.relay_links.specs.ScriptEntries.{entry_offer, offer_of, next_entries, links_returned, offers_left, faults_answered, gets_failed}
-use Rattle.relay_links.specs.Told.{Since, more}
+use Rattle.relay_links.specs.Told.{more}
 use Rattle.relay_links.specs.declared.connector.Returned.{Returned}
 use Rattle.relay_links.specs.declared.script_connector.PeerScript.{PeerScript}
 use Rattle.relay_links.specs.declared.script_link.ScriptLink.{ScriptLink}

@@ -1,5 +1,5 @@
 -- What a run of a script rules out.
-use Rattle.std.proofs.Common.{◌≡◌, ◌≢◌, ℕ, zero, suc, ◌+◌, ◌*◌, ◌≤◌, ◌<◌, Bool, true, false, List, [], ◌∷◌, ◌++◌, drop, map, Some, None, Ok, Err, Option, refl, sym, ap, ◌∙◌, subst, inl, inr, length, length-append, arith}
+use Rattle.std.proofs.Common.{◌≡◌, ◌≢◌, ℕ, zero, suc, ◌+◌, ◌*◌, ◌≤◌, ◌<◌, Bool, true, false, List, [], ◌∷◌, ◌++◌, drop, map, Some, Ok, Err, refl, sym, ap, ◌∙◌, subst, inl, inr, length, length-append, arith}
 use Rattle.std.proofs.lemmas.List.{length-drop, length-take}
 use Rattle.std.proofs.lemmas.List.Concat.{flat_map-cons}
 use Rattle.std.proofs.lemmas.Option.{same_Some}
@@ -10,7 +10,7 @@ use Rattle.relay_links.specs.ReadScript.{given_of, left_items, script_given, scr
 use Rattle.relay_links.specs.ReadScript as reads
 use Rattle.relay_links.specs.declared.write_script.WriteItem.{WriteItem}
 use Rattle.relay_links.specs.ScriptLink.{script_state, script_start, AnswersBy}
-use Rattle.relay_links.specs.Told.{Since, more, told_length}
+use Rattle.relay_links.specs.Told.{Since, told_length}
 use Rattle.relay_links.specs.declared.connector.Returned.{Returned}
 use Rattle.relay_links.specs.declared.read_script.ReadItem.{ReadItem}
 use Rattle.relay_links.specs.declared.read_script.ReadItem.TheVariants as item

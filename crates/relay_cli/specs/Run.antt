@@ -1,5 +1,5 @@
 -- A run of the program: what it read, what it wrote, and the status that it ends with.
-use Rattle.std.specs.Prelude.{◌≡◌, ℕ, ◌<◌, true, List, [], ◌∷◌, ◌⊎◌, length, Some, None, MatchOption, codes, Result, Ok, Err}
+use Rattle.std.specs.Prelude.{◌≡◌, ℕ, ◌<◌, true, List, ◌⊎◌, length, Some, None, codes, Result, Ok, Err}
 use Rattle.relay_links.specs.Count.{Rose}
 use Rattle.relay_links.specs.Sink.{SinkState}
 use Rattle.relay_links.specs.Source.{SourceState}

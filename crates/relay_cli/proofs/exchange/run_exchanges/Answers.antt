@@ -1,5 +1,5 @@
 -- The requests follow each other up to the one from which the client does not go back.
-use Rattle.std.proofs.Common.{◌≡◌, ◌-◌, ◌∷◌, ◌++◌, ◌∙◌, [], List, IfOk, ap, arith, false, refl, sym, subst, true}
+use Rattle.std.proofs.Common.{◌≡◌, ◌-◌, ◌∷◌, ◌++◌, ◌∙◌, [], List, ap, arith, refl, sym, subst}
 use Rattle.std.proofs.lemmas.List.{map-append}
 use Rattle.relay_cli.specs.Exchange.{IsRun}
 use Rattle.relay_cli.specs.Report.{RequestSpec, request_spec, request_specs}

@@ -1,5 +1,5 @@
 -- A list of too many values has no peers, and any other has those that its values are.
-use Rattle.std.proofs.Common.{Option, List, Vec, Global, Result, subst, sym, arith}
+use Rattle.std.proofs.Common.{Option, List, Vec, Global, subst, sym, arith}
 use Rattle.relay_cli.specs.Script.{PeerSpec, Reads, peer_specs}
 use Rattle.relay_cli.specs.declared.script.PeerEntry.{PeerEntry}
 use Rattle.relay_cli.proofs.ScriptLemmas.{peers_many, peers_few}
