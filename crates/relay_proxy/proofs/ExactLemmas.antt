@@ -438,7 +438,7 @@ module _ {L : Type 0} (state : L → LinkState) (start_at : L → LinkStart) whe
     unfit = λ r head one accepted unfit. absurd (one_not_none one);
     whole = λ head relayable goes asks answers faultless.
         whole_unlinked s p w outcome ends head relayable asks faultless.client
-            (faultless.connector refl);
+        (faultless.connector refl);
   }
 
   -- a request that had this link
