@@ -3,13 +3,12 @@
 --   first_counted    an exchange that is under way, of which nothing was counted
 --   counted_turn     one more turn
 --   counted_within   what was counted of one that is under way, by the bytes that both links gave
-use Rattle.std.proofs.Common.{◌≡◌, ℕ, ◌+◌, ◌≤◌, ◌<◌, Bool, true, false, ◌&&◌, not, List, [], ◌∷◌, ◌++◌, length, map, length-append, Option, Some, None, refl, sym, ap, ◌∙◌, inl, inr, ◌⊎◌, arith}
+use Rattle.std.proofs.Common.{◌≡◌, ℕ, ◌+◌, ◌≤◌, ◌<◌, Bool, true, false, ◌&&◌, not, List, ◌++◌, length, length-append, Option, Some, None, refl, ap, ◌∙◌, ◌⊎◌, arith}
 use Rattle.std.proofs.lemmas.List.{length-map}
 use Rattle.relay_tasks.specs.declared.error.Error.{Error}
-use Rattle.relay_tasks.specs.declared.error.Fail.TheVariants as fail
 use Rattle.relay_tasks.specs.declared.task.HttpTask.{HttpTask}
 use Rattle.relay_links.specs.Link.{LinkState, LinkStart}
-use Rattle.relay_core.specs.Counts.{one_if, read_count, Carries, CountsAs, ends_left}
+use Rattle.relay_core.specs.Counts.{one_if, Carries, CountsAs, ends_left}
 use Rattle.relay_core.specs.Moves.{SoFar, ResponseHeld, failure_task}
 use Rattle.relay_core.specs.Past.{Origin, DownPast, UpPast}
 use Rattle.relay_core.specs.State.{is_reading, is_response_done}
@@ -198,7 +197,7 @@ module _ {L : Type 0} (state : L → LinkState) (start_at : L → LinkStart) whe
           record {
             passed = passed_by went.p went.q;
             under_way = under_way state start_at s went.p went.q link' ahead' new
-                (record { so_far = went.so_far; goes_on = goes_on }) h.under_way.agrees;
+                (record { so_far = went.so_far; goes_on = goes_on }) h.under_way.alike;
             carries = carried more_tasks more_ends counts;
             left = omega (arith, left, h.left);
           }

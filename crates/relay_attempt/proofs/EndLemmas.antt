@@ -15,12 +15,13 @@ use Rattle.relay_tasks.specs.Task.{is_end}
 use Rattle.relay_links.specs.Count.{Rose}
 use Rattle.relay_links.specs.Link.{LinkState, LinkStart}
 use Rattle.relay_h1.specs.Body.{Body, ended_text}
+use Rattle.relay_h1.specs.BodyWire.{is_full}
 use Rattle.relay_h1.specs.Tasks.{Tasks, ended}
 use Rattle.relay_h1.proofs.VerdictLemmas.{HasRequest-unique}
 use Rattle.relay_peer.specs.H1Client.{may_keep_client}
 use Rattle.relay_peer.specs.ResponseReading.{says, may_keep_reading}
 use Rattle.relay_peer.specs.ResponseReading as reading
-use Rattle.relay_peer.specs.RequestWriting.{Sent, Stands, sent_wire, may_keep_writing, short_request}
+use Rattle.relay_peer.specs.RequestWriting.{Sent, Stands, body_framing, sent_wire, may_keep_writing, short_request}
 use Rattle.relay_session.specs.Response.{Holds, IsOpen, is_over, pending}
 use Rattle.relay_session.specs.declared.task_text.Place.TheVariants as place
 use Rattle.relay_session.specs.declared.writing.Outgoing.TheVariants as outgoing
@@ -48,22 +49,22 @@ use Rattle.relay_sides.specs.declared.filtered.Filtered.{Filtered}
 use Rattle.relay_peer.specs.declared.peer_side.PeerSide.{PeerSide}
 use Rattle.relay_sides.proofs.ClientPast.{open_is_whole}
 use Rattle.relay_sides.proofs.FilterLemmas.{inside_of}
-use Rattle.relay_attempt.specs.Agrees.{Agrees}
+use Rattle.relay_attempt.specs.Agrees.{AsksAlike}
 use Rattle.relay_attempt.specs.Exchange.{DownHolds, UpHolds, Blames, BlamesInside, down_state, core_of, IsFinished, FailsWith}
 use Rattle.relay_exchange.specs.Exchange.{may_keep_at}
 use Rattle.relay_attempt.specs.Head.{link_of, may_keep}
 use Rattle.relay_exchange.specs.declared.exchange.Stage.{Stage}
 use Rattle.relay_exchange.specs.declared.exchange.Stage.TheVariants as stage
 use Rattle.relay_attempt.specs.declared.h1_exchange.H1Exchange.{H1Exchange}
-use Rattle.relay_attempt.specs.Order.{FailsFor, SendsWhole, IsRelayed, IsInOrder, Leaves, MayServe}
+use Rattle.relay_attempt.specs.Order.{FailsFor, SendsWhole, SendsShort, IsRelayed, IsInOrder, Leaves, MayServe}
 use Rattle.relay_attempt.specs.Order as order
 use Rattle.relay_attempt.proofs.SentLemmas.{IsWritten, stays_over}
 use Rattle.relay_attempt.proofs.ToldLemmas.{given_ends_last}
 use Rattle.relay_attempt.proofs.OrderLemmas.{passed_by, own_request, answers_own, text_written, tasks_own, batched_front, handed_any, IsEndGiven, end_given, headed, heads_withheld, refused_for, over_by_end, ended_said, order_so_far}
 use Rattle.relay_attempt.proofs.FitLemmas.{never_refused, over_is_whole, over_has_end}
 use Rattle.relay_attempt.proofs.KeepLemmas.{kept_parts, kept_unfailed, sent_whole, read_whole, over_ends}
-use Rattle.relay_attempt.proofs.ServeLemmas.{never_refused_short, never_short, ended_stands, kept_writing, kept_reading, all_keep}
-use Rattle.relay_attempt.proofs.UnshortLemmas.{framing_is}
+use Rattle.relay_attempt.proofs.ServeLemmas.{never_refused_short, sends_short, ended_stands, kept_writing, kept_reading, all_keep}
+use Rattle.relay_attempt.proofs.ShortLemmas.{short_or_whole, head_full}
 
 -- what is not awaited is empty
 none_waits : (waits : List ℕ) → not (length waits == 0) ≡ false → waits ≡ []
@@ -110,11 +111,11 @@ module _ {L : Type 0} (state : L → LinkState) (start_at : L → LinkStart)
     (down : ClientSide) (up : Filtered (PeerSide L)) (duplex : Duplex)
     (so_far : SoFar (DownHolds link ahead down s) (UpHolds state start_at up s)
     (Blames state start_at up s) (core_of state start_at duplex down up) p q)
-    (agrees : Agrees s.head s.sent)
+    (alike : AsksAlike s.head s.sent)
   where
     -- what passed is in order
     abbrev in_order : IsInOrder s (passed_by p q) (state up.inner.client.link).ended
-    in_order = order_so_far state start_at s p q link ahead down up duplex so_far agrees
+    in_order = order_so_far state start_at s p q link ahead down up duplex so_far alike
 
     -- why the exchange failed with that error, over what is in order here
     record FailsHere (e : Error) : Type 0 where
@@ -179,7 +180,7 @@ module _ {L : Type 0} (state : L → LinkState) (start_at : L → LinkStart)
     over_behind : (list_any is_end p.batched ≡ true) ⊎ (down.done ≡ true)
         → is_over (wire (request_of s.head) place.NoHead p.batched).place ≡ true
     over_behind (inl ends) =
-        over_by_end s agrees.method (state up.inner.client.link).ended q.got q.read in_order.are_of
+        over_by_end s alike (state up.inner.client.link).ended q.got q.read in_order.are_of
         (headed s (start_at up.inner.client.link) (state up.inner.client.link) up q so_far.up)
         p.batched front ends
     over_behind (inr done) =
@@ -192,7 +193,7 @@ module _ {L : Type 0} (state : L → LinkState) (start_at : L → LinkStart)
         (says (told_of in_order.are_of.given) (ended n))
     whole_by (inl ends) = in_order.are_of.whole (given_ends ends).found
     whole_by (inr done) =
-        over_is_whole s.head s.sent.method agrees.method s.asked
+        over_is_whole s.head s.sent.method alike s.asked
         (state up.inner.client.link).ended q.got q.read in_order.are_of p.batched
         front.rest (sym front.joined) (over_behind (inr done))
 
@@ -248,7 +249,7 @@ module _ {L : Type 0} (state : L → LinkState) (start_at : L → LinkStart)
     -- and so did its body
     sends_whole : duplex.send_error ≡ None → Finishes (core_of state start_at duplex down up) p q
         → SendsWhole s (passed_by p q) (state up.inner.client.link).ended
-        (order_so_far state start_at s p q link ahead down up duplex so_far agrees)
+        (order_so_far state start_at s p q link ahead down up duplex so_far alike)
     sends_whole none finishes =
         let c = so_far.down.client in
         let done = finishes.request_ended none in
@@ -273,7 +274,7 @@ module _ {L : Type 0} (state : L → LinkState) (start_at : L → LinkStart)
     read_ends (inr done) =
         ap (list_any is_end) in_order.are_of.are
         ∙ handed_any s.sent.method in_order.are_of.given
-        ∙ over_has_end s.head s.sent.method agrees.method s.asked
+        ∙ over_has_end s.head s.sent.method alike s.asked
         (state up.inner.client.link).ended q.got q.read
         in_order.are_of so_far.up.withheld up.inner.client.response tasks_are heads_here p.batched
         front.rest (sym front.joined) (over_behind (inr done))
@@ -290,23 +291,25 @@ module _ {L : Type 0} (state : L → LinkState) (start_at : L → LinkStart)
     calm none finishes =
         so_far.up.holds.marked.calm (unread finishes) (sym so_far.marks.sends ∙ none)
 
-    -- the peer's side answers for no request that ends short
-    never_kept : (e : Error) → Blames state start_at up s q e → e ≡ short_request → ⊥
-    never_kept e (filtered.BlamesOver.by_inner blames) short =
-        never_short s agrees (passed_by p q) (state up.inner.client.link).ended
+    -- a request whose error says that it ends short does
+    ends_short : (e : Error) → Blames state start_at up s q e → e ≡ short_request
+        → SendsShort s (passed_by p q) (state up.inner.client.link).ended in_order
+    ends_short e (filtered.BlamesOver.by_inner blames) short =
+        sends_short s (passed_by p q) (state up.inner.client.link).ended
         (state up.inner.client.link) (start_at up.inner.client.link) in_order q.lost e
         (own_blames state start_at s q up so_far.up e blames) short
-    never_kept e (filtered.BlamesOver.by_refusal is) short =
-        never_refused_short s.sent.method s.asked q.got e
+    ends_short e (filtered.BlamesOver.by_refusal is) short =
+        absurd (never_refused_short s.sent.method s.asked q.got e
         (refused_for s (start_at up.inner.client.link) (state up.inner.client.link) up q so_far.up e
-        is) short
+        is) short)
 
-    -- a send error that is kept is that of a write, the one call of the link that failed, since no
+    -- a send error that is kept is that of a write, the one call of the link that failed, or the
     -- request ends short
-    write_error : Finishes (core_of state start_at duplex down up) p q → (e : Error)
+    send_error : Finishes (core_of state start_at duplex down up) p q → (e : Error)
         → duplex.send_error ≡ Some e
         → IsOnlyFault (start_at up.inner.client.link) (state up.inner.client.link) e
-    write_error finishes e some =
+        ⊎ SendsShort s (passed_by p q) (state up.inner.client.link).ended in_order
+    send_error finishes e some =
         let still = unread finishes in
         let named :
         CannotSend (start_at up.inner.client.link) (state up.inner.client.link) false e =
@@ -315,8 +318,8 @@ module _ {L : Type 0} (state : L → LinkState) (start_at : L → LinkStart)
         CannotSend (start_at up.inner.client.link) (state up.inner.client.link) b e)
         still (so_far.up.holds.marked.named e (sym so_far.marks.sends ∙ some)) in
         elim named [
-          | inl written ↦ written
-          | inr short ↦ absurd (never_kept e (so_far.send_error e some) short)
+          | inl written ↦ inl written
+          | inr short ↦ inr (ends_short e (so_far.send_error e some) short)
         ]
 
     -- the peer's side answers for it
@@ -332,22 +335,21 @@ module _ {L : Type 0} (state : L → LinkState) (start_at : L → LinkStart)
     request_by : (error : Option Error) → duplex.send_error ≡ error
         → Finishes (core_of state start_at duplex down up) p q
         → (SendsWhole s (passed_by p q) (state up.inner.client.link).ended
-        (order_so_far state start_at s p q link ahead down up duplex so_far agrees)
+        (order_so_far state start_at s p q link ahead down up duplex so_far alike)
         × ((state up.inner.client.link).faults ≡ (start_at up.inner.client.link).faults))
-        ⊎ ((e : Error) × (lost : Bool)
+        ⊎ (((e : Error) × (lost : Bool)
         × PeerBlames (start_at up.inner.client.link) (state up.inner.client.link) s.sent s.asked
-        (order.up_past (order_so_far state start_at s p q link ahead down up duplex so_far agrees)
+        (order.up_past (order_so_far state start_at s p q link ahead down up duplex so_far alike)
         lost) e
         × IsOnlyFault (start_at up.inner.client.link) (state up.inner.client.link) e)
+        ⊎ SendsShort s (passed_by p q) (state up.inner.client.link).ended
+        (order_so_far state start_at s p q link ahead down up duplex so_far alike))
     request_by None none finishes =
         inl (sends_whole none finishes, peer_holds.calm (calm none finishes))
-    request_by (Some e) some finishes =
-        inr (
-          e,
-          q.lost,
-          write_blamed e (write_error finishes e some),
-          write_error finishes e some,
-        )
+    request_by (Some e) some finishes = elim (send_error finishes e some) [
+      | inl written ↦ inr (inl (e, q.lost, write_blamed e written, written))
+      | inr short ↦ inr (inr short)
+    ]
 
     -- both directions were relayed
     abbrev relayed_of : Finishes (core_of state start_at duplex down up) p q
@@ -364,13 +366,35 @@ module _ {L : Type 0} (state : L → LinkState) (start_at : L → LinkStart)
           reads = so_far.up.holds.marked.reads (unread finishes);
         }
 
-    -- without a fault no send error is kept
-    unsent : Finishes (core_of state start_at duplex down up) p q → (error : Option Error)
-        → duplex.send_error ≡ error
+    -- where the request was sent whole, and without a fault, no send error is kept
+    unsent : Finishes (core_of state start_at duplex down up) p q
+        → MayServe s (passed_by p q) (state up.inner.client.link).ended in_order
+        → (error : Option Error) → duplex.send_error ≡ error
         → ¬ (Rose (start_at up.inner.client.link).faults (state up.inner.client.link).faults)
         → duplex.send_error ≡ None
-    unsent finishes None is faultless = is
-    unsent finishes (Some e) is faultless = absurd (faultless (write_error finishes e is).rose)
+    unsent finishes serves None is faultless = is
+    unsent finishes serves (Some e) is faultless = elim (send_error finishes e is) [
+      | inl written ↦ absurd (faultless written.rose)
+      | inr short ↦
+          absurd (short_or_whole s (passed_by p q) (state up.inner.client.link).ended in_order
+          short serves)
+    ]
+
+    -- a request that has ended has an end among its pieces, or the head that was sent has no body
+    ended_sent : duplex.send_error ≡ None → Finishes (core_of state start_at duplex down up) p q
+        → MayServe s (passed_by p q) (state up.inner.client.link).ended in_order
+        → (list_any is_end p.put ≡ true)
+        ⊎ ((p.put ≡ []) × (is_full (body_framing s.sent) ≡ true))
+    ended_sent none finishes serves =
+        elim (so_far.down.client.whole (finishes.request_ended none)) [
+          | inl ends ↦ inl ends
+          | inr bare ↦ inr (
+            bare.0,
+            head_full s (passed_by p q) (state up.inner.client.link).ended in_order serves
+                (sent_all none finishes
+                ∙ ap (λ (l : List HttpTask). sent_wire (sent_as s.sent l)) bare.0),
+          )
+        ]
 
     -- a link that may serve another request is kept
     pub keeps_of : Finishes (core_of state start_at duplex down up) p q
@@ -378,18 +402,15 @@ module _ {L : Type 0} (state : L → LinkState) (start_at : L → LinkStart)
         → ¬ (Rose (start_at up.inner.client.link).faults (state up.inner.client.link).faults)
         → core.may_keep duplex.kind duplex && may_keep_client up.inner.client ≡ true
     keeps_of finishes serves faultless =
-        let none = unsent finishes duplex.send_error refl faultless in
-        let c = so_far.down.client in
+        let none = unsent finishes serves duplex.send_error refl faultless in
         let u = peer_holds in
         let ends = read_ends finishes.ended in
         let stands = subst (λ (x : Sent). Stands x up.inner.client.request.request)
         (u.queued.unlost (finishes.unlost none)
         ∙ ap (λ (h : RequestHead). sent_as h q.taken) u.own
         ∙ ap (λ (ts : List HttpTask). sent_as s.sent ts) (finishes.taken none)) u.so_far.stands in
-        let whole = ended_stands s.sent p.put up.inner.client.request.request c.framing
-        (framing_is s.sent c.framing
-        (agrees.framing ∙ (own_request s p link ahead down.session c).let_in.framed)) stands
-        (c.whole (finishes.request_ended none)) in
+        let whole = ended_stands s.sent p.put up.inner.client.request.request stands
+        (ended_sent none finishes serves) in
         let over : reading.is_over up.inner.client.response.place ≡ true =
         sym tasks_are.ended
         ∙ any_left is_end so_far.up.given so_far.up.withheld
@@ -474,7 +495,7 @@ module _ {L : Type 0} (state : L → LinkState) (start_at : L → LinkStart)
             let c = so_far.down.client in
             let own = (HasRequest-unique (given_to s p) head s.head framing c.framing len c.len has
             (own_request s p link ahead down.session c)).0 in
-            absurd (never_refused s.head s.sent.method agrees.method s.asked
+            absurd (never_refused s.head s.sent.method alike s.asked
             (state up.inner.client.link).ended q.got q.read in_order.are_of
             first (behind ++ r.rest) at
             (r.came ∙ sym (append_assoc p.batched r.left r.rest)
@@ -526,28 +547,28 @@ module _ {L : Type 0} (state : L → LinkState) (start_at : L → LinkStart) whe
       → SoFar (DownHolds link ahead x.exchange.down s) (UpHolds state start_at x.exchange.up s)
       (Blames state start_at x.exchange.up s)
       (core_of state start_at x.exchange.duplex x.exchange.down x.exchange.up) p q
-      → Agrees s.head s.sent
+      → AsksAlike s.head s.sent
       → Finishes (core_of state start_at x.exchange.duplex x.exchange.down x.exchange.up) p q
       → IsFinished state start_at s (passed_by p q) ahead x
-  finished_of s p q link ahead x is f agrees finishes =
+  finished_of s p q link ahead x is f alike finishes =
       let down = x.exchange.down in
       let up = x.exchange.up in
       let duplex = x.exchange.duplex in
-      let relayed = relayed_of state start_at s p q link ahead down up duplex f agrees finishes in
+      let relayed = relayed_of state start_at s p q link ahead down up duplex f alike finishes in
       let c = f.down.client in
       let client_keeps : may_keep x ≡ true → may_keep_client up.inner.client ≡ true =
       λ kept. and_right (may_keep_at x.exchange.stage duplex) _ kept in
       record {
         relayed = relayed;
         answers = answers_own s p link ahead down.session c;
-        leaves = leaves_of state start_at s p q link ahead down up duplex f agrees (may_keep x)
+        leaves = leaves_of state start_at s p q link ahead down up duplex f alike (may_keep x)
             relayed.n relayed.whole client_keeps;
         faultless = λ kept.
             f.up.holds.peer.calm (kept_unfailed up.inner.client (client_keeps kept));
         keeps = λ serves faultless.
             subst (λ (at : Stage). may_keep_at at duplex && may_keep_client up.inner.client ≡ true)
             (sym is)
-            (keeps_of state start_at s p q link ahead down up duplex f agrees finishes serves
+            (keeps_of state start_at s p q link ahead down up duplex f alike finishes serves
             faultless);
       }
 
@@ -557,15 +578,15 @@ module _ {L : Type 0} (state : L → LinkState) (start_at : L → LinkStart) whe
       → SoFar (DownHolds link ahead x.exchange.down s) (UpHolds state start_at x.exchange.up s)
       (Blames state start_at x.exchange.up s)
       (core_of state start_at x.exchange.duplex x.exchange.down x.exchange.up) p q
-      → Agrees s.head s.sent → (e : Error)
+      → AsksAlike s.head s.sent → (e : Error)
       → HasReason (λ r e. ClientBlames s r link e) (λ r left e. ClientRefuses s r link left e)
       (λ r e. ClientBlames s r link e ⊎ CannotEnd s r e) (Blames state start_at x.exchange.up s)
       (down_state x.exchange.down) p q e
       → FailsWith state start_at s (passed_by p q) link x e
-  fails_with s p q link ahead x f agrees e reason =
+  fails_with s p q link ahead x f alike e reason =
       let down = x.exchange.down in
       let fails = fails_here state start_at s p q link ahead down x.exchange.up x.exchange.duplex f
-      agrees e reason in
+      alike e reason in
       record {
         why = fails.why;
         answers = answers_own s p link ahead down.session f.down.client;

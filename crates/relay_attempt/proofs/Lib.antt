@@ -3,7 +3,7 @@ pub mod ToldLemmas
 pub mod FitLemmas
 pub mod AttemptLemmas
 pub mod OrderLemmas
-pub mod UnshortLemmas
+pub mod ShortLemmas
 pub mod KeepLemmas
 pub mod EndLemmas
 pub mod TurnLemmas

@@ -55,7 +55,7 @@ use Rattle.relay_peer.proofs.FrontLemmas.{front_then}
 use Rattle.relay_sides.proofs.FilterLemmas.{inside_of}
 use Rattle.relay_sides.proofs.RefusalLemmas.{stopped_for, withheld_heads}
 use Rattle.relay_peer.proofs.TaskLemmas.{ended_whole}
-use Rattle.relay_attempt.specs.Agrees.{Agrees}
+use Rattle.relay_attempt.specs.Agrees.{AsksAlike}
 use Rattle.relay_attempt.specs.Attempt.{DownHalf, IsAttempt, UpHalf}
 use Rattle.relay_attempt.specs.Exchange.{DownHolds, UpHolds, Blames, down_state, core_of, AreTold}
 use Rattle.relay_attempt.specs.Order.{ArePieces, AreOf, IsInOrder}
@@ -421,7 +421,7 @@ up_half s start link side q h = record {
 -- the halves of an attempt, each of which took the front of what the other put, are in order, where
 -- both heads agree
 module _
-    (s : Origin) (agrees : Agrees s.head s.sent) (client link : LinkState) (start : LinkStart)
+    (s : Origin) (alike : AsksAlike s.head s.sent) (client link : LinkState) (start : LinkStart)
     (side : DownState) (plain : side.upgraded ≡ false)
     (a : IsAttempt (DownHalf s client side.response_done) (UpHalf s start link) side)
   where
@@ -457,7 +457,7 @@ module _
       batched = a.p.batched;
       first_batched = first_batched;
       closing = a.p.closing;
-      passes = all_pass s agrees.method link.ended a.q.got a.q.read a.is_up.are_of a.is_up.headed
+      passes = all_pass s alike link.ended a.q.got a.q.read a.is_up.are_of a.is_up.headed
           a.p.batched first_batched a.p.closing a.is_down.plain_end late;
       closes_late = late;
       written = a.is_down.is_written;
@@ -499,8 +499,8 @@ module _ {L : Type 0} (state : L → LinkState) (start_at : L → LinkStart)
         (Blames state start_at up s) (core_of state start_at duplex down up) p q so_far)
 
     -- so it is in order, where both heads agree
-    abbrev pub order_so_far : Agrees s.head s.sent
+    abbrev pub order_so_far : AsksAlike s.head s.sent
         → IsInOrder s (passed_by p q) (state up.inner.client.link).ended
-    order_so_far agrees =
-        order_of s agrees link (state up.inner.client.link) (start_at up.inner.client.link)
+    order_so_far alike =
+        order_of s alike link (state up.inner.client.link) (start_at up.inner.client.link)
         (down_state down) refl attempt_so_far

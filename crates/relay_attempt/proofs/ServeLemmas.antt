@@ -1,6 +1,6 @@
 -- A link that may serve another request may be kept: the converses of what it means that it may.
 --
---   never_short    no request ends short
+--   sends_short    a peer's side that answers for a request that ends short tells of it
 --   kept_writing   a request that was sent whole, and whose head lets its link be kept
 --   kept_reading   a response that was read whole, and whose head and framing let its link be kept
 --   all_keep       a duplex of HTTP/1 in which both have ended and nothing failed
@@ -12,14 +12,13 @@ use Rattle.relay_tasks.specs.Head.{RequestHead, ResponseHead}
 use Rattle.relay_tasks.specs.Task.{is_end}
 use Rattle.relay_links.specs.Link.{LinkState, LinkStart}
 use Rattle.relay_h1.specs.declared.framing.Framing.{Framing}
-use Rattle.relay_h1.specs.declared.framing.Framing.TheVariants as framing
 use Rattle.relay_h1.specs.BodyWire.{is_full}
 use Rattle.relay_h1.specs.ClientHead.{is_informational}
 use Rattle.relay_h1.specs.Options.{closes}
 use Rattle.relay_h1.specs.Tasks.{HasFinal, Tasks, ResponseText, ResponseMark, ended}
 use Rattle.relay_h1.specs.Tasks as tasks
 use Rattle.relay_h1.proofs.TasksLemmas.{HasFinal-unique}
-use Rattle.relay_core.proofs.BoolLemmas.{and_both, clash, not_false, or_cases}
+use Rattle.relay_core.proofs.BoolLemmas.{and_both, not_false, or_cases}
 use Rattle.relay_peer.specs.RequestWriting as writing
 use Rattle.relay_peer.specs.RequestWriting.{Sent, Stands, body_framing, head_in, is_whole, may_keep_writing, with_piece, with_end, short_request}
 use Rattle.relay_peer.specs.ResponseReading.{ToldResponse, ReadAt, IsReadWhole, is_over, keeps_at, lets_keep, says}
@@ -29,36 +28,40 @@ use Rattle.relay_peer.specs.declared.request_writing.RequestWriting.{RequestWrit
 use Rattle.relay_peer.specs.declared.response_reading.ResponsePlace.{ResponsePlace}
 use Rattle.relay_peer.specs.declared.response_reading.ResponsePlace.TheVariants as place
 use Rattle.relay_peer.proofs.ExactLemmas.{Tasks-unique}
-use Rattle.relay_session.specs.Front.{ends_with_head}
 use Rattle.relay_core.specs.Past.{Origin}
 use Rattle.relay_peer.specs.Body.{bytes_of, sent_as, sent_behind, sent_with}
 use Rattle.relay_sides.specs.Filtered.{RefusesHead}
 use Rattle.relay_sides.specs.Filtered as filtered
 use Rattle.relay_peer.specs.Peer.{PeerBlames}
 use Rattle.relay_peer.specs.Peer as peer
-use Rattle.relay_attempt.specs.Agrees.{Agrees}
-use Rattle.relay_attempt.specs.Order.{IsInOrder, up_past}
+use Rattle.relay_attempt.specs.Order.{IsInOrder, SendsShort, up_past}
 use Rattle.relay_attempt.specs.Passed.{Passed}
-use Rattle.relay_attempt.proofs.UnshortLemmas.{request_unshort}
 
--- ---- no request ends short
+-- ---- a request that ends short
 
--- the side never answers for a request that ends short: a request in order does not
-pub never_short : (s : Origin) → Agrees s.head s.sent → (p : Passed) (closed : Bool)
-    (link : LinkState) (start : LinkStart) (order : IsInOrder s p closed) (lost : Bool) (e : Error)
-    → PeerBlames start link s.sent s.asked (up_past order lost) e → e ≡ short_request → ⊥
-never_short s agrees p closed link start order lost e
+-- a side that answers with the error of a request that ends short tells of one
+pub sends_short : (s : Origin) (p : Passed) (closed : Bool) (link : LinkState) (start : LinkStart)
+    (order : IsInOrder s p closed) (lost : Bool) (e : Error)
+    → PeerBlames start link s.sent s.asked (up_past order lost) e → e ≡ short_request
+    → SendsShort s p closed order
+sends_short s p closed link start order lost e
     (peer.PeerBlames.link_failed fault is rose answered) same =
-    let wrong = ap (λ (x : Error). x.context) (sym is ∙ same) in cc
-never_short s agrees p closed link start order lost e
+    let wrong = ap (λ (x : Error). x.context) (sym is ∙ same) in absurd (cc)
+sends_short s p closed link start order lost e
     (peer.PeerBlames.is_cut_off told gone is reads) same =
-    let wrong = ap (λ (x : Error). x.etype) (sym is ∙ same) in cc
-never_short s agrees p closed link start order lost e
+    let wrong = ap (λ (x : Error). x.etype) (sym is ∙ same) in absurd (cc)
+sends_short s p closed link start order lost e
     (peer.PeerBlames.is_broken why closed_then came told is front reads for) same =
-    let wrong = ap (λ (x : Error). x.etype) (sym is ∙ same) in cc
-never_short s agrees p closed link start order lost e
-    (peer.PeerBlames.is_short_request front pieces first found joined short is) same =
-    clash _ short (request_unshort s agrees p closed order front pieces first found joined)
+    let wrong = ap (λ (x : Error). x.etype) (sym is ∙ same) in absurd (cc)
+sends_short s p closed link start order lost e
+    (peer.PeerBlames.is_short_request front pieces first found joined short is) same = record {
+      front = front;
+      pieces = pieces;
+      first = first;
+      ended = found;
+      joined = joined;
+      short = short;
+    }
 
 -- a head is refused for another error
 pub never_refused_short : (method : List ℕ) (upgrade : Bool) (got : List ℕ) (e : Error)
@@ -139,31 +142,23 @@ whole_stands (writing.Sent.whole head pieces) request.NoHead whole stands = absu
 whole_stands (writing.Sent.whole head pieces) (request.Sending sending) whole stands =
     ap is_full stands.1
 
--- a framing without a body takes no bytes
-headed_full : (f : Framing) → ends_with_head f ≡ true → is_full f ≡ true
-headed_full framing.Empty ends = refl
-headed_full (framing.Length n) ends = ends
-headed_full framing.Chunked ends = absurd (cc)
-headed_full framing.UntilClose ends = absurd (cc)
-headed_full framing.Tunnel ends = absurd (cc)
-
 -- the writing stands at the end of a head without a body
-headed_stands : (head : RequestHead) (now : RequestPlace) (f : Framing) → body_framing head ≡ f
-    → ends_with_head f ≡ true → Stands (writing.Sent.begun head []) now → is_whole now ≡ true
-headed_stands head request.NoHead f is ends stands = absurd stands
-headed_stands head (request.Sending sending) f is ends stands =
-    ap is_full (stands.1.is_rest ∙ is) ∙ headed_full f ends
+headed_stands : (head : RequestHead) (now : RequestPlace) → is_full (body_framing head) ≡ true
+    → Stands (writing.Sent.begun head []) now → is_whole now ≡ true
+headed_stands head request.NoHead full stands = absurd stands
+headed_stands head (request.Sending sending) full stands = ap is_full stands.1.is_rest ∙ full
 
--- a request that has ended stands at its end
+-- a request that has ended stands at its end, where its head has no body or an end is among its
+-- pieces
 pub ended_stands : (head : RequestHead) (items : List HttpTask) (now : RequestPlace)
-    (f : Framing) → body_framing head ≡ f → Stands (sent_as head items) now
-    → (list_any is_end items ≡ true) ⊎ ((items ≡ []) × (ends_with_head f ≡ true))
+    → Stands (sent_as head items) now
+    → (list_any is_end items ≡ true) ⊎ ((items ≡ []) × (is_full (body_framing head) ≡ true))
     → is_whole now ≡ true
-ended_stands head items now f is stands (inl found) =
+ended_stands head items now stands (inl found) =
     whole_stands (sent_as head items) now
     (ends_whole (writing.Sent.begun head []) items refl found) stands
-ended_stands head items now f is stands (inr none) =
-    headed_stands head now f is none.1
+ended_stands head items now stands (inr none) =
+    headed_stands head now none.1
     (subst (λ (xs : List HttpTask). Stands (sent_as head xs) now) none.0 stands)
 
 -- an option holds no more than one head

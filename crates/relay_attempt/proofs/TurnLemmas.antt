@@ -11,7 +11,7 @@ use Rattle.relay_core.specs.declared.step.Step.TheVariants as step
 use Rattle.relay_sides.specs.Client.{ClientBlames, ClientRefuses, CannotEnd}
 use Rattle.relay_exchange.specs.Exchange as over
 use Rattle.relay_exchange.specs.declared.exchange.Stage.TheVariants as stage
-use Rattle.relay_attempt.specs.Agrees.{Agrees}
+use Rattle.relay_attempt.specs.Agrees.{AsksAlike}
 use Rattle.relay_attempt.specs.Exchange.{DownHolds, UpHolds, Blames, IsUnderWay, Turns, ComesTo, down_state, core_of}
 use Rattle.relay_attempt.specs.Head.{link_of, IsRefusedFor}
 use Rattle.relay_attempt.specs.declared.h1_exchange.H1Exchange.{H1Exchange}
@@ -51,11 +51,11 @@ module _ {L : Type 0} (state : L → LinkState) (start_at : L → LinkStart) whe
       → over.IsUnderWay (DownHolds link ahead x.exchange.down s)
       (UpHolds state start_at x.exchange.up s) (Blames state start_at x.exchange.up s)
       (core_of state start_at x.exchange.duplex x.exchange.down x.exchange.up) p q
-      → Agrees s.head s.sent → IsUnderWay state start_at s (passed_by p q) link ahead x
-  under_way s p q link ahead x under agrees = record {
+      → AsksAlike s.head s.sent → IsUnderWay state start_at s (passed_by p q) link ahead x
+  under_way s p q link ahead x under alike = record {
     order = order_so_far state start_at s p q link ahead x.exchange.down x.exchange.up
-        x.exchange.duplex under.so_far agrees;
-    agrees = agrees;
+        x.exchange.duplex under.so_far alike;
+    alike = alike;
     down = p;
     up = q;
     came = refl;
@@ -74,8 +74,8 @@ module _ {L : Type 0} (state : L → LinkState) (start_at : L → LinkStart) whe
       (λ p e. ClientBlames s p link e ⊎ CannotEnd s p e) (UpHolds state start_at x.exchange.up s)
       (Blames state start_at x.exchange.up s) before up_before was
       (core_of state start_at x.exchange.duplex x.exchange.down x.exchange.up) result
-      → Agrees s.head s.sent → Turns state start_at s link ahead x result
-  turned s link ahead before up_before was x result bodies went agrees = record {
+      → AsksAlike s.head s.sent → Turns state start_at s link ahead x result
+  turned s link ahead before up_before was x result bodies went alike = record {
     passed = passed_by went.p went.q;
     told = told_of_attempt state start_at s link (state (link_of x)) (start_at (link_of x))
         (down_state x.exchange.down)
@@ -88,7 +88,7 @@ module _ {L : Type 0} (state : L → LinkState) (start_at : L → LinkStart) whe
           → IsUnderWay state start_at s (passed_by went.p went.q) link ahead x
       on goes_on =
           under_way s went.p went.q link ahead x
-          (record { so_far = went.so_far; goes_on = goes_on }) agrees
+          (record { so_far = went.so_far; goes_on = goes_on }) alike
 
       comes : (result : Step) → (result ≡ step.Finished → x.exchange.stage ≡ stage.Bodies)
           → over.ComesTo (λ p e. ClientBlames s p link e)
@@ -101,9 +101,9 @@ module _ {L : Type 0} (state : L → LinkState) (start_at : L → LinkStart) whe
       comes (step.Waited pause) bodies goes_on = on goes_on
       comes step.Finished bodies finishes =
           finished_of state start_at s went.p went.q link ahead x (bodies refl) went.so_far
-          agrees (finishes refl)
+          alike (finishes refl)
       comes (step.Failed (fail.Error e)) bodies why =
-          fails_with state start_at s went.p went.q link ahead x went.so_far agrees e why
+          fails_with state start_at s went.p went.q link ahead x went.so_far alike e why
       comes (step.Failed fail.OutOfMemory) bodies free =
           order_so_far state start_at s went.p went.q link ahead x.exchange.down x.exchange.up
-          x.exchange.duplex went.so_far agrees
+          x.exchange.duplex went.so_far alike

@@ -2,9 +2,9 @@
 --
 --   pieces_within     the pieces of a request: three less than the bytes of the client at most
 --   tasks_within      the tasks of a response: one more than the bytes of the peer at most
-use Rattle.std.proofs.Common.{◌≡◌, ℕ, ◌+◌, ◌-◌, ◌≤◌, ◌<◌, Bool, true, false, ◌||◌, ◌⊎◌, List, [], ◌∷◌, ◌++◌, length, drop, take, map, length-append, Option, Some, None, if◌then◌else◌, refl, sym, ap, ◌∙◌, subst, inl, inr, arith}
+use Rattle.std.proofs.Common.{◌≡◌, ℕ, ◌+◌, ◌≤◌, Bool, true, false, ◌||◌, List, [], ◌∷◌, ◌++◌, length, drop, take, length-append, Option, Some, None, if◌then◌else◌, refl, sym, ap, ◌∙◌, inl, inr, arith}
 use Rattle.std.specs.List.{list_any}
-use Rattle.std.proofs.lemmas.List.{length-take, length-drop, length-map}
+use Rattle.std.proofs.lemmas.List.{length-take, length-drop}
 use Rattle.relay_tasks.specs.declared.task.HttpTask.{HttpTask}
 use Rattle.relay_tasks.specs.declared.task.HttpTask.TheVariants as task
 use Rattle.relay_tasks.specs.Head.{RequestHead, ResponseHead}
@@ -20,13 +20,13 @@ use Rattle.relay_h1.specs.Verdict.{HasRequest, HasResponse}
 use Rattle.relay_h1.proofs.BodyReaderLemmas.{SoFar-reads}
 use Rattle.relay_h1.proofs.HeadEndLemmas.{head_end-within}
 use Rattle.relay_core.specs.Moves.{EndsLast}
-use Rattle.relay_peer.specs.Body.{IsFrontOf, body_of, bytes_of}
+use Rattle.relay_peer.specs.Body.{body_of, bytes_of}
 use Rattle.relay_peer.specs.Peer.{AreTasks, Follow, told_behind}
 use Rattle.relay_peer.specs.ResponseReading.{ToldResponse, ReadAt, says, untold, with_task}
 use Rattle.relay_peer.specs.declared.response_reading.ResponsePlace.{ResponsePlace}
 use Rattle.relay_peer.specs.declared.response_reading.ResponsePlace.TheVariants as place
 use Rattle.relay_peer.specs.declared.response_reading.ResponseReading.{ResponseReading}
-use Rattle.relay_sides.specs.Client.{HasSome, HaveSome}
+use Rattle.relay_sides.specs.Client.{HaveSome}
 use Rattle.relay_attempt.specs.Order.{ArePieces}
 use Rattle.relay_attempt.proofs.OrderLemmas.{some_text}
 

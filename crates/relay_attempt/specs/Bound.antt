@@ -1,7 +1,6 @@
 -- How much an exchange over HTTP/1 links does without asking them: the tasks that it moves are no
 -- more than twice the bytes that both links gave, and each end comes once.
-use Rattle.std.specs.Prelude.{◌≡◌, ℕ, ◌+◌, ◌*◌, ◌≤◌, ◌<◌, List, [], length}
-use Rattle.relay_tasks.specs.declared.took.Pause.{Pause}
+use Rattle.std.specs.Prelude.{ℕ, ◌+◌, ◌*◌, ◌≤◌, ◌<◌, List, [], length}
 use Rattle.relay_links.specs.Link.{LinkState, LinkStart}
 use Rattle.relay_links.specs.Told.{Since}
 use Rattle.relay_core.specs.Counts.{Carries, CountsAs, ends_left}

@@ -32,7 +32,7 @@ use Rattle.relay_peer.specs.declared.peer_side.PeerSide.{PeerSide}
 use Rattle.relay_exchange.specs.Exchange.{IsSilentLink}
 use Rattle.relay_exchange.specs.Exchange as over
 use Rattle.relay_attempt.specs.declared.h1_exchange.H1Exchange.{H1Exchange}
-use Rattle.relay_attempt.specs.Agrees.{Agrees}
+use Rattle.relay_attempt.specs.Agrees.{AsksAlike}
 use Rattle.relay_attempt.specs.Head.{link_of, may_keep}
 use Rattle.relay_attempt.specs.Order.{IsInOrder, FailsFor, order_of, IsRelayed, Leaves, MayServe}
 use Rattle.relay_attempt.specs.Passed.{Passed}
@@ -75,7 +75,7 @@ module _ {L : Type 0} (state : L → LinkState) (start_at : L → LinkStart) whe
   pub record IsUnderWay (s : Origin) (p : Passed) (link : LinkState) (ahead : List ℕ)
       (x : H1Exchange L) : Type 0 where
     pub order : IsInOrder s p (state (link_of x)).ended
-    pub agrees : Agrees s.head s.sent
+    pub alike : AsksAlike s.head s.sent
     pub down : DownPast
     pub up : UpPast
     pub came : down.came ≡ p.came

@@ -1,7 +1,7 @@
 -- What was sent to the peer and what was written to the client, in terms of the bytes that passed
 -- (RFC 9110, section 15.2; RFC 9112, sections 3 to 8).
 use Rattle.std.specs.Prelude.{◌≡◌, ◌↔◌, IsTrue, ℕ, All, Bool, true, false, ◌⊎◌, ◌≤◌, List, [], ◌++◌, drop, map, Some, None}
-use Rattle.std.specs.List.{list_any}
+use Rattle.std.specs.List.{list_any, concat}
 use Rattle.relay_tasks.specs.declared.error.Error.{Error}
 use Rattle.relay_tasks.specs.declared.fault.Fault.{Fault}
 use Rattle.relay_tasks.specs.declared.task.HttpTask.{HttpTask}
@@ -175,10 +175,21 @@ pub record SendsWhole (s : Origin) (p : Passed) (closed : Bool) (order : IsInOrd
   pub ended : HasEnded order
   pub sent : p.sent ≡ sent_wire (sent_as s.sent order.pieces)
 
+-- the request ends short: its first pieces, with the end among them, have fewer bytes than the head
+-- that is sent says
+pub record SendsShort (s : Origin) (p : Passed) (closed : Bool) (order : IsInOrder s p closed)
+    : Type 0 where
+  pub front : List HttpTask
+  pub pieces : List (List ℕ)
+  pub first : IsFrontOf front order.taken
+  pub ended : list_any is_end front ≡ true
+  pub joined : concat pieces ≡ body_of front
+  pub short : is_short (after_pieces (body_framing s.sent) pieces) ≡ true
+
 -- the response has come whole, and its text was written whole, no read of the peer's link having
 -- failed, where it tells the faults of its reads. And the request was sent whole, no call of that
 -- link having failed; or one write of it failed, with which it was not, and no other call, and the
--- peer's side answers for that error
+-- peer's side answers for that error; or the request ends short
 pub record IsRelayed (s : Origin) (p : Passed) (link : LinkState) (start : LinkStart) : Type 0 where
   pub order : IsInOrder s p link.ended
   pub n : ℕ
@@ -187,8 +198,9 @@ pub record IsRelayed (s : Origin) (p : Passed) (link : LinkState) (start : LinkS
   pub over : is_over (text_of order).place ≡ true
   pub written : p.written ≡ (text_of order).text
   pub request : (SendsWhole s p link.ended order × (link.faults ≡ start.faults))
-      ⊎ ((e : Error) × (lost : Bool) × PeerBlames start link s.sent s.asked (up_past order lost) e
+      ⊎ (((e : Error) × (lost : Bool) × PeerBlames start link s.sent s.asked (up_past order lost) e
       × IsOnlyFault start link e)
+      ⊎ SendsShort s p link.ended order)
   pub reads : Since [] start.read_faults link.read_faults []
 
 -- the peer's link may serve another request: the request was sent whole, in these pieces; its head

@@ -9,7 +9,7 @@ ghost use Rattle.relay_core.specs.Asked.{WaitRose};
 ghost use Rattle.relay_core.specs.Causes.{says_failed};
 ghost use Rattle.relay_core.specs.Past.{Origin};
 ghost use Rattle.relay_sides.specs.Client.{BeginsBehind};
-ghost use Rattle.relay_attempt.specs.Agrees.{Agrees};
+ghost use Rattle.relay_attempt.specs.Agrees.{AsksAlike};
 ghost use Rattle.relay_attempt.specs.Bound.{CountsOn, HasCounted};
 ghost use Rattle.relay_attempt.specs.Passed.{Passed};
 ghost use Rattle.relay_attempt.specs.Head.{IsRefusedFor, link_of, may_keep};
@@ -52,7 +52,7 @@ impl<L: ByteLink> H1Exchange<L> {
         head: RequestHeader,
     ) -> std::result::Result<H1Exchange<L>, Unbegun<L>>
         ensures begins { IfOk result (λ x. (s : Origin) (came : List ℕ) (client : LinkState)
-            (ahead : List ℕ) (reused : Bool) → head ≡ s.sent → Agrees s.head s.sent
+            (ahead : List ℕ) (reused : Bool) → head ≡ s.sent → AsksAlike s.head s.sent
             → s.asked ≡ false → BeginsBehind s came client ahead session
             → IsHandedOut (L.state link) (L.start link) reused → s.reused ≡ reused
             → IsUnderWay L.state L.start s

@@ -1,3 +1,4 @@
+pub mod UnshortLemmas
 pub mod ValidLemmas
 pub mod AskedLemmas
 pub mod UnfitLemmas

@@ -37,7 +37,7 @@ use Rattle.relay_peer.proofs.FrontLemmas.{front_then}
 use Rattle.relay_attempt.specs.Order as order
 use Rattle.relay_attempt.specs.Order.{IsInOrder, FailsFor, up_past}
 use Rattle.relay_attempt.specs.Passed.{Passed}
-use Rattle.relay_attempt.proofs.UnshortLemmas.{request_unshort}
+use Rattle.relay_valid.proofs.UnshortLemmas.{request_unshort}
 use Rattle.relay_valid.specs.Valid.{IsRequest, IsRelayedHead, IsResponse, IsValid}
 
 -- a flag is not both

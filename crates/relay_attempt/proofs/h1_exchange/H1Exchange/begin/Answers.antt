@@ -29,7 +29,7 @@ returns-in-Ok-clause-begins g c =
     let up = c.new-upstream.result in
     let done = ap (λ (x : HttpSession). is_body_done x.reading) c.new-client.ensures.session
     ∙ sym c.is_body_done-body_done.ensures.value in
-    λ s came link ahead reused own agrees none behind out used.
+    λ s came link ahead reused own alike none behind out used.
     let Begun : Exchange ClientSide (Filtered (PeerSide g.row.L.Denot)) → Type 0 = λ x.
     IsUnderWay state start_at s (record { came = came; written = []; got = []; sent = [] }) link
     ahead (record { exchange = x }) in
@@ -91,7 +91,7 @@ returns-in-Ok-clause-begins g c =
     })
     c.begin-exchange.result.duplex c.begin-exchange.ensures.fresh
     (c.begin-exchange.ensures.sound
-    (client.state_of down.session down.told down.done down.finished down.broken) done)) agrees)
+    (client.state_of down.session down.told down.done down.finished down.broken) done)) alike)
 
 -- one whose head was refused has not
 pub returns-in-Err-clause-refused : goal.returns-in-Err-clause-refused

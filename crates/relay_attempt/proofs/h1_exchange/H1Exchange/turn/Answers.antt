@@ -11,7 +11,7 @@ returns-clause-goes g c =
     turned g.L.ByteLink.state g.L.ByteLink.start s (g.F.Front.state c.turn.new.client)
     (g.F.Front.ahead c.turn.new.client) under.down under.up _
     (record { exchange = c.turn.new.self }) c.turn.result.step c.turn.ensures.bodies
-    (c.turn.ensures.goes s under.down under.up under.holds) under.agrees
+    (c.turn.ensures.goes s under.down under.up under.holds) under.alike
 
 -- and what passed is an attempt
 pub returns-clause-attempt : goal.returns-clause-attempt

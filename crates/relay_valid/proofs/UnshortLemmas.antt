@@ -1,58 +1,26 @@
 -- A request in order is never sent short: its pieces, with the end among them, are a whole body.
 --
 --   request_unshort   from IsInOrder: the pieces that were sent leave nothing of the length missing
-use Rattle.std.proofs.Common.{◌≡◌, ℕ, ◌+◌, ◌-◌, Bool, true, false, List, [], ◌∷◌, ◌++◌, length, drop, refl, sym, ap, subst, ◌∙◌, arith, append-nil, inl, inr, Option, Some, nat_le}
-use Rattle.std.specs.Prelude.{unwrap_or}
+use Rattle.std.proofs.Common.{◌≡◌, ℕ, ◌-◌, Bool, true, false, List, ◌++◌, length, drop, refl, sym, ap, subst, ◌∙◌, arith, append-nil, inl, inr, nat_le}
 use Rattle.std.specs.List.{list_any, concat}
 use Rattle.std.proofs.lemmas.Bool.{cases_lt}
 use Rattle.std.proofs.lemmas.Bool.Decides.{nat_tests}
-use Rattle.std.proofs.lemmas.List.{length-append, length-take-le}
+use Rattle.std.proofs.lemmas.List.{length-take-le}
 use Rattle.relay_tasks.specs.declared.task.HttpTask.{HttpTask}
-use Rattle.relay_tasks.specs.Head.{RequestHead}
 use Rattle.relay_tasks.specs.Task.{is_end}
 use Rattle.relay_h1.specs.declared.framing.Framing.{Framing}
 use Rattle.relay_h1.specs.declared.framing.Framing.TheVariants as framing
 use Rattle.relay_h1.specs.Body.{BodyText, Body, ended_text, of_length}
 use Rattle.relay_h1.specs.Body as body
-use Rattle.relay_h1.specs.BodyWire.{after_piece, after_pieces, is_short}
-use Rattle.relay_h1.specs.Framing.{request_framing}
+use Rattle.relay_h1.specs.BodyWire.{after_pieces, is_short}
 use Rattle.relay_peer.specs.RequestWriting.{body_framing}
 use Rattle.relay_core.specs.Past.{Origin}
 use Rattle.relay_peer.specs.Body.{IsFrontOf, body_of}
 use Rattle.relay_peer.proofs.FrontLemmas.{front_then}
 use Rattle.relay_attempt.specs.Agrees.{Agrees}
 use Rattle.relay_attempt.specs.Order.{IsInOrder}
+use Rattle.relay_attempt.proofs.ShortLemmas.{after_length, framing_is, stays_unshort}
 use Rattle.relay_attempt.specs.Passed.{Passed, asked}
-
--- what is left of a length behind pieces
-after_length : (n : ℕ) (pieces : List (List ℕ))
-    → after_pieces (framing.Length n) pieces ≡ framing.Length (n - length (concat pieces))
-after_length n [] = ap (λ (k : ℕ). framing.Length k) (none n)
-  where
-    none : (k : ℕ) → k ≡ k - 0
-    none k = omega arith
-after_length n (piece ∷ pieces) =
-    after_length (n - length piece) pieces
-    ∙ ap (λ (k : ℕ). framing.Length k)
-    (parts n (length piece) (length (concat pieces)) (length (piece ++ concat pieces))
-    (length-append piece (concat pieces)))
-  where
-    parts : (k a b all : ℕ) → all ≡ a + b → k - a - b ≡ k - all
-    parts k a b all sum = omega arith
-
--- a framing that a piece leaves as it is stays
-stays_framed : (given : Framing) → ((piece : List ℕ) → after_piece given piece ≡ given)
-    → (pieces : List (List ℕ)) → after_pieces given pieces ≡ given
-stays_framed given keeps [] = refl
-stays_framed given keeps (piece ∷ pieces) =
-    ap (λ (f : Framing). after_pieces f pieces) (keeps piece) ∙ stays_framed given keeps pieces
-
--- so it is not short where it was not
-stays_unshort : (given : Framing) → ((piece : List ℕ) → after_piece given piece ≡ given)
-    → is_short given ≡ false → (pieces : List (List ℕ))
-    → is_short (after_pieces given pieces) ≡ false
-stays_unshort given keeps unshort pieces =
-    ap (λ (f : Framing). is_short f) (stays_framed given keeps pieces) ∙ unshort
 
 -- a whole body with a length has that many bytes
 length_whole : (n m : ℕ) (bytes whole : List ℕ) → ended_text whole m ≡ of_length n bytes
@@ -94,12 +62,6 @@ whole_unshort framing.UntilClose bytes whole n pieces reads joined =
     stays_unshort framing.UntilClose (λ piece. refl) refl pieces
 whole_unshort framing.Tunnel bytes whole n pieces reads joined =
     stays_unshort framing.Tunnel (λ piece. refl) refl pieces
-
--- the framing of a head that has one
-pub framing_is : (head : RequestHead) (given : Framing) → request_framing head ≡ Some given
-    → body_framing head ≡ given
-unfolding body_framing
-framing_is head given framed = ap (λ (f : Option Framing). unwrap_or f framing.Empty) framed
 
 -- a request in order does not end short, where both heads agree
 pub request_unshort : (s : Origin) → Agrees s.head s.sent → (p : Passed) (closed : Bool)
