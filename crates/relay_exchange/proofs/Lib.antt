@@ -1,3 +1,4 @@
 pub mod RoundLemmas
 pub mod TurnLemmas
 pub mod PassLemmas
+pub mod ToldLemmas

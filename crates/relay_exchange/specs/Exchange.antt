@@ -3,6 +3,7 @@ use Rattle.std.specs.Prelude.{◌≡◌, Bool, true, false, ◌⊎◌, List, [],
 use Rattle.relay_tasks.specs.declared.error.Error.{Error}
 use Rattle.relay_tasks.specs.declared.error.Fail.TheVariants as fail
 use Rattle.relay_tasks.specs.declared.task.HttpTask.{HttpTask}
+use Rattle.relay_links.specs.Count.{up}
 use Rattle.relay_links.specs.Link.{LinkState}
 use Rattle.relay_links.specs.declared.branch.Branch.{Branch}
 use Rattle.relay_core.specs.Asked.{IsQuiet}
@@ -18,6 +19,7 @@ use Rattle.relay_core.specs.Uses as uses
 use Rattle.relay_core.specs.declared.duplex.Duplex.{Duplex}
 use Rattle.relay_core.specs.declared.step.Step.{Step}
 use Rattle.relay_core.specs.declared.step.Step.TheVariants as step
+use Rattle.relay_core.specs.declared.told.Told.{Told}
 use Rattle.relay_exchange.specs.declared.exchange.Stage.{Stage}
 use Rattle.relay_exchange.specs.declared.exchange.Stage.TheVariants as stage
 
@@ -77,6 +79,17 @@ ComesTo blames refuses cannot_end up_blames s p q step.Finished =
 ComesTo blames refuses cannot_end up_blames s p q (step.Failed (fail.Error e)) =
     HasReason blames refuses cannot_end up_blames s.down p q e
 ComesTo blames refuses cannot_end up_blames s p q (step.Failed fail.OutOfMemory) = Unit {0}
+
+-- what the client's side tells of errors behind a turn, by its answer: no more than before, unless
+-- the turn fails with one, which then is the last
+abbrev pub TellsOn : Told → Told → Step → Type 0
+TellsOn before after step.Moved = after.errors ≡ before.errors
+TellsOn before after (step.Waited pause) = after.errors ≡ before.errors
+TellsOn before after step.Finished = after.errors ≡ before.errors
+TellsOn before after (step.Failed (fail.Error e)) =
+    (after.errors ≡ before.errors)
+    ⊎ ((after.errors ≡ up before.errors) × (after.last ≡ Some e))
+TellsOn before after (step.Failed fail.OutOfMemory) = after.errors ≡ before.errors
 
 -- a turn went on from these pasts, with this answer: what is held of the response more than before
 -- was read, and ends that came stay

@@ -9,7 +9,7 @@ ghost use Rattle.relay_core.specs.Past.{Origin, DownPast, UpPast};
 ghost use Rattle.relay_core.specs.Sound.{IsSound};
 ghost use Rattle.relay_core.specs.Table.{begins, core, enabled};
 ghost use Rattle.relay_core.specs.Uses.{Asks, AsksOne};
-ghost use Rattle.relay_exchange.specs.Exchange.{HasMoved, IsSilentLink, IsUnderWay, MeetsSilence, Turns, may_keep_at, stage_of};
+ghost use Rattle.relay_exchange.specs.Exchange.{HasMoved, IsSilentLink, IsUnderWay, MeetsSilence, TellsOn, Turns, may_keep_at, stage_of};
 
 use crate::round::go_round;
 use relay_core::{Down, Duplex, Step, Up};
@@ -111,6 +111,9 @@ impl<D, U: Up> Exchange<D, U> {
             (core self.old.duplex (D.state self.old.down) (U.state self.old.up))
             (core self.new.duplex (D.state self.new.down) (U.state self.new.up))
             (D.link client.old) (D.link client.new) (U.link self.old.up) (U.link self.new.up) }
+        // The client's side tells no error but the one that a turn fails with.
+        ensures errors { TellsOn (D.state self.old.down).told (D.state self.new.down).told
+            result.step }
         // A turn that does not fail leaves the count of the client's faults.
         ensures calm { says_failed result.step ≡ false
             → (D.link client.new).faults ≡ (D.link client.old).faults }
@@ -242,6 +245,7 @@ fn send_head<C, D: Down<C>, U: Up>(
         (core duplex.old (D.state down.old) (U.state up.old)) p q
         → result ≡ Step.Moved
         → AsksOne (U.link up.old) (U.link up.new) (D.link client.old) (D.link client.new) }
+    ensures errors { TellsOn (D.state down.old).told (D.state down.new).told result }
     ensures calm { says_failed result ≡ false
         → (D.link client.new).faults ≡ (D.link client.old).faults }
     ensures client_start { D.start client.new ≡ D.start client.old }
@@ -285,6 +289,7 @@ fn write_head<C, D: Down<C>, U: Up>(
         (core duplex.old (D.state down.old) (U.state up.old)) p q
         → result ≡ Step.Moved
         → AsksOne (U.link up.old) (U.link up.new) (D.link client.old) (D.link client.new) }
+    ensures errors { TellsOn (D.state down.old).told (D.state down.new).told result }
     ensures calm { says_failed result ≡ false
         → (D.link client.new).faults ≡ (D.link client.old).faults }
     ensures client_start { D.start client.new ≡ D.start client.old }

@@ -8,7 +8,7 @@ ghost use Rattle.relay_core.specs.Past.{Origin, DownPast, UpPast};
 ghost use Rattle.relay_core.specs.Sound.{IsSound};
 ghost use Rattle.relay_core.specs.Table.{core, is_failed, is_finished};
 ghost use Rattle.relay_core.specs.Uses.{Asks};
-ghost use Rattle.relay_exchange.specs.Exchange.{HasMoved, IsSilentLink};
+ghost use Rattle.relay_exchange.specs.Exchange.{HasMoved, IsSilentLink, TellsOn};
 
 use relay_core::{Down, Duplex, Step, Up};
 use relay_links::{BRANCHES, Branch, Schedule};
@@ -71,6 +71,9 @@ pub(crate) fn go_round<C, D: Down<C>, U: Up, H: Schedule>(
         → HasMoved result.1 (core duplex.old (D.state down.old) (U.state up.old))
         (core duplex.new (D.state down.new) (U.state up.new)) (D.link client.old)
         (D.link client.new) (U.link up.old) (U.link up.new) }
+
+    // The client's side tells no error but the one that a turn fails with.
+    ensures errors { TellsOn (D.state down.old).told (D.state down.new).told result.0 }
 
     // A turn that does not fail leaves the count of the client's faults.
     ensures calm { says_failed result.0 ≡ false

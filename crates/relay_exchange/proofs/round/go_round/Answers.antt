@@ -14,8 +14,9 @@ use Rattle.relay_core.specs.declared.step.Step.{Step}
 use Rattle.relay_core.specs.declared.step.Step.TheVariants as step
 use Rattle.relay_core.proofs.BoolLemmas.{clash}
 use Rattle.relay_core.proofs.KeepLemmas.{goes_then}
-use Rattle.relay_exchange.specs.Exchange.{IsSilentLink}
+use Rattle.relay_exchange.specs.Exchange.{IsSilentLink, TellsOn}
 use Rattle.relay_exchange.proofs.PassLemmas.{asks_from, moved_from}
+use Rattle.relay_exchange.proofs.ToldLemmas.{told_from, told_on}
 use Rattle.relay_exchange.proofs.RoundLemmas.{all_round, passed_first, passed_more, met, silent_link}
 use Rattle.relay_exchange.proofs.round.go_round.Goals as goal
 
@@ -50,6 +51,10 @@ loop-turn-init g c =
       (t.ensures.stands pause.Silent silent).pending,
       (t.ensures.stands pause.Silent silent).body_finished,
       (t.ensures.stands pause.Silent silent).calls,
+      subst (λ (r : Step). TellsOn at.down.told (g.D.Down.state t.new.down).told r) silent
+          (told_on first at
+          (core t.new.self (g.D.Down.state t.new.down) (g.U.Up.state t.new.up)) t.result
+          t.ensures.exact),
     )
 
 -- a branch that cannot be taken is passed
@@ -76,6 +81,7 @@ loop-turn-preserved-then-not-enabled g c =
       i.9,
       i.10,
       i.11,
+      i.12,
     )
 
 -- the first branch that met no silence goes on from those before it
@@ -126,6 +132,15 @@ loop-turn-preserved g c =
       (t.ensures.stands pause.Silent silent).pending ∙ i.9,
       (t.ensures.stands pause.Silent silent).body_finished ∙ i.10,
       (t.ensures.stands pause.Silent silent).calls ∙ i.11,
+      subst
+          (λ (r : Step).
+          TellsOn (g.D.Down.state c.loop-turn.down).told (g.D.Down.state t.new.down).told r)
+          silent
+          (told_on _
+          (core c.loop-turn.duplex (g.D.Down.state c.loop-turn.down)
+          (g.U.Up.state c.loop-turn.up))
+          (core t.new.self (g.D.Down.state t.new.down) (g.U.Up.state t.new.up)) t.result
+          t.ensures.exact) ∙ i.12,
     )
 
 -- all branches were passed: each that can be taken asks a silent link
@@ -165,6 +180,25 @@ returns-clause-silent g c = λ _.
     (silent_link client up first
     (all_round Silent first c.loop-turn.turn (omega (arith, c.loop-turn-test.false)) i.5 first
     c.in-Some.ensures.can)))
+
+-- the first branch that met no silence tells what it fails with
+pub returns-then-not-is_silent-clause-errors : goal.returns-then-not-is_silent-clause-errors
+returns-then-not-is_silent-clause-errors g c =
+    let t = c.step-step in
+    told_on c.in-Some.first
+    (core c.args.duplex.now (g.D.Down.state c.args.down.now) (g.U.Up.state c.args.up.now))
+    (core t.new.self (g.D.Down.state t.new.down) (g.U.Up.state t.new.up)) t.result t.ensures.exact
+
+-- and so does one behind silent branches, which told nothing
+pub returns-then-not-is_silent-2-clause-errors : goal.returns-then-not-is_silent-2-clause-errors
+returns-then-not-is_silent-2-clause-errors g c =
+    let t = c.step-step-in-loop-turn in
+    told_from (g.D.Down.state c.args.down.now).told (g.D.Down.state c.loop-turn.down).told
+    (g.D.Down.state t.new.down).told t.result c.loop-turn.invariant.12
+    (told_on _
+    (core c.loop-turn.duplex (g.D.Down.state c.loop-turn.down) (g.U.Up.state c.loop-turn.up))
+    (core t.new.self (g.D.Down.state t.new.down) (g.U.Up.state t.new.up)) t.result
+    t.ensures.exact)
 
 -- behind silent branches one link was asked once, or none
 pub returns-then-not-is_silent-2-clause-asks : goal.returns-then-not-is_silent-2-clause-asks
