@@ -2,6 +2,7 @@
 use Rattle.std.proofs.Common.{◌≡◌, ℕ, Bool, true, false, List, [], ◌∷◌, ◌++◌, Option, Some, None, refl, sym, ◌∙◌, ap, subst, append-nil, append_assoc, inl, inr}
 use Rattle.std.specs.Prelude.{◌||◌, ◌&&◌, ◌⊎◌, not}
 use Rattle.std.specs.List.{list_any}
+use Rattle.std.proofs.lemmas.Bool.{or_parts}
 use Rattle.relay_tasks.specs.declared.error.Error.{Error}
 use Rattle.relay_tasks.specs.declared.error.Fail.{Fail}
 use Rattle.relay_tasks.specs.declared.error.Fail.TheVariants as fail
@@ -10,7 +11,7 @@ use Rattle.relay_tasks.specs.declared.task.HttpTask.{HttpTask}
 use Rattle.relay_tasks.specs.declared.task.HttpTask.TheVariants as task
 use Rattle.relay_links.specs.Link.{LinkState}
 use Rattle.relay_session.specs.Response.{Holds, GoesOnWith, given_of, StopsOn, StopsAt, StopsBatch, FailsBatch, error_of, is_over}
-use Rattle.relay_session.specs.TaskWire.{Sent, ends_short, task_sent, refusal, wire, batch_refusal}
+use Rattle.relay_session.specs.TaskWire.{Sent, ends_short, task_sent, refusal, wire, batch_refusal, first_refusal, or_later}
 use Rattle.relay_session.specs.Asked.{request_of}
 use Rattle.relay_session.specs.declared.reading.Reading.{Reading}
 use Rattle.relay_session.specs.declared.session.HttpSession.{HttpSession}
@@ -21,15 +22,15 @@ use Rattle.relay_session.specs.declared.writing.Outgoing.{Outgoing}
 use Rattle.relay_session.specs.declared.writing.Outgoing.TheVariants as outgoing
 use Rattle.relay_session.specs.declared.writing.Writing.{Writing}
 use Rattle.relay_session.proofs.WireSteps.{wire-append}
-use Rattle.relay_session.proofs.BatchLemmas.{refused_in}
 use Rattle.relay_core.specs.declared.told.Told.{Told}
 use Rattle.relay_core.specs.Down.{QueuesBatch, RefusesBatch}
 use Rattle.relay_core.specs.Past.{Origin, DownPast, DownGoes, BatchRefused}
 use Rattle.relay_core.specs.Pipe.{is_failure}
 use Rattle.relay_core.specs.Told.{failed}
-use Rattle.relay_sides.specs.Client.{HasPassed, ClientBlames, ClientRefuses, QueuesAll, QueuesFront, failure_in_front, state_of}
+use Rattle.relay_sides.specs.Client.{AllPass, HasPassed, IsSide, IsTold, ClientBlames, ClientRefuses, QueuesAll, QueuesFront, failure_in_front, state_of}
 use Rattle.relay_sides.specs.Client as client
 use Rattle.relay_sides.proofs.ClientPast.{open_is_whole}
+use Rattle.relay_sides.proofs.ClientTold.{refused_here, told_failed, told_first, told_follow, told_more, told_refused, unfit_first}
 use Rattle.relay_sides.proofs.ClientTasks.{tasks_plain, given_plain, plain-append, task_over, grows_to, queued_over, holds_sent, past_queued, requeued, follow}
 
 -- one flag of two stands
@@ -199,24 +200,34 @@ front_fails (task.Failed error ∷ tasks) found front none = cc
 pub fail_is : (why : Fail) (a e : Error) → why ≡ fail.Error a → why ≡ fail.Error e → e ≡ a
 fail_is why a e first next = let both = sym next ∙ first in cc
 
+-- what a batch that was refused leaves
+abbrev Refuses : Origin → DownPast → LinkState → List ℕ → HttpSession → Told → Bool → Bool
+    → Option Fault → List HttpTask → Fail → Type 0
+Refuses s p link ahead new told done finished broken tasks why =
+    BatchRefused
+    (λ q. IsSide s q link ahead new (failed why told)
+    (left_done done finished new.writing.place) finished broken)
+    (λ q left e. ClientRefuses s q link (failed why told) left e) p tasks why
+
 -- nothing of the tasks was queued
 none_queued : (s : Origin) (p : DownPast) (link : LinkState) (ahead : List ℕ)
-    (old new : HttpSession) (tasks : List HttpTask) (done finished : Bool) (broken : Option Fault)
-    (why : Fail)
-    → HasPassed s p link ahead old done finished broken → new ≡ old
+    (old new : HttpSession) (tasks : List HttpTask) (told : Told) (done finished : Bool)
+    (broken : Option Fault) (why : Fail)
+    → IsSide s p link ahead old told done finished broken → new ≡ old
     → ((e : Error) → list_any is_failure tasks ≡ false → why ≡ fail.Error e
-    → ClientRefuses s p link tasks e)
-    → BatchRefused
-    (λ q. HasPassed s q link ahead new (left_done done finished new.writing.place) finished broken)
-    (λ q left e. ClientRefuses s q link left e) p tasks why
-none_queued s p link ahead old new tasks done finished broken why h same refused = record {
+    → ClientRefuses s p link (failed why told) tasks e)
+    → Refuses s p link ahead new told done finished broken tasks why
+none_queued s p link ahead old new tasks told done finished broken why side same refused = record {
   filtered = [];
   left = tasks;
   parts = refl;
   past = p;
-  stands = rw same
-      (subst (λ (d : Bool). HasPassed s p link ahead old d finished broken)
-      (sym (left_same done finished (is_over old.writing.place) h.said)) h);
+  stands = record {
+    passed = rw same
+        (subst (λ (d : Bool). HasPassed s p link ahead old d finished broken)
+        (sym (left_same done finished (is_over old.writing.place) side.passed.said)) side.passed);
+    tasks = told_failed s (client.queued p) told side.tasks why;
+  };
   is_put = refl;
   is_batched = sym (append-nil p.batched);
   is_closing = refl;
@@ -243,12 +254,66 @@ given_left (task.Trailer fields) behind = refl
 given_left task.Done behind = refl
 given_left (task.Failed error) behind = refl
 
+-- a task that is no failure counts as given where it is refused
+plain_given : (one : HttpTask) → is_failure one ≡ false → given_of one ≡ one ∷ []
+plain_given (task.Header head ends) plain = refl
+plain_given (task.Body piece ends) plain = refl
+plain_given (task.UpgradedBody piece ends) plain = refl
+plain_given (task.Trailer fields) plain = refl
+plain_given task.Done plain = refl
+plain_given (task.Failed error) plain = absurd (cc)
+
+-- as given it is refused as it was, or nothing was given of it
+given_refused : (request : Request) (at : Place) (one : HttpTask) (error : Error)
+    → refusal request at one ≡ Some error
+    → (first_refusal request at (given_of one) ≡ None)
+    ⊎ (first_refusal request at (given_of one) ≡ Some error)
+given_refused request at (task.Header head ends) error is =
+    inr (ap (λ (o : Option Error). or_later o None) is)
+given_refused request at (task.Body piece ends) error is =
+    inr (ap (λ (o : Option Error). or_later o None) is)
+given_refused request at (task.UpgradedBody piece ends) error is =
+    inr (ap (λ (o : Option Error). or_later o None) is)
+given_refused request at (task.Trailer fields) error is =
+    inr (ap (λ (o : Option Error). or_later o None) is)
+given_refused request at task.Done error is = inr (ap (λ (o : Option Error). or_later o None) is)
+given_refused request at (task.Failed e) error is = inl refl
+
+-- of tasks without a failure the one in the middle is none
+middle_plain : (front behind : List HttpTask) (one : HttpTask)
+    → list_any is_failure (front ++ one ∷ behind) ≡ false → is_failure one ≡ false
+middle_plain [] behind one none =
+    (or_parts (is_failure one) (list_any is_failure behind) none).0
+middle_plain (first ∷ front) behind one none =
+    middle_plain front behind one
+    (or_parts (is_failure first) (list_any is_failure (front ++ one ∷ behind)) none).1
+
+-- all tasks were queued: what the errors say of them
+pub queues_told : (s : Origin) (p : DownPast) (link : LinkState) (ahead : List ℕ)
+    (old new : HttpSession) (tasks : List HttpTask) (told : Told) (done finished : Bool)
+    (broken : Option Fault) (over : Bool)
+    → IsSide s p link ahead old told done finished broken
+    → QueuesAll old new tasks finished over → IsTold s ((p.batched ++ tasks) ++ p.closing) told
+queues_told s p link ahead old new tasks told done finished broken over side q =
+    told_follow s p.batched p.closing tasks told (side.passed.unasked q.unasked)
+    (told_more s (client.queued p) told side.tasks tasks
+    (refused_here s p link ahead old side.passed.client tasks None q.queued.passes))
+
 -- a call that stopped on a session whose write failed, at the check, or at a task
 module _
     (s : Origin) (p : DownPast) (link : LinkState) (ahead : List ℕ) (old new : HttpSession)
-    (tasks : List HttpTask) (done finished : Bool) (broken : Option Fault) (why : Fail)
-    (h : HasPassed s p link ahead old done finished broken) (unasked : finished ≡ false)
-    (reading : new.reading ≡ old.reading) where
+    (tasks : List HttpTask) (told : Told) (done finished : Bool) (broken : Option Fault)
+    (why : Fail) (side : IsSide s p link ahead old told done finished broken)
+    (unasked : finished ≡ false) (reading : new.reading ≡ old.reading) where
+  -- what passed before
+  abbrev h : HasPassed s p link ahead old done finished broken
+  h = side.passed
+
+  -- only batches were queued
+  only_batches : client.queued p ≡ p.batched
+  only_batches =
+      ap (λ (l : List HttpTask). p.batched ++ l) (h.unasked unasked) ∙ append-nil p.batched
+
   -- the session went on with a front of the tasks, and one of them is refused where an error comes
   stopped : (front left : List HttpTask) → front ++ left ≡ tasks
       → new.writing.request ≡ old.writing.request → (queue : List ℕ)
@@ -256,13 +321,12 @@ module _
       → GoesOnWith old.writing new.writing front
       → (is_over old.writing.place ≡ true → is_over new.writing.place ≡ true)
       → list_any is_failure front ≡ false
-      → ((e : Error) → why ≡ fail.Error e
-      → ClientRefuses s (past_queued p (p.batched ++ front) p.closing) link left e)
-      → BatchRefused
-      (λ q.
-      HasPassed s q link ahead new (left_done done finished new.writing.place) finished broken)
-      (λ q left e. ClientRefuses s q link left e) p tasks why
-  stopped front left parts request queue is_open goes stays plain refused =
+      → IsTold s (client.queued p ++ front) (failed why told)
+      → ((e : Error) → list_any is_failure tasks ≡ false → why ≡ fail.Error e
+      → ClientRefuses s (past_queued p (p.batched ++ front) p.closing) link (failed why told) left
+      e)
+      → Refuses s p link ahead new told done finished broken tasks why
+  stopped front left parts request queue is_open goes stays plain told_front refused =
       let holds = follow new.writing p.batched p.closing front p.written (h.unasked unasked)
       (goes (client.queued p) p.written h.client.response) in
       record {
@@ -271,60 +335,72 @@ module _
         parts = parts;
         past = past_queued p (p.batched ++ front) p.closing;
         stands = record {
-          client = requeued s p link ahead old new (p.batched ++ front) p.closing h.client
-              reading request holds
-              (λ fault is. absurd (open_is_whole new.writing.output queue fault is_open is));
-          over = λ is.
-              over_batched new.writing (p.batched ++ front) p.closing p.written
-              (h.unasked unasked) holds
-              (left_over done finished old.writing.place new.writing.place h.place_over stays is);
-          plain = plain-append p.batched front h.plain plain;
-          plain_end = h.plain_end;
-          place_over =
-              left_over done finished old.writing.place new.writing.place h.place_over stays;
-          said = λ is.
-              inl (left_said done finished (is_over new.writing.place) unasked is);
-          unasked = h.unasked;
-          asked = h.asked;
-          closed = λ is. let wrong = sym unasked ∙ is in absurd (cc);
-          unbroken = λ none. (queue, is_open);
-          fault = h.fault;
+          passed = record {
+            client = requeued s p link ahead old new (p.batched ++ front) p.closing h.client
+                reading request holds
+                (λ fault is. absurd (open_is_whole new.writing.output queue fault is_open is));
+            over = λ is.
+                over_batched new.writing (p.batched ++ front) p.closing p.written
+                (h.unasked unasked) holds
+                (left_over done finished old.writing.place new.writing.place h.place_over stays
+                is);
+            plain = plain-append p.batched front h.plain plain;
+            plain_end = h.plain_end;
+            place_over =
+                left_over done finished old.writing.place new.writing.place h.place_over stays;
+            said = λ is.
+                inl (left_said done finished (is_over new.writing.place) unasked is);
+            unasked = h.unasked;
+            asked = h.asked;
+            closed = λ is. let wrong = sym unasked ∙ is in absurd (cc);
+            unbroken = λ none. (queue, is_open);
+            fault = h.fault;
+          };
+          tasks = told_follow s p.batched p.closing front (failed why told) (h.unasked unasked)
+              told_front;
         };
         is_put = refl;
         is_batched = refl;
         is_closing = refl;
-        refused = λ e none is. refused e is;
+        refused = refused;
       }
 
-  -- the text behind a front of the tasks leads to where a task of them is refused
-  refused_at : (front : List HttpTask) (at : HttpTask) (e : Error)
-      → refusal old.writing.request (wire old.writing.request old.writing.place front).place at
-      ≡ Some e
-      → refusal (request_of h.client.head)
-      (wire (request_of h.client.head) place.NoHead (p.batched ++ front)).place at ≡ Some e
-  refused_at front at e is =
+  -- the tasks that were queued before one, behind which it is refused
+  abbrev Stands : StopsAt old.writing tasks new.writing why → List HttpTask
+  Stands stops = client.queued p ++ stops.before
+
+  -- what the errors say of them
+  told_before : (stops : StopsAt old.writing tasks new.writing why) → IsTold s (Stands stops) told
+  told_before stops =
+      told_more s (client.queued p) told side.tasks stops.before
+      (refused_here s p link ahead old h.client stops.before None stops.queued.passes)
+
+  -- a task that is refused behind them is so by its own head
+  refused_there : (stops : StopsAt old.writing tasks new.writing why) (e : Error)
+      → refusal stops.mid.request stops.mid.place stops.at ≡ Some e
+      → refusal (request_of s.head) (wire (request_of s.head) place.NoHead (Stands stops)).place
+      stops.at ≡ Some e
+  refused_there stops e is =
       let request = old.writing.request in
       let sent = holds_sent old.writing old.writing.output (client.queued p) p.written
       h.client.response in
-      let batched : client.queued p ≡ p.batched =
-      ap (λ (l : List HttpTask). p.batched ++ l) (h.unasked unasked) ∙ append-nil p.batched in
-      let there : (wire request place.NoHead p.batched).place ≡ old.writing.place =
-      ap (λ (l : List HttpTask). (wire request place.NoHead l).place) (sym batched) ∙ sent in
-      let leads : (wire request place.NoHead (p.batched ++ front)).place
-      ≡ (wire request old.writing.place front).place =
-      ap (λ (t : Sent). t.place) (wire-append request place.NoHead p.batched front)
-      ∙ ap (λ (q : Place). (wire request q front).place) there in
+      let leads : (wire request place.NoHead (Stands stops)).place
+      ≡ (wire request old.writing.place stops.before).place =
+      ap (λ (t : Sent). t.place) (wire-append request place.NoHead (client.queued p) stops.before)
+      ∙ ap (λ (q : Place). (wire request q stops.before).place) sent in
+      let there : refusal request (wire request old.writing.place stops.before).place stops.at
+      ≡ Some e =
+      subst (λ (w : Writing). refusal w.request w.place stops.at ≡ Some e)
+      stops.queued.grows.grown is in
       subst (λ (r : Request).
-      refusal r (wire r place.NoHead (p.batched ++ front)).place at ≡ Some e) h.client.answers
-      (ap (λ (q : Place). refusal request q at) leads ∙ is)
+      refusal r (wire r place.NoHead (Stands stops)).place stops.at ≡ Some e)
+      (h.client.answers ∙ ap request_of h.client.own)
+      (ap (λ (q : Place). refusal request q stops.at) leads ∙ there)
 
   -- the session stopped at a task, when out of memory or since it is refused
   stops_on : (stops : StopsAt old.writing tasks new.writing why) (given : Fail) → why ≡ given
       → StopsOn stops.mid stops.at new.writing given
-      → BatchRefused
-      (λ q.
-      HasPassed s q link ahead new (left_done done finished new.writing.place) finished broken)
-      (λ q left e. ClientRefuses s q link left e) p tasks why
+      → Refuses s p link ahead new told done finished broken tasks why
   stops_on stops fail.OutOfMemory is same =
       let grown = stops.queued.grows.grown in
       stopped stops.before (stops.at ∷ stops.behind) (sym stops.are_tasks)
@@ -335,7 +411,8 @@ module _
       (λ over. ap (λ (w : Writing). is_over w.place) same
       ∙ queued_over old.writing stops.mid stops.before stops.queued over)
       (tasks_plain old.writing.request old.writing.place stops.before stops.queued.passes)
-      (λ e wrong. let both = sym is ∙ wrong in absurd (cc))
+      (subst (λ (f : Fail). IsTold s (Stands stops) (failed f told)) (sym is) (told_before stops))
+      (λ e plain wrong. let both = sym is ∙ wrong in absurd (cc))
   stops_on stops (fail.Error error) is refused =
       let grown = stops.queued.grows.grown in
       let more = refused.grows.grown in
@@ -358,51 +435,68 @@ module _
       (plain-append stops.before (given_of stops.at)
       (tasks_plain old.writing.request old.writing.place stops.before stops.queued.passes)
       (given_plain stops.at))
-      (λ e of.
-      client.ClientRefuses.cannot_send h.client.head h.client.framing h.client.len
-      (p.batched ++ stops.before) stops.at stops.behind h.client.has (h.unasked unasked)
-      (append_assoc p.batched front left
-      ∙ ap (λ (l : List HttpTask). p.batched ++ l)
-      (append_assoc stops.before (given_of stops.at) left
-      ∙ ap (λ (l : List HttpTask). stops.before ++ l) (given_left stops.at stops.behind))
-      ∙ sym (append_assoc p.batched stops.before (stops.at ∷ stops.behind)))
-      (refused_at stops.before stops.at e
-      (subst (λ (w : Writing). refusal w.request w.place stops.at ≡ Some e) grown
-      (refused.refused ∙ ap (λ (x : Error). Some x) (sym (fail_is why error e is of))))))
+      (subst (λ (f : Fail). IsTold s (client.queued p ++ front) (failed f told)) (sym is)
+      (subst (λ (l : List HttpTask). IsTold s l (failed (fail.Error error) told))
+      (append_assoc (client.queued p) stops.before (given_of stops.at))
+      (told_refused s (Stands stops) told (told_before stops) (given_of stops.at) error
+      (given_refused (request_of s.head)
+      (wire (request_of s.head) place.NoHead (Stands stops)).place stops.at error
+      (refused_there stops error refused.refused)))))
+      (λ e plain of. cut e plain (fail_is why error e is of))
+    where
+      -- what stands behind batches alone
+      over_batches : Stands stops ≡ p.batched ++ stops.before
+      over_batches = ap (λ (l : List HttpTask). l ++ stops.before) only_batches
+
+      cut : (e : Error) → list_any is_failure tasks ≡ false → e ≡ error
+          → ClientRefuses s
+          (past_queued p (p.batched ++ (stops.before ++ given_of stops.at)) p.closing) link
+          (failed why told) (left_of stops.at stops.behind) e
+      cut e plain same =
+          client.ClientRefuses.is_cut (p.batched ++ stops.before) stops.at (h.unasked unasked)
+          (sym (append_assoc p.batched stops.before (given_of stops.at))
+          ∙ ap (λ (l : List HttpTask). (p.batched ++ stops.before) ++ l)
+          (plain_given stops.at (middle_plain stops.before stops.behind stops.at
+          (subst (λ (l : List HttpTask). list_any is_failure l ≡ false) stops.are_tasks plain))))
+          (subst (λ (l : List HttpTask).
+          refusal (request_of s.head) (wire (request_of s.head) place.NoHead l).place stops.at
+          ≡ Some e) over_batches
+          (refused_there stops e
+          (refused.refused ∙ ap (λ (x : Error). Some x) (sym same))))
+          (λ one. subst (λ (l : List HttpTask). AllPass s l) over_batches
+          (told_first s (Stands stops) told (told_before stops) error
+          (subst (λ (f : Fail). (failed f told).errors ≡ 1) is one)))
 
   -- the check refused the batch, or the session stopped at a task
   stops_batch : (checked : Option Error)
       → batch_refusal old.writing.request old.writing.place tasks ≡ checked
       → StopsBatch checked old.writing tasks new.writing why
       → (new.writing ≡ old.writing → new ≡ old)
-      → BatchRefused
-      (λ q.
-      HasPassed s q link ahead new (left_done done finished new.writing.place) finished broken)
-      (λ q left e. ClientRefuses s q link left e) p tasks why
+      → Refuses s p link ahead new told done finished broken tasks why
   stops_batch None is stops same = stops_on stops why refl stops.stops
   stops_batch (Some error) is stops same =
-      let there = refused_in old.writing.request old.writing.place tasks error is in
-      none_queued s p link ahead old new tasks done finished broken why h (same stops.1)
+      none_queued s p link ahead old new tasks told done finished broken why side (same stops.1)
       (λ e plain of.
-      client.ClientRefuses.cannot_send h.client.head h.client.framing h.client.len
-      (p.batched ++ there.before) there.at there.behind h.client.has (h.unasked unasked)
-      (ap (λ (l : List HttpTask). p.batched ++ l) there.are
-      ∙ sym (append_assoc p.batched there.before (there.at ∷ there.behind)))
-      (refused_at there.before there.at e
-      (there.refused ∙ ap (λ (x : Error). Some x) (sym (fail_is why error e stops.0 of)))))
+      client.ClientRefuses.is_unfit (h.unasked unasked)
+      (subst (λ (l : List HttpTask).
+      first_refusal (request_of s.head) (wire (request_of s.head) place.NoHead l).place tasks
+      ≡ Some e) only_batches
+      (refused_here s p link ahead old h.client tasks (Some e)
+      (unfit_first old.writing.request old.writing.place tasks error is
+      ∙ ap (λ (x : Error). Some x) (sym (fail_is why error e stops.0 of)))))
+      (λ one. subst (λ (l : List HttpTask). AllPass s l) only_batches
+      (told_first s (client.queued p) told side.tasks error
+      (subst (λ (f : Fail). (failed f told).errors ≡ 1) stops.0 one))))
 
   -- by the state of the output
   stops_by : (output : Outgoing) → old.writing.output ≡ output
       → FailsBatch output old.writing tasks new.writing why
       → (new.writing ≡ old.writing → new ≡ old)
-      → BatchRefused
-      (λ q.
-      HasPassed s q link ahead new (left_done done finished new.writing.place) finished broken)
-      (λ q left e. ClientRefuses s q link left e) p tasks why
+      → Refuses s p link ahead new told done finished broken tasks why
   stops_by (outgoing.Open queue) is fails same =
       stops_batch (batch_refusal old.writing.request old.writing.place tasks) refl fails same
   stops_by (outgoing.Broken fault) is fails same =
-      none_queued s p link ahead old new tasks done finished broken why h (same fails.1)
+      none_queued s p link ahead old new tasks told done finished broken why side (same fails.1)
       (λ e plain of.
       client.ClientRefuses.link_failed fault (fail_is why (error_of fault) e fails.0 of)
       (h.client.broken fault is))
@@ -416,22 +510,21 @@ same_session old new reading writing =
 
 -- not all tasks were queued: what passed
 pub refuses_on : (s : Origin) (p : DownPast) (link : LinkState) (ahead : List ℕ)
-    (old new : HttpSession) (tasks : List HttpTask) (done finished : Bool) (broken : Option Fault)
-    (why : Fail)
-    → HasPassed s p link ahead old done finished broken → QueuesFront old new tasks finished why
-    → BatchRefused
-    (λ q. HasPassed s q link ahead new (left_done done finished new.writing.place) finished broken)
-    (λ q left e. ClientRefuses s q link left e) p tasks why
-refuses_on s p link ahead old new tasks done finished broken why h
+    (old new : HttpSession) (tasks : List HttpTask) (told : Told) (done finished : Bool)
+    (broken : Option Fault) (why : Fail)
+    → IsSide s p link ahead old told done finished broken
+    → QueuesFront old new tasks finished why
+    → Refuses s p link ahead new told done finished broken tasks why
+refuses_on s p link ahead old new tasks told done finished broken why side
     (client.QueuesFront.fails found front is same) =
-    none_queued s p link ahead old new tasks done finished broken why h same
+    none_queued s p link ahead old new tasks told done finished broken why side same
     (λ e plain of. absurd (front_fails tasks found front plain))
-refuses_on s p link ahead old new tasks done finished broken why h
+refuses_on s p link ahead old new tasks told done finished broken why side
     (client.QueuesFront.is_late none late is same) =
-    none_queued s p link ahead old new tasks done finished broken why h same
+    none_queued s p link ahead old new tasks told done finished broken why side same
     (λ e plain of.
-    client.ClientRefuses.behind_the_end (h.asked late) (fail_is why ends_short e is of))
-refuses_on s p link ahead old new tasks done finished broken why h
+    client.ClientRefuses.behind_the_end (side.passed.asked late) (fail_is why ends_short e is of))
+refuses_on s p link ahead old new tasks told done finished broken why side
     (client.QueuesFront.stops none unasked same fails) =
-    stops_by s p link ahead old new tasks done finished broken why h unasked same old.writing.output
-    refl fails (same_session old new same)
+    stops_by s p link ahead old new tasks told done finished broken why side unasked same
+    old.writing.output refl fails (same_session old new same)

@@ -12,7 +12,7 @@ use Rattle.relay_links.specs.Link.{LinkState}
 use Rattle.relay_h1.specs.BodyWire.{is_short, after_piece}
 use Rattle.relay_session.specs.Response.{IsText, Holds, HoldsOn, IsQueued, IsRefusal, IsFailure, error_of}
 use Rattle.relay_session.specs.TaskSteps.{IsWire}
-use Rattle.relay_session.specs.TaskWire.{piece_at, piece_refusal_at, refusal, wire}
+use Rattle.relay_session.specs.TaskWire.{or_later, piece_at, piece_refusal_at, refusal, wire}
 use Rattle.relay_session.specs.declared.session.HttpSession.{HttpSession}
 use Rattle.relay_session.specs.declared.task_text.Place.{Place}
 use Rattle.relay_session.specs.declared.task_text.Place.TheVariants as place
@@ -22,10 +22,14 @@ use Rattle.relay_session.specs.declared.writing.Outgoing.TheVariants as outgoing
 use Rattle.relay_session.specs.declared.writing.Writing.{Writing}
 use Rattle.relay_session.proofs.WireSteps.{IsWire-push}
 use Rattle.relay_core.specs.Past.{Origin, DownPast, DownGoes, error_of_result}
-use Rattle.relay_sides.specs.Client.{IsClient, IsClosed, HasPassed, ClientBlames, CannotEnd}
+use Rattle.relay_sides.specs.Client.{IsClient, IsClosed, IsSide, IsTold, HasPassed, ClientBlames, CannotEnd}
 use Rattle.relay_sides.specs.Client as client
 use Rattle.relay_sides.proofs.ClientPast.{open_is_whole}
 use Rattle.relay_sides.proofs.ClientTasks.{plain-append, piece_over, holds_sent, past_queued, requeued}
+use Rattle.relay_session.specs.Asked.{request_of}
+use Rattle.relay_core.specs.Told.{failed}
+use Rattle.relay_core.specs.declared.told.Told.{Told}
+use Rattle.relay_sides.proofs.ClientTold.{refused_here, told_failed, told_first, told_more}
 use Rattle.relay_sides.proofs.ClientBatch.{fail_is}
 
 -- behind an end that is not refused no body is open
@@ -76,14 +80,43 @@ holds_again now (outgoing.Broken fault) tasks taken closed holds =
 some_closing : (closing : List HttpTask) → 0 < length (closing ++ task.Done ∷ [])
 some_closing closing = omega (arith, length-append closing (task.Done ∷ []))
 
+-- an end where no body is open is not refused
+closed_passes : (request : Request) (at : Place) → IsClosed at
+    → refusal request at task.Done ≡ None
+closed_passes request place.NoHead closed = refl
+closed_passes request (place.Body rest) closed = absurd closed
+closed_passes request place.Done closed = refl
+
+-- an end that is not refused stands behind the tasks that were queued
+pub ends_told : (s : Origin) (p : DownPast) (link : LinkState) (ahead : List ℕ)
+    (session : HttpSession) (told : Told) (done finished : Bool) (broken : Option Fault)
+    → IsSide s p link ahead session told done finished broken
+    → refusal session.writing.request session.writing.place task.Done ≡ None
+    → IsTold s (p.batched ++ (p.closing ++ task.Done ∷ [])) told
+ends_told s p link ahead session told done finished broken side passes =
+    subst (λ (l : List HttpTask). IsTold s l told)
+    (append_assoc p.batched p.closing (task.Done ∷ []))
+    (told_more s (client.queued p) told side.tasks (task.Done ∷ [])
+    (refused_here s p link ahead session side.passed.client (task.Done ∷ []) None
+    (ap (λ (o : Option Error). or_later o None) passes)))
+
+-- so does one that was asked for again
+pub again_told : (s : Origin) (p : DownPast) (link : LinkState) (ahead : List ℕ)
+    (session : HttpSession) (told : Told) (done finished : Bool) (broken : Option Fault)
+    → finished ≡ true → IsSide s p link ahead session told done finished broken
+    → IsTold s (p.batched ++ (p.closing ++ task.Done ∷ [])) told
+again_told s p link ahead session told done finished broken asked side =
+    ends_told s p link ahead session told done finished broken side
+    (closed_passes session.writing.request session.writing.place (side.passed.closed asked))
+
 -- the end was asked for again
 pub ends_again : (s : Origin) (p : DownPast) (link : LinkState) (ahead : List ℕ)
-    (session : HttpSession) (done finished : Bool) (broken : Option Fault)
+    (session : HttpSession) (told : Told) (done finished : Bool) (broken : Option Fault)
     → finished ≡ true → HasPassed s p link ahead session done finished broken
     → DownGoes (λ q. HasPassed s q link ahead session done finished broken)
-    (λ q e. ClientBlames s q link e ⊎ CannotEnd s q e) p.put p.batched
+    (λ q e. ClientBlames s q link e ⊎ CannotEnd s q told e) p.put p.batched
     (p.closing ++ task.Done ∷ []) None
-ends_again s p link ahead session done finished broken asked h = record {
+ends_again s p link ahead session told done finished broken asked h = record {
   past = past_queued p p.batched (p.closing ++ task.Done ∷ []);
   stands = record {
     client = requeued s p link ahead session session p.batched (p.closing ++ task.Done ∷ [])
@@ -112,14 +145,15 @@ ends_again s p link ahead session done finished broken asked h = record {
 
 -- the end was queued
 pub ends_on : (s : Origin) (p : DownPast) (link : LinkState) (ahead : List ℕ)
-    (old new : HttpSession) (done finished : Bool) (broken : Option Fault) → finished ≡ false
+    (old new : HttpSession) (told : Told) (done finished : Bool) (broken : Option Fault)
+    → finished ≡ false
     → HasPassed s p link ahead old done finished broken
     → new.reading ≡ old.reading
     → IsQueued old.writing task.Done new.writing
     → DownGoes (λ q. HasPassed s q link ahead new done true broken)
-    (λ q e. ClientBlames s q link e ⊎ CannotEnd s q e) p.put p.batched
+    (λ q e. ClientBlames s q link e ⊎ CannotEnd s q told e) p.put p.batched
     (p.closing ++ task.Done ∷ []) None
-ends_on s p link ahead old new done finished broken unasked h reading one = record {
+ends_on s p link ahead old new told done finished broken unasked h reading one = record {
   past = past_queued p p.batched (p.closing ++ task.Done ∷ []);
   stands = record {
     client = requeued s p link ahead old new p.batched (p.closing ++ task.Done ∷ []) h.client
@@ -157,45 +191,51 @@ same_why (fail.Error error) e is = cc
 
 -- why the end was refused
 end_refused : (s : Origin) (p : DownPast) (link : LinkState) (ahead : List ℕ)
-    (session : HttpSession) (output : Outgoing) (why : Fail) (e : Error)
-    → IsClient s p link ahead session → session.writing.output ≡ output
+    (session : HttpSession) (output : Outgoing) (told : Told) (why : Fail) (e : Error)
+    → IsClient s p link ahead session → IsTold s (client.queued p) told
+    → session.writing.output ≡ output
     → IsFailure output (refusal session.writing.request session.writing.place task.Done) why
-    → why ≡ fail.Error e → ClientBlames s p link e ⊎ CannotEnd s p e
-end_refused s p link ahead session (outgoing.Open queue) why e h is refused of =
+    → why ≡ fail.Error e → ClientBlames s p link e ⊎ CannotEnd s p (failed why told) e
+end_refused s p link ahead session (outgoing.Open queue) told why e h t is refused of =
     let request = session.writing.request in
     let sent = holds_sent session.writing session.writing.output (client.queued p) p.written
     h.response in
     let there = subst
     (λ (f : Fail). IsRefusal (refusal request session.writing.place task.Done) f) of refused in
     inr (record {
-      head = h.head;
-      framing = h.framing;
-      len = h.len;
-      has = h.has;
       refused = subst (λ (r : Request).
-          refusal r (wire r place.NoHead (client.queued p)).place task.Done ≡ Some e) h.answers
+          refusal r (wire r place.NoHead (client.queued p)).place task.Done ≡ Some e)
+          (h.answers ∙ ap request_of h.own)
           (ap (λ (q : Place). refusal request q task.Done) sent ∙ there);
+      passes = λ one.
+          told_first s (client.queued p) told t e
+          (subst (λ (f : Fail). (failed f told).errors ≡ 1) of one);
     })
-end_refused s p link ahead session (outgoing.Broken fault) why e h is refused of =
+end_refused s p link ahead session (outgoing.Broken fault) told why e h t is refused of =
     inl (client.ClientBlames.link_failed fault (fail_is why (error_of fault) e refused of)
     (h.broken fault is).0 (inl (h.broken fault is).1))
 
 -- the end was refused, and nothing was queued
 pub ends_refused : (s : Origin) (p : DownPast) (link : LinkState) (ahead : List ℕ)
-    (old new : HttpSession) (done finished : Bool) (broken : Option Fault) (why : Fail)
-    → HasPassed s p link ahead old done finished broken → new ≡ old
+    (old new : HttpSession) (told : Told) (done finished : Bool) (broken : Option Fault)
+    (why : Fail)
+    → IsSide s p link ahead old told done finished broken → new ≡ old
     → IsFailure old.writing.output
     (refusal old.writing.request old.writing.place task.Done) why
-    → DownGoes (λ q. HasPassed s q link ahead new done finished broken)
-    (λ q e. ClientBlames s q link e ⊎ CannotEnd s q e) p.put p.batched (p.closing ++ [])
-    (error_of_result {T = Unit {0}} (Err why))
-ends_refused s p link ahead old new done finished broken why h same refused = record {
+    → DownGoes (λ q. IsSide s q link ahead new (failed why told) done finished broken)
+    (λ q e. ClientBlames s q link e ⊎ CannotEnd s q (failed why told) e) p.put p.batched
+    (p.closing ++ []) (error_of_result {T = Unit {0}} (Err why))
+ends_refused s p link ahead old new told done finished broken why side same refused = record {
   past = p;
-  stands = rw same h;
+  stands = record {
+    passed = rw same side.passed;
+    tasks = told_failed s (client.queued p) told side.tasks why;
+  };
   is_put = refl;
   is_batched = refl;
   is_closing = sym (append-nil p.closing);
   blamed = λ e is.
-      end_refused s p link ahead old old.writing.output why e h.client refl refused
+      end_refused s p link ahead old old.writing.output told why e side.passed.client side.tasks
+      refl refused
       (same_why why e is);
 }

@@ -2,6 +2,7 @@ pub mod ClientFaults
 pub mod ClientPast
 pub mod ClientRead
 pub mod ClientTasks
+pub mod ClientTold
 pub mod ClientWrite
 pub mod ClientBatch
 pub mod ClientEnds

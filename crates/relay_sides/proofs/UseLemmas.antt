@@ -2,30 +2,21 @@
 --
 --   client_reads, client_writes    the client's link, by what its session says
 --   client_puts                    a piece of the session puts a task
-use Rattle.std.proofs.Common.{◌≡◌, ℕ, ◌<◌, Bool, true, false, ◌&&◌, not, List, [], ◌∷◌, ◌==◌, length, Option, Some, None, refl, sym, ap, ◌∙◌, subst, inl, inr, arith, length-append}
-use Rattle.std.specs.Prelude.{◌⊎◌, if◌then◌else◌, is_some}
+use Rattle.std.proofs.Common.{◌≡◌, ℕ, ◌<◌, Bool, true, false, not, List, [], ◌∷◌, ◌==◌, length, Some, None, refl, subst, inl, inr, arith, length-append}
 use Rattle.std.proofs.lemmas.Bool.{cases_Bool}
 use Rattle.relay_tasks.specs.declared.fault.Fault.{Fault}
-use Rattle.relay_tasks.specs.declared.task.HttpTask.{HttpTask}
-use Rattle.relay_tasks.specs.declared.took.Pause.{Pause}
 use Rattle.relay_tasks.specs.declared.took.Pause.TheVariants.{NotReady, Silent}
 use Rattle.relay_tasks.specs.declared.took.Took.{Took}
 use Rattle.relay_tasks.specs.declared.took.Took.TheVariants as took
-use Rattle.relay_links.specs.Count.{up}
-use Rattle.relay_links.specs.Link.{LinkState, Writes}
-use Rattle.relay_links.specs.declared.link.Got.{Got}
-use Rattle.relay_links.specs.declared.link.Got.TheVariants as got
+use Rattle.relay_links.specs.Link.{LinkState}
 use Rattle.relay_links.specs.declared.link.Put.{Put}
-use Rattle.relay_links.specs.declared.link.Put.TheVariants as put
-use Rattle.relay_peer.specs.ResponseReading.{Asks, ReadsTask}
-use Rattle.relay_peer.specs.declared.response_reading.ResponseReading.{ResponseReading}
 use Rattle.relay_session.specs.Reading.{ReadsLink}
 use Rattle.relay_session.specs.Response.{WritesPending, pending}
 use Rattle.relay_session.specs.declared.session.HttpSession.{HttpSession}
 use Rattle.relay_session.specs.declared.writing.Outgoing.{Outgoing}
 use Rattle.relay_session.specs.declared.writing.Outgoing.TheVariants as outgoing
 use Rattle.relay_core.specs.Past.{Origin, DownPast}
-use Rattle.relay_core.specs.Uses.{IsUsed, MayUse, ReadUses, WriteUses, PutsTask}
+use Rattle.relay_core.specs.Uses.{ReadUses, WriteUses, PutsTask}
 use Rattle.relay_core.specs.declared.piece.Piece.{Piece}
 use Rattle.relay_peer.proofs.UseLemmas.{put_uses}
 use Rattle.relay_sides.specs.Client.{IsClient, piece_answer, given_to}

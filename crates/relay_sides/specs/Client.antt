@@ -24,7 +24,7 @@ use Rattle.relay_session.specs.Asked.{request_of}
 use Rattle.relay_session.specs.Front.{link_fault, client_closed, client_sent_more, body_broken, ends_with_head}
 use Rattle.relay_session.specs.Reading.{head_of, is_body_done, RequestSoFar, SaysBody, IsWhole}
 use Rattle.relay_session.specs.Response.{Holds, AreQueued, FailsBatch, IsOpen, is_over, pending}
-use Rattle.relay_session.specs.TaskWire.{ends_short, refusal, wire}
+use Rattle.relay_session.specs.TaskWire.{ends_short, first_refusal, refusal, wire}
 use Rattle.relay_session.specs.declared.session.HttpSession.{HttpSession}
 use Rattle.relay_session.specs.declared.task_text.Place.{Place}
 use Rattle.relay_session.specs.declared.task_text.Place.TheVariants as place
@@ -139,6 +139,25 @@ pub record HasPassed
   pub unbroken : kept ≡ None → IsOpen session.writing.output
   pub fault : (f : Fault) → kept ≡ Some f → FailsWrite s link f
 
+-- none of the tasks is refused by the client's writer
+abbrev pub AllPass : Origin → List HttpTask → Type 0
+AllPass s tasks = first_refusal (request_of s.head) place.NoHead tasks ≡ None
+
+-- what the errors that the side told say of the tasks that were queued: where it told none, none of
+-- them is refused; where it told one, none is, or the first that is refused is so with that error
+pub record IsTold (s : Origin) (tasks : List HttpTask) (told : Told) : Type 0 where
+  pub none : told.errors ≡ 0 → AllPass s tasks
+  pub one : told.errors ≡ 1 → AllPass s tasks
+      ⊎ ((e : Error) × (told.last ≡ Some e)
+      × (first_refusal (request_of s.head) place.NoHead tasks ≡ Some e))
+
+-- the past of a side: what passed, and what its errors say of it
+pub record IsSide
+    (s : Origin) (p : DownPast) (link : LinkState) (ahead : List ℕ) (session : HttpSession)
+    (told : Told) (done finished : Bool) (kept : Option Fault) : Type 0 where
+  pub passed : HasPassed s p link ahead session done finished kept
+  pub tasks : IsTold s (queued p) told
+
 -- a session that begins behind these bytes of a client, whose head was read out of them: nothing of
 -- the body was given out, and nothing was queued or written
 pub record BeginsBehind
@@ -197,28 +216,31 @@ pub data ClientBlames (s : Origin) (p : DownPast) (link : LinkState) (e : Error)
   sent_more : (body behind : List ℕ) → IsWhole (given_to s p) body behind → 0 < length behind
       → IsUnanswered s p → e ≡ client_sent_more → ClientBlames s p link e
 
--- the response cannot end where it stands, with that error
-pub record CannotEnd (s : Origin) (p : DownPast) (e : Error) : Type 0 where
-  pub head : RequestHead
-  pub framing : Framing
-  pub len : ℕ
-  pub has : HasRequest (given_to s p) head framing len
-  pub refused : refusal (request_of head) (wire (request_of head) place.NoHead (queued p)).place
-      task.Done ≡ Some e
+-- the response cannot end where it stands, with that error; where the side told no other, none of
+-- the tasks that were queued is refused
+pub record CannotEnd (s : Origin) (p : DownPast) (told : Told) (e : Error) : Type 0 where
+  pub refused : refusal (request_of s.head)
+      (wire (request_of s.head) place.NoHead (queued p)).place task.Done ≡ Some e
+  pub passes : told.errors ≡ 1 → AllPass s (queued p)
 
--- why the side refuses a batch of which these tasks are left: a task is refused behind those before
--- it, the last that was given or one that is left; a write failed before; or the end of the
--- response was asked for before
-pub data ClientRefuses (s : Origin) (p : DownPast) (link : LinkState) (left : List HttpTask)
-    (e : Error) : Type 0 where
+-- why the side refuses a batch of which these tasks are left: a write failed before; the last task
+-- that was given is refused, so that its end was not queued; the batch is refused as a whole, none
+-- of which was queued, for the first of its tasks that is refused; or the end of the response was
+-- asked for before. Where the side told no other error, none of the tasks before is refused
+pub data ClientRefuses
+    (s : Origin) (p : DownPast) (link : LinkState) (told : Told) (left : List HttpTask) (e : Error)
+    : Type 0 where
   link_failed : (fault : Fault) → e ≡ link_fault fault → FailsWrite s link fault
-      → ClientRefuses s p link left e
-  cannot_send : (head : RequestHead) (framing : Framing) (len : ℕ) (front : List HttpTask)
-      (at : HttpTask) (behind : List HttpTask) → HasRequest (given_to s p) head framing len
-      → p.closing ≡ [] → p.batched ++ left ≡ front ++ at ∷ behind
-      → refusal (request_of head) (wire (request_of head) place.NoHead front).place at ≡ Some e
-      → ClientRefuses s p link left e
-  behind_the_end : 0 < length p.closing → e ≡ ends_short → ClientRefuses s p link left e
+      → ClientRefuses s p link told left e
+  is_cut : (front : List HttpTask) (at : HttpTask) → p.closing ≡ []
+      → p.batched ≡ front ++ at ∷ []
+      → refusal (request_of s.head) (wire (request_of s.head) place.NoHead front).place at ≡ Some e
+      → (told.errors ≡ 1 → AllPass s front) → ClientRefuses s p link told left e
+  is_unfit : p.closing ≡ []
+      → first_refusal (request_of s.head) (wire (request_of s.head) place.NoHead p.batched).place
+      left ≡ Some e
+      → (told.errors ≡ 1 → AllPass s p.batched) → ClientRefuses s p link told left e
+  behind_the_end : 0 < length p.closing → e ≡ ends_short → ClientRefuses s p link told left e
 
 -- ---- what the code does between the session and the duplex
 

@@ -5,7 +5,7 @@ ghost use Rattle.relay_links.specs.Link.{LinkState};
 ghost use Rattle.relay_core.specs.Past.{Origin};
 ghost use Rattle.relay_session.specs.Response.{is_over};
 ghost use Rattle.relay_session.specs.TaskWire.{ends_short};
-ghost use Rattle.relay_sides.specs.Client.{HasPassed, BeginsBehind, begun_past, ClientBlames, ClientRefuses, CannotEnd, Queues, state_of, fault_in, piece_answer, told_read, failure_in_front};
+ghost use Rattle.relay_sides.specs.Client.{IsSide, BeginsBehind, begun_past, ClientBlames, ClientRefuses, CannotEnd, Queues, state_of, fault_in, piece_answer, told_read, failure_in_front};
 
 use bytes::Bytes;
 use relay_core::{Down, Piece, Told, UpKind};
@@ -40,8 +40,8 @@ impl ClientSide {
         ensures told { result.told ≡ Told.NOTHING }
         ensures begins { (s : Origin) (came : List ℕ) (link : LinkState) (ahead : List ℕ)
             → BeginsBehind s came link ahead session
-            → HasPassed s (begun_past came) link ahead result.session result.done result.finished
-            result.broken }
+            → IsSide s (begun_past came) link ahead result.session result.told result.done
+            result.finished result.broken }
     {
         ClientSide {
             alloc,
@@ -167,16 +167,17 @@ fn ends_short() -> Error
 impl<F: Front> Down<F> for ClientSide {
     ghost state = { λ side. state_of side.session side.told side.done side.finished side.broken };
 
-    ghost past = { λ side client s p. HasPassed s p (F.state client) (F.ahead client) side.session
-        side.done side.finished side.broken };
+    ghost past = { λ side client s p. IsSide s p (F.state client) (F.ahead client) side.session
+        side.told side.done side.finished side.broken };
 
     ghost blames = { λ side client s p e. ClientBlames s p (F.state client) e };
 
-    ghost refuses = { λ side client s p left e. ClientRefuses s p (F.state client) left e };
+    ghost refuses = { λ side client s p left e.
+        ClientRefuses s p (F.state client) side.told left e };
 
     // A write failed before, or the response cannot end where it stands.
     ghost cannot_end = { λ side client s p e.
-        ClientBlames s p (F.state client) e ⊎ CannotEnd s p e };
+        ClientBlames s p (F.state client) e ⊎ CannotEnd s p side.told e };
 
     ghost link = { F.state };
 

@@ -5,6 +5,8 @@ use Rattle.relay_session.specs.Reading.{is_body_done}
 use Rattle.relay_session.specs.declared.session.HttpSession.{HttpSession}
 use Rattle.relay_sides.proofs.ClientPast.{no_head}
 use Rattle.relay_sides.proofs.ClientRead.{Left, twice, reads_state, reads_silent, reads_waits, reads_more, reads_on}
+use Rattle.relay_sides.specs.Client as client
+use Rattle.relay_sides.proofs.ClientTold.{told_reads, with_told}
 use Rattle.relay_sides.proofs.UseLemmas.{client_reads, client_puts}
 use Rattle.relay_sides.proofs.client_side.ClientSideDown.read_piece.Given.{Over}
 use Rattle.relay_sides.proofs.client_side.ClientSideDown.read_piece.Goals as goal
@@ -37,11 +39,14 @@ returns-clause-reads g c =
 -- what passed goes on with the piece
 pub returns-clause-goes : goal.returns-clause-goes
 returns-clause-goes g c =
-    rw (c.piece_answer-piece.ensures, c.is_body_done.ensures.value)
+    rw (c.told_read-self.ensures, c.piece_answer-piece.ensures, c.is_body_done.ensures.value)
     (λ s p h.
-    reads_on s p _ _ _ _ c.args.self.now.session c.read_body_or_idle-took.new.self
+    with_told s _ _ c.read_body_or_idle-took.new.self _ c.args.self.now.done
+    c.args.self.now.finished c.args.self.now.broken _ _ p.batched p.closing _
+    (reads_on s p _ _ _ _ c.args.self.now.session c.read_body_or_idle-took.new.self
     c.args.self.now.done c.args.self.now.finished c.args.self.now.broken
-    c.read_body_or_idle-took.result c.requires h (left g c))
+    c.read_body_or_idle-took.result c.requires h.passed (left g c))
+    (told_reads s (client.queued p) c.args.self.now.told h.tasks _))
 
 -- where there is more to read the link gave bytes
 pub returns-clause-gives : goal.returns-clause-gives
@@ -49,7 +54,7 @@ returns-clause-gives g c =
     rw c.piece_answer-piece.ensures
     (λ s p h is.
     reads_more s p _ _ _ _ c.args.self.now.session c.read_body_or_idle-took.new.self
-    c.read_body_or_idle-took.result c.is_body_done.result h.client (left g c) is)
+    c.read_body_or_idle-took.result c.is_body_done.result h.passed.client (left g c) is)
 
 -- a client that is silent was asked
 pub returns-clause-silent : goal.returns-clause-silent
@@ -71,13 +76,13 @@ returns-clause-waits g c =
 pub returns-then-not-has_head-clause-gives : goal.returns-then-not-has_head-clause-gives
 returns-then-not-has_head-clause-gives g c = λ s p h is.
     absurd (no_head s p _ _ c.args.self.now.session _ _ _ c.has_head.result c.if-not-has_head.true
-    c.has_head.ensures.1 h)
+    c.has_head.ensures.1 h.passed)
 
 -- nor does this
 pub returns-then-not-has_head-clause-goes : goal.returns-then-not-has_head-clause-goes
 returns-then-not-has_head-clause-goes g c = λ s p h.
     absurd (no_head s p _ _ c.args.self.now.session _ _ _ c.has_head.result c.if-not-has_head.true
-    c.has_head.ensures.1 h)
+    c.has_head.ensures.1 h.passed)
 
 -- the client's link was asked once at most
 pub returns-clause-asks : goal.returns-clause-asks
@@ -96,4 +101,4 @@ returns-clause-puts g c =
     (g.F.Front.state c.read_body_or_idle-took.new.client) (g.F.Front.ahead c.args.client.now)
     (g.F.Front.ahead c.read_body_or_idle-took.new.client) c.args.self.now.session
     c.read_body_or_idle-took.new.self c.read_body_or_idle-took.result c.is_body_done.result
-    piece h.client (left g c) is)))
+    piece h.passed.client (left g c) is)))

@@ -3,6 +3,8 @@ use Rattle.std.proofs.Common.{refl, ap}
 use Rattle.relay_session.specs.declared.session.HttpSession.{HttpSession}
 use Rattle.relay_sides.specs.Client as client
 use Rattle.relay_sides.proofs.ClientWrite.{may_write, waits_open, fails_again, writes_on, writes_state, writes_silent, writes_waits, writes_some}
+use Rattle.relay_links.specs.declared.link.Put.TheVariants as put
+use Rattle.relay_sides.proofs.ClientTold.{told_writes, with_told}
 use Rattle.relay_sides.proofs.UseLemmas.{client_writes}
 use Rattle.relay_sides.proofs.client_side.ClientSideDown.write_pending.Goals as goal
 
@@ -15,8 +17,12 @@ write_pending-put-requires g c =
 -- a write failed before, and its fault is answered again
 pub returns-in-Some-clause-goes : goal.returns-in-Some-clause-goes
 returns-in-Some-clause-goes g c = λ s p h.
-    fails_again s p _ _ c.args.self.now.session c.args.self.now.done c.args.self.now.finished
-    c.args.self.now.broken c.in-Some.fault c.in-Some.is h
+    rw c.written-self.ensures
+    (with_told s _ _ c.args.self.now.session _ c.args.self.now.done c.args.self.now.finished
+    c.args.self.now.broken _ p.put p.batched p.closing _
+    (fails_again s p _ _ c.args.self.now.session c.args.self.now.done c.args.self.now.finished
+    c.args.self.now.broken c.in-Some.fault c.in-Some.is h.passed)
+    (told_writes s (client.queued p) c.args.self.now.told h.tasks (put.Failed c.in-Some.fault)))
 
 -- the state by the answer of the session
 pub returns-in-None-clause-writes : goal.returns-in-None-clause-writes
@@ -32,16 +38,19 @@ returns-in-None-clause-writes g c =
 -- what passed goes on with what the client took
 pub returns-in-None-clause-goes : goal.returns-in-None-clause-goes
 returns-in-None-clause-goes g c =
-    rw c.fault_in-self.ensures
+    rw (c.written-self-in-None.ensures, c.fault_in-self.ensures)
     (λ s p h.
-    writes_on s p _ _ _ _ c.args.self.now.session c.write_pending-put.new.self
+    with_told s _ _ c.write_pending-put.new.self _ c.args.self.now.done c.args.self.now.finished _
+    _ p.put p.batched p.closing _
+    (writes_on s p _ _ _ _ c.args.self.now.session c.write_pending-put.new.self
     c.args.self.now.done c.args.self.now.finished c.args.self.now.broken
-    c.write_pending-put.result c.args.self.now.session.writing.output h refl
+    c.write_pending-put.result c.args.self.now.session.writing.output h.passed refl
     (waits_open _ c.args.self.now.broken c.in-None.is c.requires)
     c.write_pending-put.ensures.answer
-    (c.write_pending-put.ensures.keeps (client.queued p) p.written h.client.response)
+    (c.write_pending-put.ensures.keeps (client.queued p) p.written h.passed.client.response)
     c.write_pending-put.ensures.ahead c.write_pending-put.ensures.rest
     (ap (λ (x : HttpSession). x.reading) c.write_pending-put.ensures.reading))
+    (told_writes s (client.queued p) c.args.self.now.told h.tasks c.write_pending-put.result))
 
 -- a client that is silent was asked
 pub returns-in-None-clause-silent : goal.returns-in-None-clause-silent
