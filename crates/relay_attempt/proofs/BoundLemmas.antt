@@ -108,7 +108,7 @@ module _ {L : Type 0} (state : L → LinkState) (start_at : L → LinkStart) whe
       -- the pieces that were put
       put_within : length p.put + 3 ≤ length s.ahead + length p.came
       put_within =
-          let c = so_far.down.client in
+          let c = so_far.down.passed.client in
           let session = x.exchange.down.session in
           let within = pieces_within (s.ahead ++ p.came) c.head c.framing c.len p.put c.has
           (pieces_said s p link ahead session c (so_far.steady refl).ends_last) c.some in
@@ -173,10 +173,13 @@ module _ {L : Type 0} (state : L → LinkState) (start_at : L → LinkStart) whe
       (old new : H1Exchange L) (h : HasCounted state start_at tasks ends s link ahead old)
       (result : Step)
       (went : over.Turns (DownHolds link' ahead' new.exchange.down s)
-      (λ p e. ClientBlames s p link' e) (λ p left e. ClientRefuses s p link' left e)
-      (λ p e. ClientBlames s p link' e ⊎ CannotEnd s p e) (UpHolds state start_at new.exchange.up s)
+      (λ p e. ClientBlames s p link' e)
+      (λ p left e. ClientRefuses s p link' new.exchange.down.told left e)
+      (λ p e. ClientBlames s p link' e ⊎ CannotEnd s p new.exchange.down.told e)
+      (UpHolds state start_at new.exchange.up s)
       (Blames state start_at new.exchange.up s) h.under_way.down h.under_way.up
       (core_in state start_at old) (core_in state start_at new) result)
+      (tells : over.TellsOn old.exchange.down.told new.exchange.down.told result)
     where
       -- the tasks of a turn that counts so
       carried : (more_tasks more_ends : ℕ)
@@ -188,16 +191,19 @@ module _ {L : Type 0} (state : L → LinkState) (start_at : L → LinkStart) whe
           went.so_far.requests went.extends went.adds refl h.carries more_tasks more_ends counts
 
       -- a turn behind which the exchange goes on
-      on : over.GoesOn new.exchange.duplex → (more_tasks more_ends : ℕ)
+      on : over.GoesOn new.exchange.duplex
+          → new.exchange.down.told.errors ≡ old.exchange.down.told.errors
+          → (more_tasks more_ends : ℕ)
           → CountsAs (core_in state start_at old) (core_in state start_at new) more_tasks more_ends
           → HasCounted state start_at (more_tasks + tasks) (more_ends + ends) s link' ahead' new
-      on goes_on more_tasks more_ends counts =
+      on goes_on same more_tasks more_ends counts =
           let left = ends_on (core_in state start_at old) (core_in state start_at new)
           (went.adds.stay goes_on.unfailed refl) more_tasks more_ends counts in
           record {
             passed = passed_by went.p went.q;
             under_way = under_way state start_at s went.p went.q link' ahead' new
-                (record { so_far = went.so_far; goes_on = goes_on }) h.under_way.alike;
+                (record { so_far = went.so_far; goes_on = goes_on })
+                (same ∙ h.under_way.untold);
             carries = carried more_tasks more_ends counts;
             left = omega (arith, left, h.left);
           }
@@ -213,22 +219,23 @@ module _ {L : Type 0} (state : L → LinkState) (start_at : L → LinkStart) whe
 
       -- what a turn counted, by its answer
       pub counted_turn : CountsOn state start_at tasks ends s link' ahead' old new result
-      counted_turn = by result went.comes_to
+      counted_turn = by result went.comes_to tells
         where
           by : (r : Step)
               → over.ComesTo (λ p e. ClientBlames s p link' e)
-              (λ p left e. ClientRefuses s p link' left e)
-              (λ p e. ClientBlames s p link' e ⊎ CannotEnd s p e)
+              (λ p left e. ClientRefuses s p link' new.exchange.down.told left e)
+              (λ p e. ClientBlames s p link' e ⊎ CannotEnd s p new.exchange.down.told e)
               (Blames state start_at new.exchange.up s) (core_in state start_at new) went.p went.q r
+              → over.TellsOn old.exchange.down.told new.exchange.down.told r
               → CountsOn state start_at tasks ends s link' ahead' old new r
-          by step.Moved goes_on = on goes_on
-          by (step.Waited pause) goes_on =
-              let counted = on goes_on 0 0 CountsAs.as_none in
+          by step.Moved goes_on same = on goes_on same
+          by (step.Waited pause) goes_on same =
+              let counted = on goes_on same 0 0 CountsAs.as_none in
               record {
                 passed = counted.passed;
                 under_way = counted.under_way;
                 carries = record { within = omega (arith, counted.carries.within) };
                 left = omega (arith, counted.left);
               }
-          by step.Finished finishes = over_it
-          by (step.Failed why) reason = over_it
+          by step.Finished finishes same = over_it
+          by (step.Failed why) reason told = over_it

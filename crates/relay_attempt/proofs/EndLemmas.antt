@@ -1,9 +1,9 @@
 -- How an exchange ends: both directions were relayed, or one side answers for the error.
 --
---   finished_of   from SoFar and Finishes: IsFinished
+--   finished_of   from SoFar and Finishes: IsFinished, or IsOverEarly
 --   fails_with    from SoFar and the reason of an error: FailsWith
 use Rattle.std.proofs.Common.{◌≡◌, ℕ, Bool, true, false, not, ◌==◌, ◌⊎◌, List, [], ◌∷◌, ◌++◌, length, drop, refl, sym, ap, subst, ◌∙◌, append-nil, append_assoc, inl, inr, Option, Some, None, arith}
-use Rattle.std.specs.Prelude.{◌||◌, ◌&&◌, is_some, is_none}
+use Rattle.std.specs.Prelude.{◌||◌, ◌&&◌, ◌↔◌, IsTrue, is_some, is_none}
 use Rattle.std.specs.List.{list_any}
 use Rattle.std.proofs.lemmas.Bool.Decides.{nat_tests}
 use Rattle.relay_tasks.specs.declared.error.Error.{Error}
@@ -17,7 +17,6 @@ use Rattle.relay_links.specs.Link.{LinkState, LinkStart}
 use Rattle.relay_h1.specs.Body.{Body, ended_text}
 use Rattle.relay_h1.specs.BodyWire.{is_full}
 use Rattle.relay_h1.specs.Tasks.{Tasks, ended}
-use Rattle.relay_h1.proofs.VerdictLemmas.{HasRequest-unique}
 use Rattle.relay_peer.specs.H1Client.{may_keep_client}
 use Rattle.relay_peer.specs.ResponseReading.{says, may_keep_reading}
 use Rattle.relay_peer.specs.ResponseReading as reading
@@ -28,7 +27,8 @@ use Rattle.relay_session.specs.declared.writing.Outgoing.TheVariants as outgoing
 use Rattle.relay_session.specs.Asked.{request_of}
 use Rattle.relay_session.specs.Reading.{is_body_done, IsWhole}
 use Rattle.relay_session.specs.declared.task_text.Request.{Request}
-use Rattle.relay_session.specs.TaskWire.{refusal, wire}
+use Rattle.relay_session.specs.TaskWire.{first_refusal, or_later, refusal, wire}
+use Rattle.relay_session.proofs.WireSteps.{first_refusal-append}
 use Rattle.relay_core.specs.Moves.{SoFar, Finishes, HasReason, Refused, Unended}
 use Rattle.relay_core.specs.Table as core
 use Rattle.relay_core.specs.declared.step.UpKind.{UpKind}
@@ -36,32 +36,36 @@ use Rattle.relay_core.proofs.BoolLemmas.{and_right, and_both, or_left, clash, de
 use Rattle.relay_core.proofs.TaskLemmas.{any_left}
 use Rattle.relay_core.specs.Past.{Origin, DownPast, UpPast}
 use Rattle.relay_core.specs.declared.duplex.Duplex.{Duplex}
-use Rattle.relay_peer.specs.Body.{IsFrontOf, sent_as}
+use Rattle.relay_peer.specs.Body.{IsFrontOf, body_of, sent_as}
 use Rattle.relay_sides.specs.Client as client
-use Rattle.relay_sides.specs.Client.{ClientBlames, ClientRefuses, CannotEnd, given_to, queued}
+use Rattle.relay_sides.specs.Client.{AllPass, ClientBlames, ClientRefuses, CannotEnd, given_to, queued}
 use Rattle.relay_peer.specs.Faults as faults
 use Rattle.relay_sides.specs.Filtered.{AreHeads, stops_for_error}
 use Rattle.relay_sides.specs.Filtered as filtered
-use Rattle.relay_peer.specs.Peer.{IsPeer, AreTasks, PeerBlames, IsOnlyFault, CannotSend, told_of}
+use Rattle.relay_peer.specs.Peer.{IsPeer, AreTasks, PeerBlames, IsOnlyFault, IsWriteError, told_of}
 use Rattle.relay_peer.specs.Peer as peer
 use Rattle.relay_sides.specs.declared.client_side.ClientSide.{ClientSide}
 use Rattle.relay_sides.specs.declared.filtered.Filtered.{Filtered}
 use Rattle.relay_peer.specs.declared.peer_side.PeerSide.{PeerSide}
+use Rattle.relay_core.specs.declared.told.Told.{Told}
 use Rattle.relay_sides.proofs.ClientPast.{open_is_whole}
+use Rattle.relay_sides.proofs.ClientTasks.{plain-append}
 use Rattle.relay_sides.proofs.FilterLemmas.{inside_of}
 use Rattle.relay_attempt.specs.Agrees.{AsksAlike}
-use Rattle.relay_attempt.specs.Exchange.{DownHolds, UpHolds, Blames, BlamesInside, down_state, core_of, IsFinished, FailsWith}
+use Rattle.relay_attempt.specs.Exchange.{DownHolds, UpHolds, Blames, BlamesInside, down_state, core_of, IsFinished, IsOverEarly, FailsWith}
 use Rattle.relay_exchange.specs.Exchange.{may_keep_at}
 use Rattle.relay_attempt.specs.Head.{link_of, may_keep}
 use Rattle.relay_exchange.specs.declared.exchange.Stage.{Stage}
 use Rattle.relay_exchange.specs.declared.exchange.Stage.TheVariants as stage
 use Rattle.relay_attempt.specs.declared.h1_exchange.H1Exchange.{H1Exchange}
-use Rattle.relay_attempt.specs.Order.{FailsFor, SendsWhole, SendsShort, IsRelayed, IsInOrder, Leaves, MayServe}
+use Rattle.relay_attempt.specs.Order.{FailsFor, SendsWhole, SendsShort, IsRelayed, EndsEarly, HasEnded, IsInOrder, Leaves, MayServe}
+use Rattle.relay_attempt.specs.Attempt.{DownHalf, IsAttempt, UpHalf}
 use Rattle.relay_attempt.specs.Order as order
 use Rattle.relay_attempt.proofs.SentLemmas.{IsWritten, stays_over}
 use Rattle.relay_attempt.proofs.ToldLemmas.{given_ends_last}
-use Rattle.relay_attempt.proofs.OrderLemmas.{passed_by, own_request, answers_own, text_written, tasks_own, batched_front, handed_any, IsEndGiven, end_given, headed, heads_withheld, refused_for, over_by_end, ended_said, order_so_far}
-use Rattle.relay_attempt.proofs.FitLemmas.{never_refused, over_is_whole, over_has_end}
+use Rattle.relay_attempt.proofs.OrderLemmas.{passed_by, answers_own, text_written, tasks_own, batched_front, handed_any, IsEndGiven, end_given, headed, heads_withheld, refused_for, over_by_end, ended_said, attempt_so_far, cut_queued, front_pass, order_cut, order_so_far, IsCut}
+use Rattle.relay_attempt.proofs.WriterLemmas.{IsWriters, client_apart, head_apart, link_apart, peer_apart, refused_is}
+use Rattle.relay_attempt.proofs.FitLemmas.{over_has_end}
 use Rattle.relay_attempt.proofs.KeepLemmas.{kept_parts, kept_unfailed, sent_whole, read_whole, over_ends}
 use Rattle.relay_attempt.proofs.ServeLemmas.{never_refused_short, sends_short, ended_stands, kept_writing, kept_reading, all_keep}
 use Rattle.relay_attempt.proofs.ShortLemmas.{short_or_whole, head_full}
@@ -106,45 +110,28 @@ own_blames state start_at s q up h e blames =
     PeerBlames (start_at up.inner.client.link) (state up.inner.client.link) a s.asked q e)
     (same_head blames.0 u.head (sym blames.1 ∙ u.is_head) ∙ u.own) blames.2
 
+-- why the exchange failed with that error, and the session holds what was queued
+record FailsHere {L : Type 0} (state : L → LinkState) (start_at : L → LinkStart)
+    (s : Origin) (p : DownPast) (q : UpPast) (link : LinkState) (down : ClientSide)
+    (up : Filtered (PeerSide L)) (e : Error) : Type 0 where
+  why : FailsFor s (passed_by p q) link (state up.inner.client.link)
+      (start_at up.inner.client.link) e
+  holds : Holds down.session.writing (order.queued_in (order.order_of why)) p.written
+
 module _ {L : Type 0} (state : L → LinkState) (start_at : L → LinkStart)
     (s : Origin) (p : DownPast) (q : UpPast) (link : LinkState) (ahead : List ℕ)
     (down : ClientSide) (up : Filtered (PeerSide L)) (duplex : Duplex)
     (so_far : SoFar (DownHolds link ahead down s) (UpHolds state start_at up s)
     (Blames state start_at up s) (core_of state start_at duplex down up) p q)
-    (alike : AsksAlike s.head s.sent)
+    (passes : AllPass s (queued p))
   where
     -- what passed is in order
     abbrev in_order : IsInOrder s (passed_by p q) (state up.inner.client.link).ended
-    in_order = order_so_far state start_at s p q link ahead down up duplex so_far alike
-
-    -- why the exchange failed with that error, over what is in order here
-    record FailsHere (e : Error) : Type 0 where
-      why : FailsFor s (passed_by p q) link (state up.inner.client.link)
-          (start_at up.inner.client.link) e
-      own : order.order_of why ≡ in_order
-
-    -- the client's side answers for the error
-    fails_client : (e : Error) → ClientBlames s p link e → FailsHere e
-    fails_client e blames =
-        record { why = order.FailsFor.by_client in_order blames; own = refl }
-
-    -- the peer's side answers for the error
-    fails_peer : (e : Error) → Blames state start_at up s q e → FailsHere e
-    fails_peer e (filtered.BlamesOver.by_inner blames) = record {
-      why = order.FailsFor.by_peer in_order q.lost
-          (own_blames state start_at s q up so_far.up e blames);
-      own = refl;
-    }
-    fails_peer e (filtered.BlamesOver.by_refusal is) = record {
-      why = order.FailsFor.by_refusal in_order
-          (refused_for s (start_at up.inner.client.link) (state up.inner.client.link) up q so_far.up
-          e is);
-      own = refl;
-    }
+    in_order = order_so_far state start_at s p q link ahead down up duplex so_far passes
 
     -- what was written
     abbrev text : IsWritten down.session.writing (queued p) p.written
-    text = text_written s p link ahead down.session so_far.down.client
+    text = text_written s p link ahead down.session so_far.down.passed.client
 
     -- the past of the peer's side, over its link
     abbrev peer_holds : IsPeer s (start_at up.inner.client.link) (state up.inner.client.link)
@@ -164,7 +151,7 @@ module _ {L : Type 0} (state : L → LinkState) (start_at : L → LinkStart)
 
     -- the tasks that were queued are a front of those that were handed on
     abbrev front : IsFrontOf p.batched q.read
-    front = batched_front p q.read _ _ _ _ so_far.down.plain so_far.responses
+    front = batched_front p q.read _ _ _ _ so_far.down.passed.plain so_far.responses
 
     -- an end among the batched tasks is one among all that were handed on
     given_ends : list_any is_end p.batched ≡ true
@@ -180,22 +167,21 @@ module _ {L : Type 0} (state : L → LinkState) (start_at : L → LinkStart)
     over_behind : (list_any is_end p.batched ≡ true) ⊎ (down.done ≡ true)
         → is_over (wire (request_of s.head) place.NoHead p.batched).place ≡ true
     over_behind (inl ends) =
-        over_by_end s alike (state up.inner.client.link).ended q.got q.read in_order.are_of
+        over_by_end s (state up.inner.client.link).ended q.got q.read in_order.are_of
         (headed s (start_at up.inner.client.link) (state up.inner.client.link) up q so_far.up)
-        p.batched front ends
+        p.batched front (front_pass (request_of s.head) p.batched p.closing passes) ends
     over_behind (inr done) =
         subst (λ (r : Request). is_over (wire r place.NoHead p.batched).place ≡ true)
-        (answers_own s p link ahead down.session so_far.down.client) (so_far.down.over done)
+        (answers_own s p link ahead down.session so_far.down.passed.client) (so_far.down.passed.over done)
 
-    -- the response has come whole, with an end among the tasks or where it is done
-    whole_by : (list_any is_end p.batched ≡ true) ⊎ (down.done ≡ true)
+    -- the response has come whole, where its end was read
+    whole_by : list_any is_end q.read ≡ true
         → (n : ℕ) × Tasks s.sent.method s.asked q.got (state up.inner.client.link).ended
         (says (told_of in_order.are_of.given) (ended n))
-    whole_by (inl ends) = in_order.are_of.whole (given_ends ends).found
-    whole_by (inr done) =
-        over_is_whole s.head s.sent.method alike s.asked
-        (state up.inner.client.link).ended q.got q.read in_order.are_of p.batched
-        front.rest (sym front.joined) (over_behind (inr done))
+    whole_by ends =
+        in_order.are_of.whole
+        (sym (ap (list_any is_end) in_order.are_of.are
+        ∙ handed_any s.sent.method in_order.are_of.given) ∙ ends)
 
     -- and it is over behind all that was queued
     over_by : (list_any is_end p.batched ≡ true) ⊎ (down.done ≡ true)
@@ -208,7 +194,7 @@ module _ {L : Type 0} (state : L → LinkState) (start_at : L → LinkStart)
         ≡ (order.text_of in_order).text
     text_own =
         ap (λ (r : Request). (wire r place.NoHead (queued p)).text)
-        (answers_own s p link ahead down.session so_far.down.client)
+        (answers_own s p link ahead down.session so_far.down.passed.client)
 
     -- nothing waits, and no fault is kept: all was written
     written_all :
@@ -217,7 +203,7 @@ module _ {L : Type 0} (state : L → LinkState) (start_at : L → LinkStart)
     written_all none =
         let still = neither _ down.broken none in
         on (text.all (none_waits (pending down.session.writing.output) still.0))
-        (so_far.down.unbroken still.1) ∙ text_own
+        (so_far.down.passed.unbroken still.1) ∙ text_own
       where
         on : (p.written ≡ (wire down.session.writing.request place.NoHead (queued p)).text)
             ⊎ ((fault : Fault) × (down.session.writing.output ≡ outgoing.Broken fault))
@@ -249,9 +235,9 @@ module _ {L : Type 0} (state : L → LinkState) (start_at : L → LinkStart)
     -- and so did its body
     sends_whole : duplex.send_error ≡ None → Finishes (core_of state start_at duplex down up) p q
         → SendsWhole s (passed_by p q) (state up.inner.client.link).ended
-        (order_so_far state start_at s p q link ahead down up duplex so_far alike)
+        in_order
     sends_whole none finishes =
-        let c = so_far.down.client in
+        let c = so_far.down.passed.client in
         let done = finishes.request_ended none in
         let all = ended_said (given_to s p) c.body ahead c.head c.framing c.len (c.told_whole done)
         c.has in
@@ -266,12 +252,13 @@ module _ {L : Type 0} (state : L → LinkState) (start_at : L → LinkStart)
           sent = sent_all none finishes;
         }
 
-    -- an end is among the tasks that were handed on, where the response is over behind its batches
-    read_ends : (list_any is_end p.batched ≡ true) ⊎ (down.done ≡ true)
+    -- where both heads ask alike an end is among the tasks that were handed on, where the response is
+    -- over behind its batches
+    read_ends : AsksAlike s.head s.sent → (list_any is_end p.batched ≡ true) ⊎ (down.done ≡ true)
         → list_any is_end q.read ≡ true
-    read_ends (inl ends) =
+    read_ends alike (inl ends) =
         ap (list_any is_end) (sym front.joined) ∙ any_left is_end p.batched front.rest ends
-    read_ends (inr done) =
+    read_ends alike (inr done) =
         ap (list_any is_end) in_order.are_of.are
         ∙ handed_any s.sent.method in_order.are_of.given
         ∙ over_has_end s.head s.sent.method alike s.asked
@@ -279,17 +266,16 @@ module _ {L : Type 0} (state : L → LinkState) (start_at : L → LinkStart)
         in_order.are_of so_far.up.withheld up.inner.client.response tasks_are heads_here p.batched
         front.rest (sym front.joined) (over_behind (inr done))
 
-    -- so no read of the peer failed
-    unread : Finishes (core_of state start_at duplex down up) p q → up.inner.read_failed ≡ false
-    unread finishes =
-        or_left up.inner.read_failed (stops_for_error up.stopped)
-        (so_far.marks.reads (inr (read_ends finishes.ended)))
+    -- where the end of the response was read no read of the peer failed
+    unread : list_any is_end q.read ≡ true → up.inner.read_failed ≡ false
+    unread ends =
+        or_left up.inner.read_failed (stops_for_error up.stopped) (so_far.marks.reads (inr ends))
 
     -- and where no send error is kept no call of the peer's client did
-    calm : duplex.send_error ≡ None → Finishes (core_of state start_at duplex down up) p q
+    calm : duplex.send_error ≡ None → list_any is_end q.read ≡ true
         → up.inner.client.failed ≡ false
-    calm none finishes =
-        so_far.up.holds.marked.calm (unread finishes) (sym so_far.marks.sends ∙ none)
+    calm none ends =
+        so_far.up.holds.marked.calm (unread ends) (sym so_far.marks.sends ∙ none)
 
     -- a request whose error says that it ends short does
     ends_short : (e : Error) → Blames state start_at up s q e → e ≡ short_request
@@ -303,24 +289,27 @@ module _ {L : Type 0} (state : L → LinkState) (start_at : L → LinkStart)
         (refused_for s (start_at up.inner.client.link) (state up.inner.client.link) up q so_far.up e
         is) short)
 
-    -- a send error that is kept is that of a write, the one call of the link that failed, or the
-    -- request ends short
-    send_error : Finishes (core_of state start_at duplex down up) p q → (e : Error)
-        → duplex.send_error ≡ Some e
-        → IsOnlyFault (start_at up.inner.client.link) (state up.inner.client.link) e
+    -- a send error that is kept is that of a write, or the request ends short
+    kept_error : (e : Error) → duplex.send_error ≡ Some e
+        → IsWriteError (start_at up.inner.client.link) (state up.inner.client.link)
+        up.inner.read_failed e
         ⊎ SendsShort s (passed_by p q) (state up.inner.client.link).ended in_order
-    send_error finishes e some =
-        let still = unread finishes in
-        let named :
-        CannotSend (start_at up.inner.client.link) (state up.inner.client.link) false e =
-        subst
-        (λ (b : Bool).
-        CannotSend (start_at up.inner.client.link) (state up.inner.client.link) b e)
-        still (so_far.up.holds.marked.named e (sym so_far.marks.sends ∙ some)) in
-        elim named [
+    kept_error e some =
+        elim (so_far.up.holds.marked.named e (sym so_far.marks.sends ∙ some)) [
           | inl written ↦ inl written
           | inr short ↦ inr (ends_short e (so_far.send_error e some) short)
         ]
+
+    -- where the end of the response was read, that write is the one call of the link that failed
+    send_error : list_any is_end q.read ≡ true → (e : Error) → duplex.send_error ≡ Some e
+        → IsOnlyFault (start_at up.inner.client.link) (state up.inner.client.link) e
+        ⊎ SendsShort s (passed_by p q) (state up.inner.client.link).ended in_order
+    send_error ends e some =
+        subst
+        (λ (b : Bool).
+        IsWriteError (start_at up.inner.client.link) (state up.inner.client.link) b e
+        ⊎ SendsShort s (passed_by p q) (state up.inner.client.link).ended in_order)
+        (unread ends) (kept_error e some)
 
     -- the peer's side answers for it
     write_blamed : (e : Error)
@@ -333,47 +322,72 @@ module _ {L : Type 0} (state : L → LinkState) (start_at : L → LinkStart)
 
     -- or the peer's side answers for the error that is kept
     request_by : (error : Option Error) → duplex.send_error ≡ error
-        → Finishes (core_of state start_at duplex down up) p q
-        → (SendsWhole s (passed_by p q) (state up.inner.client.link).ended
-        (order_so_far state start_at s p q link ahead down up duplex so_far alike)
+        → Finishes (core_of state start_at duplex down up) p q → list_any is_end q.read ≡ true
+        → (SendsWhole s (passed_by p q) (state up.inner.client.link).ended in_order
         × ((state up.inner.client.link).faults ≡ (start_at up.inner.client.link).faults))
         ⊎ (((e : Error) × (lost : Bool)
         × PeerBlames (start_at up.inner.client.link) (state up.inner.client.link) s.sent s.asked
-        (order.up_past (order_so_far state start_at s p q link ahead down up duplex so_far alike)
-        lost) e
+        (order.up_past in_order lost) e
         × IsOnlyFault (start_at up.inner.client.link) (state up.inner.client.link) e)
-        ⊎ SendsShort s (passed_by p q) (state up.inner.client.link).ended
-        (order_so_far state start_at s p q link ahead down up duplex so_far alike))
-    request_by None none finishes =
-        inl (sends_whole none finishes, peer_holds.calm (calm none finishes))
-    request_by (Some e) some finishes = elim (send_error finishes e some) [
+        ⊎ SendsShort s (passed_by p q) (state up.inner.client.link).ended in_order)
+    request_by None none finishes ends =
+        inl (sends_whole none finishes, peer_holds.calm (calm none ends))
+    request_by (Some e) some finishes ends = elim (send_error ends e some) [
       | inl written ↦ inr (inl (e, q.lost, write_blamed e written, written))
       | inr short ↦ inr (inr short)
     ]
 
-    -- both directions were relayed
+    -- both directions were relayed, where the end of the response was read
     abbrev relayed_of : Finishes (core_of state start_at duplex down up) p q
+        → list_any is_end q.read ≡ true
         → IsRelayed s (passed_by p q) (state up.inner.client.link) (start_at up.inner.client.link)
-    relayed_of finishes =
-        let all = whole_by finishes.ended in
+    relayed_of finishes ends =
+        let all = whole_by ends in
         record {
           order = in_order;
           n = all.0;
           whole = all.1;
+          ended = ends;
           over = over_by finishes.ended;
           written = written_all finishes.written;
-          request = request_by duplex.send_error refl finishes;
-          reads = so_far.up.holds.marked.reads (unread finishes);
+          request = request_by duplex.send_error refl finishes ends;
+          reads = so_far.up.holds.marked.reads (unread ends);
         }
 
+    -- how far the request was sent, whether or not the end of the response was read
+    sent_by : (error : Option Error) → duplex.send_error ≡ error
+        → Finishes (core_of state start_at duplex down up) p q
+        → SendsWhole s (passed_by p q) (state up.inner.client.link).ended in_order
+        ⊎ (((e : Error) × (read_failed : Bool)
+        × IsWriteError (start_at up.inner.client.link) (state up.inner.client.link) read_failed e)
+        ⊎ SendsShort s (passed_by p q) (state up.inner.client.link).ended in_order)
+    sent_by None none finishes = inl (sends_whole none finishes)
+    sent_by (Some e) some finishes = elim (kept_error e some) [
+      | inl written ↦ inr (inl (e, up.inner.read_failed, written))
+      | inr short ↦ inr (inr short)
+    ]
+
+    -- the response was over early, where its end was not read
+    abbrev early_of : Finishes (core_of state start_at duplex down up) p q
+        → list_any is_end q.read ≡ false
+        → EndsEarly s (passed_by p q) (state up.inner.client.link) (start_at up.inner.client.link)
+    early_of finishes none = record {
+      order = in_order;
+      open_still = none;
+      differs = λ alike. clash (list_any is_end q.read) (read_ends alike finishes.ended) none;
+      over = over_by finishes.ended;
+      written = written_all finishes.written;
+      request = sent_by duplex.send_error refl finishes;
+    }
+
     -- where the request was sent whole, and without a fault, no send error is kept
-    unsent : Finishes (core_of state start_at duplex down up) p q
+    unsent : list_any is_end q.read ≡ true
         → MayServe s (passed_by p q) (state up.inner.client.link).ended in_order
         → (error : Option Error) → duplex.send_error ≡ error
         → ¬ (Rose (start_at up.inner.client.link).faults (state up.inner.client.link).faults)
         → duplex.send_error ≡ None
-    unsent finishes serves None is faultless = is
-    unsent finishes serves (Some e) is faultless = elim (send_error finishes e is) [
+    unsent ends serves None is faultless = is
+    unsent ends serves (Some e) is faultless = elim (send_error ends e is) [
       | inl written ↦ absurd (faultless written.rose)
       | inr short ↦
           absurd (short_or_whole s (passed_by p q) (state up.inner.client.link).ended in_order
@@ -386,7 +400,7 @@ module _ {L : Type 0} (state : L → LinkState) (start_at : L → LinkStart)
         → (list_any is_end p.put ≡ true)
         ⊎ ((p.put ≡ []) × (is_full (body_framing s.sent) ≡ true))
     ended_sent none finishes serves =
-        elim (so_far.down.client.whole (finishes.request_ended none)) [
+        elim (so_far.down.passed.client.whole (finishes.request_ended none)) [
           | inl ends ↦ inl ends
           | inr bare ↦ inr (
             bare.0,
@@ -398,13 +412,13 @@ module _ {L : Type 0} (state : L → LinkState) (start_at : L → LinkStart)
 
     -- a link that may serve another request is kept
     pub keeps_of : Finishes (core_of state start_at duplex down up) p q
+        → list_any is_end q.read ≡ true
         → MayServe s (passed_by p q) (state up.inner.client.link).ended in_order
         → ¬ (Rose (start_at up.inner.client.link).faults (state up.inner.client.link).faults)
         → core.may_keep duplex.kind duplex && may_keep_client up.inner.client ≡ true
-    keeps_of finishes serves faultless =
-        let none = unsent finishes serves duplex.send_error refl faultless in
+    keeps_of finishes ends serves faultless =
+        let none = unsent ends serves duplex.send_error refl faultless in
         let u = peer_holds in
-        let ends = read_ends finishes.ended in
         let stands = subst (λ (x : Sent). Stands x up.inner.client.request.request)
         (u.queued.unlost (finishes.unlost none)
         ∙ ap (λ (h : RequestHead). sent_as h q.taken) u.own
@@ -431,13 +445,34 @@ module _ {L : Type 0} (state : L → LinkState) (start_at : L → LinkStart)
         (told_of in_order.are_of.given) (told_of (so_far.up.given ++ so_far.up.withheld))
         up.inner.client.response.place up.inner.client.response.ahead tasks_are.so_far.at over
         serves.response)
-        (not_false up.inner.client.failed (calm none finishes))))
+        (not_false up.inner.client.failed (calm none ends))))
       where
         response_done : list_any is_end q.read ≡ true → duplex.upstream_response_done ≡ true
         response_done ends = elim (decide duplex.upstream_response_done) [
           | inl done ↦ done
           | inr goes_on ↦ clash (list_any is_end q.read) ends (so_far.unended goes_on)
         ]
+
+    -- the request has ended exactly where the client's side says so
+    request_ends : IsTrue (is_body_done down.session.reading) ↔ HasEnded in_order
+    request_ends =
+        let c = so_far.down.passed.client in (
+          λ done. elim (c.whole done) [
+            | inl ends ↦ inl ends
+            | inr none ↦ inr none.1
+          ],
+          λ ended. elim ended [
+            | inl ends ↦ c.ended ends
+            | inr headed ↦ c.headed headed
+          ],
+        )
+
+    -- what is ahead of the client then stands behind it
+    request_behind : is_body_done down.session.reading ≡ true
+        → IsWhole (given_to s p) (body_of p.put) ahead
+    request_behind done =
+        let c = so_far.down.passed.client in
+        subst (λ (l : List ℕ). IsWhole (given_to s p) l ahead) (sym c.joined) (c.told_whole done)
 
     -- what the client's side leaves of its request, and the peer's side of its response
     pub leaves_of : (keeps : Bool) (n : ℕ)
@@ -447,20 +482,9 @@ module _ {L : Type 0} (state : L → LinkState) (start_at : L → LinkStart)
         → Leaves s (passed_by p q) (state up.inner.client.link).ended in_order ahead
         (is_body_done down.session.reading) up.closes keeps
     leaves_of keeps n whole serves =
-        let c = so_far.down.client in
         record {
-          ended = (
-            λ done. elim (c.whole done) [
-              | inl ends ↦ inl ends
-              | inr none ↦ inr none.1
-            ],
-            λ ended. elim ended [
-              | inl ends ↦ c.ended ends
-              | inr headed ↦ c.headed headed
-            ],
-          );
-          behind = λ done. subst (λ (l : List ℕ). IsWhole (given_to s p) l ahead) (sym c.joined)
-              (c.told_whole done);
+          ended = request_ends;
+          behind = request_behind;
           closes = so_far.up.closes;
           serves = λ kept. may_serve (serves kept);
         }
@@ -482,63 +506,197 @@ module _ {L : Type 0} (state : L → LinkState) (start_at : L → LinkStart)
                   up.inner.client.response n tasks_are.so_far parts.1 whole;
             }
 
-    -- the client's side refuses tasks that the peer gave: only where its link failed, since no task
-    -- of a response is refused, and no end was asked for
-    fails_tasks : (e : Error)
-        → Refused (λ r left e. ClientRefuses s r link left e) false p q e → FailsHere e
-    fails_tasks e r = on r.refused
+    -- the client's side answers for the error
+    fails_client : (e : Error) → ClientBlames s p link e
+        → FailsHere state start_at s p q link down up e
+    fails_client e blames = record {
+      why = order.FailsFor.by_client in_order blames;
+      holds = so_far.down.passed.client.response;
+    }
+
+    -- the peer's side answers for the error
+    fails_peer : (e : Error) → Blames state start_at up s q e
+        → FailsHere state start_at s p q link down up e
+    fails_peer e (filtered.BlamesOver.by_inner blames) = record {
+      why = order.FailsFor.by_peer in_order q.lost
+          (own_blames state start_at s q up so_far.up e blames);
+      holds = so_far.down.passed.client.response;
+    }
+    fails_peer e (filtered.BlamesOver.by_refusal is) = record {
+      why = order.FailsFor.by_refusal in_order
+          (refused_for s (start_at up.inner.client.link) (state up.inner.client.link) up q so_far.up
+          e is);
+      holds = so_far.down.passed.client.response;
+    }
+
+    -- a batch is refused as a whole
+    fails_batch : (e : Error) (batch rest : List HttpTask) → p.closing ≡ []
+        → q.read ≡ p.batched ++ (batch ++ rest)
+        → first_refusal (request_of s.head) (wire (request_of s.head) place.NoHead p.batched).place
+        batch ≡ Some e → FailsHere state start_at s p q link down up e
+    fails_batch e batch rest unasked came refused = record {
+      why = order.FailsFor.by_writer in_order batch unasked
+          (record { rest = rest; joined = append_assoc p.batched batch rest ∙ sym came })
+          (first_refusal-append (request_of s.head) place.NoHead p.batched batch
+          ∙ ap (λ (o : Option Error).
+          or_later o (first_refusal (request_of s.head)
+          (wire (request_of s.head) place.NoHead p.batched).place batch))
+          (front_pass (request_of s.head) p.batched p.closing passes) ∙ refused);
+      holds = so_far.down.passed.client.response;
+    }
+
+    -- the response cannot end where its end was asked for: only where the client's link failed,
+    -- since an end is asked for behind one among its tasks, or where the response is over
+    never_unended : (e : Error)
+        → refusal (request_of s.head) (wire (request_of s.head) place.NoHead (queued p)).place
+        task.Done ≡ Some e
+        → (list_any is_end p.batched ≡ true) ⊎ (down.done ≡ true) → ⊥
+    never_unended e refused asked =
+        over_ends (request_of s.head) (wire (request_of s.head) place.NoHead (queued p)).place e
+        (over_by asked) refused
+
+-- the client's side told no error, or this one alone
+abbrev pub TellsError : Told → Error → Type 0
+TellsError told e = (told.errors ≡ 0) ⊎ ((told.errors ≡ 1) × (told.last ≡ Some e))
+
+module _ {L : Type 0} (state : L → LinkState) (start_at : L → LinkStart)
+    (s : Origin) (p : DownPast) (q : UpPast) (link : LinkState) (ahead : List ℕ)
+    (down : ClientSide) (up : Filtered (PeerSide L)) (duplex : Duplex)
+    (so_far : SoFar (DownHolds link ahead down s) (UpHolds state start_at up s)
+    (Blames state start_at up s) (core_of state start_at duplex down up) p q)
+    (e : Error) (tells : TellsError down.told e)
+  where
+    -- the exchange failed with the error, for a cause
+    abbrev Fails : Type 0
+    Fails = FailsHere state start_at s p q link down up e
+
+    -- none of the tasks that were queued is refused, or the first that is is so with the error
+    queued_by : AllPass s (queued p)
+        ⊎ (first_refusal (request_of s.head) place.NoHead (queued p) ≡ Some e)
+    queued_by = elim tells [
+      | inl none ↦ inl (so_far.down.tasks.none none)
+      | inr one ↦ elim (so_far.down.tasks.one one.0) [
+        | inl pass ↦ inl pass
+        | inr refused ↦ inr (refused.2 ∙ (sym refused.1 ∙ one.1))
+      ]
+    ]
+
+    -- so none is where the error is none of the writer's
+    none_refused : (IsWriters e → ⊥) → AllPass s (queued p)
+    none_refused apart = elim queued_by [
+      | inl pass ↦ pass
+      | inr refused ↦ absurd (apart (refused_is (request_of s.head) place.NoHead (queued p) e
+          (plain-append p.batched p.closing so_far.down.passed.plain so_far.down.passed.plain_end)
+          refused))
+    ]
+
+    -- the client's side answers for the error
+    fails_blamed : ClientBlames s p link e → Fails
+    fails_blamed blames =
+        fails_client state start_at s p q link ahead down up duplex so_far
+        (none_refused (client_apart s p link e blames)) e blames
+
+    -- the peer's side does
+    fails_given : Blames state start_at up s q e → Fails
+    fails_given (filtered.BlamesOver.by_inner blames) =
+        fails_peer state start_at s p q link ahead down up duplex so_far
+        (none_refused (peer_apart (start_at up.inner.client.link) (state up.inner.client.link)
+        s.sent s.asked q e (own_blames state start_at s q up so_far.up e blames))) e
+        (filtered.BlamesOver.by_inner blames)
+    fails_given (filtered.BlamesOver.by_refusal is) =
+        fails_peer state start_at s p q link ahead down up duplex so_far
+        (none_refused (head_apart s.sent.method s.asked q.got e
+        (refused_for s (start_at up.inner.client.link) (state up.inner.client.link) up q so_far.up e
+        is))) e (filtered.BlamesOver.by_refusal is)
+
+    -- where nothing that was queued is refused, none of the batches is
+    batches_pass : AllPass s (queued p) → AllPass s p.batched
+    batches_pass pass = front_pass (request_of s.head) p.batched p.closing pass
+
+    -- the last task that was queued is refused
+    fails_cut : (first : List HttpTask) (at : HttpTask) → p.closing ≡ []
+        → p.batched ≡ first ++ at ∷ []
+        → refusal (request_of s.head) (wire (request_of s.head) place.NoHead first).place at ≡ Some e
+        → AllPass s first → Fails
+    fails_cut first at unasked is refused passes = record {
+      why = order.FailsFor.by_cut at
+          (order_cut s link (state up.inner.client.link) (start_at up.inner.client.link)
+          (down_state down) refl attempt first at cut) refl
+          (subst (λ (l : List HttpTask). IsFrontOf l q.read) is
+          (batched_front p q.read _ _ _ _ so_far.down.passed.plain so_far.responses))
+          (first_refusal-append (request_of s.head) place.NoHead first (at ∷ [])
+          ∙ ap (λ (o : Option Error).
+          or_later o (first_refusal (request_of s.head)
+          (wire (request_of s.head) place.NoHead first).place (at ∷ []))) passes
+          ∙ ap (λ (o : Option Error). or_later o None) refused);
+      holds = subst (λ (l : List HttpTask). Holds down.session.writing l p.written)
+          (cut_queued s link (state up.inner.client.link) (start_at up.inner.client.link)
+          (down_state down) refl attempt first at cut) so_far.down.passed.client.response;
+    }
       where
-        on : ClientRefuses s p link r.left e → FailsHere e
+        attempt : IsAttempt (DownHalf s link down.done)
+            (UpHalf s (start_at up.inner.client.link) (state up.inner.client.link))
+            (down_state down)
+        attempt = attempt_so_far state start_at s p q link ahead down up duplex so_far
+
+        cut : IsCut s link (state up.inner.client.link) (start_at up.inner.client.link)
+            (down_state down) refl attempt first at
+        cut = record { batched = is; unasked = unasked; passes = passes }
+
+    -- the client's side refuses tasks that the peer gave: its link failed, or a task of them is
+    -- refused, since no end was asked for
+    fails_tasks : Refused (λ r left e. ClientRefuses s r link down.told left e) false p q e → Fails
+    fails_tasks r = on r.refused
+      where
+        on : ClientRefuses s p link down.told r.left e → Fails
         on (client.ClientRefuses.link_failed fault is rose) =
-            fails_client e (client.ClientBlames.link_failed fault is rose.0 (inl rose.1))
-        on (client.ClientRefuses.cannot_send head framing len first at behind has none is fails) =
-            let c = so_far.down.client in
-            let own = (HasRequest-unique (given_to s p) head s.head framing c.framing len c.len has
-            (own_request s p link ahead down.session c)).0 in
-            absurd (never_refused s.head s.sent.method alike s.asked
-            (state up.inner.client.link).ended q.got q.read in_order.are_of
-            first (behind ++ r.rest) at
-            (r.came ∙ sym (append_assoc p.batched r.left r.rest)
-            ∙ ap (λ (l : List HttpTask). l ++ r.rest) is
-            ∙ append_assoc first (at ∷ behind) r.rest) e
-            (subst (λ (h : RequestHead).
-            refusal (request_of h) (wire (request_of h) place.NoHead first).place at ≡ Some e) own
-            fails))
+            fails_client state start_at s p q link ahead down up duplex so_far
+            (none_refused (link_apart fault e is)) e
+            (client.ClientBlames.link_failed fault is rose.0 (inl rose.1))
+        on (client.ClientRefuses.is_cut first at unasked is refused passes) =
+            fails_cut first at unasked is refused (elim tells [
+              | inl none ↦ front_pass (request_of s.head) first (at ∷ [])
+                  (subst (λ (l : List HttpTask). AllPass s l) is
+                  (batches_pass (so_far.down.tasks.none none)))
+              | inr one ↦ passes one.0
+            ])
+        on (client.ClientRefuses.is_unfit unasked refused passes) =
+            let batches : AllPass s p.batched = elim tells [
+              | inl none ↦ batches_pass (so_far.down.tasks.none none)
+              | inr one ↦ passes one.0
+            ] in
+            fails_batch state start_at s p q link ahead down up duplex so_far
+            (subst (λ (l : List HttpTask). AllPass s l)
+            (sym (ap (λ (l : List HttpTask). p.batched ++ l) unasked ∙ append-nil p.batched))
+            batches) e r.left r.rest unasked r.came refused
         on (client.ClientRefuses.behind_the_end some is) =
             let none : length p.closing ≡ 0 = ap (λ (l : List HttpTask). length l) (r.unasked refl)
             in
             absurd (omega (arith, some, none))
 
-    -- the response cannot end where its end was asked for: only where the client's link failed,
-    -- since an end is asked for behind one among its tasks, or where the response is over
-    fails_ending : (e : Error)
-        → Unended (λ r e. ClientBlames s r link e ⊎ CannotEnd s r e) (down_state down) p e
-        → FailsHere e
-    fails_ending e u = elim u.why [
-      | inl blames ↦ fails_client e blames
-      | inr cannot ↦ absurd (never_short cannot)
+    -- the response cannot end where its end was asked for: only where the client's link failed
+    fails_ending :
+        Unended (λ r e. ClientBlames s r link e ⊎ CannotEnd s r down.told e) (down_state down) p e
+        → Fails
+    fails_ending u = elim u.why [
+      | inl blames ↦ fails_blamed blames
+      | inr cannot ↦ absurd (never_unended state start_at s p q link ahead down up duplex so_far
+          (elim tells [
+            | inl none ↦ so_far.down.tasks.none none
+            | inr one ↦ cannot.passes one.0
+          ]) e cannot.refused (u.asked refl))
     ]
-      where
-        never_short : CannotEnd s p e → ⊥
-        never_short cannot =
-            let c = so_far.down.client in
-            let own = (HasRequest-unique (given_to s p) cannot.head s.head cannot.framing c.framing
-            cannot.len c.len cannot.has (own_request s p link ahead down.session c)).0 in
-            over_ends (request_of s.head)
-            (wire (request_of s.head) place.NoHead (queued p)).place e (over_by (u.asked refl))
-            (subst (λ (h : RequestHead).
-            refusal (request_of h) (wire (request_of h) place.NoHead (queued p)).place task.Done
-            ≡ Some e) own cannot.refused)
 
     -- the error has its cause in what passed
-    fails_here : (e : Error)
-        → HasReason (λ r e. ClientBlames s r link e) (λ r left e. ClientRefuses s r link left e)
-        (λ r e. ClientBlames s r link e ⊎ CannotEnd s r e) (Blames state start_at up s)
-        (down_state down) p q e → FailsHere e
-    fails_here e (inl blames) = fails_client e blames
-    fails_here e (inr (inl blames)) = fails_peer e blames
-    fails_here e (inr (inr (inl refused))) = fails_tasks e refused
-    fails_here e (inr (inr (inr unended))) = fails_ending e unended
+    fails_here :
+        HasReason (λ r e. ClientBlames s r link e)
+        (λ r left e. ClientRefuses s r link down.told left e)
+        (λ r e. ClientBlames s r link e ⊎ CannotEnd s r down.told e) (Blames state start_at up s)
+        (down_state down) p q e → Fails
+    fails_here (inl blames) = fails_blamed blames
+    fails_here (inr (inl blames)) = fails_given blames
+    fails_here (inr (inr (inl refused))) = fails_tasks refused
+    fails_here (inr (inr (inr unended))) = fails_ending unended
 
 module _ {L : Type 0} (state : L → LinkState) (start_at : L → LinkStart) where
   -- an exchange that finished, and what it leaves
@@ -547,29 +705,56 @@ module _ {L : Type 0} (state : L → LinkState) (start_at : L → LinkStart) whe
       → SoFar (DownHolds link ahead x.exchange.down s) (UpHolds state start_at x.exchange.up s)
       (Blames state start_at x.exchange.up s)
       (core_of state start_at x.exchange.duplex x.exchange.down x.exchange.up) p q
-      → AsksAlike s.head s.sent
+      → AllPass s (queued p)
       → Finishes (core_of state start_at x.exchange.duplex x.exchange.down x.exchange.up) p q
       → IsFinished state start_at s (passed_by p q) ahead x
-  finished_of s p q link ahead x is f alike finishes =
-      let down = x.exchange.down in
-      let up = x.exchange.up in
-      let duplex = x.exchange.duplex in
-      let relayed = relayed_of state start_at s p q link ahead down up duplex f alike finishes in
-      let c = f.down.client in
-      let client_keeps : may_keep x ≡ true → may_keep_client up.inner.client ≡ true =
-      λ kept. and_right (may_keep_at x.exchange.stage duplex) _ kept in
-      record {
-        relayed = relayed;
-        answers = answers_own s p link ahead down.session c;
-        leaves = leaves_of state start_at s p q link ahead down up duplex f alike (may_keep x)
-            relayed.n relayed.whole client_keeps;
-        faultless = λ kept.
-            f.up.holds.peer.calm (kept_unfailed up.inner.client (client_keeps kept));
-        keeps = λ serves faultless.
-            subst (λ (at : Stage). may_keep_at at duplex && may_keep_client up.inner.client ≡ true)
-            (sym is)
-            (keeps_of state start_at s p q link ahead down up duplex f alike finishes serves
-            faultless);
+      ⊎ IsOverEarly state start_at s (passed_by p q) ahead x
+  finished_of s p q link ahead x is f passes finishes =
+      elim (decide (list_any is_end q.read)) [
+        | inl ends ↦ inl (whole ends)
+        | inr none ↦ inr (early none)
+      ]
+    where
+      client_keeps : may_keep x ≡ true → may_keep_client x.exchange.up.inner.client ≡ true
+      client_keeps kept = and_right (may_keep_at x.exchange.stage x.exchange.duplex) _ kept
+
+      faultless : may_keep x ≡ true → (state (link_of x)).faults ≡ (start_at (link_of x)).faults
+      faultless kept =
+          f.up.holds.peer.calm (kept_unfailed x.exchange.up.inner.client (client_keeps kept))
+
+      whole : list_any is_end q.read ≡ true
+          → IsFinished state start_at s (passed_by p q) ahead x
+      whole ends =
+          let relayed = relayed_of state start_at s p q link ahead x.exchange.down x.exchange.up
+          x.exchange.duplex f passes finishes ends in
+          record {
+            relayed = relayed;
+            answers = answers_own s p link ahead x.exchange.down.session f.down.passed.client;
+            leaves = leaves_of state start_at s p q link ahead x.exchange.down x.exchange.up
+                x.exchange.duplex f passes (may_keep x) relayed.n relayed.whole client_keeps;
+            faultless = faultless;
+            keeps = λ serves calm.
+                subst
+                (λ (at : Stage).
+                may_keep_at at x.exchange.duplex && may_keep_client x.exchange.up.inner.client
+                ≡ true)
+                (sym is)
+                (keeps_of state start_at s p q link ahead x.exchange.down x.exchange.up
+                x.exchange.duplex f passes finishes ends serves calm);
+          }
+
+      early : list_any is_end q.read ≡ false
+          → IsOverEarly state start_at s (passed_by p q) ahead x
+      early none = record {
+        early = early_of state start_at s p q link ahead x.exchange.down x.exchange.up
+            x.exchange.duplex f passes finishes none;
+        answers = answers_own s p link ahead x.exchange.down.session f.down.passed.client;
+        ended = request_ends state start_at s p q link ahead x.exchange.down x.exchange.up
+            x.exchange.duplex f passes;
+        behind = request_behind state start_at s p q link ahead x.exchange.down x.exchange.up
+            x.exchange.duplex f passes;
+        closes = f.up.closes;
+        faultless = faultless;
       }
 
   -- an exchange that failed, and the session of its client that this leaves
@@ -578,21 +763,19 @@ module _ {L : Type 0} (state : L → LinkState) (start_at : L → LinkStart) whe
       → SoFar (DownHolds link ahead x.exchange.down s) (UpHolds state start_at x.exchange.up s)
       (Blames state start_at x.exchange.up s)
       (core_of state start_at x.exchange.duplex x.exchange.down x.exchange.up) p q
-      → AsksAlike s.head s.sent → (e : Error)
-      → HasReason (λ r e. ClientBlames s r link e) (λ r left e. ClientRefuses s r link left e)
-      (λ r e. ClientBlames s r link e ⊎ CannotEnd s r e) (Blames state start_at x.exchange.up s)
-      (down_state x.exchange.down) p q e
+      → (e : Error) → TellsError x.exchange.down.told e
+      → HasReason (λ r e. ClientBlames s r link e)
+      (λ r left e. ClientRefuses s r link x.exchange.down.told left e)
+      (λ r e. ClientBlames s r link e ⊎ CannotEnd s r x.exchange.down.told e)
+      (Blames state start_at x.exchange.up s) (down_state x.exchange.down) p q e
       → FailsWith state start_at s (passed_by p q) link x e
-  fails_with s p q link ahead x f alike e reason =
+  fails_with s p q link ahead x f e tells reason =
       let down = x.exchange.down in
       let fails = fails_here state start_at s p q link ahead down x.exchange.up x.exchange.duplex f
-      alike e reason in
+      e tells reason in
       record {
         why = fails.why;
-        answers = answers_own s p link ahead down.session f.down.client;
-        holds = subst
-            (λ (o : IsInOrder s (passed_by p q) (state (link_of x)).ended).
-            Holds down.session.writing (o.batched ++ o.closing) p.written) (sym fails.own)
-            f.down.client.response;
-        broken = f.down.client.broken;
+        answers = answers_own s p link ahead down.session f.down.passed.client;
+        holds = fails.holds;
+        broken = f.down.passed.client.broken;
       }

@@ -112,3 +112,8 @@ fails_still s p before after upstream start e w (FailsFor.by_peer order lost bla
     FailsFor.by_peer order lost blames
 fails_still s p before after upstream start e w (FailsFor.by_refusal order refuses) =
     FailsFor.by_refusal order refuses
+fails_still s p before after upstream start e w
+    (FailsFor.by_writer order batch unasked read refused) =
+    FailsFor.by_writer order batch unasked read refused
+fails_still s p before after upstream start e w (FailsFor.by_cut at order unasked read refused) =
+    FailsFor.by_cut at order unasked read refused

@@ -30,7 +30,7 @@ use Rattle.relay_h1.proofs.BodyReaderLemmas.{SoFar-reads}
 use Rattle.relay_h1.proofs.VerdictLemmas.{HasRequest-unique}
 use Rattle.relay_peer.specs.RequestWriting.{sent_wire}
 use Rattle.relay_peer.specs.ResponseReading.{says}
-use Rattle.relay_session.specs.Asked.{asks_of, request_of}
+use Rattle.relay_session.specs.Asked.{request_of}
 use Rattle.relay_session.specs.Reading.{head_of, RequestSoFar, IsWhole}
 use Rattle.relay_session.specs.Response.{is_over}
 use Rattle.relay_session.specs.TaskWire.{first_refusal, wire}
@@ -45,7 +45,7 @@ use Rattle.relay_core.specs.Past.{Origin, DownPast, UpPast}
 use Rattle.relay_core.specs.Pipe.{is_failure}
 use Rattle.relay_core.specs.declared.duplex.Duplex.{Duplex}
 use Rattle.relay_peer.specs.Body.{IsFrontOf, body_of, sent_as}
-use Rattle.relay_sides.specs.Client.{HasPassed, IsClient, given_to, queued}
+use Rattle.relay_sides.specs.Client.{AllPass, HasPassed, IsClient, given_to, queued}
 use Rattle.relay_sides.specs.Filtered.{AreHeads, IsFiltered, RefusesHead, handed}
 use Rattle.relay_peer.specs.Peer.{IsPeer, IsPeerSide, AreTasks, told_of}
 use Rattle.relay_sides.specs.declared.client_side.ClientSide.{ClientSide}
@@ -55,14 +55,14 @@ use Rattle.relay_peer.proofs.FrontLemmas.{front_then}
 use Rattle.relay_sides.proofs.FilterLemmas.{inside_of}
 use Rattle.relay_sides.proofs.RefusalLemmas.{stopped_for, withheld_heads}
 use Rattle.relay_peer.proofs.TaskLemmas.{ended_whole}
-use Rattle.relay_attempt.specs.Agrees.{AsksAlike}
 use Rattle.relay_attempt.specs.Attempt.{DownHalf, IsAttempt, UpHalf}
 use Rattle.relay_attempt.specs.Exchange.{DownHolds, UpHolds, Blames, down_state, core_of, AreTold}
-use Rattle.relay_attempt.specs.Order.{ArePieces, AreOf, IsInOrder}
+use Rattle.relay_attempt.specs.Order.{ArePieces, AreOf, IsInOrder, IsInOrderWith, and_cut}
 use Rattle.relay_attempt.specs.Passed.{Passed}
 use Rattle.relay_attempt.proofs.AttemptLemmas.{attempt_of, batches, with_halves}
-use Rattle.relay_attempt.proofs.SentLemmas.{IsWritten, ends_over, closed_passes, written_of}
-use Rattle.relay_attempt.proofs.FitLemmas.{front_passes}
+use Rattle.relay_attempt.proofs.SentLemmas.{IsWritten, ends_over, written_of}
+use Rattle.relay_session.proofs.WireSteps.{first_refusal-append}
+use Rattle.relay_sides.proofs.ClientTasks.{or_none}
 use Rattle.relay_attempt.proofs.ToldLemmas.{given_follow, given_informed, given_final, given_framed, given_body, given_ends_last, given_all}
 
 -- what passed, by the pasts of both sides
@@ -323,19 +323,13 @@ end_given method given batched rest joined last ends =
     }
 
 module _
-    (s : Origin) (alike : asks_of s.sent.method ≡ asks_of s.head.method) (closed : Bool)
-    (got : List ℕ) (read : List HttpTask)
+    (s : Origin) (closed : Bool) (got : List ℕ) (read : List HttpTask)
     (are_of : AreOf s.sent.method s.asked closed got read)
     (headed : list_any is_end are_of.given ≡ true
     → (head : ResponseHead) × ((told_of are_of.given).final ≡ Some head))
     (batched : List HttpTask) (front : IsFrontOf batched read)
+    (passes : first_refusal (request_of s.head) place.NoHead batched ≡ None)
   where
-    -- none of the tasks that were queued is refused
-    pub batched_passes : first_refusal (request_of s.head) place.NoHead batched ≡ None
-    batched_passes =
-        front_passes s.head s.sent.method alike s.asked closed got read are_of batched front.rest
-        (sym front.joined)
-
     -- with an end among the tasks the response is over
     pub over_by_end : list_any is_end batched ≡ true
         → is_over (wire (request_of s.head) place.NoHead batched).place ≡ true
@@ -350,25 +344,16 @@ module _
         (ends_over (request_of s.head) method are_of.given final.0 are_of.ends_last end.found
         final.1 (subst
         (λ (l : List HttpTask). first_refusal (request_of s.head) place.NoHead l ≡ None)
-        end.all batched_passes))
+        end.all passes))
 
-    -- where an end was asked for, the response is over
-    over_late : (closing : List HttpTask)
-        → (closing ≡ []) ⊎ ((list_any is_end batched ≡ true)
-        ⊎ (is_over (wire (request_of s.head) place.NoHead batched).place ≡ true))
-        → (closing ≡ []) ⊎ (is_over (wire (request_of s.head) place.NoHead batched).place ≡ true)
-    over_late closing (inl none) = inl none
-    over_late closing (inr (inl ends)) = inr (over_by_end ends)
-    over_late closing (inr (inr over)) = inr over
-
-    -- nor is an end that is asked for behind them
-    pub all_pass : (closing : List HttpTask) → list_any is_failure closing ≡ false
-        → (closing ≡ []) ⊎ ((list_any is_end batched ≡ true)
-        ⊎ (is_over (wire (request_of s.head) place.NoHead batched).place ≡ true))
-        → first_refusal (request_of s.head) place.NoHead (batched ++ closing) ≡ None
-    all_pass closing plain closes =
-        closed_passes (request_of s.head) place.NoHead batched closing batched_passes plain
-        (over_late closing closes)
+-- tasks in front of which none is refused
+pub front_pass : (request : Request) (front behind : List HttpTask)
+    → first_refusal request place.NoHead (front ++ behind) ≡ None
+    → first_refusal request place.NoHead front ≡ None
+front_pass request front behind passes =
+    (or_none (first_refusal request place.NoHead front)
+    (first_refusal request (wire request place.NoHead front).place behind)
+    (sym (first_refusal-append request place.NoHead front behind) ∙ passes)).0
 
 -- the tasks that were queued are a front of what was read
 pub batched_front : (p : DownPast) (read held : List HttpTask) (failed over ended : Bool)
@@ -419,9 +404,9 @@ up_half s start link side q h = record {
 -- ---- the order
 
 -- the halves of an attempt, each of which took the front of what the other put, are in order, where
--- both heads agree
+-- none of the tasks that were queued is refused
 module _
-    (s : Origin) (alike : AsksAlike s.head s.sent) (client link : LinkState) (start : LinkStart)
+    (s : Origin) (client link : LinkState) (start : LinkStart)
     (side : DownState) (plain : side.upgraded ≡ false)
     (a : IsAttempt (DownHalf s client side.response_done) (UpHalf s start link) side)
   where
@@ -440,8 +425,8 @@ module _
     ]
 
     -- so what passed is in order
-    abbrev pub order_of : IsInOrder s (passed_by a.p a.q) link.ended
-    order_of = record {
+    abbrev pub order_of : AllPass s (queued a.p) → IsInOrder s (passed_by a.p a.q) link.ended
+    order_of passes = record {
       asks = record {
         framing = a.is_down.framing;
         len = a.is_down.len;
@@ -457,10 +442,51 @@ module _
       batched = a.p.batched;
       first_batched = first_batched;
       closing = a.p.closing;
-      passes = all_pass s alike link.ended a.q.got a.q.read a.is_up.are_of a.is_up.headed
-          a.p.batched first_batched a.p.closing a.is_down.plain_end late;
+      passes = passes;
       closes_late = late;
       written = a.is_down.is_written;
+    }
+
+    -- the task that was cut is the last of them, and none of those before it is refused
+    pub record IsCut (front : List HttpTask) (at : HttpTask) : Type 0 where
+      pub batched : a.p.batched ≡ front ++ at ∷ []
+      pub unasked : a.p.closing ≡ []
+      pub passes : AllPass s front
+
+    -- what was queued, with that task last
+    pub cut_queued : (front : List HttpTask) (at : HttpTask) → IsCut front at
+        → queued a.p ≡ and_cut (front ++ []) (Some at)
+    cut_queued front at cut =
+        ap (λ (l : List HttpTask). a.p.batched ++ l) cut.unasked
+        ∙ append-nil a.p.batched ∙ cut.batched
+        ∙ ap (λ (l : List HttpTask). l ++ at ∷ []) (sym (append-nil front))
+
+    -- what passed is in order then too
+    abbrev pub order_cut : (front : List HttpTask) (at : HttpTask) → IsCut front at
+        → IsInOrderWith (Some at) s (passed_by a.p a.q) link.ended
+    order_cut front at cut = record {
+      asks = record {
+        framing = a.is_down.framing;
+        len = a.is_down.len;
+        has = a.is_down.asks;
+      };
+      pieces = a.p.put;
+      are_pieces = a.is_down.are_pieces (a.ends_last plain);
+      taken = a.q.taken;
+      first_taken = a.requests;
+      sent = a.is_up.is_sent;
+      read = a.q.read;
+      are_of = a.is_up.are_of;
+      batched = front;
+      first_batched = front_then front a.p.batched a.q.read
+          (record { rest = at ∷ []; joined = sym cut.batched }) first_batched;
+      closing = [];
+      passes = subst (λ (l : List HttpTask). AllPass s l) (sym (append-nil front)) cut.passes;
+      closes_late = inl refl;
+      written = subst
+          (λ (l : List HttpTask).
+          IsFrontOf a.p.written (wire (request_of s.head) place.NoHead l).text)
+          (cut_queued front at cut) a.is_down.is_written;
     }
 
 module _ {L : Type 0} (state : L → LinkState) (start_at : L → LinkStart) where
@@ -493,14 +519,15 @@ module _ {L : Type 0} (state : L → LinkState) (start_at : L → LinkStart)
         with_halves (DownHolds link ahead down s) (DownHalf s link down.done)
         (UpHolds state start_at up s)
         (UpHalf s (start_at up.inner.client.link) (state up.inner.client.link)) (down_state down)
-        (λ r h. down_half s r link ahead down.session down.done down.finished down.broken h)
+        (λ r h.
+        down_half s r link ahead down.session down.done down.finished down.broken h.passed)
         (λ r u. up_half s (start_at up.inner.client.link) (state up.inner.client.link) up r u)
         (attempt_of (DownHolds link ahead down s) (UpHolds state start_at up s)
         (Blames state start_at up s) (core_of state start_at duplex down up) p q so_far)
 
-    -- so it is in order, where both heads agree
-    abbrev pub order_so_far : AsksAlike s.head s.sent
+    -- so it is in order, where none of the tasks that were queued is refused
+    abbrev pub order_so_far : AllPass s (queued p)
         → IsInOrder s (passed_by p q) (state up.inner.client.link).ended
-    order_so_far alike =
-        order_of s alike link (state up.inner.client.link) (start_at up.inner.client.link)
-        (down_state down) refl attempt_so_far
+    order_so_far passes =
+        order_of s link (state up.inner.client.link) (start_at up.inner.client.link)
+        (down_state down) refl attempt_so_far passes

@@ -1,5 +1,6 @@
 -- An exchange so far over HTTP/1 links, and what a turn makes of it.
-use Rattle.std.specs.Prelude.{◌≡◌, ℕ, true, ◌⊎◌, ◌≤◌, List, [], ◌++◌, Option, Some}
+use Rattle.std.specs.List.{list_any}
+use Rattle.std.specs.Prelude.{◌≡◌, ◌↔◌, IsTrue, ℕ, true, ◌⊎◌, ◌≤◌, List, [], Option, Some}
 use Rattle.relay_tasks.specs.declared.error.Error.{Error}
 use Rattle.relay_tasks.specs.declared.error.Fail.TheVariants as fail
 use Rattle.relay_tasks.specs.declared.fault.Fault.{Fault}
@@ -10,7 +11,7 @@ use Rattle.relay_links.specs.Told.{Since}
 use Rattle.relay_links.specs.declared.branch.Branch.{Branch}
 use Rattle.relay_peer.specs.RequestWriting.{head_in}
 use Rattle.relay_session.specs.Asked.{request_of}
-use Rattle.relay_session.specs.Reading.{is_body_done}
+use Rattle.relay_session.specs.Reading.{is_body_done, IsWhole}
 use Rattle.relay_session.specs.Response.{Holds}
 use Rattle.relay_session.specs.declared.writing.Outgoing.TheVariants as outgoing
 use Rattle.relay_core.specs.Down.{DownState}
@@ -20,27 +21,27 @@ use Rattle.relay_core.specs.Uses as uses
 use Rattle.relay_core.specs.declared.duplex.Duplex.{Duplex}
 use Rattle.relay_core.specs.declared.step.Step.{Step}
 use Rattle.relay_core.specs.declared.step.Step.TheVariants as step
-use Rattle.relay_sides.specs.Client.{HasPassed, FailsWrite}
+use Rattle.relay_sides.specs.Client.{IsSide, FailsWrite}
 use Rattle.relay_sides.specs.Client as client
+use Rattle.relay_peer.specs.Body.{body_of}
 use Rattle.relay_peer.specs.Faults.{TellsSince}
 use Rattle.relay_peer.specs.Peer.{IsPeerSide, PeerBlames}
 use Rattle.relay_peer.specs.Peer as peer
 use Rattle.relay_sides.specs.declared.client_side.ClientSide.{ClientSide}
-use Rattle.relay_sides.specs.Filtered.{BlamesOver, IsFiltered, state_over}
+use Rattle.relay_sides.specs.Filtered.{BlamesOver, IsFiltered, asks_to_close, state_over}
 use Rattle.relay_sides.specs.declared.filtered.Filtered.{Filtered}
 use Rattle.relay_peer.specs.declared.peer_side.PeerSide.{PeerSide}
 use Rattle.relay_exchange.specs.Exchange.{IsSilentLink}
 use Rattle.relay_exchange.specs.Exchange as over
 use Rattle.relay_attempt.specs.declared.h1_exchange.H1Exchange.{H1Exchange}
-use Rattle.relay_attempt.specs.Agrees.{AsksAlike}
 use Rattle.relay_attempt.specs.Head.{link_of, may_keep}
-use Rattle.relay_attempt.specs.Order.{IsInOrder, FailsFor, order_of, IsRelayed, Leaves, MayServe}
-use Rattle.relay_attempt.specs.Passed.{Passed}
+use Rattle.relay_attempt.specs.Order.{IsInOrder, FailsFor, order_of, queued_in, IsRelayed, EndsEarly, HasEnded, Leaves, MayServe}
+use Rattle.relay_attempt.specs.Passed.{Passed, asked}
 
 -- the past of the client's side holds
 abbrev pub DownHolds : LinkState → List ℕ → ClientSide → Origin → DownPast → Type 0
 DownHolds link ahead side s p =
-    HasPassed s p link ahead side.session side.done side.finished side.broken
+    IsSide s p link ahead side.session side.told side.done side.finished side.broken
 
 -- the state of the client's side
 abbrev pub down_state : ClientSide → DownState
@@ -71,11 +72,11 @@ module _ {L : Type 0} (state : L → LinkState) (start_at : L → LinkStart) whe
       (state_over (peer.state_of up.inner) up.upgraded up.stopped up.told)
 
   -- the exchange so far, over all that passed: what was sent and written is in order, and it is
-  -- under way between both sides, with a head that agrees with the client's
+  -- under way between both sides, of which the client's told no error
   pub record IsUnderWay (s : Origin) (p : Passed) (link : LinkState) (ahead : List ℕ)
       (x : H1Exchange L) : Type 0 where
     pub order : IsInOrder s p (state (link_of x)).ended
-    pub alike : AsksAlike s.head s.sent
+    pub untold : x.exchange.down.told.errors ≡ 0
     pub down : DownPast
     pub up : UpPast
     pub came : down.came ≡ p.came
@@ -111,6 +112,19 @@ module _ {L : Type 0} (state : L → LinkState) (start_at : L → LinkStart) whe
         → ¬ (Rose (start_at (link_of x)).faults (state (link_of x)).faults)
         → may_keep x ≡ true
 
+  -- the response was over towards the client before its end was read, which leaves both links so,
+  -- and a session that answers the request. A link of which a call failed is not kept
+  pub record IsOverEarly (s : Origin) (p : Passed) (ahead : List ℕ) (x : H1Exchange L)
+      : Type 0 where
+    pub early : EndsEarly s p (state (link_of x)) (start_at (link_of x))
+    pub answers : x.exchange.down.session.writing.request ≡ request_of s.head
+    pub ended : IsTrue (is_body_done x.exchange.down.session.reading) ↔ HasEnded early.order
+    pub behind : is_body_done x.exchange.down.session.reading ≡ true
+        → IsWhole (asked s p) (body_of early.order.pieces) ahead
+    pub closes : x.exchange.up.closes ≡ list_any asks_to_close early.order.read
+    pub faultless : may_keep x ≡ true
+        → (state (link_of x)).faults ≡ (start_at (link_of x)).faults
+
   -- why it failed with that error, and the session that this leaves: it answers the request, with
   -- the tasks that were queued, of whose text so much was written; and where it keeps the fault of
   -- a write, the client's link has answered that since the request began
@@ -118,18 +132,17 @@ module _ {L : Type 0} (state : L → LinkState) (start_at : L → LinkStart) whe
       : Type 0 where
     pub why : FailsFor s p link (state (link_of x)) (start_at (link_of x)) e
     pub answers : x.exchange.down.session.writing.request ≡ request_of s.head
-    pub holds : Holds x.exchange.down.session.writing
-        ((order_of why).batched ++ (order_of why).closing) p.written
+    pub holds : Holds x.exchange.down.session.writing (queued_in (order_of why)) p.written
     pub broken : (fault : Fault)
         → x.exchange.down.session.writing.output ≡ outgoing.Broken fault
         → FailsWrite s link fault
 
-  -- what a turn made of it, by its answer: it goes on; both directions were relayed; or it failed,
-  -- for a cause
+  -- what a turn made of it, by its answer: it goes on; both directions were relayed, or the
+  -- response was over early; or it failed, for a cause
   abbrev pub ComesTo : Origin → Passed → LinkState → List ℕ → H1Exchange L → Step → Type 0
   ComesTo s p link ahead x step.Moved = IsUnderWay s p link ahead x
   ComesTo s p link ahead x (step.Waited pause) = IsUnderWay s p link ahead x
-  ComesTo s p link ahead x step.Finished = IsFinished s p ahead x
+  ComesTo s p link ahead x step.Finished = IsFinished s p ahead x ⊎ IsOverEarly s p ahead x
   ComesTo s p link ahead x (step.Failed (fail.Error e)) =
       FailsWith s p link x e
   ComesTo s p link ahead x (step.Failed fail.OutOfMemory) =

@@ -1,6 +1,6 @@
 -- What was sent to the peer and what was written to the client, in terms of the bytes that passed
 -- (RFC 9110, section 15.2; RFC 9112, sections 3 to 8).
-use Rattle.std.specs.Prelude.{◌≡◌, ◌↔◌, IsTrue, ℕ, All, Bool, true, false, ◌⊎◌, ◌≤◌, List, [], ◌++◌, drop, map, Some, None}
+use Rattle.std.specs.Prelude.{◌≡◌, ◌↔◌, IsTrue, ℕ, All, Bool, true, false, ◌⊎◌, ◌≤◌, List, [], ◌∷◌, ◌++◌, drop, map, Option, Some, None}
 use Rattle.std.specs.List.{list_any, concat}
 use Rattle.relay_tasks.specs.declared.error.Error.{Error}
 use Rattle.relay_tasks.specs.declared.fault.Fault.{Fault}
@@ -29,7 +29,8 @@ use Rattle.relay_core.specs.Past.{Origin, DownPast, UpPast}
 use Rattle.relay_peer.specs.Body.{IsFrontOf, body_of, sent_as}
 use Rattle.relay_sides.specs.Client.{ClientBlames}
 use Rattle.relay_sides.specs.Filtered.{handed, is_switch, HasRoom, RefusesHead, asks_to_close}
-use Rattle.relay_peer.specs.Peer.{told_of, EndFramed, Follow, PeerBlames, IsOnlyFault}
+use Rattle.relay_peer.specs.Peer.{told_of, EndFramed, Follow, PeerBlames, IsOnlyFault, IsWriteError}
+use Rattle.relay_attempt.specs.Agrees.{AsksAlike}
 use Rattle.relay_attempt.specs.Passed.{Passed, asked}
 
 -- the client's bytes begin with the head of the request
@@ -78,12 +79,19 @@ pub record AreOf
 
 -- ---- both
 
+-- tasks, and behind them one that was cut: it is refused, since it ends short, and its text without
+-- its end was queued
+abbrev pub and_cut : List HttpTask → Option HttpTask → List HttpTask
+and_cut tasks None = tasks
+and_cut tasks (Some at) = tasks ++ at ∷ []
+
 -- what was sent is the front of the text of the head that is sent and of pieces of the client's
 -- body, from the first on, with the end only where the body has ended. What was written is the
 -- front of the text of the first of the tasks that the peer's bytes are, none of which is refused;
 -- an end is asked for behind them only where one is among them, or where the response is over
--- behind them
-pub record IsInOrder (s : Origin) (p : Passed) (closed : Bool) : Type 0 where
+-- behind them. One more may have been cut
+pub record IsInOrderWith (cut : Option HttpTask) (s : Origin) (p : Passed) (closed : Bool)
+    : Type 0 where
   pub asks : Asks s p
   pub pieces : List HttpTask
   pub are_pieces : ArePieces asks.framing (drop asks.len (asked s p)) pieces
@@ -100,13 +108,21 @@ pub record IsInOrder (s : Origin) (p : Passed) (closed : Bool) : Type 0 where
       ⊎ ((list_any is_end batched ≡ true)
       ⊎ (is_over (wire (request_of s.head) place.NoHead batched).place ≡ true))
   pub written : IsFrontOf p.written
-      (wire (request_of s.head) place.NoHead (batched ++ closing)).text
+      (wire (request_of s.head) place.NoHead (and_cut (batched ++ closing) cut)).text
 
--- what the tasks that were queued for the client are sent as
-abbrev pub text_of :
-    {s : Origin} {p : Passed} {closed : Bool} → IsInOrder s p closed → Sent
-text_of {s = s} order =
-    wire (request_of s.head) place.NoHead (order.batched ++ order.closing)
+-- what was sent and written is in order, and nothing was cut
+abbrev pub IsInOrder : Origin → Passed → Bool → Type 0
+IsInOrder s p closed = IsInOrderWith None s p closed
+
+-- the tasks that were queued for the client, the one that was cut last
+abbrev pub queued_in : {cut : Option HttpTask} {s : Origin} {p : Passed} {closed : Bool}
+    → IsInOrderWith cut s p closed → List HttpTask
+queued_in {cut = cut} order = and_cut (order.batched ++ order.closing) cut
+
+-- what they are sent as
+abbrev pub text_of : {cut : Option HttpTask} {s : Origin} {p : Passed} {closed : Bool}
+    → IsInOrderWith cut s p closed → Sent
+text_of {s = s} order = wire (request_of s.head) place.NoHead (queued_in order)
 
 -- ---- ends
 
@@ -131,9 +147,10 @@ up_past {p = p} order lost = record {
   lost = lost;
 }
 
--- why an exchange failed with that error: the client's side answers for it, the peer's side does,
--- or a head of the response is refused. Tasks that the peer's side gave can always be sent to the
--- client, and the response can always end where its end is asked for
+-- why an exchange failed with that error: the client's side answers for it, the peer's side does, or
+-- a head of the response is refused; or tasks that the peer's side gave are refused by the client's
+-- writer, for the first of them that is: a whole batch behind those that were queued, or a task that
+-- ends short, whose end alone was not queued. The response can always end where its end is asked for
 pub data FailsFor
     (s : Origin) (p : Passed) (client link : LinkState) (start : LinkStart) (e : Error)
     : Type 0 where
@@ -144,13 +161,33 @@ pub data FailsFor
       → FailsFor s p client link start e
   by_refusal : (order : IsInOrder s p link.ended) → RefusesHead s.sent.method s.asked p.got e
       → FailsFor s p client link start e
+  by_writer : (order : IsInOrder s p link.ended) (batch : List HttpTask) → order.closing ≡ []
+      → IsFrontOf (order.batched ++ batch) order.read
+      → first_refusal (request_of s.head) place.NoHead (order.batched ++ batch) ≡ Some e
+      → FailsFor s p client link start e
+  by_cut : (at : HttpTask) (order : IsInOrderWith (Some at) s p link.ended) → order.closing ≡ []
+      → IsFrontOf (order.batched ++ at ∷ []) order.read
+      → first_refusal (request_of s.head) place.NoHead (order.batched ++ at ∷ []) ≡ Some e
+      → FailsFor s p client link start e
+
+-- the task that was cut, by why the exchange failed
+abbrev pub cut_of : {s : Origin} {p : Passed} {client link : LinkState} {start : LinkStart}
+    {e : Error} → FailsFor s p client link start e → Option HttpTask
+cut_of (FailsFor.by_client order blames) = None
+cut_of (FailsFor.by_peer order lost blames) = None
+cut_of (FailsFor.by_refusal order refuses) = None
+cut_of (FailsFor.by_writer order batch unasked read refused) = None
+cut_of (FailsFor.by_cut at order unasked read refused) = Some at
 
 -- the order of what passed, by why the exchange failed
 abbrev pub order_of : {s : Origin} {p : Passed} {client link : LinkState} {start : LinkStart}
-    {e : Error} → FailsFor s p client link start e → IsInOrder s p link.ended
+    {e : Error} (why : FailsFor s p client link start e)
+    → IsInOrderWith (cut_of why) s p link.ended
 order_of (FailsFor.by_client order blames) = order
 order_of (FailsFor.by_peer order lost blames) = order
 order_of (FailsFor.by_refusal order refuses) = order
+order_of (FailsFor.by_writer order batch unasked read refused) = order
+order_of (FailsFor.by_cut at order unasked read refused) = order
 
 -- nothing but writes came between two states of a client's link: its reads told no more, and its
 -- writes these faults
@@ -195,6 +232,7 @@ pub record IsRelayed (s : Origin) (p : Passed) (link : LinkState) (start : LinkS
   pub n : ℕ
   pub whole : Tasks s.sent.method s.asked p.got link.ended
       (says (told_of order.are_of.given) (ended n))
+  pub ended : list_any is_end order.read ≡ true
   pub over : is_over (text_of order).place ≡ true
   pub written : p.written ≡ (text_of order).text
   pub request : (SendsWhole s p link.ended order × (link.faults ≡ start.faults))
@@ -202,6 +240,20 @@ pub record IsRelayed (s : Origin) (p : Passed) (link : LinkState) (start : LinkS
       × IsOnlyFault start link e)
       ⊎ SendsShort s p link.ended order)
   pub reads : Since [] start.read_faults link.read_faults []
+
+-- the response is over towards the client before its end was read: of the client's head and the
+-- head that is sent one alone is a HEAD. Its text was written whole; and the request was sent
+-- whole, or one write of the peer's link failed, with which it was not, or the request ends short
+pub record EndsEarly (s : Origin) (p : Passed) (link : LinkState) (start : LinkStart)
+    : Type 0 where
+  pub order : IsInOrder s p link.ended
+  pub open_still : list_any is_end order.read ≡ false
+  pub differs : ¬ (AsksAlike s.head s.sent)
+  pub over : is_over (text_of order).place ≡ true
+  pub written : p.written ≡ (text_of order).text
+  pub request : SendsWhole s p link.ended order
+      ⊎ (((e : Error) × (read_failed : Bool) × IsWriteError start link read_failed e)
+      ⊎ SendsShort s p link.ended order)
 
 -- the peer's link may serve another request: the request was sent whole, in these pieces; its head
 -- and the response's let the link be kept; and no byte behind the response was read (RFC 9112,

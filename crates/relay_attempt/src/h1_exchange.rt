@@ -9,7 +9,6 @@ ghost use Rattle.relay_core.specs.Asked.{WaitRose};
 ghost use Rattle.relay_core.specs.Causes.{says_failed};
 ghost use Rattle.relay_core.specs.Past.{Origin};
 ghost use Rattle.relay_sides.specs.Client.{BeginsBehind};
-ghost use Rattle.relay_attempt.specs.Agrees.{AsksAlike};
 ghost use Rattle.relay_attempt.specs.Bound.{CountsOn, HasCounted};
 ghost use Rattle.relay_attempt.specs.Passed.{Passed};
 ghost use Rattle.relay_attempt.specs.Head.{IsRefusedFor, link_of, may_keep};
@@ -39,8 +38,9 @@ pub struct Unbegun<L> {
 
 impl<L: ByteLink> H1Exchange<L> {
     /// An exchange for the session's request over that link, which was just handed out. `head` is
-    /// the head that is sent, which may differ from the client's: what is said of what passes holds
-    /// where both agree on how request and response are framed.
+    /// the head that is sent, which may differ from the client's in all: the request is framed as
+    /// it says, and the response towards the client as the client's says. Where they frame alike
+    /// a request does not end short, and no task of a response is refused.
     ///
     /// `InvalidHTTPHeader` of the source `Internal`, about `BadFraming`: exactly where
     /// `request_framing` refuses the head. Then, and where memory is wanted, the link comes back,
@@ -52,8 +52,8 @@ impl<L: ByteLink> H1Exchange<L> {
         head: RequestHeader,
     ) -> std::result::Result<H1Exchange<L>, Unbegun<L>>
         ensures begins { IfOk result (λ x. (s : Origin) (came : List ℕ) (client : LinkState)
-            (ahead : List ℕ) (reused : Bool) → head ≡ s.sent → AsksAlike s.head s.sent
-            → s.asked ≡ false → BeginsBehind s came client ahead session
+            (ahead : List ℕ) (reused : Bool) → head ≡ s.sent → s.asked ≡ false
+            → BeginsBehind s came client ahead session
             → IsHandedOut (L.state link) (L.start link) reused → s.reused ≡ reused
             → IsUnderWay L.state L.start s
             (record { came = came; written = []; got = []; sent = [] }) client ahead x) }
@@ -87,8 +87,10 @@ impl<L: ByteLink> H1Exchange<L> {
     /// duplex.
     ///
     /// `Finished`: the response was written whole, and the request was sent whole, or the peer took
-    /// no more of it. `Failed` with an error says why one of both failed: nothing more is written
-    /// or sent from then on. After `Finished` and `Failed` no turn is to follow.
+    /// no more of it, or it ended short. Where one alone of both heads is a HEAD, the response may
+    /// be over towards the client before its end was read. `Failed` with an error says why one of
+    /// both failed: nothing more is written or sent from then on. After `Finished` and `Failed` no
+    /// turn is to follow.
     pub fn turn<F: Front, H: Schedule>(&mut self, client: &mut F, schedule: &mut H) -> Turn
         ensures goes { (s : Origin) (p : Passed)
             → IsUnderWay L.state L.start s p (F.state client.old) (F.ahead client.old) self.old

@@ -15,6 +15,7 @@ use Rattle.relay_sides.specs.declared.filtered.Filtered.{Filtered}
 use Rattle.relay_peer.specs.declared.peer_side.PeerSide.{PeerSide}
 use Rattle.relay_exchange.specs.declared.exchange.Exchange.{Exchange}
 use Rattle.relay_exchange.specs.declared.exchange.Stage.TheVariants as stage
+use Rattle.relay_core.specs.declared.told.Told.{Told}
 use Rattle.relay_exchange.proofs.TurnLemmas.{begun}
 use Rattle.relay_attempt.specs.Exchange.{Blames, DownHolds, IsUnderWay, UpHolds}
 use Rattle.relay_attempt.proofs.TurnLemmas.{under_way, refused_as}
@@ -29,7 +30,7 @@ returns-in-Ok-clause-begins g c =
     let up = c.new-upstream.result in
     let done = ap (λ (x : HttpSession). is_body_done x.reading) c.new-client.ensures.session
     ∙ sym c.is_body_done-body_done.ensures.value in
-    λ s came link ahead reused own alike none behind out used.
+    λ s came link ahead reused own none behind out used.
     let Begun : Exchange ClientSide (Filtered (PeerSide g.row.L.Denot)) → Type 0 = λ x.
     IsUnderWay state start_at s (record { came = came; written = []; got = []; sent = [] }) link
     ahead (record { exchange = x }) in
@@ -91,7 +92,8 @@ returns-in-Ok-clause-begins g c =
     })
     c.begin-exchange.result.duplex c.begin-exchange.ensures.fresh
     (c.begin-exchange.ensures.sound
-    (client.state_of down.session down.told down.done down.finished down.broken) done)) alike)
+    (client.state_of down.session down.told down.done down.finished down.broken) done))
+    (ap (λ (t : Told). t.errors) c.new-client.ensures.told))
 
 -- one whose head was refused has not
 pub returns-in-Err-clause-refused : goal.returns-in-Err-clause-refused

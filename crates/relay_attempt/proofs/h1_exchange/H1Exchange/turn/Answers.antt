@@ -11,7 +11,7 @@ returns-clause-goes g c =
     turned g.L.ByteLink.state g.L.ByteLink.start s (g.F.Front.state c.turn.new.client)
     (g.F.Front.ahead c.turn.new.client) under.down under.up _
     (record { exchange = c.turn.new.self }) c.turn.result.step c.turn.ensures.bodies
-    (c.turn.ensures.goes s under.down under.up under.holds) under.alike
+    (c.turn.ensures.goes s under.down under.up under.holds) under.untold c.turn.ensures.errors
 
 -- and what passed is an attempt
 pub returns-clause-attempt : goal.returns-clause-attempt
@@ -36,3 +36,4 @@ returns-clause-counts g c = λ s tasks ends h.
     (g.F.Front.ahead c.args.client.now) (g.F.Front.ahead c.turn.new.client) c.args.self.now
     (record { exchange = c.turn.new.self }) h c.turn.result.step
     (c.turn.ensures.goes s h.under_way.down h.under_way.up h.under_way.holds)
+    c.turn.ensures.errors
