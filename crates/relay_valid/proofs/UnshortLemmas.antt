@@ -1,12 +1,15 @@
 -- A request in order is never sent short: its pieces, with the end among them, are a whole body.
 --
 --   request_unshort   from IsInOrder: the pieces that were sent leave nothing of the length missing
+--   never_short       so no request ends short, where both heads agree
+--   never_early       nor is a response over early
 use Rattle.std.proofs.Common.{◌≡◌, ℕ, ◌-◌, Bool, true, false, List, ◌++◌, length, drop, refl, sym, ap, subst, ◌∙◌, arith, append-nil, inl, inr, nat_le}
 use Rattle.std.specs.List.{list_any, concat}
 use Rattle.std.proofs.lemmas.Bool.{cases_lt}
 use Rattle.std.proofs.lemmas.Bool.Decides.{nat_tests}
 use Rattle.std.proofs.lemmas.List.{length-take-le}
 use Rattle.relay_tasks.specs.declared.task.HttpTask.{HttpTask}
+use Rattle.relay_links.specs.Link.{LinkState, LinkStart}
 use Rattle.relay_tasks.specs.Task.{is_end}
 use Rattle.relay_h1.specs.declared.framing.Framing.{Framing}
 use Rattle.relay_h1.specs.declared.framing.Framing.TheVariants as framing
@@ -18,7 +21,7 @@ use Rattle.relay_core.specs.Past.{Origin}
 use Rattle.relay_peer.specs.Body.{IsFrontOf, body_of}
 use Rattle.relay_peer.proofs.FrontLemmas.{front_then}
 use Rattle.relay_attempt.specs.Agrees.{Agrees}
-use Rattle.relay_attempt.specs.Order.{IsInOrder}
+use Rattle.relay_attempt.specs.Order.{EndsEarly, IsInOrder, SendsShort}
 use Rattle.relay_attempt.proofs.ShortLemmas.{after_length, framing_is, stays_unshort}
 use Rattle.relay_attempt.specs.Passed.{Passed, asked}
 
@@ -82,3 +85,19 @@ request_unshort s agrees p closed order front pieces first found joined =
     ∙ whole_unshort order.asks.framing bytes (body_of order.pieces) whole.0 pieces
     (subst (λ (t : BodyText). Body order.asks.framing bytes t) whole.1 said.says)
     (joined ∙ ap body_of same)
+
+-- so no request ends short
+pub never_short : (s : Origin) → Agrees s.head s.sent → (p : Passed) (closed : Bool)
+    (order : IsInOrder s p closed) → SendsShort s p closed order → ⊥
+never_short s agrees p closed order short =
+    apart (sym short.short
+    ∙ request_unshort s agrees p closed order short.front short.pieces short.first short.ended
+    short.joined)
+  where
+    apart : true ≡ false → ⊥
+    apart same = cc
+
+-- nor is a response over towards the client before its end was read
+pub never_early : (s : Origin) → Agrees s.head s.sent → (p : Passed) (link : LinkState)
+    (start : LinkStart) → EndsEarly s p link start → ⊥
+never_early s agrees p link start early = early.differs agrees.method

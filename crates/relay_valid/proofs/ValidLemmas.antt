@@ -4,10 +4,12 @@
 --                     its link failed
 --   peer_blameless    the peer's side: its response is whole and is relayed, and no call of its
 --                     link failed; and no request ends short
+--   tasks_blameless   the client's writer refuses no task of its response
 --   never_fails       from FailsFor and IsValid: nothing
-use Rattle.std.proofs.Common.{◌≡◌, ℕ, ◌+◌, ◌<◌, Bool, true, false, if◌then◌else◌, List, [], ◌++◌, length, drop, refl, sym, ap, subst, ◌∙◌, arith, Some, None}
+use Rattle.std.proofs.Common.{◌≡◌, ℕ, ◌+◌, ◌<◌, Bool, true, false, if◌then◌else◌, List, [], ◌∷◌, ◌++◌, length, drop, refl, sym, ap, subst, ◌∙◌, arith, Option, Some, None}
 use Rattle.std.proofs.lemmas.List.{length-append, length-drop, drop-append-le}
 use Rattle.relay_tasks.specs.declared.error.Error.{Error}
+use Rattle.relay_tasks.specs.declared.task.HttpTask.{HttpTask}
 use Rattle.relay_tasks.specs.Head.{RequestHead, ResponseHead}
 use Rattle.relay_links.specs.Link.{LinkState, LinkStart}
 use Rattle.relay_h1.specs.declared.framing.Framing.{Framing}
@@ -24,7 +26,10 @@ use Rattle.relay_h1.proofs.TasksLemmas.{HasFinal-within, HasFinal-append, HasFin
 use Rattle.relay_h1.proofs.VerdictLemmas.{HasRequest-unique, HasRequest-append}
 use Rattle.relay_peer.specs.ResponseReading.{ToldResponse, says}
 use Rattle.relay_peer.proofs.ExactLemmas.{Tasks-unique}
+use Rattle.relay_session.specs.Asked.{request_of}
 use Rattle.relay_session.specs.Reading.{SaysBody, IsWhole}
+use Rattle.relay_session.specs.TaskWire.{first_refusal}
+use Rattle.relay_session.specs.declared.task_text.Place.TheVariants as place
 use Rattle.relay_core.specs.Past.{Origin, DownPast}
 use Rattle.relay_peer.specs.Body.{IsFrontOf}
 use Rattle.relay_sides.specs.Client.{ClientBlames, given_to}
@@ -35,8 +40,9 @@ use Rattle.relay_peer.specs.Peer.{PeerBlames}
 use Rattle.relay_peer.specs.Peer as peer_side
 use Rattle.relay_peer.proofs.FrontLemmas.{front_then}
 use Rattle.relay_attempt.specs.Order as order
-use Rattle.relay_attempt.specs.Order.{IsInOrder, FailsFor, up_past}
+use Rattle.relay_attempt.specs.Order.{AreOf, IsInOrder, FailsFor, up_past}
 use Rattle.relay_attempt.specs.Passed.{Passed}
+use Rattle.relay_attempt.proofs.FitLemmas.{front_passes}
 use Rattle.relay_valid.proofs.UnshortLemmas.{request_unshort}
 use Rattle.relay_valid.specs.Valid.{IsRequest, IsRelayedHead, IsResponse, IsValid}
 
@@ -309,6 +315,20 @@ head_blameless s p client link start valid e
     (head_relayed s.sent.method s.asked p.got valid.answers.response informed final given len
     valid.answers.is_response valid.answers.gives has).room lacks refuses
 
+-- no refusal stands where there is none
+unrefused : (why : Option Error) (e : Error) → why ≡ None → why ≡ Some e → ⊥
+unrefused why e none some = let both = sym none ∙ some in cc
+
+-- no task of its response is refused by the client's writer
+tasks_blameless : (s : Origin) (p : Passed) (client link : LinkState) (start : LinkStart)
+    → IsValid s p client link start → (read front : List HttpTask) (e : Error)
+    → AreOf s.sent.method s.asked link.ended p.got read → IsFrontOf front read
+    → first_refusal (request_of s.head) place.NoHead front ≡ Some e → ⊥
+tasks_blameless s p client link start valid read front e are_of within refused =
+    unrefused (first_refusal (request_of s.head) place.NoHead front) e
+    (front_passes s.head s.sent.method valid.agrees.method s.asked link.ended p.got read are_of front
+    within.rest (sym within.joined)) refused
+
 -- no valid exchange fails
 pub never_fails : (s : Origin) (p : Passed) (client link : LinkState) (start : LinkStart)
     (e : Error) → FailsFor s p client link start e → IsValid s p client link start → ⊥
@@ -318,3 +338,8 @@ never_fails s p client link start e (order.FailsFor.by_peer o lost blames) valid
     peer_blameless s p client link start valid o lost e blames
 never_fails s p client link start e (order.FailsFor.by_refusal o refused) valid =
     head_blameless s p client link start valid e refused
+never_fails s p client link start e (order.FailsFor.by_writer o batch unasked read refused) valid =
+    tasks_blameless s p client link start valid o.read (o.batched ++ batch) e o.are_of read refused
+never_fails s p client link start e (order.FailsFor.by_cut at o unasked read refused) valid =
+    tasks_blameless s p client link start valid o.read (o.batched ++ at ∷ []) e o.are_of read
+    refused
