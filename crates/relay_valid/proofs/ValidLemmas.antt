@@ -4,7 +4,7 @@
 --                     its link failed
 --   peer_blameless    the peer's side: its response is whole and is relayed, and no call of its
 --                     link failed; and no request ends short
---   tasks_blameless   the client's writer refuses no task of its response
+--   tasks_unrefused   the client's writer refuses no task of a response to a head that asks alike
 --   never_fails       from FailsFor and IsValid: nothing
 use Rattle.std.proofs.Common.{◌≡◌, ℕ, ◌+◌, ◌<◌, Bool, true, false, if◌then◌else◌, List, [], ◌∷◌, ◌++◌, length, drop, refl, sym, ap, subst, ◌∙◌, arith, Option, Some, None}
 use Rattle.std.proofs.lemmas.List.{length-append, length-drop, drop-append-le}
@@ -39,6 +39,7 @@ use Rattle.relay_sides.specs.Filtered as filtered
 use Rattle.relay_peer.specs.Peer.{PeerBlames}
 use Rattle.relay_peer.specs.Peer as peer_side
 use Rattle.relay_peer.proofs.FrontLemmas.{front_then}
+use Rattle.relay_attempt.specs.Agrees.{AsksAlike}
 use Rattle.relay_attempt.specs.Order as order
 use Rattle.relay_attempt.specs.Order.{AreOf, IsInOrder, FailsFor, up_past}
 use Rattle.relay_attempt.specs.Passed.{Passed}
@@ -319,15 +320,15 @@ head_blameless s p client link start valid e
 unrefused : (why : Option Error) (e : Error) → why ≡ None → why ≡ Some e → ⊥
 unrefused why e none some = let both = sym none ∙ some in cc
 
--- no task of its response is refused by the client's writer
-tasks_blameless : (s : Origin) (p : Passed) (client link : LinkState) (start : LinkStart)
-    → IsValid s p client link start → (read front : List HttpTask) (e : Error)
-    → AreOf s.sent.method s.asked link.ended p.got read → IsFrontOf front read
+-- no task of a response is refused by the client's writer, where both heads ask alike
+pub tasks_unrefused : (s : Origin) (p : Passed) (closed : Bool) → AsksAlike s.head s.sent
+    → (read front : List HttpTask) (e : Error) → AreOf s.sent.method s.asked closed p.got read
+    → IsFrontOf front read
     → first_refusal (request_of s.head) place.NoHead front ≡ Some e → ⊥
-tasks_blameless s p client link start valid read front e are_of within refused =
+tasks_unrefused s p closed alike read front e are_of within refused =
     unrefused (first_refusal (request_of s.head) place.NoHead front) e
-    (front_passes s.head s.sent.method valid.agrees.method s.asked link.ended p.got read are_of front
-    within.rest (sym within.joined)) refused
+    (front_passes s.head s.sent.method alike s.asked closed p.got read are_of front within.rest
+    (sym within.joined)) refused
 
 -- no valid exchange fails
 pub never_fails : (s : Origin) (p : Passed) (client link : LinkState) (start : LinkStart)
@@ -339,7 +340,8 @@ never_fails s p client link start e (order.FailsFor.by_peer o lost blames) valid
 never_fails s p client link start e (order.FailsFor.by_refusal o refused) valid =
     head_blameless s p client link start valid e refused
 never_fails s p client link start e (order.FailsFor.by_writer o batch unasked read refused) valid =
-    tasks_blameless s p client link start valid o.read (o.batched ++ batch) e o.are_of read refused
+    tasks_unrefused s p link.ended valid.agrees.method o.read (o.batched ++ batch) e o.are_of read
+    refused
 never_fails s p client link start e (order.FailsFor.by_cut at o unasked read refused) valid =
-    tasks_blameless s p client link start valid o.read (o.batched ++ at ∷ []) e o.are_of read
+    tasks_unrefused s p link.ended valid.agrees.method o.read (o.batched ++ at ∷ []) e o.are_of read
     refused
