@@ -45,6 +45,7 @@ use Rattle.relay_proxy.specs.declared.owed.Owed.TheVariants.{Refused, Served}
 use Rattle.relay_proxy.specs.declared.record.AttemptRecord.{AttemptRecord}
 use Rattle.relay_proxy.proofs.OpenHead.{turns_down_open, exchange_open}
 use Rattle.relay_proxy.proofs.Tells.{Rose-le, client_took, client_still, take_whole, take_rest}
+use Rattle.relay_proxy.proofs.UncutLemmas.{uncut}
 
 -- the client took some
 pub taken_of : (output : Outgoing) (before after : LinkState) (n : ℕ) (left : Outgoing)
@@ -67,11 +68,11 @@ moved_or_ended {L} {C} state start_at w x phase next did (inr is) moved =
 
 -- ---- a failed exchange
 
--- what failed an exchange still did, and the same was queued in it
+-- what failed an exchange still did, and as much is owed in it
 record Still {o : Origin} {p : Passed} {before link : LinkState} {start : LinkStart} {e : Error}
     (why : FailsFor o p before link start e) (after : LinkState) : Type 0 where
   again : FailsFor o p after link start e
-  same : order_of again ≡ order_of why
+  same : owed_text (order_of again) e ≡ owed_text (order_of why) e
 
 still : (o : Origin) (p : Passed) (before after link : LinkState) (start : LinkStart) (e : Error)
     → WrittenTo before after → (why : FailsFor o p before link start e) → Still why after
@@ -83,6 +84,10 @@ still o p before after link start e to (FailsFor.by_peer order lost blames) =
     record { again = FailsFor.by_peer order lost blames; same = refl }
 still o p before after link start e to (FailsFor.by_refusal order refuses) =
     record { again = FailsFor.by_refusal order refuses; same = refl }
+still o p before after link start e to (FailsFor.by_writer order batch unasked read refused) =
+    record { again = FailsFor.by_writer order batch unasked read refused; same = refl }
+still o p before after link start e to (FailsFor.by_cut at order unasked read refused) =
+    record { again = FailsFor.by_cut at order unasked read refused; same = refl }
 
 -- an exchange that failed still did, and as much is owed
 record FailedOn {s : Start} {p : Passed} {before link : LinkState} {start : LinkStart} {e : Error}
@@ -106,7 +111,7 @@ failed_on s p written before after link start e failed to =
         before = failed.before;
         why = on.again;
       };
-      same = ap (λ o. owed_text o e) on.same;
+      same = on.same;
     }
 
 -- an attempt that failed still did, and as much is owed
@@ -263,8 +268,9 @@ module _ {L : Type 0} (state : L → LinkState) (start_at : L → LinkStart) whe
       (subst (λ (t : List ℕ). IsFrontOf p.written t) owes.1 front) owes.0.unsent.sent
   owes_order s p w (r ∷ own) (Refused error) text owes front = absurd owes
   owes_order s p w (r ∷ own) (Served e) text (Misses.in_exchange f is kept) front =
-      IsInOrder.is_failure f.head f.sent _ _ f.before e f.relayable f.sends (order_of f.why)
-      (subst (λ (t : List ℕ). IsFrontOf p.written t) is front)
+      let whole = uncut s (past_at p f.before) f.head f.sent _ f.sends w.client _ _ e f.why in
+      IsInOrder.is_failure f.head f.sent _ _ f.before e f.relayable f.sends whole.order
+      (subst (λ (t : List ℕ). IsFrontOf p.written t) (is ∙ sym whole.same) front)
   owes_order s p w (r ∷ own) (Served e) text (Misses.ahead_of_it f is kept) front =
       IsInOrder.is_unsent f.head e f.accepted f.refused
       (subst (λ (t : List ℕ). IsFrontOf p.written t) is front) f.unsent.sent
@@ -278,7 +284,8 @@ module _ {L : Type 0} (state : L → LinkState) (start_at : L → LinkStart) whe
       owes.0.accepted.has open_head
   owes_open s p w (r ∷ own) (Refused error) text owes open_head = absurd owes
   owes_open s p w (r ∷ own) (Served e) text (Misses.in_exchange f is kept) open_head =
-      exchange_open s (past_at p f.before) f.head f.sent _ _ (order_of f.why) open_head
+      exchange_open s (past_at p f.before) f.head f.sent _ _
+      (uncut s (past_at p f.before) f.head f.sent _ f.sends w.client _ _ e f.why).order open_head
   owes_open s p w (r ∷ own) (Served e) text (Misses.ahead_of_it f is kept) open_head =
       HasRequest-IsOpen (asked s p) f.head f.accepted.framing f.accepted.len f.accepted.has
       open_head

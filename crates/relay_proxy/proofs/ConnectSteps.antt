@@ -29,7 +29,6 @@ use Rattle.relay_session.specs.declared.writing.Writing.{Writing}
 use Rattle.relay_session.specs.declared.session.HttpSession.{HttpSession}
 use Rattle.relay_sides.specs.Client.{BeginsBehind}
 use Rattle.relay_core.specs.Past.{Origin}
-use Rattle.relay_attempt.specs.Agrees.{Agrees}
 use Rattle.relay_attempt.specs.Exchange.{IsUnderWay, UpHolds}
 use Rattle.relay_attempt.specs.Passed.{Passed}
 use Rattle.relay_attempt.specs.declared.h1_exchange.H1Exchange.{H1Exchange}
@@ -191,8 +190,7 @@ module _ {L C : Type 0} (state : L → LinkState) (start_at : L → LinkStart) w
       → Sends head given → IsHandedOut (state link) (start_at link) a.lease.reused
       → IsAskedPeer a.lease.peer
       → ((o : Origin) (came : List ℕ) (client : LinkState) (ahead : List ℕ) (reused : Bool)
-      → given ≡ o.sent → Agrees o.head o.sent → o.asked ≡ false → BeginsBehind o came client ahead
-      session
+      → given ≡ o.sent → o.asked ≡ false → BeginsBehind o came client ahead session
       → IsHandedOut (state link) (start_at link) reused → o.reused ≡ reused
       → IsUnderWay state start_at o
       (record { came = came; written = []; got = []; sent = [] }) client ahead a.exchange)
@@ -218,9 +216,7 @@ module _ {L C : Type 0} (state : L → LinkState) (start_at : L → LinkStart) w
       under : IsUnderWay state start_at origin p w.client w.ahead a.exchange
       under = subst (λ (q : Passed). IsUnderWay state start_at origin q w.client w.ahead a.exchange)
           (came_alone p connecting.written connecting.unsent)
-          (begins origin p.came w.client w.ahead a.lease.reused refl
-          (sends_agrees connecting.head given connecting.accepted.framing
-          connecting.accepted.has.let_in.framed sends) refl
+          (begins origin p.came w.client w.ahead a.lease.reused refl refl
           (connecting.begins given a.lease.reused) handed refl)
 
   -- the attempt is held

@@ -260,6 +260,10 @@ failed_head s p head sent reused (order.FailsFor.by_peer o lost blames) =
     record { framing = o.asks.framing; len = o.asks.len; has = o.asks.has }
 failed_head s p head sent reused (order.FailsFor.by_refusal o refused) =
     record { framing = o.asks.framing; len = o.asks.len; has = o.asks.has }
+failed_head s p head sent reused (order.FailsFor.by_writer o batch unasked read refused) =
+    record { framing = o.asks.framing; len = o.asks.len; has = o.asks.has }
+failed_head s p head sent reused (order.FailsFor.by_cut at o unasked read refused) =
+    record { framing = o.asks.framing; len = o.asks.len; has = o.asks.has }
 
 -- the head of a request that had a link, and was not left unfinished
 linked_head : (s : Start) (p : Passed) (w : World) (link : LinkState) (start : LinkStart)

@@ -21,7 +21,7 @@ use Rattle.relay_session.specs.declared.task_text.Request.{Request}
 use Rattle.relay_session.specs.declared.writing.Outgoing.{Outgoing}
 use Rattle.relay_session.specs.declared.writing.Outgoing.TheVariants as outgoing
 use Rattle.relay_peer.specs.Body.{IsFrontOf}
-use Rattle.relay_attempt.specs.Order.{order_of}
+use Rattle.relay_attempt.specs.Order.{order_of, queued_in}
 use Rattle.relay_attempt.specs.Passed.{Passed}
 use Rattle.relay_proxy.specs.Answer.{answer_for, owed_text, QueuesAnswer, WaitsOf}
 use Rattle.relay_proxy.specs.Endings.{IsInOrder, IsGiven, FailsToWrite, IsPartRelayed, HasFailed, Misses, owed_by, EndsLinked, error_of}
@@ -35,6 +35,7 @@ use Rattle.relay_proxy.specs.declared.outcome.Outcome.{Outcome}
 use Rattle.relay_proxy.specs.declared.outcome.Outcome.TheVariants as outcome
 use Rattle.relay_proxy.proofs.AnswerSteps.{failed_invalid}
 use Rattle.relay_proxy.proofs.OpenHead.{exchange_open}
+use Rattle.relay_proxy.proofs.UncutLemmas.{uncut}
 
 -- ---- what waits
 
@@ -64,7 +65,7 @@ queued_of : (s : Start) (p : Passed) (client link : LinkState) (start : LinkStar
     → QueuesAnswer output e session.writing session'.writing
     → Queued s p.written (owed_text (order_of l.why) e) client session'.writing.output
 queued_of s p client link start session session' e l (outgoing.Open queue) is queues =
-    let tasks = (order_of l.why).batched ++ (order_of l.why).closing in
+    let tasks = queued_in (order_of l.why) in
     let text : IsText session.writing tasks (p.written ++ queue) =
     subst (λ (o : Outgoing). HoldsOn session.writing o tasks p.written) is l.holds in
     let all = answered_text l.head session.writing.request tasks session.writing.place
@@ -72,7 +73,7 @@ queued_of s p client link start session session' e l (outgoing.Open queue) is qu
     Queued.opened (queue ++ answer_for session.writing.request session.writing.place e) queues
     (sym (append_assoc p.written queue _) ∙ sym all)
 queued_of s p client link start session session' e l (outgoing.Broken fault) is queues =
-    let tasks = (order_of l.why).batched ++ (order_of l.why).closing in
+    let tasks = queued_in (order_of l.why) in
     let held : HoldsOn session.writing (outgoing.Broken fault) tasks p.written =
     subst (λ (o : Outgoing). HoldsOn session.writing o tasks p.written) is l.holds in
     let all = answered_text l.head session.writing.request tasks session.writing.place
@@ -101,7 +102,7 @@ leaves_part s p client link start session e l =
       sent = l.sent;
       relayable = l.relayable;
       sends = l.sends;
-      order = order_of l.why;
+      order = (uncut s p l.head l.sent start.reused l.sends client link start e l.why).order;
     }
 
 -- the exchange failed, and so much is owed to its client

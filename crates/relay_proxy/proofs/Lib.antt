@@ -2,6 +2,7 @@ pub mod Tells
 pub mod TryLemmas
 pub mod OpenHead
 pub mod SentLemmas
+pub mod UncutLemmas
 pub mod AnswerSteps
 pub mod FailSteps
 pub mod HeadSteps

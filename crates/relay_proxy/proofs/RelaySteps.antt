@@ -1,5 +1,5 @@
 -- What a turn of an attempt's exchange makes of the run so far.
-use Rattle.std.proofs.Common.{◌≡◌, ◌≢◌, ◌↔◌, ℕ, ◌+◌, Bool, true, false, not, ◌&&◌, List, [], length, None, Some, refl, sym, ap, subst, ◌∙◌, inl, inr}
+use Rattle.std.proofs.Common.{◌≡◌, ◌≢◌, ◌↔◌, ◌⊎◌, ℕ, ◌+◌, Bool, true, false, not, ◌&&◌, List, [], length, None, Some, refl, sym, ap, subst, ◌∙◌, inl, inr}
 use Rattle.std.specs.Prelude.{IsTrue, ◌==◌, if◌then◌else◌}
 use Rattle.std.specs.Box.{with_value}
 use Rattle.std.specs.Global.{Box}
@@ -28,7 +28,7 @@ use Rattle.relay_core.specs.declared.step.Step.TheVariants as step
 use Rattle.relay_core.specs.Uses as core_uses
 use Rattle.relay_exchange.specs.declared.exchange.Turn.{Turn}
 use Rattle.relay_attempt.specs.Exchange as exchange_meets
-use Rattle.relay_attempt.specs.Exchange.{AreTold, ComesTo, FailsWith, IsUnderWay, IsFinished, Turns}
+use Rattle.relay_attempt.specs.Exchange.{AreTold, ComesTo, FailsWith, IsUnderWay, IsFinished, IsOverEarly, Turns}
 use Rattle.relay_attempt.specs.Head.{link_of, may_keep}
 use Rattle.relay_attempt.specs.Order as exchange
 use Rattle.relay_attempt.specs.Order.{Leaves}
@@ -54,6 +54,7 @@ use Rattle.relay_proxy.specs.declared.machine.Phase.{Phase}
 use Rattle.relay_proxy.specs.declared.machine.Phase.TheVariants.{Relay, Close}
 use Rattle.relay_proxy.specs.declared.outcome.Outcome.{Outcome}
 use Rattle.relay_proxy.specs.declared.outcome.Outcome.TheVariants.{Served, TurnLimit}
+use Rattle.relay_proxy.proofs.UncutLemmas.{sent_agrees}
 
 -- ---- whether the client may ask for more
 
@@ -300,9 +301,16 @@ module _ {L C : Type 0} (state : L → LinkState) (start_at : L → LinkStart) w
       let relayable = run.holds.relayable in
       let told = turns.told in
       let w = world_with client ahead v.connect_faults in
-      let finished = subst
+      let both = subst
       (λ (reused : Bool). IsFinished state start_at (origin_of s head sent reused) turns.passed
-      ahead x) (sym told.reused) turns.comes_to in
+      ahead x ⊎ IsOverEarly state start_at (origin_of s head sent reused) turns.passed ahead x)
+      (sym told.reused) turns.comes_to in
+      let finished : IsFinished state start_at (origin_of s head sent _) turns.passed ahead x =
+      elim both [
+        | inl whole ↦ whole
+        | inr early ↦ absurd (early.early.differs
+            (sent_agrees s turns.passed head sent _ run.holds.sends _ _ early.early.order).method)
+      ] in
       record {
         passed = turns.passed;
         run = closing s p turns.passed v client ahead a x _ _ run told

@@ -1,7 +1,8 @@
 -- The answer that the relay makes itself for an error, behind what was queued for the client before
 -- (RFC 9110, section 15).
-use Rattle.std.specs.Prelude.{◌≡◌, ℕ, ◌<◌, ◌==◌, Bool, List, [], ◌++◌, length, if◌then◌else◌}
+use Rattle.std.specs.Prelude.{◌≡◌, ℕ, ◌<◌, ◌==◌, Bool, List, [], ◌++◌, length, Option, if◌then◌else◌}
 use Rattle.relay_tasks.specs.declared.Error.{Error}
+use Rattle.relay_tasks.specs.declared.task.HttpTask.{HttpTask}
 use Rattle.relay_session.specs.Asked.{request_of}
 use Rattle.relay_session.specs.Generated.{answer_tasks}
 use Rattle.relay_session.specs.TaskWire.{wire}
@@ -12,7 +13,7 @@ use Rattle.relay_session.specs.declared.writing.Outgoing.TheVariants as outgoing
 use Rattle.relay_session.specs.declared.writing.Writing.{Writing}
 use Rattle.relay_hooks.specs.DefaultAnswer.{answer_code}
 use Rattle.relay_core.specs.Past.{Origin}
-use Rattle.relay_attempt.specs.Order.{IsInOrder, text_of}
+use Rattle.relay_attempt.specs.Order.{IsInOrderWith, text_of}
 use Rattle.relay_attempt.specs.Passed.{Passed}
 
 -- the text of the generated answer with that status, where the response stands so: none where it is
@@ -26,8 +27,8 @@ abbrev pub answer_for : Request → Place → Error → List ℕ
 answer_for request at e = answer_text request at (answer_code e.esource e.etype)
 
 -- what was queued for the client in an exchange, and then the answer to the error
-abbrev pub owed_text : {o : Origin} {p : Passed} {closed : Bool} → IsInOrder o p closed → Error
-    → List ℕ
+abbrev pub owed_text : {cut : Option HttpTask} {o : Origin} {p : Passed} {closed : Bool}
+    → IsInOrderWith cut o p closed → Error → List ℕ
 owed_text {o = o} order e =
     (text_of order).text ++ answer_for (request_of o.head) (text_of order).place e
 

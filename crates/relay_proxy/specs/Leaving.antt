@@ -1,5 +1,5 @@
 -- What a failed exchange leaves of its client's session.
-use Rattle.std.specs.Prelude.{◌≡◌, ◌++◌}
+use Rattle.std.specs.Prelude.{◌≡◌}
 use Rattle.relay_tasks.specs.Head.{RequestHead}
 use Rattle.relay_tasks.specs.declared.Error.{Error}
 use Rattle.relay_tasks.specs.declared.error.Fail.{Fail}
@@ -10,7 +10,7 @@ use Rattle.relay_session.specs.Asked.{request_of}
 use Rattle.relay_session.specs.Response.{Holds}
 use Rattle.relay_session.specs.declared.session.HttpSession.{HttpSession}
 use Rattle.relay_session.specs.declared.writing.Outgoing.TheVariants as outgoing
-use Rattle.relay_attempt.specs.Order.{FailsFor, order_of}
+use Rattle.relay_attempt.specs.Order.{FailsFor, order_of, queued_in}
 use Rattle.relay_attempt.specs.Passed.{Passed}
 use Rattle.relay_proxy.specs.Endings.{FailsToWrite, IsPartRelayed}
 use Rattle.relay_proxy.specs.Passed.{Start, origin_of}
@@ -28,7 +28,7 @@ pub record LeavesSession (s : Start) (p : Passed) (client link : LinkState) (sta
   pub sends : Sends head sent
   pub why : FailsFor (origin_of s head sent start.reused) p client link start e
   pub answers : session.writing.request ≡ request_of head
-  pub holds : Holds session.writing ((order_of why).batched ++ (order_of why).closing) p.written
+  pub holds : Holds session.writing (queued_in (order_of why)) p.written
   pub broken : (fault : Fault) → session.writing.output ≡ outgoing.Broken fault
       → FailsToWrite s client
 
