@@ -62,8 +62,7 @@ use Rattle.relay_attempt.specs.Order.{FailsFor, SendsWhole, SendsShort, IsRelaye
 use Rattle.relay_attempt.specs.Attempt.{DownHalf, IsAttempt, UpHalf}
 use Rattle.relay_attempt.specs.Order as order
 use Rattle.relay_attempt.proofs.SentLemmas.{IsWritten, stays_over}
-use Rattle.relay_attempt.proofs.ToldLemmas.{given_ends_last}
-use Rattle.relay_attempt.proofs.OrderLemmas.{passed_by, answers_own, text_written, tasks_own, batched_front, handed_any, IsEndGiven, end_given, headed, heads_withheld, refused_for, over_by_end, ended_said, attempt_so_far, cut_queued, front_pass, order_cut, order_so_far, IsCut}
+use Rattle.relay_attempt.proofs.OrderLemmas.{passed_by, answers_own, text_written, tasks_own, batched_front, handed_any, headed, heads_withheld, refused_for, over_by_end, ended_said, attempt_so_far, cut_queued, front_pass, order_cut, order_so_far, IsCut}
 use Rattle.relay_attempt.proofs.WriterLemmas.{IsWriters, client_apart, head_apart, link_apart, peer_apart, refused_is}
 use Rattle.relay_attempt.proofs.FitLemmas.{over_has_end}
 use Rattle.relay_attempt.proofs.KeepLemmas.{kept_parts, kept_unfailed, sent_whole, read_whole, over_ends}
@@ -152,16 +151,6 @@ module _ {L : Type 0} (state : L → LinkState) (start_at : L → LinkStart)
     -- the tasks that were queued are a front of those that were handed on
     abbrev front : IsFrontOf p.batched q.read
     front = batched_front p q.read _ _ _ _ so_far.down.passed.plain so_far.responses
-
-    -- an end among the batched tasks is one among all that were handed on
-    given_ends : list_any is_end p.batched ≡ true
-        → IsEndGiven s.sent.method so_far.up.given p.batched
-    given_ends ends =
-        let u = so_far.up in
-        end_given s.sent.method u.given p.batched front.rest (front.joined ∙ u.is_read)
-        (given_ends_last s.sent.method s.asked (state up.inner.client.link).ended q.got u.given
-        u.withheld up.inner.client.response tasks_are)
-        ends
 
     -- with an end among the tasks, or where the response is done, the response is over behind them
     over_behind : (list_any is_end p.batched ≡ true) ⊎ (down.done ≡ true)

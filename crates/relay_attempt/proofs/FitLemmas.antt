@@ -1,10 +1,10 @@
--- What a client is sent of a response fits: the tasks, as the peer's side hands them on, are never
--- refused by the client's writer, and where their text is over the response has come whole.
+-- What a client is sent of a response fits, where the head that was sent asks as the client's does:
+-- the tasks, as the peer's side hands them on, are never refused by the client's writer, and where
+-- their text is over the end of the response was handed on.
 --
---   never_refused   no task is refused behind the front of them that was sent
---   over_is_whole   a front that is sent as a text that is over tells the response whole
---   over_has_end    and then the end of the response was handed on
-use Rattle.std.proofs.Common.{◌≡◌, ℕ, ◌+◌, ◌-◌, ◌≤◌, ◌==◌, nat_le, Bool, true, false, ◌||◌, ◌⊎◌, List, [], ◌∷◌, ◌++◌, length, take, drop, map, codes, refl, sym, ap, subst, ◌∙◌, append-nil, length-append, length-take, arith, inl, inr, Option, Some, None, is_some, option_map, MatchOption, if◌then◌else◌, eqb-true, leb-true, le-leb}
+--   front_passes   no task of a front of them is refused
+--   over_has_end   a front that is sent as a text that is over has the end of the response
+use Rattle.std.proofs.Common.{◌≡◌, ℕ, ◌-◌, ◌≤◌, ◌==◌, nat_le, Bool, true, false, ◌||◌, ◌⊎◌, List, [], ◌∷◌, ◌++◌, length, take, drop, map, codes, refl, sym, ap, subst, ◌∙◌, append-nil, length-append, length-take, arith, inl, inr, Option, Some, None, is_some, option_map, MatchOption, if◌then◌else◌, eqb-true, leb-true}
 use Rattle.std.specs.List.{list_any}
 use Rattle.std.proofs.lemmas.Bool.{cases_Bool}
 use Rattle.http_header.specs.FieldValue.{FieldValue}
@@ -19,7 +19,7 @@ use Rattle.relay_tasks.specs.Head.{Fields, RequestHead, ResponseHead}
 use Rattle.relay_tasks.specs.Task.{is_end}
 use Rattle.relay_h1.specs.declared.framing.Framing.{Framing}
 use Rattle.relay_h1.specs.declared.framing.Framing.TheVariants as framing
-use Rattle.relay_h1.specs.Body.{BodyText, Body, ended_text, of_length}
+use Rattle.relay_h1.specs.Body.{BodyText, Body, of_length}
 use Rattle.relay_h1.specs.BodyWire.{after_piece, is_full, is_short}
 use Rattle.relay_h1.specs.ClientHead.{is_informational, client_framing, client_head, framing_for, lacks_framing, chunked_head}
 use Rattle.relay_h1.specs.Framing.{is_http_10, response_framing}
@@ -39,7 +39,6 @@ use Rattle.relay_session.specs.declared.task_text.Place.TheVariants as place
 use Rattle.relay_session.specs.declared.task_text.Request.{Request}
 use Rattle.relay_session.proofs.AskedLemmas.{same_framing}
 use Rattle.relay_core.specs.Moves.{EndsLast}
-use Rattle.relay_peer.specs.Body.{IsFrontOf}
 use Rattle.relay_peer.specs.declared.response_reading.ResponseReading.{ResponseReading}
 use Rattle.relay_sides.specs.Filtered.{AreHeads, handed, is_switch}
 use Rattle.relay_peer.specs.Peer.{told_behind, told_of}
@@ -343,14 +342,6 @@ abbrev text_of : List ResponseHead → Option ResponseHead → List ℕ → Resp
 text_of heads final body mark =
     record { informed = heads; final = final; body = body; mark = mark }
 
--- equal parts, one text
-same_text : (heads : List ResponseHead) (f g : Option ResponseHead) (a b : List ℕ)
-    (m n : ResponseMark) → f ≡ g → a ≡ b → m ≡ n → text_of heads f a m ≡ text_of heads g b n
-same_text heads f g a b m n finals bodies marks =
-    ap (λ (x : Option ResponseHead). text_of heads x a m) finals
-    ∙ ap (λ (x : List ℕ). text_of heads g x m) bodies
-    ∙ ap (λ (x : ResponseMark). text_of heads g b x) marks
-
 -- a response that is not whole has not ended
 open_is_none : {A : Type 0} (closed : Bool) (n : ℕ) → ended n ≡ open_mark closed → A
 open_is_none true n is = absurd (cc)
@@ -372,18 +363,6 @@ ended_length k n begins all closed bytes body is mark =
           )
       | inr some ↦ open_is_none closed n (rw some at mark)
     ]
-
--- the front of a list that is no shorter is that list
-front_is_all : (xs ys : List ℕ) → IsFrontOf xs ys → length ys ≤ length xs → xs ≡ ys
-front_is_all xs ys front long =
-    let size = length-append xs front.rest in
-    let whole = ap (λ (l : List ℕ). length l) front.joined in
-    let none = none_left front.rest (omega arith) in
-    sym (append-nil xs) ∙ ap (λ (l : List ℕ). xs ++ l) (sym none) ∙ front.joined
-  where
-    none_left : (l : List ℕ) → length l ≤ 0 → l ≡ []
-    none_left [] few = refl
-    none_left (x ∷ l) few = absurd (omega arith)
 
 -- ---- parts of what was handed on
 
@@ -417,21 +396,6 @@ parts_of method (one ∷ given) (x ∷ front) rest is =
           ∙ ap (λ (l : List HttpTask). x ∷ l) later.are_first;
       are_next = later.are_next;
     }
-
--- the first of what follows
-record Heads (method : List ℕ) (given : List HttpTask) (at : HttpTask) : Type 0 where
-  pub one : HttpTask
-  pub behind : List HttpTask
-  pub is : given ≡ one ∷ behind
-  pub handed_on : handed method one ≡ at
-
--- what was handed on as one task and more has a first
-heads_of : (method : List ℕ) (given : List HttpTask) (at : HttpTask) (behind : List HttpTask)
-    → map (handed method) given ≡ at ∷ behind → Heads method given at
-heads_of method [] at behind is = absurd (cc)
-heads_of method (one ∷ given) at behind is =
-    let both = cons_parts (handed method one) at (map (handed method) given) behind is in
-    record { one = one; behind = given; is = refl; handed_on = both.0 }
 
 -- a test that passes on a list passes on a longer one
 later_passes : (a b : Bool) → b ≡ true → (a || b) ≡ true
@@ -796,100 +760,7 @@ module _
         → first_refusal (request_of head) place.NoHead front ≡ None
     front_passes front rest same = (sends_front front rest same).passes
 
-    -- nor is the next one behind a front of them
-    pub never_refused : (front behind : List HttpTask) (at : HttpTask)
-        → tasks ≡ front ++ at ∷ behind → (e : Error)
-        → refusal (request_of head) (wire (request_of head) place.NoHead front).place at ≡ Some e
-        → ⊥
-    never_refused front behind at same e refused =
-        let there = sends_front front (at ∷ behind) same in
-        let next = heads_of method there.next at behind there.are_next in
-        let stands = (wire (request_of head) place.NoHead front).place in
-        let step = steps there.told stands next.one next.behind
-        (subst (λ (l : List HttpTask). Left there.told l) next.is there.left) there.stands in
-        never (refusal (request_of head) stands at) e
-        (subst (λ (t : HttpTask). refusal (request_of head) stands t ≡ None)
-        next.handed_on step.passes) refused
-      where
-        never : (why : Option Error) (error : Error) → why ≡ None → why ≡ Some error → ⊥
-        never why error x y = let both = sym x ∙ y in cc
-
     -- ---- the whole response
-
-    -- what was told of the response, with its end
-    abbrev IsTold : Type 0
-    IsTold = (n : ℕ) × Tasks method upgrade got closed (says all (ended n))
-
-    -- what the bytes say is what was told
-    is_told : (final : ResponseHead) (f : Framing) (is : IsFinal final f) (text : BodyText) (n : ℕ)
-        → Body f (drop is.len got) text → text.bytes ≡ all.body
-        → mark_of f is.len (length got) closed text.mark ≡ ended n → IsTold
-    is_told final f is text n said bytes mark = (
-      n,
-      subst (λ (t : ResponseText). Tasks method upgrade got closed t)
-          (same_text all.informed (Some final) all.final text.bytes all.body
-          (mark_of f is.len (length got) closed text.mark) (ended n) (sym is.told) bytes mark)
-          (all_said final f is text said),
-    )
-
-    -- a body of some length of which all was told has ended
-    length_whole : (final : ResponseHead) (k : ℕ) → IsFinal final (framing.Length k)
-        → k ≤ length all.body → IsTold
-    length_whole final k is long =
-        let bytes = drop is.len got in
-        let size = length-take k bytes in
-        let front = are.body _ (all_said final (framing.Length k) is (of_length k bytes) refl) in
-        let shorter = length-append all.body front.rest in
-        let whole = ap (λ (l : List ℕ). length l) front.joined in
-        let fits : nat_le k (length bytes) ≡ true = le-leb k (length bytes) (omega arith) in
-        is_told final (framing.Length k) is (of_length k bytes) (is.len + k) refl
-        (sym (front_is_all all.body (take k bytes) front (omega arith)))
-        (rw fits refl)
-
-    -- a body that takes no more bytes has ended
-    full_whole : (told : ToldResponse) (rest : List HttpTask) → Left told rest →
-        (final : ResponseHead)
-        (f : Framing) → IsFinal final f
-        → is_full (after_piece (framing_for old f) told.body) ≡ true → IsTold
-    full_whole told rest left final framing.Empty is full =
-        let front = are.body _ (all_said final framing.Empty is (ended_text [] 0) refl) in
-        is_told final framing.Empty is (ended_text [] 0) (is.len + 0) refl
-        (sym (front_is_all all.body [] front (omega arith))) refl
-    full_whole told rest left final (framing.Length k) is full =
-        let none = eqb-true (k - length told.body) 0 full in
-        let grows = body_grows told rest in
-        let same = ap (λ (t : ToldResponse). length t.body) left.tells in
-        length_whole final k is (omega arith)
-    full_whole told rest left final framing.Chunked is full =
-        let wrong = sym full ∙ chunked_open old told.body in absurd (cc)
-    full_whole told rest left final framing.UntilClose is full = absurd (cc)
-    full_whole told rest left final framing.Tunnel is full = absurd (cc)
-
-    -- where the response is over, all of it was told
-    over_told : (told : ToldResponse) (rest : List HttpTask) (at : Place) → Left told rest
-        → Stands told at → is_over at ≡ true → IsTold
-    over_told told rest at left (none_yet none bare there) over =
-        let wrong : false ≡ true = subst (λ (p : Place). is_over p ≡ true) there over in
-        absurd (cc)
-    over_told told rest at left (in_body final f g tells is (inl same) there) over =
-        full_whole told rest left final f is
-        (subst (λ (x : Framing). is_full (after_piece (framing_for old x) told.body) ≡ true) same
-        (subst (λ (p : Place). is_over p ≡ true) there over))
-    over_told told rest at left (in_body final f g tells is (inr chunked) there) over =
-        let full = subst
-        (λ (x : Framing). is_full (after_piece (framing_for old x) told.body) ≡ true) chunked
-        (subst (λ (p : Place). is_over p ≡ true) there over) in
-        let wrong = sym full ∙ chunked_open old told.body in absurd (cc)
-    over_told told rest at left (is_done final tells among there) over = are.whole among
-
-    -- where the text of a front of the tasks is over, the response has come whole
-    pub over_is_whole : (front rest : List HttpTask) → tasks ≡ front ++ rest
-        → is_over (wire (request_of head) place.NoHead front).place ≡ true
-        → (n : ℕ) × Tasks method upgrade got closed (says (told_of are.given) (ended n))
-    over_is_whole front rest same over =
-        let there = sends_front front rest same in
-        over_told there.told there.next (wire (request_of head) place.NoHead front).place there.left
-        there.stands over
 
     -- where a front of the tasks is over, an end is among all of them, or the body takes no more
     -- bytes behind its final head

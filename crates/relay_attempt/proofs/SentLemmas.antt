@@ -2,21 +2,19 @@
 -- ends the response.
 use Rattle.std.proofs.Common.{◌≡◌, ℕ, Bool, true, false, List, [], ◌∷◌, ◌++◌, map, ◌||◌, Option, Some, None, refl, sym, ◌∙◌, ap, subst, append-nil, inl, inr, ◌⊎◌, if◌then◌else◌}
 use Rattle.std.specs.List.{list_any}
-use Rattle.std.proofs.lemmas.Bool.{cases_Bool, or_parts}
-use Rattle.relay_tasks.specs.declared.error.Error.{Error}
+use Rattle.std.proofs.lemmas.Bool.{cases_Bool}
 use Rattle.relay_tasks.specs.declared.task.HttpTask.{HttpTask}
 use Rattle.relay_tasks.specs.declared.task.HttpTask.TheVariants as task
 use Rattle.relay_tasks.specs.Head.{ResponseHead}
 use Rattle.relay_tasks.specs.Task.{is_end}
 use Rattle.relay_h1.specs.declared.framing.Framing.{Framing}
-use Rattle.relay_h1.specs.declared.framing.Framing.TheVariants as framing
-use Rattle.relay_h1.specs.BodyWire.{is_short, is_full, after_piece}
+use Rattle.relay_h1.specs.BodyWire.{is_short, after_piece}
 use Rattle.relay_h1.specs.ClientHead.{is_informational, lacks_framing, chunked_head}
 use Rattle.relay_peer.specs.ResponseReading.{ToldResponse, untold, with_task, with_head, with_piece}
 use Rattle.relay_session.specs.Response.{Holds, HoldsOn, has_head, is_over, pending}
-use Rattle.relay_session.specs.TaskWire.{Sent, framing_of, shown, piece_sent, piece_refusal, piece_at, piece_refusal_at, framed_head_sent, framed_head_refusal, head_at, head_refusal_at, task_sent, refusal, wire, or_later, first_refusal}
-use Rattle.relay_session.proofs.WireSteps.{wire-append, first_refusal-append}
-use Rattle.relay_sides.proofs.ClientTasks.{or_none, full_stays, task_over, tasks_over}
+use Rattle.relay_session.specs.TaskWire.{Sent, framing_of, shown, piece_sent, piece_refusal, piece_at, piece_refusal_at, framed_head_sent, framed_head_refusal, head_at, head_refusal_at, task_sent, refusal, wire, first_refusal}
+use Rattle.relay_session.proofs.WireSteps.{wire-append}
+use Rattle.relay_sides.proofs.ClientTasks.{or_none, tasks_over}
 use Rattle.relay_session.specs.declared.task_text.Place.{Place}
 use Rattle.relay_session.specs.declared.task_text.Place.TheVariants as place
 use Rattle.relay_session.specs.declared.task_text.Request.{Request}
@@ -25,15 +23,9 @@ use Rattle.relay_session.specs.declared.writing.Outgoing.TheVariants as outgoing
 use Rattle.relay_session.specs.declared.writing.Writing.{Writing}
 use Rattle.relay_tasks.specs.declared.fault.Fault.{Fault}
 use Rattle.relay_core.specs.Moves.{EndsLast}
-use Rattle.relay_core.specs.Pipe.{is_failure}
 use Rattle.relay_peer.specs.Body.{IsFrontOf}
 use Rattle.relay_sides.specs.Filtered.{handed}
 use Rattle.relay_peer.specs.Peer.{told_behind, told_of}
-
--- two refusals that are none
-either_none : (a b : Option Error) → a ≡ None → b ≡ None → or_later a b ≡ None
-either_none None b first next = next
-either_none (Some error) b first next = absurd (cc)
 
 -- ---- the end
 
@@ -193,72 +185,6 @@ ends_over request method tasks final last ends tells passes =
     tells passes)
 
 -- ---- behind a response that is over
-
--- a framing that takes no more bytes is not short
-full_fits : (rest : Framing) → is_full rest ≡ true → is_short rest ≡ false
-full_fits framing.Empty full = refl
-full_fits (framing.Length left) full = rw full refl
-full_fits framing.Chunked full = refl
-full_fits framing.UntilClose full = refl
-full_fits framing.Tunnel full = refl
-
--- so no piece of it is refused
-full_passes : (rest : Framing) (piece : List ℕ) (ends : Bool) → is_full rest ≡ true
-    → piece_refusal rest piece ends ≡ None
-full_passes rest piece false full = refl
-full_passes rest piece true full =
-    rw (full_fits (after_piece rest piece) (full_stays rest piece full)) refl
-
--- no piece is refused behind a response that is over
-piece_passes : (at : Place) (piece : List ℕ) (ends : Bool) → is_over at ≡ true
-    → piece_refusal_at at piece ends ≡ None
-piece_passes place.NoHead piece ends over = refl
-piece_passes (place.Body rest) piece ends over = full_passes rest piece ends over
-piece_passes place.Done piece ends over = refl
-
--- nor is a head
-head_passes : (request : Request) (at : Place) (head : ResponseHead) (ends : Bool)
-    → is_over at ≡ true → head_refusal_at request at head ends ≡ None
-head_passes request place.NoHead head ends over = absurd (cc)
-head_passes request (place.Body rest) head ends over = full_passes rest [] ends over
-head_passes request place.Done head ends over = refl
-
--- no task but a failure is refused behind a response that is over
-pub over_passes_one : (request : Request) (at : Place) (one : HttpTask) → is_over at ≡ true
-    → is_failure one ≡ false → refusal request at one ≡ None
-over_passes_one request at (task.Header head ends) over plain =
-    head_passes request at head ends over
-over_passes_one request at (task.Body piece ends) over plain = piece_passes at _ ends over
-over_passes_one request at (task.UpgradedBody piece ends) over plain = piece_passes at _ ends over
-over_passes_one request at (task.Trailer fields) over plain = piece_passes at [] true over
-over_passes_one request at task.Done over plain = piece_passes at [] true over
-over_passes_one request at (task.Failed error) over plain = absurd (cc)
-
--- nor any of such tasks in order
-over_passes : (request : Request) (at : Place) (tasks : List HttpTask) → is_over at ≡ true
-    → list_any is_failure tasks ≡ false → first_refusal request at tasks ≡ None
-over_passes request at [] over plain = refl
-over_passes request at (one ∷ tasks) over plain =
-    let parts = or_parts (is_failure one) (list_any is_failure tasks) plain in
-    either_none (refusal request at one)
-    (first_refusal request (task_sent request at one).place tasks)
-    (over_passes_one request at one over parts.0)
-    (over_passes request (task_sent request at one).place tasks (task_over request at one over)
-    parts.1)
-
--- tasks of which none is refused, and an end that is asked for where the response is over
-pub closed_passes : (request : Request) (at : Place) (tasks closing : List HttpTask)
-    → first_refusal request at tasks ≡ None → list_any is_failure closing ≡ false
-    → (closing ≡ []) ⊎ (is_over (wire request at tasks).place ≡ true)
-    → first_refusal request at (tasks ++ closing) ≡ None
-closed_passes request at tasks closing passes plain (inl none) =
-    ap (λ (l : List HttpTask). first_refusal request at (tasks ++ l)) none
-    ∙ ap (first_refusal request at) (append-nil tasks) ∙ passes
-closed_passes request at tasks closing passes plain (inr over) =
-    first_refusal-append request at tasks closing
-    ∙ either_none (first_refusal request at tasks)
-    (first_refusal request (wire request at tasks).place closing) passes
-    (over_passes request (wire request at tasks).place closing over plain)
 
 -- tasks that leave a response over leave it so with more behind them
 pub stays_over : (request : Request) (at : Place) (tasks closing : List HttpTask)
