@@ -63,6 +63,7 @@ use Rattle.relay_attempt.specs.Attempt.{DownHalf, IsAttempt, UpHalf}
 use Rattle.relay_attempt.specs.Order as order
 use Rattle.relay_attempt.proofs.SentLemmas.{IsWritten, stays_over}
 use Rattle.relay_attempt.proofs.OrderLemmas.{passed_by, answers_own, text_written, tasks_own, batched_front, handed_any, headed, heads_withheld, refused_for, over_by_end, ended_said, attempt_so_far, cut_queued, front_pass, order_cut, order_so_far, IsCut}
+use Rattle.relay_attempt.proofs.EarlyLemmas.{kept_ended}
 use Rattle.relay_attempt.proofs.WriterLemmas.{IsWriters, client_apart, head_apart, link_apart, peer_apart, refused_is}
 use Rattle.relay_attempt.proofs.FitLemmas.{over_has_end}
 use Rattle.relay_attempt.proofs.KeepLemmas.{kept_parts, kept_unfailed, sent_whole, read_whole, over_ends}
@@ -355,6 +356,23 @@ module _ {L : Type 0} (state : L → LinkState) (start_at : L → LinkStart)
       | inl written ↦ inr (inl (e, up.inner.read_failed, written))
       | inr short ↦ inr (inr short)
     ]
+
+    -- where its end was not read the peer's client does not keep its link
+    pub unkept_early : Finishes (core_of state start_at duplex down up) p q
+        → list_any is_end q.read ≡ false → may_keep_client up.inner.client ≡ true → ⊥
+    unkept_early finishes none kept =
+        clash (list_any is_end q.read)
+        (ap (list_any is_end) in_order.are_of.are
+        ∙ handed_any s.sent.method in_order.are_of.given
+        ∙ kept_ended (request_of s.head) s.sent.method s.asked
+        (state up.inner.client.link).ended q.got so_far.up.given so_far.up.withheld up.inner.client
+        tasks_are heads_here in_order.are_of.follow
+        (subst
+        (λ (l : List HttpTask). is_over (wire (request_of s.head) place.NoHead l).place ≡ true)
+        (front.joined ∙ in_order.are_of.are)
+        (stays_over (request_of s.head) place.NoHead p.batched front.rest
+        (over_behind finishes.ended))) kept)
+        none
 
     -- the response was over early, where its end was not read
     abbrev early_of : Finishes (core_of state start_at duplex down up) p q
@@ -743,7 +761,11 @@ module _ {L : Type 0} (state : L → LinkState) (start_at : L → LinkStart) whe
         behind = request_behind state start_at s p q link ahead x.exchange.down x.exchange.up
             x.exchange.duplex f passes;
         closes = f.up.closes;
-        faultless = faultless;
+        unkept = elim (decide (may_keep x)) [
+          | inl kept ↦ absurd (unkept_early state start_at s p q link ahead x.exchange.down
+              x.exchange.up x.exchange.duplex f passes finishes none (client_keeps kept))
+          | inr dropped ↦ dropped
+        ];
       }
 
   -- an exchange that failed, and the session of its client that this leaves

@@ -302,7 +302,7 @@ never_both : {A : Type 0} (told : Option ResponseHead) (head : ResponseHead) →
 never_both told head none some = let both = sym none ∙ some in absurd (cc)
 
 -- a final head that was told stays
-final_stays : (told : ToldResponse) (tasks : List HttpTask) (head : ResponseHead)
+pub final_stays : (told : ToldResponse) (tasks : List HttpTask) (head : ResponseHead)
     → Follow told tasks
     → told.final ≡ Some head → (told_behind told tasks).final ≡ Some head
 final_stays told [] head follow is = is

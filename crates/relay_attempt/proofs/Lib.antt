@@ -9,6 +9,7 @@ pub mod WriterLemmas
 pub mod EndLemmas
 pub mod TurnLemmas
 pub mod WholeLemmas
+pub mod EarlyLemmas
 pub mod ServeLemmas
 pub mod FailLemmas
 pub mod WithinLemmas

@@ -116,7 +116,7 @@ follow_head told (first ∷ given) one rest follow is =
     follow_head (with_task told first) given one rest follow.2 is
 
 -- behind a final head that was handed on none is withheld
-none_withheld : (given withheld : List HttpTask) (final : ResponseHead)
+pub none_withheld : (given withheld : List HttpTask) (final : ResponseHead)
     → Follow untold (given ++ withheld) → AreHeads withheld → (told_of given).final ≡ Some final
     → withheld ≡ []
 none_withheld given [] final follow heads told = refl

@@ -1,6 +1,6 @@
 -- An exchange so far over HTTP/1 links, and what a turn makes of it.
 use Rattle.std.specs.List.{list_any}
-use Rattle.std.specs.Prelude.{◌≡◌, ◌↔◌, IsTrue, ℕ, true, ◌⊎◌, ◌≤◌, List, [], Option, Some}
+use Rattle.std.specs.Prelude.{◌≡◌, ◌↔◌, IsTrue, ℕ, true, false, ◌⊎◌, ◌≤◌, List, [], Option, Some}
 use Rattle.relay_tasks.specs.declared.error.Error.{Error}
 use Rattle.relay_tasks.specs.declared.error.Fail.TheVariants as fail
 use Rattle.relay_tasks.specs.declared.fault.Fault.{Fault}
@@ -113,7 +113,7 @@ module _ {L : Type 0} (state : L → LinkState) (start_at : L → LinkStart) whe
         → may_keep x ≡ true
 
   -- the response was over towards the client before its end was read, which leaves both links so,
-  -- and a session that answers the request. A link of which a call failed is not kept
+  -- and a session that answers the request. The peer's link is not kept
   pub record IsOverEarly (s : Origin) (p : Passed) (ahead : List ℕ) (x : H1Exchange L)
       : Type 0 where
     pub early : EndsEarly s p (state (link_of x)) (start_at (link_of x))
@@ -122,8 +122,7 @@ module _ {L : Type 0} (state : L → LinkState) (start_at : L → LinkStart) whe
     pub behind : is_body_done x.exchange.down.session.reading ≡ true
         → IsWhole (asked s p) (body_of early.order.pieces) ahead
     pub closes : x.exchange.up.closes ≡ list_any asks_to_close early.order.read
-    pub faultless : may_keep x ≡ true
-        → (state (link_of x)).faults ≡ (start_at (link_of x)).faults
+    pub unkept : may_keep x ≡ false
 
   -- why it failed with that error, and the session that this leaves: it answers the request, with
   -- the tasks that were queued, of whose text so much was written; and where it keeps the fault of
