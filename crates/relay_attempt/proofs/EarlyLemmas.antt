@@ -115,8 +115,8 @@ keeps_over at.Informed keeps = absurd (cc)
 keeps_over (at.InBody body) keeps = absurd (cc)
 keeps_over (at.Ended kept) keeps = refl
 
--- where a response is over towards the client, its peer's link is kept only where its end was handed
--- on
+-- where a response is over towards the client, its peer's link is kept only where its end was
+-- handed on
 pub kept_ended : {L : Type 0} (request : Request) (method : List ℕ) (upgrade closed : Bool)
     (got : List ℕ) (given withheld : List HttpTask) (client : H1Client L)
     → AreTasks method upgrade closed got (given ++ withheld) client.response → AreHeads withheld

@@ -162,7 +162,8 @@ module _ {L : Type 0} (state : L → LinkState) (start_at : L → LinkStart)
         p.batched front (front_pass (request_of s.head) p.batched p.closing passes) ends
     over_behind (inr done) =
         subst (λ (r : Request). is_over (wire r place.NoHead p.batched).place ≡ true)
-        (answers_own s p link ahead down.session so_far.down.passed.client) (so_far.down.passed.over done)
+        (answers_own s p link ahead down.session so_far.down.passed.client)
+        (so_far.down.passed.over done)
 
     -- the response has come whole, where its end was read
     whole_by : list_any is_end q.read ≡ true
@@ -242,8 +243,8 @@ module _ {L : Type 0} (state : L → LinkState) (start_at : L → LinkStart)
           sent = sent_all none finishes;
         }
 
-    -- where both heads ask alike an end is among the tasks that were handed on, where the response is
-    -- over behind its batches
+    -- where both heads ask alike an end is among the tasks that were handed on, where the response
+    -- is over behind its batches
     read_ends : AsksAlike s.head s.sent → (list_any is_end p.batched ≡ true) ⊎ (down.done ≡ true)
         → list_any is_end q.read ≡ true
     read_ends alike (inl ends) =
@@ -623,7 +624,8 @@ module _ {L : Type 0} (state : L → LinkState) (start_at : L → LinkStart)
     -- the last task that was queued is refused
     fails_cut : (first : List HttpTask) (at : HttpTask) → p.closing ≡ []
         → p.batched ≡ first ++ at ∷ []
-        → refusal (request_of s.head) (wire (request_of s.head) place.NoHead first).place at ≡ Some e
+        → refusal (request_of s.head) (wire (request_of s.head) place.NoHead first).place at
+        ≡ Some e
         → AllPass s first → Fails
     fails_cut first at unasked is refused passes = record {
       why = order.FailsFor.by_cut at

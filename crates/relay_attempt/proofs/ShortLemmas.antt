@@ -143,7 +143,8 @@ record IsWithin (head : RequestHead) (most : ℕ) (sent : Sent) : Type 0 where
 
 -- tasks behind what was sent bring no more than their bytes
 behind_within : (head : RequestHead) (most : ℕ) (sent : Sent) (tasks : List HttpTask)
-    → IsWithin head most sent → IsWithin head (most + length (body_of tasks)) (sent_behind sent tasks)
+    → IsWithin head most sent
+    → IsWithin head (most + length (body_of tasks)) (sent_behind sent tasks)
 behind_within head most sent [] is =
     record { pieces = is.pieces; is = is.is; within = omega (arith, is.within) }
 behind_within head most sent (one ∷ tasks) is =

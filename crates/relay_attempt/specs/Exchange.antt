@@ -98,7 +98,8 @@ module _ {L : Type 0} (state : L → LinkState) (start_at : L → LinkStart) whe
     pub reused : start.reused ≡ s.reused
     pub client_tells : TellsSince s.read_faults s.write_faults link
 
-  -- both directions were relayed, which leaves both links so, and a session that answers the request
+  -- both directions were relayed, which leaves both links so, and a session that answers the
+  -- request
   pub record IsFinished (s : Origin) (p : Passed) (ahead : List ℕ) (x : H1Exchange L) : Type 0 where
     pub relayed : IsRelayed s p (state (link_of x)) (start_at (link_of x))
     pub answers : x.exchange.down.session.writing.request ≡ request_of s.head

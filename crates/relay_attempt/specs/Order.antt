@@ -147,10 +147,11 @@ up_past {p = p} order lost = record {
   lost = lost;
 }
 
--- why an exchange failed with that error: the client's side answers for it, the peer's side does, or
--- a head of the response is refused; or tasks that the peer's side gave are refused by the client's
--- writer, for the first of them that is: a whole batch behind those that were queued, or a task that
--- ends short, whose end alone was not queued. The response can always end where its end is asked for
+-- why an exchange failed with that error: the client's side answers for it, the peer's side does,
+-- or a head of the response is refused; or tasks that the peer's side gave are refused by the
+-- client's writer, for the first of them that is: a whole batch behind those that were queued, or a
+-- task that ends short, whose end alone was not queued. The response can always end where its end
+-- is asked for
 pub data FailsFor
     (s : Origin) (p : Passed) (client link : LinkState) (start : LinkStart) (e : Error)
     : Type 0 where

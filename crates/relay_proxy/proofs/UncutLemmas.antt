@@ -1,4 +1,5 @@
--- A head that is sent asks as the client's does, so no task of a response is refused, and none is cut.
+-- A head that is sent asks as the client's does, so no task of a response is refused, and none is
+-- cut.
 --
 --   sent_alike   from Sends, over an exchange: both heads ask alike
 --   uncut        from FailsFor: what passed is in order with nothing cut, and as much is owed
@@ -16,7 +17,8 @@ use Rattle.relay_proxy.specs.Passed.{Start, origin_of}
 use Rattle.relay_proxy.specs.Sent.{Sends}
 use Rattle.relay_proxy.proofs.SentLemmas.{sends_agrees}
 
-module _ (s : Start) (p : Passed) (head sent : RequestHead) (reused : Bool) (sends : Sends head sent)
+module _
+    (s : Start) (p : Passed) (head sent : RequestHead) (reused : Bool) (sends : Sends head sent)
   where
     -- both heads agree, over what passed
     pub sent_agrees : (cut : Option HttpTask) (closed : Bool)
@@ -40,5 +42,5 @@ module _ (s : Start) (p : Passed) (head sent : RequestHead) (reused : Bool) (sen
           record { order = order; same = refl }
       uncut (FailsFor.by_cut at order unasked read refused) =
           absurd (tasks_unrefused (origin_of s head sent reused) p link.ended
-          (sent_agrees _ link.ended order).method order.read (order.batched ++ at ∷ []) e order.are_of
-          read refused)
+          (sent_agrees _ link.ended order).method order.read (order.batched ++ at ∷ []) e
+          order.are_of read refused)

@@ -24,7 +24,8 @@ returns-in-None-clause-goes g c = λ s p q under.
 pub returns-in-Some-clause-errors : goal.returns-in-Some-clause-errors
 returns-in-Some-clause-errors g c =
     let t = c.step-step in
-    told_still (core c.args.duplex.now (g.D.Down.state c.args.down.now) (g.U.Up.state c.args.up.now))
+    told_still
+    (core c.args.duplex.now (g.D.Down.state c.args.down.now) (g.U.Up.state c.args.up.now))
     (core t.new.self (g.D.Down.state t.new.down) (g.U.Up.state t.new.up))
     (step.Failed (fail.Error c.in-Some.error)) t.ensures.exact.down
 
@@ -32,7 +33,8 @@ returns-in-Some-clause-errors g c =
 pub returns-in-None-clause-errors : goal.returns-in-None-clause-errors
 returns-in-None-clause-errors g c =
     let t = c.step-step in
-    told_still (core c.args.duplex.now (g.D.Down.state c.args.down.now) (g.U.Up.state c.args.up.now))
+    told_still
+    (core c.args.duplex.now (g.D.Down.state c.args.down.now) (g.U.Up.state c.args.up.now))
     (core t.new.self (g.D.Down.state t.new.down) (g.U.Up.state t.new.up)) t.result
     t.ensures.exact.down
 
