@@ -55,6 +55,7 @@ use Rattle.relay_proxy.specs.declared.machine.Phase.TheVariants.{Relay, Close}
 use Rattle.relay_proxy.specs.declared.outcome.Outcome.{Outcome}
 use Rattle.relay_proxy.specs.declared.outcome.Outcome.TheVariants.{Served, TurnLimit}
 use Rattle.relay_proxy.proofs.UncutLemmas.{sent_agrees}
+use Rattle.relay_valid.proofs.UnshortLemmas.{never_short}
 
 -- ---- whether the client may ask for more
 
@@ -189,6 +190,9 @@ module _ {L : Type 0} (state : L → LinkState) (start_at : L → LinkStart) whe
     relayable = relayable;
     sends = sends;
     relayed = finished.relayed;
+    unshort = never_short (origin_of s head sent (start_at (link_of x)).reused)
+        (sent_agrees s p head sent _ sends _ _ finished.relayed.order) p (state (link_of x)).ended
+        finished.relayed.order;
     calm = calm;
     kept = finished.leaves.serves;
     faultless = finished.faultless;

@@ -29,7 +29,7 @@ use Rattle.relay_peer.specs.Body.{IsFrontOf, body_of}
 use Rattle.relay_peer.specs.Faults.{IsAmong, IsLast}
 use Rattle.relay_sides.specs.Filtered.{asks_to_close}
 use Rattle.relay_attempt.specs.Order as exchange
-use Rattle.relay_attempt.specs.Order.{FailsFor, order_of, IsRelayed, HasEnded, MayServe}
+use Rattle.relay_attempt.specs.Order.{FailsFor, order_of, IsRelayed, HasEnded, MayServe, SendsShort}
 use Rattle.relay_attempt.specs.Passed.{Passed}
 use Rattle.relay_valid.specs.Valid.{IsValid}
 use Rattle.relay_proxy.specs.Answer.{owed_text, past_at}
@@ -230,6 +230,8 @@ pub record IsRelayedWhole
   pub relayable : IsRelayable head
   pub sends : Sends head sent
   pub relayed : IsRelayed (origin_of s head sent start.reused) p link start
+  -- both heads agree, so the request does not end short
+  pub unshort : ¬ (SendsShort (origin_of s head sent start.reused) p link.ended relayed.order)
   -- no call of the client's link failed
   pub calm : w.client.faults ≡ s.faults
   -- the link is kept only where it may serve another request
