@@ -1,5 +1,5 @@
 -- The hooks before the attempts, so far: how they begin, and how each turn takes them on.
-use Rattle.std.proofs.Common.{◌≡◌, ℕ, Bool, true, false, List, None, Some, Option, is_some, not, ◌&&◌, refl, sym, ap, subst, ◌∙◌, true≢false}
+use Rattle.std.proofs.Common.{◌≡◌, ℕ, Bool, true, false, List, Option, is_some, not, ◌&&◌, refl, sym, ap, subst, ◌∙◌, true≢false}
 use Rattle.relay_tasks.specs.declared.hook.Hook.{Hook}
 use Rattle.relay_tasks.specs.declared.hook.Hook.TheVariants as hook
 use Rattle.relay_tasks.specs.declared.log.Item.TheVariants as item
@@ -9,7 +9,7 @@ use Rattle.relay_session.specs.declared.writing.Writing.{Writing}
 use Rattle.relay_session.specs.Reading.{head_of}
 use Rattle.relay_session.specs.Response.{has_head}
 use Rattle.relay_session.specs.declared.session.HttpSession.{HttpSession}
-use Rattle.relay_modules.specs.Module.{AllowsMade, ModuleCall}
+use Rattle.relay_modules.specs.Module.{ModuleCall}
 use Rattle.relay_modules.specs.declared.seen.Seen.{Seen}
 use Rattle.relay_hooks.specs.Call.{only}
 use Rattle.relay_hooks.specs.Session.{is_answered}
@@ -21,12 +21,9 @@ use Rattle.relay_phases.specs.Order.{Station}
 use Rattle.relay_phases.specs.Order.{Station as station}
 use Rattle.relay_phases.specs.Turns.{HasCalled, QueuesNothing, Turns}
 use Rattle.relay_opening.specs.Opens.{OpensSoFar, TurnsOn, TurnsTo}
-use Rattle.relay_opening.specs.Place.{Includes, end_station, is_open, may_go_on, next_hook, shown, station_of}
+use Rattle.relay_opening.specs.Place.{end_station, is_open, may_go_on, next_hook, station_of}
 use Rattle.relay_opening.specs.Queued.{QueuesAtEnd}
 use Rattle.relay_opening.specs.declared.place.Called.TheVariants as called
-use Rattle.relay_opening.specs.declared.place.End.{End}
-use Rattle.relay_opening.specs.declared.place.Opened.{Opened}
-use Rattle.relay_opening.specs.declared.place.Opened.TheVariants as opened
 use Rattle.relay_opening.specs.declared.place.Place.{Place}
 use Rattle.relay_opening.specs.declared.place.Place.TheVariants as place
 use Rattle.relay_opening.proofs.TurnLemmas.{makes_turn}
@@ -137,39 +134,3 @@ is_open-begun app first mark new looks read open_to =
     (subst (λ (d : HttpSession). is_some (head_of d.reading) ≡ true) (sym same) read)
     (subst (λ (d : HttpSession). not (has_head d.writing.place) ≡ true) (sym same)
     (ap not open_to))
-
--- ---- what the caller is told
-
-abbrev is_ended : Opened → Bool
-is_ended opened.More = false
-is_ended (opened.Ended how) = true
-is_ended opened.OutOfMemory = false
-
--- the end of which it tells, or else that one
-abbrev end_of : End → Opened → End
-end_of other opened.More = other
-end_of other (opened.Ended how) = how
-end_of other opened.OutOfMemory = other
-
--- the end that its caller is told is where the opening stands
-pub shown-ended : {K : Type 0} (p : Place K) (how : End) → shown p ≡ opened.Ended how
-    → p ≡ place.Ended how
-shown-ended (place.Behind last) how is = absurd (true≢false (sym (ap is_ended is)))
-shown-ended (place.Ended end) how is = ap (λ (o : Opened). place.Ended (end_of end o)) is
-shown-ended place.Lost how is = absurd (true≢false (sym (ap is_ended is)))
-
--- ---- the modules
-
--- all that they allow is what they allow
-pub Includes-self : {K M : Type 0} (allows : M → ModuleCall → Type 0) (p : Place K)
-    (made : Option M) → Includes allows p made (AllowsMade allows made)
-Includes-self allows (place.Behind (called.Made kept)) made = tt
-Includes-self allows (place.Behind called.Handed) made = tt
-Includes-self allows (place.Behind called.Early) made = tt
-Includes-self allows (place.Behind called.Spawning) None = tt
-Includes-self allows (place.Behind called.Spawning) (Some modules) = λ call h. h
-Includes-self allows (place.Behind called.Headed) made = tt
-Includes-self allows (place.Behind called.Filtered) made = tt
-Includes-self allows (place.Behind called.Sending) made = tt
-Includes-self allows (place.Ended how) made = tt
-Includes-self allows place.Lost made = tt

@@ -66,9 +66,11 @@ module _ (app : Standing → LogEntry → Type 0) (modules : ModuleCall → Type
       → TurnsTo (IsAllowed app modules) which from old before new mark
       (behind answer (place.Behind last))
   acts_turn from last output well badly (Ok done) call =
-      leaves_turn app modules which is_app input old before new mark Leaves (only output) from (station_of last) (λ r h. h) well call
+      leaves_turn app modules which is_app input old before new mark Leaves (only output) from
+      (station_of last) (λ r h. h) well call
   acts_turn from last output well badly (Err (fail.Error error)) call =
-      leaves_turn app modules which is_app input old before new mark Leaves (failed output error) from station.failing (λ r h. h) (badly error) call
+      leaves_turn app modules which is_app input old before new mark Leaves (failed output error)
+      from station.failing (λ r h. h) (badly error) call
   acts_turn from last output well badly (Err fail.OutOfMemory) same = same
 
   -- a hook that answers nothing and has no error
@@ -79,7 +81,8 @@ module _ (app : Standing → LogEntry → Type 0) (modules : ModuleCall → Type
       → TurnsTo (IsAllowed app modules) which from old before new mark
       (behind answer (place.Behind last))
   hands_turn from last output well (Ok done) memory call =
-      leaves_turn app modules which is_app input old before new mark Leaves (only output) from (station_of last) (λ r h. h) well call
+      leaves_turn app modules which is_app input old before new mark Leaves (only output) from
+      (station_of last) (λ r h. h) well call
   hands_turn from last output well (Err (fail.Error error)) memory call =
       absurd (error_is_no_memory error memory)
   hands_turn from last output well (Err fail.OutOfMemory) memory same = same
@@ -113,10 +116,12 @@ module _ (app : Standing → LogEntry → Type 0) (modules : ModuleCall → Type
         };
       }
   answers_turn from last on_yes on_no badly open_to (Ok false) call =
-      leaves_turn app modules which is_app input old before new mark (AnswersOnYes (Ok false)) (only (item.Answer false)) from (station_of last)
+      leaves_turn app modules which is_app input old before new mark (AnswersOnYes (Ok false))
+      (only (item.Answer false)) from (station_of last)
       (λ r h. h) on_no call
   answers_turn from last on_yes on_no badly open_to (Err (fail.Error error)) call =
-      leaves_turn app modules which is_app input old before new mark (AnswersOnYes (Err (fail.Error error))) (failed item.Nothing error) from
+      leaves_turn app modules which is_app input old before new mark
+      (AnswersOnYes (Err (fail.Error error))) (failed item.Nothing error) from
       station.failing (λ r h. h) (badly error) call
   answers_turn from last on_yes on_no badly open_to (Err fail.OutOfMemory) same = same
 
@@ -148,13 +153,16 @@ module _ (app : Standing → LogEntry → Type 0) (modules : ModuleCall → Type
       new mark
       (behind_say answer (place.Behind called.Spawning) (place.Behind called.Spawning))
   spawns_turn K (Ok true) looks =
-      looks_turn app modules hook.AllowSpawningSubrequest refl input old mark new (only (item.Answer true))
+      looks_turn app modules hook.AllowSpawningSubrequest refl input old mark new
+      (only (item.Answer true))
       station.early station.spawning (λ at. refl) looks
   spawns_turn K (Ok false) looks =
-      looks_turn app modules hook.AllowSpawningSubrequest refl input old mark new (only (item.Answer false))
+      looks_turn app modules hook.AllowSpawningSubrequest refl input old mark new
+      (only (item.Answer false))
       station.early station.spawning (λ at. refl) looks
   spawns_turn K (Err (fail.Error error)) (say, looks) =
-      looks_turn app modules hook.AllowSpawningSubrequest refl input old mark new (failed (item.Answer say) error)
+      looks_turn app modules hook.AllowSpawningSubrequest refl input old mark new
+      (failed (item.Answer say) error)
       station.early station.failing (λ at. refl) looks
   spawns_turn K (Err fail.OutOfMemory) same = same
 

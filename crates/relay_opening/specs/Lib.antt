@@ -2,3 +2,4 @@ pub mod Place
 pub mod Queued
 pub mod Opens
 pub mod Refusal
+pub mod Told

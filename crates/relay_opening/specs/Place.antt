@@ -14,8 +14,6 @@ use Rattle.relay_opening.specs.declared.place.Called.{Called}
 use Rattle.relay_opening.specs.declared.place.Called.TheVariants as called
 use Rattle.relay_opening.specs.declared.place.End.{End}
 use Rattle.relay_opening.specs.declared.place.End.TheVariants as end
-use Rattle.relay_opening.specs.declared.place.Opened.{Opened}
-use Rattle.relay_opening.specs.declared.place.Opened.TheVariants as opened
 use Rattle.relay_opening.specs.declared.place.Place.{Place}
 use Rattle.relay_opening.specs.declared.place.Place.TheVariants as place
 
@@ -47,12 +45,6 @@ abbrev pub may_go_on : {K : Type 0} → Place K → Seen → Bool
 may_go_on (place.Behind last) seen = is_open seen
 may_go_on (place.Ended how) seen = true
 may_go_on place.Lost seen = true
-
--- what the caller is told
-abbrev pub shown : {K : Type 0} → Place K → Opened
-shown (place.Behind last) = opened.More
-shown (place.Ended how) = opened.Ended how
-shown place.Lost = opened.OutOfMemory
 
 -- ---- where a call leads
 
@@ -90,9 +82,20 @@ abbrev pub AreMade : {K M : Type 0} → Place K → Place K → Option M → Typ
 AreMade (place.Behind called.Early) (place.Behind last) made = IsSome made
 AreMade other to made = Unit {0}
 
--- each call that the modules allow is one of these, where they filter the head in the next turn
+-- ---- which calls of the modules may come
+
+-- none
+abbrev pub NoCalls : ModuleCall → Type 0
+NoCalls call = ⊥
+
+-- those that the modules allow, where they filter the head in the next turn; none else
+abbrev pub TurnAllows : {K M : Type 0} → (M → ModuleCall → Type 0) → Place K → Option M
+    → ModuleCall → Type 0
+TurnAllows allows (place.Behind called.Spawning) (Some modules) = allows modules
+TurnAllows allows other made = NoCalls
+
+-- each of them is one of these
 abbrev pub Includes : {K M : Type 0} → (M → ModuleCall → Type 0) → Place K → Option M
     → (ModuleCall → Type 0) → Type 0
-Includes allows (place.Behind called.Spawning) (Some modules) within =
-    (call : ModuleCall) → allows modules call → within call
-Includes allows other modules within = Unit {0}
+Includes allows p made within =
+    (call : ModuleCall) → TurnAllows allows p made call → within call

@@ -3,9 +3,8 @@
 //! section 3.7).
 #![tactic(auto)]
 
-mod opening;
 mod place;
 mod turn;
 
-pub use opening::Opening;
-pub use place::{End, Opened};
+pub use place::{Called, End, Place};
+pub use turn::{begin_opening, take_turn};

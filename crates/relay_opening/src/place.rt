@@ -1,6 +1,6 @@
 //! Where the opening of a request stands: which hook is called next, or how it ended.
 ghost use Rattle.std.specs.Prelude.{◌≡◌};
-ghost use Rattle.relay_opening.specs.Place.{behind, behind_say, failed, shown};
+ghost use Rattle.relay_opening.specs.Place.{behind, behind_say, failed};
 
 use relay_tasks::{Error, Fail, Result};
 
@@ -22,15 +22,6 @@ pub enum End {
     Failed(Error),
 }
 
-/// What a turn came to: there is more to call; the hooks before the attempts are over; or memory
-/// was wanted, and of the session nothing more is known than its log, which is as before the turn.
-#[derive(Clone, Copy, Debug, PartialEq, Eq)]
-pub enum Opened {
-    More,
-    Ended(End),
-    OutOfMemory,
-}
-
 /// What was called last, as far as it decides what is called next.
 ///
 /// `Made`: the context was made, and that value was kept from the request before it, or none.
@@ -49,25 +40,13 @@ pub enum Called<K> {
     Sending,
 }
 
-/// Where the opening stands: behind that call, at its end, or where memory was wanted.
+/// Where the opening stands: behind that call, at its end, or where memory was wanted, and of the
+/// session nothing more is known than its log, which is as before the turn.
 #[derive(Drop)]
 pub enum Place<K> {
     Behind(Called<K>),
     Ended(End),
     Lost,
-}
-
-impl<K> Place<K> {
-    /// What its caller is told.
-    pub(crate) fn shown(&self) -> Opened
-        ensures { result ≡ shown self.now }
-    {
-        match self {
-            Place::Behind(_) => Opened::More,
-            Place::Ended(end) => Opened::Ended(*end),
-            Place::Lost => Opened::OutOfMemory,
-        }
-    }
 }
 
 /// Where a call that failed leads.

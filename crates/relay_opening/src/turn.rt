@@ -1,29 +1,57 @@
 //! One turn of the hooks before the attempts: the hook that comes next, called and entered.
-ghost use Rattle.std.specs.Prelude.{◌≡◌, true, false, is_some, IsSome, IsTrue, OnOk, Option};
+ghost use Rattle.std.specs.Prelude.{◌≡◌, true, false, is_some, IfOk, IsOkUnless, IsSome, IsTrue, OnErr, OnOk, Option};
 ghost use Rattle.relay_session.specs.Reading.{head_of};
 ghost use Rattle.relay_modules.specs.Module.{AllowsMade};
+ghost use Rattle.relay_modules.specs.declared.seen.Seen.{Seen};
 ghost use Rattle.relay_hooks.specs.Session.{is_answered, request_head};
 ghost use Rattle.relay_calls.specs.Log.{IsAllowed};
 ghost use Rattle.relay_phases.specs.Looks.{Looks};
 ghost use Rattle.relay_phases.specs.Modules.{MakesModules};
 ghost use Rattle.relay_phases.specs.Order.{sending};
-ghost use Rattle.relay_opening.specs.Opens.{TurnsOn, TurnsTo};
+ghost use Rattle.relay_opening.specs.Opens.{OpensSoFar, TurnsOn, TurnsTo};
 ghost use Rattle.relay_opening.specs.Refusal.{Refuses};
-ghost use Rattle.relay_opening.specs.Place.{AreMade, Includes, may_go_on};
+ghost use Rattle.relay_opening.specs.Place.{AreMade, Includes, NoCalls, TurnAllows, may_go_on};
 
 use crate::place::{Called, End, Place, behind, behind_say, failed};
 use relay_hooks::{HttpModule, ProxyHttp, Session};
 use relay_phases::{
     call_allow_spawning_subrequest, call_early_request_filter, call_is_purge,
-    call_module_request_header, call_on_connection_reuse, call_proxy_upstream_filter,
+    call_module_request_header, call_new_ctx, call_on_connection_reuse, call_proxy_upstream_filter,
     call_request_filter, make_modules,
 };
-use relay_tasks::{Hook, Item, Result};
+use relay_tasks::{Fail, Hook, Item, Result};
 
-/// Calls the hook that comes next, and answers where the opening stands then. Once it has ended
-/// nothing is called. `makes_modules` says that the request has modules, which are made behind
-/// `allow_spawning_subrequest`.
-pub(crate) fn take_turn<SV: ProxyHttp>(
+/// Makes the context of the request, which is the first turn, and answers it with where the opening
+/// stands then. `kept` is the value that was kept from the request before it on the client's
+/// connection.
+///
+/// Fails out of memory alone, and the log is then as before.
+pub fn begin_opening<SV: ProxyHttp>(
+    app: &SV,
+    session: &mut Session<SV::Modules>,
+    kept: Option<SV::Kept>,
+) -> Result<(SV::CTX, Place<SV::Kept>)>
+    requires read { IsSome (head_of session.old.seen.downstream.reading) }
+    requires open_to { is_answered session.old.seen ≡ false }
+    ensures opens { IfOk result (λ begun. OpensSoFar (IsAllowed (SV.allows app.now) NoCalls)
+        session.old.seen (SV.mark_of app.now begun.0) begun.1
+        session.new.seen (SV.mark_of app.now begun.0)) }
+    ensures place { IfOk result (λ begun. begun.1 ≡ Place.Behind (Called.Made kept)) }
+    ensures ready { IfOk result (λ begun. IsTrue (may_go_on begun.1 session.new.seen)) }
+    ensures memory { IsOkUnless result Fail.OutOfMemory }
+    ensures lost { OnErr result (session.new.seen.log ≡ session.old.seen.log) }
+{
+    let ctx = call_new_ctx(app, session)?;
+    Ok((ctx, Place::Behind(Called::Made(kept))))
+}
+
+/// Calls the hook that comes next, and no other, and answers where the opening stands then. Once
+/// it has ended nothing is called, and the place is the same again.
+///
+/// `makes_modules` says that the request has modules, which are made behind
+/// `allow_spawning_subrequest`. The context is that of the request, and `app` the application to
+/// which it belongs; each turn is given the same.
+pub fn take_turn<SV: ProxyHttp>(
     app: &SV,
     session: &mut Session<SV::Modules>,
     ctx: &mut SV::CTX,
@@ -31,13 +59,20 @@ pub(crate) fn take_turn<SV: ProxyHttp>(
     makes_modules: bool,
 ) -> Place<SV::Kept>
     requires { IsTrue (may_go_on place session.old.seen) }
-    ensures turns { (made : Option SV.Modules)
-        → Includes SV.Modules.allows place session.old.modules
-        (AllowsMade SV.Modules.allows made)
-        → TurnsOn (IsAllowed (SV.allows app.now) (AllowsMade SV.Modules.allows made))
+    ensures turns { TurnsOn (IsAllowed (SV.allows app.now)
+        (TurnAllows SV.Modules.allows place session.old.modules))
         (is_some session.old.modules) place
         session.old.seen (SV.mark_of app.now ctx.old) session.new.seen
         (SV.mark_of app.now ctx.new) result }
+    ensures opens { (made : Option SV.Modules) (first : Seen) (mark : _)
+        → Includes SV.Modules.allows place session.old.modules
+        (AllowsMade SV.Modules.allows made)
+        → OpensSoFar (IsAllowed (SV.allows app.now) (AllowsMade SV.Modules.allows made))
+        first mark place
+        session.old.seen (SV.mark_of app.now ctx.old)
+        → OpensSoFar (IsAllowed (SV.allows app.now) (AllowsMade SV.Modules.allows made))
+        first mark result
+        session.new.seen (SV.mark_of app.now ctx.new) }
     ensures ready { IsTrue (may_go_on result session.new.seen) }
     ensures made { makes_modules ≡ true → AreMade place result session.new.modules }
 {
@@ -58,10 +93,8 @@ fn call_next<SV: ProxyHttp>(
 ) -> Place<SV::Kept>
     requires read { IsSome (head_of session.old.seen.downstream.reading) }
     requires open_to { is_answered session.old.seen ≡ false }
-    ensures turns { (made : Option SV.Modules)
-        → Includes SV.Modules.allows (Place.Behind last) session.old.modules
-        (AllowsMade SV.Modules.allows made)
-        → TurnsOn (IsAllowed (SV.allows app.now) (AllowsMade SV.Modules.allows made))
+    ensures turns { TurnsOn (IsAllowed (SV.allows app.now)
+        (TurnAllows SV.Modules.allows (Place.Behind last) session.old.modules))
         (is_some session.old.modules)
         (Place.Behind last) session.old.seen
         (SV.mark_of app.now ctx.old) session.new.seen (SV.mark_of app.now ctx.new) result }
@@ -151,10 +184,8 @@ fn decide<SV: ProxyHttp>(
 ) -> Place<SV::Kept>
     requires read { IsSome (head_of session.old.seen.downstream.reading) }
     requires open_to { is_answered session.old.seen ≡ false }
-    ensures turns { (made : Option SV.Modules)
-        → TurnsTo (IsAllowed (SV.allows app.now) (AllowsMade SV.Modules.allows made))
-        Hook.ProxyUpstreamFilter sending
-        session.old.seen
+    ensures turns { TurnsTo (IsAllowed (SV.allows app.now) NoCalls)
+        Hook.ProxyUpstreamFilter sending session.old.seen
         (SV.mark_of app.now ctx.old) session.new.seen (SV.mark_of app.now ctx.new) result }
 {
     match call_proxy_upstream_filter(app, session, ctx) {

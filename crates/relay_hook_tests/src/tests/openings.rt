@@ -1,10 +1,14 @@
 //! The hooks before the attempts, called one a turn up to their end.
+ghost use Rattle.std.specs.Prelude.{◌≡◌, false, IsSome};
+ghost use Rattle.relay_session.specs.Reading.{head_of};
+ghost use Rattle.relay_hooks.specs.Session.{is_answered};
+
 use crate::tests::scripted::app_of;
 use bytes::Bytes;
 use http::Method;
 use relay_h1::Framing;
-use relay_hooks::{Defaults, ProxyHttp, Session};
-use relay_opening::{End, Opened, Opening};
+use relay_hooks::{Defaults, HttpModule, ProxyHttp, Session};
+use relay_opening::{End, Place, begin_opening, take_turn};
 use relay_script::Action;
 use relay_session::HttpSession;
 use relay_tasks::{Fail, Hook, Peer, RequestHeader, Result};
@@ -28,30 +32,44 @@ fn release<T: Drop>(_value: T) {}
 fn opened<A: ProxyHttp + Drop>(app: A, alloc: Global, makes_modules: bool) -> Result<Came> {
     let head = RequestHeader::build(alloc, &Method::GET, b"/a")?;
     let client = HttpSession::begun_http1(alloc, head, Framing::Empty);
-    let session = Session::new_h1_unmade(alloc, client);
-    let mut opening = Opening::begin(&app, session, None)?;
-    let came = run(&app, &mut opening, makes_modules);
-    release(opening);
+    let mut session = Session::new_h1_unmade(alloc, client);
+    let came = run(&app, &mut session, makes_modules);
+    release(session);
     came
 }
 
-/// Takes turns up to the end.
-fn run<A: ProxyHttp>(app: &A, opening: &mut Opening<A>, makes_modules: bool) -> Result<Came> {
-    for _ in 0..8 {
-        match opening.step(app, makes_modules) {
-            Opened::More => {}
-            Opened::OutOfMemory => return Err(Fail::OutOfMemory),
-            Opened::Ended(end) => {
-                let session = opening.session();
-                return Ok(Came {
-                    end,
-                    calls: session.phase_log().len(),
-                    answered: session.as_downstream().response_written(),
-                });
-            }
-        }
+/// Begins, and takes seven turns, of which at least the last calls nothing.
+fn run<A: ProxyHttp>(
+    app: &A,
+    session: &mut Session<A::Modules>,
+    makes_modules: bool,
+) -> Result<Came>
+    requires read { IsSome (head_of session.old.seen.downstream.reading) }
+    requires open_to { is_answered session.old.seen ≡ false }
+{
+    let (mut ctx, place) = begin_opening(app, session, None)?;
+    let place = take_turn(app, session, &mut ctx, place, makes_modules);
+    let place = take_turn(app, session, &mut ctx, place, makes_modules);
+    let place = take_turn(app, session, &mut ctx, place, makes_modules);
+    let place = take_turn(app, session, &mut ctx, place, makes_modules);
+    let place = take_turn(app, session, &mut ctx, place, makes_modules);
+    let place = take_turn(app, session, &mut ctx, place, makes_modules);
+    let place = take_turn(app, session, &mut ctx, place, makes_modules);
+    release(ctx);
+    came_of(session, place)
+}
+
+/// What came of the turns.
+fn came_of<M: HttpModule, K: Drop>(session: &Session<M>, place: Place<K>) -> Result<Came> {
+    match place {
+        Place::Behind(_) => Err(Fail::OutOfMemory),
+        Place::Lost => Err(Fail::OutOfMemory),
+        Place::Ended(end) => Ok(Came {
+            end,
+            calls: session.phase_log().len(),
+            answered: session.as_downstream().response_written(),
+        }),
     }
-    Err(Fail::OutOfMemory)
 }
 
 /// An end behind so many calls.

@@ -2,12 +2,10 @@
 use Rattle.std.proofs.Common.{◌≡◌, ℕ, true, false, refl, subst, is_some, arith}
 use Rattle.relay_tasks.specs.declared.hook.Hook.TheVariants as hook
 use Rattle.relay_tasks.specs.declared.log.Item.TheVariants as item
-use Rattle.relay_modules.specs.Module.{AllowsMade}
 use Rattle.relay_calls.specs.Log.{IsAllowed}
 use Rattle.relay_phases.specs.Order.{Station as station}
 use Rattle.relay_opening.specs.Opens.{TurnsTo}
-use Rattle.relay_opening.specs.Place.{Includes, behind}
-use Rattle.relay_opening.specs.declared.place.Called.{Called}
+use Rattle.relay_opening.specs.Place.{NoCalls, TurnAllows, behind}
 use Rattle.relay_opening.specs.declared.place.Called.TheVariants as called
 use Rattle.relay_opening.specs.declared.place.Place.TheVariants as place
 use Rattle.relay_opening.proofs.TurnLemmas.{acts_turn, answers_turn, heads_turn, spawns_turn}
@@ -23,28 +21,22 @@ returns-then-is_some-clause-turns g c =
     let old = c.args.session.now.seen in
     let new = c.call_module_request_header-answer.new.session.seen in
     let answer = c.call_module_request_header-answer.result in
-    λ made includes.
+    let made = c.args.session.now.modules in
+    let within = TurnAllows {K = g.row.SV-Kept.Denot} allows (place.Behind called.Spawning) made in
     rw (c.behind-then-is_some.ensures, c.in-Spawning.is, is)
     (subst
-    (λ (m : ℕ). TurnsTo (IsAllowed app (AllowsMade allows made)) {K = g.row.SV-Kept.Denot}
+    (λ (m : ℕ). TurnsTo (IsAllowed app within) {K = g.row.SV-Kept.Denot}
     hook.ModuleRequestHeader station.spawning old m new m
     (behind answer (place.Behind called.Headed)))
     c.mark.ensures
-    (heads_turn g.row.SV-Kept.Denot app (AllowsMade allows made) allows c.args.session.now.modules
-    old c.mark.result new is
-    (subst
-    (λ (l : Called g.row.SV-Kept.Denot). Includes allows (place.Behind l)
-    c.args.session.now.modules (AllowsMade allows made))
-    c.in-Spawning.is includes)
+    (heads_turn g.row.SV-Kept.Denot app within allows made old c.mark.result new is (λ call h. h)
     answer c.call_module_request_header-answer.ensures.calls))
 
 -- the first filter is called behind the value that was kept
 pub returns-in-Handed-clause-turns : goal.returns-in-Handed-clause-turns
 returns-in-Handed-clause-turns g c =
-    λ made includes.
     rw (c.behind-in-Handed.ensures, c.in-Handed.is)
-    (acts_turn (g.SV.ProxyHttp.allows c.args.app.now)
-    (AllowsMade g.SV.Modules.HttpModule.allows made) hook.EarlyRequestFilter refl _ _ _ _ _
+    (acts_turn (g.SV.ProxyHttp.allows c.args.app.now) NoCalls hook.EarlyRequestFilter refl _ _ _ _ _
     station.handed called.Early item.Nothing (λ at. refl) (λ error at. refl)
     c.call_early_request_filter-answer-in-Handed.result
     c.call_early_request_filter-answer-in-Handed.ensures.calls)
@@ -52,10 +44,8 @@ returns-in-Handed-clause-turns g c =
 -- it is asked for subrequests
 pub returns-in-Early-clause-turns : goal.returns-in-Early-clause-turns
 returns-in-Early-clause-turns g c =
-    λ made includes.
     rw (c.behind_say.ensures, c.in-Early.is)
-    (spawns_turn (g.SV.ProxyHttp.allows c.args.app.now)
-    (AllowsMade g.SV.Modules.HttpModule.allows made) _ _ _ _ g.row.SV-Kept.Denot
+    (spawns_turn (g.SV.ProxyHttp.allows c.args.app.now) NoCalls _ _ _ _ g.row.SV-Kept.Denot
     c.ask_and_make-answer.result c.ask_and_make-answer.ensures.calls)
 
 -- the request is filtered where no modules were made
@@ -63,10 +53,10 @@ pub returns-else-is_some-clause-turns : goal.returns-else-is_some-clause-turns
 returns-else-is_some-clause-turns g c =
     let is : is_some c.args.session.now.modules ≡ false =
     grind (arith, c.is_some.ensures, c.if-is_some.false) in
-    λ made includes.
     rw (c.behind_say-in-Spawning.ensures, c.in-Spawning.is, is)
     (answers_turn (g.SV.ProxyHttp.allows c.args.app.now)
-    (AllowsMade g.SV.Modules.HttpModule.allows made) hook.RequestFilter refl _ _ _ _ _
+    (TurnAllows {K = g.row.SV-Kept.Denot} g.SV.Modules.HttpModule.allows
+    (place.Behind called.Spawning) c.args.session.now.modules) hook.RequestFilter refl _ _ _ _ _
     station.spawning called.Filtered (λ at. refl) (λ at. refl) (λ error at. refl)
     c.requires.open_to c.call_request_filter-answer.result
     c.call_request_filter-answer.ensures.calls)
@@ -74,10 +64,8 @@ returns-else-is_some-clause-turns g c =
 -- and behind the modules
 pub returns-in-Headed-clause-turns : goal.returns-in-Headed-clause-turns
 returns-in-Headed-clause-turns g c =
-    λ made includes.
     rw (c.behind_say-in-Headed.ensures, c.in-Headed.is)
-    (answers_turn (g.SV.ProxyHttp.allows c.args.app.now)
-    (AllowsMade g.SV.Modules.HttpModule.allows made) hook.RequestFilter refl _ _ _ _ _
+    (answers_turn (g.SV.ProxyHttp.allows c.args.app.now) NoCalls hook.RequestFilter refl _ _ _ _ _
     station.headed called.Filtered (λ at. refl) (λ at. refl) (λ error at. refl)
     c.requires.open_to c.call_request_filter-answer-in-Headed.result
     c.call_request_filter-answer-in-Headed.ensures.calls)
@@ -85,4 +73,4 @@ returns-in-Headed-clause-turns g c =
 -- the application decides where it goes
 pub returns-in-Sending-clause-turns : goal.returns-in-Sending-clause-turns
 returns-in-Sending-clause-turns g c =
-    λ made includes. rw c.in-Sending.is (c.decide.ensures.turns made)
+    rw c.in-Sending.is c.decide.ensures.turns

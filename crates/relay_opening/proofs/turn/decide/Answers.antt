@@ -2,11 +2,11 @@
 use Rattle.std.proofs.Common.{◌≡◌, Bool, false, None, Ok, subst, arith}
 use Rattle.relay_tasks.specs.declared.hook.Hook.TheVariants as hook
 use Rattle.relay_tasks.specs.declared.log.Item.TheVariants as item
-use Rattle.relay_modules.specs.Module.{AllowsMade}
 use Rattle.relay_hooks.specs.Call.{only}
 use Rattle.relay_hooks.specs.Laws.{AnswersOnNo}
 use Rattle.relay_hooks.specs.Session.{request_head}
 use Rattle.relay_calls.specs.Calls.{CallsOf}
+use Rattle.relay_opening.specs.Place.{NoCalls}
 use Rattle.relay_opening.proofs.TurnLemmas.{declined_turn, fails_turn}
 use Rattle.relay_opening.proofs.turn.decide.Goals as goal
 
@@ -19,8 +19,8 @@ returns-in-Ok-false g c =
     let mid = c.call_proxy_upstream_filter.new.session.seen in
     let mark = g.SV.ProxyHttp.mark_of c.args.app.now c.call_proxy_upstream_filter.new.ctx in
     record {
-      turns = λ made.
-          declined_turn app (AllowsMade g.SV.Modules.HttpModule.allows made)
+      turns =
+          declined_turn app NoCalls
           (item.Request (request_head old)) old before mid mark
           (subst
           (λ (b : Bool). CallsOf None false (AnswersOnNo (Ok b)) app hook.ProxyUpstreamFilter
@@ -33,9 +33,9 @@ returns-in-Ok-false g c =
 pub returns-in-Err : goal.returns-in-Err
 returns-in-Err g c =
     record {
-      turns = λ made.
+      turns =
           rw c.failed.ensures
           (fails_turn g.row.SV-Kept.Denot (g.SV.ProxyHttp.allows c.args.app.now)
-          (AllowsMade g.SV.Modules.HttpModule.allows made) _ _ _ _ _ c.in-Err.why
+          NoCalls _ _ _ _ _ c.in-Err.why
           c.in-Err.ensures.calls);
     }
