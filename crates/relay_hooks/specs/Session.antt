@@ -2,7 +2,7 @@
 use Rattle.std.specs.Prelude.{◌≡◌, ℕ, Bool, false, [], IsSome, unwrap_or}
 use Rattle.relay_tasks.specs.Head.{RequestHead, new_request}
 use Rattle.relay_session.specs.Reading.{head_of, with_head}
-use Rattle.relay_session.specs.Response.{GoesOnWith, has_head}
+use Rattle.relay_session.specs.Response.{GoesOnWith, IsOpen, has_head}
 use Rattle.relay_modules.specs.Seen.{view_of}
 use Rattle.relay_modules.specs.declared.seen.Seen.{Seen}
 use Rattle.relay_hooks.specs.Standing.{Moment}
@@ -65,6 +65,10 @@ pub record Leaves (old new : Seen) : Type 0 where
 pub record Queues (old new : Seen) : Type 0 where
   pub request : SameRequest old new
   pub goes_on : GoesOnWith old.downstream.writing new.downstream.writing new.wrote
+  -- the response still answers the request that it answered
+  pub answers : new.downstream.writing.request ≡ old.downstream.writing.request
+  -- where no write had failed, none has
+  pub stays_open : IsOpen old.downstream.writing.output → IsOpen new.downstream.writing.output
   pub rest : new ≡ record old {
     downstream = new.downstream;
     touched = new.touched;

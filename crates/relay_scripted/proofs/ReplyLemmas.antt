@@ -18,6 +18,7 @@ use Rattle.relay_session.specs.declared.task_text.Place.{Place}
 use Rattle.relay_session.specs.declared.task_text.Place.TheVariants as place
 use Rattle.relay_session.specs.declared.writing.Outgoing.{Outgoing}
 use Rattle.relay_session.specs.declared.writing.Outgoing.TheVariants as outgoing
+use Rattle.relay_session.specs.declared.writing.Writing.{Writing}
 use Rattle.relay_modules.specs.Seen.{Notes, Responds}
 use Rattle.relay_modules.specs.declared.seen.Seen.{Seen}
 use Rattle.relay_hooks.specs.Answer.{is_whole}
@@ -143,6 +144,8 @@ noted_queues tasks old new notes wrote =
           subst
           (λ (more : List HttpTask). GoesOnWith old.downstream.writing new.downstream.writing more)
           (sym wrote) notes.queued.goes_on;
+      answers = ap (λ (w : Writing). w.request) notes.queued.grows.grown;
+      stays_open = λ _. (_, ap (λ (w : Writing). w.output) notes.queued.grows.grown);
       rest =
           subst
           (λ (s : Seen). s ≡ record old {
