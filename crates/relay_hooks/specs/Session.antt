@@ -66,7 +66,7 @@ pub record Queues (old new : Seen) : Type 0 where
   pub request : SameRequest old new
   pub goes_on : GoesOnWith old.downstream.writing new.downstream.writing new.wrote
   -- the response still answers the request that it answered
-  pub answers : new.downstream.writing.request ≡ old.downstream.writing.request
+  pub answers_to : new.downstream.writing.request ≡ old.downstream.writing.request
   -- where no write had failed, none has
   pub stays_open : IsOpen old.downstream.writing.output → IsOpen new.downstream.writing.output
   pub rest : new ≡ record old {

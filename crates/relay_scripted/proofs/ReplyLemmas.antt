@@ -144,7 +144,7 @@ noted_queues tasks old new notes wrote =
           subst
           (λ (more : List HttpTask). GoesOnWith old.downstream.writing new.downstream.writing more)
           (sym wrote) notes.queued.goes_on;
-      answers = ap (λ (w : Writing). w.request) notes.queued.grows.grown;
+      answers_to = ap (λ (w : Writing). w.request) notes.queued.grows.grown;
       stays_open = λ _. (_, ap (λ (w : Writing). w.output) notes.queued.grows.grown);
       rest =
           subst
