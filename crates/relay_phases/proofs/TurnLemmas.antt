@@ -6,7 +6,7 @@ use Rattle.relay_tasks.specs.declared.log.Item.{Item}
 use Rattle.relay_tasks.specs.declared.log.LogEntry.{LogEntry}
 use Rattle.relay_tasks.specs.declared.task.HttpTask.{HttpTask}
 use Rattle.relay_session.specs.Reading.{head_of}
-use Rattle.relay_session.specs.Response.{GoesOnWith, Holds}
+use Rattle.relay_session.specs.Response.{GoesOnWith, Holds, IsOpen}
 use Rattle.relay_session.specs.declared.reading.Reading.{Reading}
 use Rattle.relay_session.specs.declared.writing.Writing.{Writing}
 use Rattle.relay_modules.specs.Module.{ModuleCall}
@@ -126,6 +126,19 @@ module _ (app : Standing → LogEntry → Type 0) (modules : ModuleCall → Type
       subst
       (λ (s : Seen). GoesOnWith old.downstream.writing s.downstream.writing call.returned.wrote)
       (sym call.rest) queues.goes_on
+
+  -- it left the response that of the same request
+  pub queued_answers_to : Queues (cleared old) call.returned
+      → new.downstream.writing.request ≡ old.downstream.writing.request
+  queued_answers_to queues =
+      ap (λ (s : Seen). s.downstream.writing.request) call.rest ∙ queues.answers_to
+
+  -- and open, where it was
+  pub queued_open : Queues (cleared old) call.returned → IsOpen old.downstream.writing.output
+      → IsOpen new.downstream.writing.output
+  queued_open queues was_open =
+      subst (λ (s : Seen). IsOpen s.downstream.writing.output) (sym call.rest)
+      (queues.stays_open was_open)
 
 -- such a call leads from the one station to the other, whatever stands behind it
 abbrev pub Leads : Hook → Item → Moment → Left → Station → Station → Type 0
