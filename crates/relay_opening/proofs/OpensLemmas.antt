@@ -50,7 +50,7 @@ module _ (allows : Standing → LogEntry → Type 0) (first : Seen) (mark : ℕ)
         opened_more which from (station_of last) QueuesNothing old before new behind opened turns
     OpensSoFar-call which from (place.Ended how) opened turns =
         opened_more which from (end_station how) (QueuesAtEnd how) old before new behind opened
-        turns
+        turns.0
     OpensSoFar-call which from place.Lost opened turns = tt
 
     -- each turn does

@@ -5,6 +5,7 @@ use Rattle.relay_tasks.specs.Head.{RequestHead, new_request}
 use Rattle.relay_tasks.specs.declared.log.LogEntry.{LogEntry}
 use Rattle.relay_tasks.specs.declared.task.HttpTask.{HttpTask}
 use Rattle.relay_session.specs.Reading.{RequestSoFar, head_of, is_body_done, is_body_empty, received, with_head}
+use Rattle.relay_session.specs.Response.{IsOpen}
 use Rattle.relay_session.specs.declared.reading.Reading.{Reading}
 use Rattle.relay_session.specs.declared.reading.Reading.TheVariants as reading
 use Rattle.relay_session.specs.declared.writing.Writing.{Writing}
@@ -14,7 +15,7 @@ use Rattle.relay_hooks.specs.Standing.{Standing, standing}
 use Rattle.relay_calls.specs.Log.{Walk, after}
 use Rattle.relay_phases.specs.Order.{Station}
 use Rattle.relay_phases.specs.Order.{Station as station}
-use Rattle.relay_phases.specs.Turns.{HasCalled, KeepsRest, QueuesNothing, ReadsNothing}
+use Rattle.relay_phases.specs.Turns.{HasCalled, KeepsRest, QueuesNothing, ReadsNothing, wrote_in}
 use Rattle.relay_opening.specs.Opens.{OpensSoFar}
 use Rattle.relay_opening.specs.Place.{end_station, station_of}
 use Rattle.relay_opening.specs.Queued.{QueuesAtEnd}
@@ -22,6 +23,7 @@ use Rattle.relay_opening.specs.Told.{TellsHead, head_behind, is_lost, is_quiet}
 use Rattle.relay_opening.specs.declared.place.End.TheVariants as end
 use Rattle.relay_opening.specs.declared.place.Place.{Place}
 use Rattle.relay_opening.specs.declared.place.Place.TheVariants as place
+use Rattle.relay_opening.proofs.QueuedLemmas.{end_answers_to, end_open}
 
 -- ---- the head that a log tells
 
@@ -102,6 +104,28 @@ module _ (allows : Standing → LogEntry → Type 0) (first : Seen) (mark : ℕ)
       absurd (true≢false (sym quiet))
   writes_same (place.Ended (end.Failed error)) now behind quiet called = called.queued.same
   writes_same place.Lost now behind quiet called = absurd (true≢false (sym quiet))
+
+  -- wherever the opening stands the response answers the request that it answered at first
+  pub opens_answers_to : {K : Type 0} (p : Place K) (now : Seen) (behind : ℕ) → is_lost p ≡ false
+      → OpensSoFar allows first mark p now behind
+      → now.downstream.writing.request ≡ first.downstream.writing.request
+  opens_answers_to (place.Behind last) now behind known called =
+      ap (λ (w : Writing). w.request) called.queued.same
+  opens_answers_to (place.Ended how) now behind known called =
+      end_answers_to how first.downstream.writing now.downstream.writing
+      (wrote_in called.entries) called.queued
+  opens_answers_to place.Lost now behind known called = absurd (true≢false known)
+
+  -- and where no write had failed at first, none has
+  pub opens_open : {K : Type 0} (p : Place K) (now : Seen) (behind : ℕ) → is_lost p ≡ false
+      → OpensSoFar allows first mark p now behind → IsOpen first.downstream.writing.output
+      → IsOpen now.downstream.writing.output
+  opens_open (place.Behind last) now behind known called was_open =
+      subst (λ (w : Writing). IsOpen w.output) (sym called.queued.same) was_open
+  opens_open (place.Ended how) now behind known called was_open =
+      end_open how first.downstream.writing now.downstream.writing (wrote_in called.entries)
+      called.queued was_open
+  opens_open place.Lost now behind known called was_open = absurd (true≢false known)
 
 -- ---- the request
 

@@ -1,5 +1,5 @@
 -- Where each call leads.
-use Rattle.std.proofs.Common.{◌≡◌, ℕ, Bool, true, false, ◌||◌, Option, Some, None, List, Result, Ok, Err, ◌⊎◌, inl, inr, refl, sym, ap, subst, ◌∙◌, is_some, true≢false}
+use Rattle.std.proofs.Common.{◌≡◌, ℕ, Bool, true, false, ◌||◌, Option, Some, None, List, Result, Ok, Err, ◌⊎◌, inl, inr, refl, sym, ap, subst, is_some, true≢false}
 use Rattle.std.specs.Prelude.{IsOkUnless}
 use Rattle.relay_tasks.specs.declared.error.Error.{Error}
 use Rattle.relay_tasks.specs.declared.error.Fail.{Fail}
@@ -10,7 +10,7 @@ use Rattle.relay_tasks.specs.declared.log.Item.{Item}
 use Rattle.relay_tasks.specs.declared.log.Item.TheVariants as item
 use Rattle.relay_tasks.specs.declared.log.LogEntry.{LogEntry}
 use Rattle.relay_tasks.specs.declared.task.HttpTask.{HttpTask}
-use Rattle.relay_session.specs.Response.{GoesOnWith}
+use Rattle.relay_session.specs.Response.{GoesOnWith, IsOpen}
 use Rattle.relay_session.specs.declared.writing.Writing.{Writing}
 use Rattle.relay_modules.specs.Module.{ModuleCall, AllowsMade}
 use Rattle.relay_modules.specs.Seen.{Responds}
@@ -24,7 +24,7 @@ use Rattle.relay_hooks.specs.Session.{Leaves, Queues, is_answered, moment}
 use Rattle.relay_calls.specs.Calls.{Calls, CallsOf, Enters}
 use Rattle.relay_calls.specs.Entry.{cleared}
 use Rattle.relay_calls.specs.Log.{IsAllowed, is_module}
-use Rattle.relay_phases.proofs.TurnLemmas.{Kept, Kept-leaves, Kept-queues, Calls-app, Leads, entered, goes_on_with_nothing, leaves_turn, looks_turn, queued_noted}
+use Rattle.relay_phases.proofs.TurnLemmas.{Kept, Kept-leaves, Kept-queues, Calls-app, Leads, entered, goes_on_with_nothing, leaves_turn, looks_turn, queued_answers_to, queued_noted, queued_nothing, queued_open}
 use Rattle.relay_phases.specs.Looks.{Looks}
 use Rattle.relay_phases.specs.Modules.{CallsOnHead, MakesModules, told_error}
 use Rattle.relay_phases.specs.Order.{Station}
@@ -65,12 +65,15 @@ module _ (app : Standing → LogEntry → Type 0) (modules : ModuleCall → Type
       → Enters (changed output answer) (Calls app which input old before new mark) old new
       → TurnsTo (IsAllowed app modules) which from old before new mark
       (behind answer (place.Behind last))
+  unfolding leaves_turn
   acts_turn from last output well badly (Ok done) call =
       leaves_turn app modules which is_app input old before new mark Leaves (only output) from
       (station_of last) (λ r h. h) well call
-  acts_turn from last output well badly (Err (fail.Error error)) call =
-      leaves_turn app modules which is_app input old before new mark Leaves (failed output error)
-      from station.failing (λ r h. h) (badly error) call
+  acts_turn from last output well badly (Err (fail.Error error)) call = (
+    leaves_turn app modules which is_app input old before new mark Leaves (failed output error)
+        from station.failing (λ r h. h) (badly error) call,
+    refl,
+  )
   acts_turn from last output well badly (Err fail.OutOfMemory) same = same
 
   -- a hook that answers nothing and has no error
@@ -97,32 +100,43 @@ module _ (app : Standing → LogEntry → Type 0) (modules : ModuleCall → Type
       (CallsOf None false (AnswersOnYes answer) app which input old before new mark) old new
       → TurnsTo (IsAllowed app modules) which from old before new mark
       (behind_say answer (place.Ended end.Answered) (place.Behind last))
-  answers_turn from last on_yes on_no badly open_to (Ok true) call =
-      record {
-        e =
-            entered app modules (AnswersOnYes (Ok true)) which input old before new mark
-            (only (item.Answer true)) call;
-        calls =
-            Calls-app app modules (AnswersOnYes (Ok true)) which input old before new mark
-            (only (item.Answer true)) call is_app
-            (Kept-queues (cleared old) call.returned open_to call.lawful.0);
-        hook = refl;
-        order = on_yes (moment call.returned mark);
-        queued = record {
-          queued =
-              queued_noted app modules (AnswersOnYes (Ok true)) which input old before new mark
-              (only (item.Answer true)) call call.lawful.0;
-          whole = call.lawful.1;
-        };
-      }
+  unfolding leaves_turn
+  answers_turn from last on_yes on_no badly open_to (Ok true) call = (
+    record {
+      e =
+          entered app modules (AnswersOnYes (Ok true)) which input old before new mark
+          (only (item.Answer true)) call;
+      calls =
+          Calls-app app modules (AnswersOnYes (Ok true)) which input old before new mark
+          (only (item.Answer true)) call is_app
+          (Kept-queues (cleared old) call.returned open_to call.lawful.0);
+      hook = refl;
+      order = on_yes (moment call.returned mark);
+      queued = record {
+        queued =
+            queued_noted app modules (AnswersOnYes (Ok true)) which input old before new mark
+            (only (item.Answer true)) call call.lawful.0;
+        answers_to =
+            queued_answers_to app modules (AnswersOnYes (Ok true)) which input old before new
+            mark (only (item.Answer true)) call call.lawful.0;
+        stays_open =
+            queued_open app modules (AnswersOnYes (Ok true)) which input old before new mark
+            (only (item.Answer true)) call call.lawful.0;
+        whole = call.lawful.1;
+      };
+    },
+    tt,
+  )
   answers_turn from last on_yes on_no badly open_to (Ok false) call =
       leaves_turn app modules which is_app input old before new mark (AnswersOnYes (Ok false))
       (only (item.Answer false)) from (station_of last)
       (λ r h. h) on_no call
-  answers_turn from last on_yes on_no badly open_to (Err (fail.Error error)) call =
-      leaves_turn app modules which is_app input old before new mark
-      (AnswersOnYes (Err (fail.Error error))) (failed item.Nothing error) from
-      station.failing (λ r h. h) (badly error) call
+  answers_turn from last on_yes on_no badly open_to (Err (fail.Error error)) call = (
+    leaves_turn app modules which is_app input old before new mark
+        (AnswersOnYes (Err (fail.Error error))) (failed item.Nothing error) from
+        station.failing (λ r h. h) (badly error) call,
+    refl,
+  )
   answers_turn from last on_yes on_no badly open_to (Err fail.OutOfMemory) same = same
 
 -- ---- hooks that only look
@@ -152,6 +166,7 @@ module _ (app : Standing → LogEntry → Type 0) (modules : ModuleCall → Type
       → TurnsTo (IsAllowed app modules) {K = K} hook.AllowSpawningSubrequest station.early old mark
       new mark
       (behind_say answer (place.Behind called.Spawning) (place.Behind called.Spawning))
+  unfolding leaves_turn looks_turn
   spawns_turn K (Ok true) looks =
       looks_turn app modules hook.AllowSpawningSubrequest refl input old mark new
       (only (item.Answer true))
@@ -160,10 +175,12 @@ module _ (app : Standing → LogEntry → Type 0) (modules : ModuleCall → Type
       looks_turn app modules hook.AllowSpawningSubrequest refl input old mark new
       (only (item.Answer false))
       station.early station.spawning (λ at. refl) looks
-  spawns_turn K (Err (fail.Error error)) (say, looks) =
-      looks_turn app modules hook.AllowSpawningSubrequest refl input old mark new
-      (failed (item.Answer say) error)
-      station.early station.failing (λ at. refl) looks
+  spawns_turn K (Err (fail.Error error)) (say, looks) = (
+    looks_turn app modules hook.AllowSpawningSubrequest refl input old mark new
+        (failed (item.Answer say) error)
+        station.early station.failing (λ at. refl) looks,
+    refl,
+  )
   spawns_turn K (Err fail.OutOfMemory) same = same
 
   -- it was asked whether the request is a purge
@@ -171,9 +188,11 @@ module _ (app : Standing → LogEntry → Type 0) (modules : ModuleCall → Type
       → Enters (answered item.Answer answer) (Looks app hook.IsPurge input mark old new) old new
       → TurnsTo (IsAllowed app modules) {K = K} hook.IsPurge station.filtered old mark new mark
       (behind_say answer (place.Ended end.Purge) (place.Behind called.Sending))
-  purges_turn K (Ok true) memory looks =
-      looks_turn app modules hook.IsPurge refl input old mark new (only (item.Answer true))
-      station.filtered station.purging (λ at. refl) looks
+  purges_turn K (Ok true) memory looks = (
+    looks_turn app modules hook.IsPurge refl input old mark new (only (item.Answer true))
+        station.filtered station.purging (λ at. refl) looks,
+    tt,
+  )
   purges_turn K (Ok false) memory looks =
       looks_turn app modules hook.IsPurge refl input old mark new (only (item.Answer false))
       station.filtered station.sending (λ at. refl) looks
@@ -203,14 +222,17 @@ heads_turn K app modules allows (Some made) old mark new is includes (Ok done) c
       order = refl;
       queued = queued_nothing_of_head app (allows made) modules old mark new None call;
     }
-heads_turn K app modules allows (Some made) old mark new is includes (Err (fail.Error error)) call =
-    record {
-      e = entered_head app (allows made) modules old mark new (Some error) call;
-      calls = Calls-head app (allows made) modules old mark new (Some error) call includes;
-      hook = refl;
-      order = refl;
-      queued = queued_nothing_of_head app (allows made) modules old mark new (Some error) call;
-    }
+heads_turn K app modules allows (Some made) old mark new is includes (Err (fail.Error error)) call
+    = (
+      record {
+        e = entered_head app (allows made) modules old mark new (Some error) call;
+        calls = Calls-head app (allows made) modules old mark new (Some error) call includes;
+        hook = refl;
+        order = refl;
+        queued = queued_nothing_of_head app (allows made) modules old mark new (Some error) call;
+      },
+      refl,
+    )
 heads_turn K app modules allows (Some made) old mark new is includes (Err fail.OutOfMemory) same =
     same
 
@@ -220,36 +242,50 @@ module _ (app : Standing → LogEntry → Type 0) (modules : ModuleCall → Type
     (old : Seen) (before : ℕ) (mid : Seen) (mark : ℕ)
     (call : CallsOf None false (AnswersOnNo (Ok false)) app hook.ProxyUpstreamFilter input old
     before mid mark (only (item.Answer false))) where
-  -- what the hook may have queued
-  abbrev Declines : Type 0
-  Declines =
-      Kept (cleared old) call.returned
-      × GoesOnWith old.downstream.writing mid.downstream.writing call.returned.wrote
-      × (is_whole call.returned.wrote || only_informs call.returned.wrote ≡ true)
+  -- the hook kept the session, and queued what it may
+  record Declines : Type 0 where
+    kept : Kept (cleared old) call.returned
+    queued : GoesOnWith old.downstream.writing mid.downstream.writing call.returned.wrote
+    answers_to : mid.downstream.writing.request ≡ old.downstream.writing.request
+    stays_open : IsOpen old.downstream.writing.output → IsOpen mid.downstream.writing.output
+    lawful : is_whole call.returned.wrote || only_informs call.returned.wrote ≡ true
 
   declines : is_answered old ≡ false
       → Leaves (cleared old) call.returned
       ⊎ (Queues (cleared old) call.returned
       × (is_whole call.returned.wrote || only_informs call.returned.wrote ≡ true))
       → Declines
-  declines open_to (inl leaves) = (
-    Kept-leaves (cleared old) call.returned leaves,
-    subst (λ (w : Writing). GoesOnWith old.downstream.writing w call.returned.wrote)
-        (sym (ap (λ (s : Seen). s.downstream.writing) call.rest
-        ∙ ap (λ (s : Seen). s.downstream.writing) leaves.rest))
-        (subst
-        (λ (l : List HttpTask). GoesOnWith old.downstream.writing old.downstream.writing l)
-        (sym (ap (λ (s : Seen). s.wrote) leaves.rest))
-        (goes_on_with_nothing old.downstream.writing)),
-    ap (λ (l : List HttpTask). is_whole l || only_informs l)
-        (ap (λ (s : Seen). s.wrote) leaves.rest),
-  )
-  declines open_to (inr (queues, lawful)) = (
-    Kept-queues (cleared old) call.returned open_to queues,
-    queued_noted app modules (AnswersOnNo (Ok false)) hook.ProxyUpstreamFilter input old before mid
-        mark (only (item.Answer false)) call queues,
-    lawful,
-  )
+  declines open_to (inl leaves) =
+      let nothing =
+      queued_nothing app modules (AnswersOnNo (Ok false)) hook.ProxyUpstreamFilter input old before
+      mid mark (only (item.Answer false)) call leaves in
+      record {
+        kept = Kept-leaves (cleared old) call.returned leaves;
+        queued =
+            subst (λ (w : Writing). GoesOnWith old.downstream.writing w call.returned.wrote)
+            (sym nothing.same)
+            (subst
+            (λ (l : List HttpTask). GoesOnWith old.downstream.writing old.downstream.writing l)
+            (sym nothing.wrote_none) (goes_on_with_nothing old.downstream.writing));
+        answers_to = ap (λ (w : Writing). w.request) nothing.same;
+        stays_open = λ was_open.
+            subst (λ (w : Writing). IsOpen w.output) (sym nothing.same) was_open;
+        lawful = ap (λ (l : List HttpTask). is_whole l || only_informs l) nothing.wrote_none;
+      }
+  declines open_to (inr (queues, lawful)) =
+      record {
+        kept = Kept-queues (cleared old) call.returned open_to queues;
+        queued =
+            queued_noted app modules (AnswersOnNo (Ok false)) hook.ProxyUpstreamFilter input old
+            before mid mark (only (item.Answer false)) call queues;
+        answers_to =
+            queued_answers_to app modules (AnswersOnNo (Ok false)) hook.ProxyUpstreamFilter input
+            old before mid mark (only (item.Answer false)) call queues;
+        stays_open =
+            queued_open app modules (AnswersOnNo (Ok false)) hook.ProxyUpstreamFilter input old
+            before mid mark (only (item.Answer false)) call queues;
+        lawful = lawful;
+      }
 
   abbrev e_of : LogEntry
   e_of =
@@ -268,7 +304,7 @@ module _ (app : Standing → LogEntry → Type 0) (modules : ModuleCall → Type
       → Turns (IsAllowed app modules) hook.ProxyUpstreamFilter station.sending station.answered
       QueuesRefusal old before new
       mark
-  refused true new is same (kept, queued, lawful) =
+  refused true new is same left =
       subst
       (λ (s : Seen). Turns (IsAllowed app modules) hook.ProxyUpstreamFilter station.sending
       station.answered QueuesRefusal
@@ -276,31 +312,35 @@ module _ (app : Standing → LogEntry → Type 0) (modules : ModuleCall → Type
       (sym same)
       (record {
         e = e_of;
-        calls = calls_of kept;
+        calls = calls_of left.kept;
         hook = refl;
         order = refl;
         queued = record {
           left = mid.downstream.writing;
-          queued = queued;
-          lawful = lawful;
+          queued = left.queued;
+          answers_to = left.answers_to;
+          stays_open = left.stays_open;
+          lawful = left.lawful;
           completed =
               subst
               (λ (b : Bool). Completes b mid.downstream.writing mid.downstream.writing)
               (sym is) refl;
         };
       })
-  refused false new is notes (kept, queued, lawful) =
+  refused false new is notes left =
       record {
         e = e_of;
         calls =
             CallsOnce-noted (IsAllowed app modules) old before mid new mark e_of
-            (lone_answer 502) is notes (calls_of kept);
+            (lone_answer 502) is notes (calls_of left.kept);
         hook = refl;
         order = refl;
         queued = record {
           left = mid.downstream.writing;
-          queued = queued;
-          lawful = lawful;
+          queued = left.queued;
+          answers_to = left.answers_to;
+          stays_open = left.stays_open;
+          lawful = left.lawful;
           completed =
               subst
               (λ (b : Bool). Completes b mid.downstream.writing new.downstream.writing)
@@ -313,7 +353,7 @@ module _ (app : Standing → LogEntry → Type 0) (modules : ModuleCall → Type
       → Turns (IsAllowed app modules) hook.ProxyUpstreamFilter station.sending station.answered
       (CannotRefuse why) old before
       new mark
-  stuck why new is (kept, queued, lawful) =
+  stuck why new is left =
       subst
       (λ (s : Seen). Turns (IsAllowed app modules) hook.ProxyUpstreamFilter station.sending
       station.answered
@@ -321,11 +361,17 @@ module _ (app : Standing → LogEntry → Type 0) (modules : ModuleCall → Type
       (sym is.same)
       (record {
         e = e_of;
-        calls = calls_of kept;
+        calls = calls_of left.kept;
         hook = refl;
         order = refl;
-        queued =
-            record { queued = queued; lawful = lawful; no_head = is.no_head; fault = is.fault };
+        queued = record {
+          queued = left.queued;
+          answers_to = left.answers_to;
+          stays_open = left.stays_open;
+          lawful = left.lawful;
+          no_head = is.no_head;
+          fault = is.fault;
+        };
       })
 
   -- a declined request ends so
@@ -339,9 +385,9 @@ module _ (app : Standing → LogEntry → Type 0) (modules : ModuleCall → Type
   declined_turn K open_to end.Purge new none = absurd none
   declined_turn K open_to (end.Failed error) new none = absurd none
   declined_turn K open_to end.Declined new answers =
-      refused (is_answered mid) new refl answers (declines open_to call.lawful)
+      (refused (is_answered mid) new refl answers (declines open_to call.lawful), tt)
   declined_turn K open_to (end.Unwritten why) new is =
-      stuck why new is (declines open_to call.lawful)
+      (stuck why new is (declines open_to call.lawful), tt)
 
 -- the hook let the request go on, or failed
 pub sends_turn : (K : Type 0) (app : Standing → LogEntry → Type 0) (modules : ModuleCall → Type 0)
@@ -351,10 +397,12 @@ pub sends_turn : (K : Type 0) (app : Standing → LogEntry → Type 0) (modules 
     → TurnsTo (IsAllowed app modules) {K = K} hook.ProxyUpstreamFilter station.sending old before
     new mark
     (place.Ended end.Attempts)
-sends_turn K app modules input old before new mark call =
-    leaves_turn app modules hook.ProxyUpstreamFilter refl input old before new mark
-    (AnswersOnNo (Ok true)) (only (item.Answer true)) station.sending station.trying (λ r h. h)
-    (λ at. refl) call
+sends_turn K app modules input old before new mark call = (
+  leaves_turn app modules hook.ProxyUpstreamFilter refl input old before new mark
+      (AnswersOnNo (Ok true)) (only (item.Answer true)) station.sending station.trying (λ r h. h)
+      (λ at. refl) call,
+  tt,
+)
 
 pub fails_turn : (K : Type 0) (app : Standing → LogEntry → Type 0) (modules : ModuleCall → Type 0)
     (input : Item) (old : Seen) (before : ℕ) (new : Seen) (mark : ℕ) (why : Fail)
@@ -363,10 +411,13 @@ pub fails_turn : (K : Type 0) (app : Standing → LogEntry → Type 0) (modules 
     mark) old new
     → TurnsTo (IsAllowed app modules) {K = K} hook.ProxyUpstreamFilter station.sending old before
     new mark (failed_at why)
-fails_turn K app modules input old before new mark (fail.Error error) call =
-    leaves_turn app modules hook.ProxyUpstreamFilter refl input old before new mark
-    (AnswersOnNo (Err (fail.Error error))) (failed item.Nothing error) station.sending
-    station.failing (λ r h. h) (λ at. refl) call
+unfolding leaves_turn
+fails_turn K app modules input old before new mark (fail.Error error) call = (
+  leaves_turn app modules hook.ProxyUpstreamFilter refl input old before new mark
+      (AnswersOnNo (Err (fail.Error error))) (failed item.Nothing error) station.sending
+      station.failing (λ r h. h) (λ at. refl) call,
+  refl,
+)
 fails_turn K app modules input old before new mark fail.OutOfMemory same = same
 
 -- ---- the 502

@@ -47,7 +47,7 @@ module _ (allows wider : Standing → LogEntry → Type 0)
       (st, views, fits, wide st e allowed, Walk-wider es (after st e) to rest)
 
   -- a turn that is allowed also is
-  Turns-wider : (which : Hook) (from to : Station)
+  unfoldable Turns-wider : (which : Hook) (from to : Station)
       (queues : Writing → Writing → List HttpTask → Type 0) (old : Seen) (before : ℕ) (new : Seen)
       (behind : ℕ) → Turns allows which from to queues old before new behind
       → Turns wider which from to queues old before new behind
@@ -71,10 +71,13 @@ module _ (allows wider : Standing → LogEntry → Type 0)
       (new : Seen) (behind : ℕ) (to : Place K)
       → TurnsTo allows which from old before new behind to
       → TurnsTo wider which from old before new behind to
+  unfolding Turns-wider
   TurnsTo-wider which from old before new behind (place.Behind last) turn =
       Turns-wider which from (station_of last) QueuesNothing old before new behind turn
-  TurnsTo-wider which from old before new behind (place.Ended how) turn =
-      Turns-wider which from (end_station how) (QueuesAtEnd how) old before new behind turn
+  TurnsTo-wider which from old before new behind (place.Ended how) (turn, error) = (
+    Turns-wider which from (end_station how) (QueuesAtEnd how) old before new behind turn,
+    error,
+  )
   TurnsTo-wider which from old before new behind place.Lost same = same
 
   -- wherever it is taken

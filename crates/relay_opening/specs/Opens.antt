@@ -1,6 +1,6 @@
 -- The hooks before the attempts, so far: the log walks, in order, each call allowed (RFC 9110,
 -- section 3.7).
-use Rattle.std.specs.Prelude.{◌≡◌, ℕ, Bool}
+use Rattle.std.specs.Prelude.{◌≡◌, ℕ, Bool, Some}
 use Rattle.relay_tasks.specs.declared.hook.Hook.{Hook}
 use Rattle.relay_tasks.specs.declared.log.LogEntry.{LogEntry}
 use Rattle.relay_modules.specs.declared.seen.Seen.{Seen}
@@ -9,16 +9,29 @@ use Rattle.relay_phases.specs.Order.{Station, accepted}
 use Rattle.relay_phases.specs.Turns.{HasCalled, QueuesNothing, Rests, Turns}
 use Rattle.relay_opening.specs.Place.{end_station, next_hook, station_of}
 use Rattle.relay_opening.specs.Queued.{QueuesAtEnd}
+use Rattle.relay_opening.specs.declared.place.End.{End}
+use Rattle.relay_opening.specs.declared.place.End.TheVariants as end
 use Rattle.relay_opening.specs.declared.place.Place.{Place}
 use Rattle.relay_opening.specs.declared.place.Place.TheVariants as place
 
+-- where the hooks before the attempts failed, the entry of the call that ended them has that error
+abbrev pub FailsAs : End → LogEntry → Type 0
+FailsAs end.Attempts e = Unit {0}
+FailsAs end.Answered e = Unit {0}
+FailsAs end.Purge e = Unit {0}
+FailsAs end.Declined e = Unit {0}
+FailsAs (end.Unwritten why) e = Unit {0}
+FailsAs (end.Failed error) e = e.error ≡ Some error
+
 module _ (allows : Standing → LogEntry → Type 0) where
-  -- a turn that calls a hook: one call, which leads to that place; out of memory no entry is new
+  -- a turn that calls a hook: one call, which leads to that place, and with its error where the
+  -- place is a failure; out of memory no entry is new
   abbrev pub TurnsTo : {K : Type 0} → Hook → Station → Seen → ℕ → Seen → ℕ → Place K → Type 0
   TurnsTo which from old before new behind (place.Behind last) =
       Turns allows which from (station_of last) QueuesNothing old before new behind
   TurnsTo which from old before new behind (place.Ended how) =
-      Turns allows which from (end_station how) (QueuesAtEnd how) old before new behind
+      (turn : Turns allows which from (end_station how) (QueuesAtEnd how) old before new behind)
+      × FailsAs how turn.e
   TurnsTo which from old before new behind place.Lost = new.log ≡ old.log
 
   -- a turn: it calls the hook that comes next, or nothing once the hooks before the attempts are

@@ -3,7 +3,7 @@ use Rattle.std.specs.Prelude.{◌≡◌, Bool, true, false, ◌||◌, List}
 use Rattle.relay_tasks.specs.declared.error.Fail.{Fail}
 use Rattle.relay_tasks.specs.declared.task.HttpTask.{HttpTask}
 use Rattle.relay_session.specs.Generated.{IsFaultOrMemory}
-use Rattle.relay_session.specs.Response.{AreQueued, GoesOnWith, has_head}
+use Rattle.relay_session.specs.Response.{AreQueued, GoesOnWith, IsOpen, has_head}
 use Rattle.relay_session.specs.declared.writing.Writing.{Writing}
 use Rattle.relay_modules.specs.Seen.{OrMemory}
 use Rattle.relay_hooks.specs.Answer.{is_whole, only_informs}
@@ -15,6 +15,8 @@ use Rattle.relay_opening.specs.declared.place.End.TheVariants as end
 -- one whole final answer was queued
 pub record QueuesAnswer (old new : Writing) (wrote : List HttpTask) : Type 0 where
   pub queued : GoesOnWith old new wrote
+  pub answers_to : new.request ≡ old.request
+  pub stays_open : IsOpen old.output → IsOpen new.output
   pub whole : is_whole wrote ≡ true
 
 -- the relay's own 502 was queued, exactly where no final head was
@@ -27,6 +29,8 @@ Completes false old new = AreQueued old (lone_answer 502) new
 pub record QueuesRefusal (old new : Writing) (wrote : List HttpTask) : Type 0 where
   pub left : Writing  -- the response as the hook left it
   pub queued : GoesOnWith old left wrote
+  pub answers_to : left.request ≡ old.request
+  pub stays_open : IsOpen old.output → IsOpen left.output
   pub lawful : is_whole wrote || only_informs wrote ≡ true
   pub completed : Completes (has_head left.place) left new
 
@@ -34,6 +38,8 @@ pub record QueuesRefusal (old new : Writing) (wrote : List HttpTask) : Type 0 wh
 -- that error, or memory was wanted
 pub record CannotRefuse (why : Fail) (old new : Writing) (wrote : List HttpTask) : Type 0 where
   pub queued : GoesOnWith old new wrote
+  pub answers_to : new.request ≡ old.request
+  pub stays_open : IsOpen old.output → IsOpen new.output
   pub lawful : is_whole wrote || only_informs wrote ≡ true
   pub no_head : has_head new.place ≡ false
   pub fault : OrMemory (IsFaultOrMemory new.output) why

@@ -32,7 +32,16 @@ returns-then-is_some-clause-turns g c =
     (heads_turn g.row.SV-Kept.Denot app within allows made old c.mark.result new is (λ call h. h)
     answer c.call_module_request_header-answer.ensures.calls))
 
--- the first filter is called behind the value that was kept
+-- the first filter is called where no value was kept
+pub returns-in-Made-None-clause-turns : goal.returns-in-Made-None-clause-turns
+returns-in-Made-None-clause-turns g c =
+    rw (c.behind-in-Made-None.ensures, c.in-Made-None.is, c.in-Made-None.field-0-is)
+    (acts_turn (g.SV.ProxyHttp.allows c.args.app.now) NoCalls hook.EarlyRequestFilter refl _ _ _ _ _
+    station.made called.Early item.Nothing (λ at. refl) (λ error at. refl)
+    c.call_early_request_filter-answer.result
+    c.call_early_request_filter-answer.ensures.calls)
+
+-- and behind one
 pub returns-in-Handed-clause-turns : goal.returns-in-Handed-clause-turns
 returns-in-Handed-clause-turns g c =
     rw (c.behind-in-Handed.ensures, c.in-Handed.is)
