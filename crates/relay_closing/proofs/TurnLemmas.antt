@@ -18,7 +18,7 @@ use Rattle.relay_calls.specs.Log.{IsAllowed}
 use Rattle.relay_phases.specs.Looks.{Looks}
 use Rattle.relay_phases.specs.Order.{Station}
 use Rattle.relay_phases.specs.Order.{Station as station}
-use Rattle.relay_phases.proofs.TurnLemmas.{Calls-app, Kept, Kept-leaves, Kept-queues, Leads, entered, leaves_turn, looks_turn, queued_noted, queued_nothing}
+use Rattle.relay_phases.proofs.TurnLemmas.{Calls-app, Kept, Kept-leaves, Kept-queues, Leads, entered, leaves_turn, looks_turn, queued_answers_to, queued_noted, queued_nothing, queued_open}
 use Rattle.relay_closing.specs.Closes.{Asks, TurnsTo}
 use Rattle.relay_closing.specs.Place.{CameTo, begins_at, error_of, may_fail, may_finish, station_of}
 use Rattle.relay_closing.specs.Queued.{QueuesOnce}
@@ -110,6 +110,12 @@ module _ (app : Standing → LogEntry → Type 0) (modules : ModuleCall → Type
           open_to = open_to;
           queued =
               queued_noted app modules (AnswersOnce (Ok answer)) hook.FailToProxy
+              (item.Failure error) old before new mark (only output) call queues;
+          answers_to =
+              queued_answers_to app modules (AnswersOnce (Ok answer)) hook.FailToProxy
+              (item.Failure error) old before new mark (only output) call queues;
+          stays_open =
+              queued_open app modules (AnswersOnce (Ok answer)) hook.FailToProxy
               (item.Failure error) old before new mark (only output) call queues;
           answer = once;
         }))

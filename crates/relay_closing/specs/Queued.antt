@@ -2,7 +2,7 @@
 use Rattle.std.specs.Prelude.{◌≡◌, true, false, ◌⊎◌, List, Option, None, Some}
 use Rattle.relay_tasks.specs.declared.error.Error.{Error}
 use Rattle.relay_tasks.specs.declared.task.HttpTask.{HttpTask}
-use Rattle.relay_session.specs.Response.{GoesOnWith, has_head}
+use Rattle.relay_session.specs.Response.{GoesOnWith, IsOpen, has_head}
 use Rattle.relay_session.specs.declared.writing.Writing.{Writing}
 use Rattle.relay_hooks.specs.Answer.{is_answer}
 use Rattle.relay_phases.specs.Turns.{QueuesNothing}
@@ -17,6 +17,8 @@ use Rattle.relay_closing.specs.Place.{error_of}
 pub record QueuesAnswer (old new : Writing) (wrote : List HttpTask) : Type 0 where
   pub open_to : has_head old.place ≡ false
   pub queued : GoesOnWith old new wrote
+  pub answers_to : new.request ≡ old.request
+  pub stays_open : IsOpen old.output → IsOpen new.output
   pub answer : is_answer wrote ≡ true
 
 -- nothing was queued, or one answer
