@@ -5,8 +5,10 @@
 --   ends_served, ends_part      how a request ends that owes an answer, or owed one
 --   answer_took .. answer_memory    what each answer of a write makes of the run so far
 use Rattle.std.specs.Global.{Box}
-use Rattle.std.proofs.Common.{◌≡◌, ◌≢◌, ◌⊎◌, ℕ, ◌<◌, Bool, false, List, [], ◌∷◌, ◌++◌, length, take, Option, Some, refl, sym, ap, subst, ◌∙◌, inl, inr, arith, append-nil, length-append}
+use Rattle.std.proofs.Common.{◌≡◌, ◌≢◌, ◌⊎◌, ℕ, ◌<◌, Bool, false, List, [], ◌∷◌, ◌++◌, length, take, Option, None, Some, refl, sym, ap, subst, ◌∙◌, inl, inr, arith, append-nil, length-append}
+use Rattle.relay_tasks.specs.Head.{RequestHead}
 use Rattle.relay_tasks.specs.declared.Error.{Error}
+use Rattle.relay_tasks.specs.declared.ErrorSource.TheVariants.{Downstream}
 use Rattle.relay_tasks.specs.declared.Fault.{Fault}
 use Rattle.relay_links.specs.Count.{Rose}
 use Rattle.relay_links.specs.Link.{LinkState, LinkStart, FailsWrite}
@@ -28,11 +30,14 @@ use Rattle.relay_attempt.specs.Passed.{Passed}
 use Rattle.relay_attempt.proofs.FailLemmas.{blames_still, written_to}
 use Rattle.relay_valid.specs.Valid.{IsValid}
 use Rattle.relay_valid.proofs.ValidLemmas.{never_fails}
+use Rattle.relay_proxy.specs.Ahead.{IsOwedAhead}
 use Rattle.relay_proxy.specs.Answer.{owed_text, past_at, WaitsOf}
-use Rattle.relay_proxy.specs.Endings.{IsInOrder, IsGiven, FailsToWrite, IsFailedAttempt, IsUnsentAttempt, IsHalfRefused, IsPart, IsPartOrNone, HasFailed, Misses, owed_by, EndsWith}
+use Rattle.relay_proxy.specs.Endings.{IsInOrder, IsGiven, IsGivenAhead, EndsAhead, IsPartRefused, FailsToWrite, IsFailedAttempt, IsUnsentAttempt, IsHalfRefused, IsPart, IsPartOrNone, HasFailed, Misses, owed_by, EndsWith}
 use Rattle.relay_proxy.specs.Owed.{Owes, HasAttempts, IsAnswering, outcome_owed, outcome_failed}
 use Rattle.relay_proxy.specs.Passed.{World, Start, origin_of, asked, TellsClient}
 use Rattle.relay_proxy.specs.Phases.{PhaseHolds, RunSoFar}
+use Rattle.relay_proxy.specs.Relayable.{IsAccepted}
+use Rattle.relay_proxy.specs.Tries.{fault_error}
 use Rattle.relay_proxy.specs.Turn.{AdvancesOn, HasTaken, HasMoved, HasCause}
 use Rattle.relay_proxy.specs.declared.machine.Phase.{Phase}
 use Rattle.relay_proxy.specs.declared.machine.Phase.TheVariants.{Answer, Ended}
@@ -41,7 +46,7 @@ use Rattle.relay_proxy.specs.declared.machine.RunStep.TheVariants as step
 use Rattle.relay_proxy.specs.declared.outcome.Outcome.{Outcome}
 use Rattle.relay_proxy.specs.declared.outcome.Outcome.TheVariants as outcome
 use Rattle.relay_proxy.specs.declared.owed.Owed.{Owed}
-use Rattle.relay_proxy.specs.declared.owed.Owed.TheVariants.{Refused, Served}
+use Rattle.relay_proxy.specs.declared.owed.Owed.TheVariants.{Refused, Ahead, Served}
 use Rattle.relay_proxy.specs.declared.record.AttemptRecord.{AttemptRecord}
 use Rattle.relay_proxy.proofs.OpenHead.{turns_down_open, exchange_open}
 use Rattle.relay_proxy.proofs.Tells.{Rose-le, client_took, client_still, take_whole, take_rest}
@@ -185,11 +190,44 @@ ends_missed s p w link start keep e text (Misses.ahead_of_it refused is kept) gi
 -- an answer is no end by its turns
 pub owed_going : (owed : Owed) → outcome_owed owed ≢ outcome.TurnLimit
 owed_going (Refused error) limit = cc
+owed_going (Ahead why) limit = cc
 owed_going (Served e) limit = cc
 
 pub failed_going : (owed : Owed) (fault : Fault) → outcome_failed owed fault ≢ outcome.TurnLimit
 failed_going (Refused error) fault limit = cc
+failed_going (Ahead None) fault limit = cc
+failed_going (Ahead (Some e)) fault limit = cc
 failed_going (Served e) fault limit = cc
+
+-- ---- what hooks owe
+
+-- the head of a request that hooks ended
+pub owed_head : {s : Start} {p : Passed} (why : Option Error) (text : List ℕ)
+    → IsOwedAhead s p why text → (head : RequestHead) × IsAccepted s p head
+owed_head why text (IsOwedAhead.by_answer head tasks t has order is_answer is) =
+    (head, has)
+owed_head why text (IsOwedAhead.by_error head e t has stopped is) = (head, has)
+
+-- what hooks owe does not depend on what was written
+ahead_on : (s : Start) (p : Passed) (written : List ℕ) (why : Option Error) (text : List ℕ)
+    → IsOwedAhead s p why text → IsOwedAhead s (past_at p written) why text
+ahead_on s p written why text
+    (IsOwedAhead.by_answer head tasks t has order is_answer is) =
+    IsOwedAhead.by_answer head tasks t
+    (record {
+      framing = has.framing;
+      len = has.len;
+      has = has.has;
+      relayable = has.relayable;
+    }) order is_answer is
+ahead_on s p written why text (IsOwedAhead.by_error head e t has stopped is) =
+    IsOwedAhead.by_error head e t
+    (record {
+      framing = has.framing;
+      len = has.len;
+      has = has.has;
+      relayable = has.relayable;
+    }) stopped is
 
 -- ---- what is owed
 
@@ -217,6 +255,8 @@ module _ {L : Type 0} (state : L → LinkState) (start_at : L → LinkStart) whe
       → Owes state start_at s (past_at p written) x own owed text
   owes_on s p written w x [] (Refused error) text to same owes =
       (owes.0, record { got = owes.1.got; sent = owes.1.sent })
+  owes_on s p written w x [] (Ahead why) text to same owes =
+      (ahead_on s p written why text owes.0, record { got = owes.1.got; sent = owes.1.sent })
   owes_on s p written w x [] (Served e) text to same owes = (
     record {
       fault = owes.0.fault;
@@ -235,6 +275,7 @@ module _ {L : Type 0} (state : L → LinkState) (start_at : L → LinkStart) whe
     owes.1,
   )
   owes_on s p written w x (r ∷ own) (Refused error) text to same owes = absurd owes
+  owes_on s p written w x (r ∷ own) (Ahead why) text to same owes = absurd owes
   owes_on s p written w x (r ∷ own) (Served e) text to same owes =
       misses_on s p written w.client x.client (state r.link) (start_at r.link) r.keep e text to owes
 
@@ -243,8 +284,10 @@ module _ {L : Type 0} (state : L → LinkState) (start_at : L → LinkStart) whe
       (attempts : List AttemptRecord) → HasAttempts state start_at s p own owed attempts
       → HasAttempts state start_at s (past_at p written) own owed attempts
   attempts_on s p written [] (Refused error) attempts made = made
+  attempts_on s p written [] (Ahead why) attempts made = made
   attempts_on s p written [] (Served e) attempts made = made
   attempts_on s p written (r ∷ []) (Refused error) attempts made = absurd made
+  attempts_on s p written (r ∷ []) (Ahead why) attempts made = absurd made
   attempts_on s p written (r ∷ []) (Served e) attempts made = record {
     tells = record { got = made.tells.got; sent = made.tells.sent; faults = made.tells.faults };
     peer = made.peer;
@@ -263,10 +306,13 @@ module _ {L : Type 0} (state : L → LinkState) (start_at : L → LinkStart) whe
       → IsInOrder s p
   owes_order s p w [] (Refused error) text owes front =
       IsInOrder.is_refusal text error owes.0 front owes.1.sent
+  owes_order s p w [] (Ahead why) text owes front =
+      IsInOrder.is_ahead why text owes.0 front owes.1.sent
   owes_order s p w [] (Served e) text owes front =
       IsInOrder.is_unlinked owes.0.head owes.0.accepted
       (subst (λ (t : List ℕ). IsFrontOf p.written t) owes.1 front) owes.0.unsent.sent
   owes_order s p w (r ∷ own) (Refused error) text owes front = absurd owes
+  owes_order s p w (r ∷ own) (Ahead why) text owes front = absurd owes
   owes_order s p w (r ∷ own) (Served e) text (Misses.in_exchange f is kept) front =
       let whole = uncut s (past_at p f.before) f.head f.sent _ f.sends w.client _ _ e f.why in
       IsInOrder.is_failure f.head f.sent _ _ f.before e f.relayable f.sends whole.order
@@ -279,10 +325,14 @@ module _ {L : Type 0} (state : L → LinkState) (start_at : L → LinkStart) whe
   pub owes_open : (s : Start) (p : Passed) (w : World) (own : List (Returned L)) (owed : Owed)
       (text : List ℕ) → Owes state start_at s p w own owed text → IsOpen (asked s p) → ⊥
   owes_open s p w [] (Refused error) text owes open_head = turns_down_open owes.0 open_head
+  owes_open s p w [] (Ahead why) text owes open_head =
+      let one = owed_head why text owes.0 in
+      HasRequest-IsOpen (asked s p) one.0 one.1.framing one.1.len one.1.has open_head
   owes_open s p w [] (Served e) text owes open_head =
       HasRequest-IsOpen (asked s p) owes.0.head owes.0.accepted.framing owes.0.accepted.len
       owes.0.accepted.has open_head
   owes_open s p w (r ∷ own) (Refused error) text owes open_head = absurd owes
+  owes_open s p w (r ∷ own) (Ahead why) text owes open_head = absurd owes
   owes_open s p w (r ∷ own) (Served e) text (Misses.in_exchange f is kept) open_head =
       exchange_open s (past_at p f.before) f.head f.sent _ _
       (uncut s (past_at p f.before) f.head f.sent _ f.sends w.client _ _ e f.why).order open_head
@@ -300,13 +350,13 @@ module _ {L : Type 0} (state : L → LinkState) (start_at : L → LinkStart) whe
       → EndsWith state start_at s p w own attempts (outcome.Served (Some e) false)
   ends_served s p w [] e text attempts owes given made = (
     (
-      record {
+      inl (record {
         unconnected = owes.0;
         answered = subst (λ (t : List ℕ). IsGiven s p w t) owes.1 given;
-      },
+      }),
       refl,
     ),
-    made,
+    inl made,
   )
   ends_served s p w (r ∷ []) e text attempts owes given made = record {
     tells = made.tells;
@@ -321,6 +371,32 @@ module _ {L : Type 0} (state : L → LinkState) (start_at : L → LinkStart) whe
   }
   ends_served s p w (r ∷ q ∷ own) e text attempts owes given made = absurd made
 
+  -- hooks ended the request, for an error or for none, and its client was given what it is owed, or a
+  -- write failed
+  pub ends_ahead : (s : Start) (p : Passed) (w : World) (own : List (Returned L))
+      (why told : Option Error) (text : List ℕ) (attempts : List AttemptRecord)
+      → Owes state start_at s p w own (Ahead why) text → IsGivenAhead s p w why text told
+      → HasAttempts state start_at s p own (Ahead why) attempts
+      → EndsWith state start_at s p w own attempts (outcome.Served told false)
+  ends_ahead s p w [] why None text attempts owes given made =
+      (
+        (
+          record { why = why; text = text; owed = owes.0; given = given; unsent = owes.1 },
+          refl,
+        ),
+        made,
+      )
+  ends_ahead s p w [] why (Some e) text attempts owes given made =
+      let ends : EndsAhead s p w (Some e) = record {
+        why = why;
+        text = text;
+        owed = owes.0;
+        given = given;
+        unsent = owes.1;
+      } in
+      ((inr ends, refl), inr (made, ends))
+  ends_ahead s p w (r ∷ own) why told text attempts owes given made = absurd owes
+
   -- the request was not brought to an end, and a part was written
   pub ends_part : (s : Start) (p : Passed) (w : World) (own : List (Returned L)) (owed : Owed)
       (text : List ℕ) (attempts : List AttemptRecord)
@@ -329,7 +405,10 @@ module _ {L : Type 0} (state : L → LinkState) (start_at : L → LinkStart) whe
       → EndsWith state start_at s p w own attempts outcome.TurnLimit
       × EndsWith state start_at s p w own attempts outcome.OutOfMemory
   ends_part s p w [] (Refused error) text attempts owes part made =
-      let some = inr (text, error, owes.0, part) in
+      let some : IsPartRefused s p = inr (inl (text, error, owes.0, part)) in
+      ((owes.1, inl (made, some)), (owes.1, inl (made, some)))
+  ends_part s p w [] (Ahead why) text attempts owes part made =
+      let some : IsPartRefused s p = inr (inr (why, text, owes.0, part)) in
       ((owes.1, inl (made, some)), (owes.1, inl (made, some)))
   ends_part s p w [] (Served e) text attempts owes part made =
       let half : IsHalfRefused s p w attempts = record {
@@ -340,6 +419,7 @@ module _ {L : Type 0} (state : L → LinkState) (start_at : L → LinkStart) whe
       } in
       ((owes.0.unsent, inr (inr half)), (owes.0.unsent, inr (inr half)))
   ends_part s p w (r ∷ []) (Refused error) text attempts owes part made = absurd made
+  ends_part s p w (r ∷ []) (Ahead why) text attempts owes part made = absurd made
   ends_part s p w (r ∷ []) (Served e) text attempts owes part made = (
     record {
       tells = made.tells;
@@ -381,6 +461,10 @@ module _ {L : Type 0} (state : L → LinkState) (start_at : L → LinkStart) whe
     made,
   )
   ends_whole s p w (r ∷ own) (Refused error) text attempts owes whole made = absurd owes
+  ends_whole s p w own (Ahead None) text attempts owes whole made =
+      ends_ahead s p w own None None text attempts owes (inl (refl, whole)) made
+  ends_whole s p w own (Ahead (Some e)) text attempts owes whole made =
+      ends_ahead s p w own (Some e) (Some e) text attempts owes (refl, inl whole) made
   ends_whole s p w own (Served e) text attempts owes whole made =
       ends_served s p w own e text attempts owes (inl whole) made
 
@@ -654,6 +738,18 @@ module _ {L C : Type 0} (state : L → LinkState) (start_at : L → LinkStart)
           made,
         )
         by (r ∷ l) (Refused error) owes made = absurd owes
+        by l (Ahead None) owes made =
+            ends_ahead state start_at s (past_at p p.written) x l None
+            (Some (fault_error Downstream fault)) holds.text attempts owes
+            (inr (
+              fault,
+              record { kind = fails.kind; rose = rose; told = last },
+              refl,
+              front,
+            )) made
+        by l (Ahead (Some e)) owes made =
+            ends_ahead state start_at s (past_at p p.written) x l (Some e) (Some e) holds.text
+            attempts owes (refl, inr (failed, front)) made
         by l (Served e) owes made =
             ends_served state start_at s (past_at p p.written) x l e holds.text attempts owes
             (inr (failed, front)) made

@@ -9,7 +9,7 @@
 --   open_counts                   a phase none of whose links is to be handed back
 --   within_link                   what was counted of an attempt that is given up
 use Rattle.std.specs.Global.{Box}
-use Rattle.std.proofs.Common.{◌≡◌, ℕ, ◌+◌, ◌≤◌, Bool, true, false, List, [], ◌∷◌, length, Option, None, Some, true≢false, refl, sym, ap, subst, ◌∙◌, inl, inr, arith}
+use Rattle.std.proofs.Common.{◌≡◌, ◌⊎◌, ℕ, ◌+◌, ◌≤◌, Bool, true, false, List, [], ◌∷◌, length, Option, None, Some, true≢false, refl, sym, ap, subst, ◌∙◌, inl, inr, arith}
 use Rattle.relay_links.specs.Link.{LinkState, LinkStart}
 use Rattle.relay_links.specs.Told.{Since}
 use Rattle.relay_links.specs.declared.Returned.{Returned}
@@ -29,7 +29,7 @@ use Rattle.relay_attempt.specs.Bound as attempt
 use Rattle.relay_attempt.specs.Head.{link_of}
 use Rattle.relay_attempt.specs.Passed.{Passed}
 use Rattle.relay_attempt.proofs.BoundLemmas.{first_counted, counted_within}
-use Rattle.relay_proxy.specs.Bound.{AttemptCounts, CountsAnswer, CountsHead, CountsLink, IsBounded, IsWithin, LeavesLink, LinkGave, OwnGave, PhaseCounts, TurnedCounts, most_sides, sides_before}
+use Rattle.relay_proxy.specs.Bound.{AttemptCounts, CountsAnswer, CountsCall, CountsHead, CountsLink, IsBounded, IsWithin, LeavesLink, LinkGave, OwnGave, PhaseCounts, TurnedCounts, most_sides, sides_before}
 use Rattle.relay_proxy.specs.Passed.{World, Start, origin_of}
 use Rattle.relay_proxy.specs.Phases.{RunSoFar}
 use Rattle.relay_proxy.specs.Refusals.{attempts_in}
@@ -49,13 +49,13 @@ use Rattle.relay_proxy.proofs.UseLemmas.{either_rose}
 -- ---- the turns of a request
 
 -- a request takes no more turns than its links answered, twice the bytes that they gave, six and
--- its attempts
+-- its attempts, and the calls of its hooks
 pub turns_bounded : {L : Type 0} (state : L → LinkState) (start_at : L → LinkStart) (s : Start)
     (client : LinkState) (own : List (Returned L)) (history : RunRecord)
     (b : IsBounded state start_at s client own history)
     → history.turns_taken
     ≤ history.items_used + most_tasks (length s.ahead + length b.within.came) (length b.within.got)
-    + most_sides (length history.attempts)
+    + most_sides (length history.attempts) + length history.log
 turns_bounded state start_at s client own history b =
     omega (arith, b.worked, b.within.tasks_within, b.within.ends_within)
 
@@ -258,6 +258,39 @@ module _ {L C : Type 0} (state : L → LinkState) (start_at : L → LinkStart) w
     ends_within = omega (arith, counts.1, counts.2, had.1);
   }
 
+  -- a turn that calls a hook
+  pub call_bounds : (s : Start) (p : Passed) (w : World) (next : Phase L C) (work : Work)
+      (before : List AttemptRecord) (tasks ends : ℕ) → RunSoFar state start_at s p w [] next
+      → CountsCall before next work → (tasks ≡ 0) × (ends ≡ 1 + length before)
+      → TurnedCounts state start_at (work.moved + tasks) (work.ended + ends) s w.client w.ahead []
+      next
+  call_bounds s p w ReadHead work before tasks ends run counts had = absurd counts
+  call_bounds s p w (Connect context session tries) work before tasks ends run counts had = (
+    omega (arith, counts.0, had.0),
+    omega (arith, counts.1, as_many counts.2, had.1),
+  )
+  call_bounds s p w (Relay a) work before tasks ends run counts had = absurd counts
+  call_bounds s p w (Fail link lease keep session e) work before tasks ends run counts had =
+      absurd counts
+  call_bounds s p w (Close link lease keep outcome) work before tasks ends run counts had =
+      absurd counts
+  call_bounds s p w (Answer session owed attempts) work before tasks ends run counts had = record {
+    came = p.came;
+    got = [];
+    client_gave = run.tells.came;
+    own_gave = refl;
+    tasks_within = omega (arith, counts.0, had.0);
+    ends_within = omega (arith, counts.1, as_many counts.2, had.1);
+  }
+  call_bounds s p w (Ended outcome attempts) work before tasks ends run counts had = record {
+    came = p.came;
+    got = [];
+    client_gave = run.tells.came;
+    own_gave = refl;
+    tasks_within = omega (arith, counts.0, had.0);
+    ends_within = omega (arith, counts.1, as_many counts.2, had.1);
+  }
+
   -- ---- behind an exchange
 
   -- a turn that writes an answer
@@ -424,33 +457,39 @@ module _ {L C : Type 0} (state : L → LinkState) (start_at : L → LinkStart) w
   -- ---- a turn, whatever links were handed back before
 
   -- one that reads or judges the head
-  pub head_turn_bounds : (s : Start) (p : Passed) (w x : World) (own : List (Returned L))
+  pub head_turn_bounds : (s s' : Start) (p : Passed) (w x : World) (own : List (Returned L))
       (next : Phase L C) (work : Work) (tasks ends : ℕ)
       → RunSoFar {C = C} state start_at s p w own ReadHead
-      → (RunSoFar {C = C} state start_at s p w [] ReadHead → Advances state start_at s x next)
+      → (RunSoFar {C = C} state start_at s p w [] ReadHead → Advances state start_at s' x next)
       → CountsHead next work
       → PhaseCounts {C = C} state start_at tasks ends s w.client w.ahead own ReadHead
-      → TurnedCounts state start_at (work.moved + tasks) (work.ended + ends) s x.client x.ahead own
+      → TurnedCounts state start_at (work.moved + tasks) (work.ended + ends) s' x.client x.ahead own
       next
-  head_turn_bounds s p w x [] next work tasks ends run turn counts had =
+  head_turn_bounds s s' p w x [] next work tasks ends run turn counts had =
       let on = turn run in
-      head_bounds s on.passed x next work tasks ends on.run counts had
-  head_turn_bounds s p w x (r ∷ own) next work tasks ends run turn counts had = absurd run.holds
+      head_bounds s' on.passed x next work tasks ends on.run counts had
+  head_turn_bounds s s' p w x (r ∷ own) next work tasks ends run turn counts had = absurd run.holds
 
-  -- one that asks for a link
-  pub link_turn_bounds : (s : Start) (p : Passed) (w x : World) (own : List (Returned L))
+  -- one that calls a hook or asks for a link
+  pub link_turn_bounds : (s s' : Start) (p : Passed) (w x : World) (own : List (Returned L))
       (context : C) (session : Box HttpSession) (tries : List AttemptRecord) (next : Phase L C)
       (work : Work) (tasks ends : ℕ)
       → RunSoFar state start_at s p w own (Connect context session tries)
       → (RunSoFar state start_at s p w [] (Connect context session tries)
-      → Advances state start_at s x next) → CountsLink tries next work
+      → Advances state start_at s' x next)
+      → CountsCall tries next work ⊎ CountsLink tries next work
       → PhaseCounts state start_at tasks ends s w.client w.ahead own (Connect context session tries)
-      → TurnedCounts state start_at (work.moved + tasks) (work.ended + ends) s x.client x.ahead own
+      → TurnedCounts state start_at (work.moved + tasks) (work.ended + ends) s' x.client x.ahead own
       next
-  link_turn_bounds s p w x [] context session tries next work tasks ends run turn counts had =
+  link_turn_bounds s s' p w x [] context session tries next work tasks ends run turn (inl counts)
+      had =
       let on = turn run in
-      link_bounds s on.passed x next work tries tasks ends on.run counts had
-  link_turn_bounds s p w x (r ∷ own) context session tries next work tasks ends run turn counts
+      call_bounds s' on.passed x next work tries tasks ends on.run counts had
+  link_turn_bounds s s' p w x [] context session tries next work tasks ends run turn (inr counts)
+      had =
+      let on = turn run in
+      link_bounds s' on.passed x next work tries tasks ends on.run counts had
+  link_turn_bounds s s' p w x (r ∷ own) context session tries next work tasks ends run turn counts
       had =
       absurd run.holds
 

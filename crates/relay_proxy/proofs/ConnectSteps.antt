@@ -1,6 +1,7 @@
 -- Turns of the connector: the attempt's exchange begins over the link that it gave, or does not.
-use Rattle.std.proofs.Common.{◌≡◌, ◌≢◌, ℕ, ◌≤◌, Bool, false, true, not, List, [], ◌++◌, Option, Some, None, Err, refl, sym, ap, subst, ◌∙◌, inl, inr, arith}
+use Rattle.std.proofs.Common.{◌≡◌, ◌≢◌, ℕ, ◌≤◌, Bool, false, true, not, List, [], ◌++◌, Option, Some, None, refl, sym, ap, subst, ◌∙◌, inl, inr, arith}
 use Rattle.std.specs.Global.{Box}
+use Rattle.std.specs.Prelude.{Result, Ok, Err}
 use Rattle.relay_tasks.specs.declared.error.Error.{Error}
 use Rattle.relay_tasks.specs.declared.error.ErrorSource.TheVariants.{Internal, Upstream}
 use Rattle.relay_tasks.specs.declared.error.Fail.{Fail}
@@ -27,6 +28,7 @@ use Rattle.relay_session.specs.Response.{AreQueued}
 use Rattle.relay_session.specs.declared.writing.Outgoing.TheVariants.{Open}
 use Rattle.relay_session.specs.declared.writing.Writing.{Writing}
 use Rattle.relay_session.specs.declared.session.HttpSession.{HttpSession}
+use Rattle.relay_opening.specs.Told.{head_behind}
 use Rattle.relay_sides.specs.Client.{BeginsBehind}
 use Rattle.relay_core.specs.Past.{Origin}
 use Rattle.relay_attempt.specs.Exchange.{IsUnderWay, UpHolds}
@@ -35,7 +37,7 @@ use Rattle.relay_attempt.specs.declared.h1_exchange.H1Exchange.{H1Exchange}
 use Rattle.relay_attempt.specs.Order as exchange
 use Rattle.relay_attempt.specs.Head.{link_of}
 use Rattle.relay_proxy.specs.Relayable.{IsRelayable}
-use Rattle.relay_proxy.specs.Sent.{MakesSent, Sends, RefusesToSend, client_of}
+use Rattle.relay_proxy.specs.Sent.{MakesFramed, Sends, RefusesToSend, client_in, client_of}
 use Rattle.relay_proxy.specs.Endings.{IsInOrder, Misses, IsPartRelayed, IsUnconnected, EndsLinked, error_of, outcome_of}
 use Rattle.relay_proxy.specs.Tries.{AreTries, EndsTrying, IsAskedPeer, fault_error, tries_in}
 use Rattle.relay_proxy.specs.Passed.{World, Start, origin_of, TellsClient, IsUnsent}
@@ -52,7 +54,7 @@ use Rattle.relay_proxy.specs.declared.outcome.Outcome.TheVariants as outcome
 use Rattle.relay_proxy.proofs.AnswerSteps.{answer_on}
 use Rattle.relay_proxy.proofs.HeadSteps.{begun_answer, generated_some}
 use Rattle.relay_proxy.proofs.OpenHead.{exchange_open}
-use Rattle.relay_proxy.proofs.SentLemmas.{client_is, sends_agrees, refused_code}
+use Rattle.relay_proxy.proofs.SentLemmas.{client_is, refused_code}
 use Rattle.relay_peer.proofs.FaultLemmas.{grew_same}
 use Rattle.relay_proxy.proofs.Tells.{Rose-le, client_still}
 
@@ -83,44 +85,34 @@ pub same_head : (given own : RequestHead) (session : HttpSession)
 same_head given own session is is_own = grind (arith, is, is_own)
 
 -- whether the client's body has bytes is what its session says, before any was read
-pub client_asked : (s : Start) (p : Passed) (w : World) (session : HttpSession)
-    (tries : List AttemptRecord) (given : RequestHead)
-    → head_of session.reading ≡ Some given → IsConnecting s p w session tries
-    → record { custom = false; has_body = not (is_body_done session.reading) } ≡ client_of given
-client_asked s p w session tries given is connecting =
-    let b = connecting.begins given false in
-    let framed : request_framing given ≡ Some b.framing =
-    subst (λ (h : RequestHead). request_framing h ≡ Some b.framing)
-    (b.own ∙ sym (same_head given connecting.head session is connecting.is_head))
-    b.has.let_in.framed in
-    client_is given b.framing (is_body_done session.reading) framed b.done
+client_asked : (s : Start) (p : Passed) (w : World) (session : HttpSession)
+    (tries : List AttemptRecord) (k : IsConnecting s p w session tries)
+    → client_in session ≡ client_of k.head
+client_asked s p w session tries k =
+    let b = k.begins k.head false in
+    let framed : request_framing k.head ≡ Some b.framing =
+    subst (λ (h : RequestHead). request_framing h ≡ Some b.framing) b.own b.has.let_in.framed in
+    client_is k.head b.framing (is_body_done session.reading) framed b.done
 
--- so a head that is refused for such a client is one that is refused where it was to be sent
-pub refused_asked : (s : Start) (p : Passed) (w : World) (session read : HttpSession)
-    (tries : List AttemptRecord) (given : RequestHead) (failure : Fail) (e told : Error)
-    → told ≡ e → read ≡ session
-    → head_of session.reading ≡ Some given → IsConnecting s p w session tries
-    → failure ≡ fail.Error e
-    → FailsToMake
-    (MakesSent (record { custom = false; has_body = not (is_body_done read.reading) }) given)
-    failure
-    → RefusesToSend given told
-refused_asked s p w session read tries given failure e told one same is connecting failed refuses =
-    let own : FailsToMake
-    (MakesSent (record { custom = false; has_body = not (is_body_done session.reading) }) given)
-    failure =
-    subst (λ (h : HttpSession). FailsToMake
-    (MakesSent (record { custom = false; has_body = not (is_body_done h.reading) }) given) failure)
-    same refuses in
-    let made : MakesSent
-    (record { custom = false; has_body = not (is_body_done session.reading) }) given (Err e) =
-    subst (λ (f : Fail). FailsToMake
-    (MakesSent (record { custom = false; has_body = not (is_body_done session.reading) }) given) f)
-    failed own in
-    subst (λ (x : Error). RefusesToSend given x) (sym one)
-    (subst (λ (k : Client). MakesSent k given (Err e))
-    (client_asked s p w session tries given is connecting)
-    made)
+-- so what is made of its head is made of the client's, as hooks left it
+pub made_asked : (s : Start) (p : Passed) (w : World) (session : HttpSession)
+    (tries : List AttemptRecord) (k : IsConnecting s p w session tries) (given : RequestHead)
+    (answer : Result RequestHead Error) → head_of session.reading ≡ Some given
+    → MakesFramed (client_in session) given answer
+    → MakesFramed (client_of k.head) (head_behind k.head s.called) answer
+made_asked s p w session tries k given answer is made =
+    subst (λ (h : RequestHead). MakesFramed (client_of k.head) h answer)
+    (same_head given (head_behind k.head s.called) session is k.is_left)
+    (subst (λ (c : Client). MakesFramed c given answer) (client_asked s p w session tries k) made)
+
+-- a refusal of what is made for a session is one
+pub refused_made : (session read : HttpSession) (given : RequestHead) (failure : Fail) (e : Error)
+    → read ≡ session → failure ≡ fail.Error e
+    → FailsToMake (MakesFramed (client_in read) given) failure
+    → MakesFramed (client_in session) given (Err e)
+refused_made session read given failure e same failed refuses =
+    subst (λ (h : HttpSession). MakesFramed (client_in h) given (Err e)) same
+    (subst (λ (f : Fail). FailsToMake (MakesFramed (client_in read) given) f) failed refuses)
 
 -- a framing that is there is not missing
 not_missing : (framing : Framing) (found : Option Framing) → found ≡ None → found ≡ Some framing → ⊥
@@ -149,7 +141,7 @@ unconnected_tells s p w failed fits rose tells =
 
 -- what passed of an exchange under way, by the mark of its link
 pub part_relayed : (s : Start) (p : Passed) (head sent : RequestHead) (reused : Bool)
-    (link : LinkState) (start : LinkStart) → IsRelayable head → Sends head sent
+    (link : LinkState) (start : LinkStart) → IsRelayable head → Sends s.called head sent
     → start.reused ≡ reused
     → exchange.IsInOrder (origin_of s head sent reused) p link.ended → IsPartRelayed s p link start
 part_relayed s p head sent reused link start relayable sends same order = record {
@@ -187,37 +179,33 @@ module _ {L C : Type 0} (state : L → LinkState) (start_at : L → LinkStart) w
   -- the exchange is under way, and nothing was sent or written yet
   pub begun : (s : Start) (p : Passed) (w : World) (session : HttpSession)
       (head given : RequestHead) (link : L) (a : Attempt L C) → head_of session.reading ≡ Some head
-      → Sends head given → IsHandedOut (state link) (start_at link) a.lease.reused
-      → IsAskedPeer a.lease.peer
+      → MakesFramed (client_in session) head (Ok given)
+      → IsHandedOut (state link) (start_at link) a.lease.reused → IsAskedPeer a.lease.peer
       → ((o : Origin) (came : List ℕ) (client : LinkState) (ahead : List ℕ) (reused : Bool)
       → given ≡ o.sent → o.asked ≡ false → BeginsBehind o came client ahead session
       → IsHandedOut (state link) (start_at link) reused → o.reused ≡ reused
       → IsUnderWay state start_at o
       (record { came = came; written = []; got = []; sent = [] }) client ahead a.exchange)
       → IsConnecting s p w session (tries_in a.lease) → IsRelaying state start_at s p w a
-  begun s p w session head given link a is goes handed peer begins connecting =
+  begun s p w session head given link a is goes handed peer begins k =
       record {
         leased = leased_under_way state start_at s origin p w.client w.ahead a.exchange a.lease refl
-            peer connecting.are_tries under;
-        head = connecting.head;
+            peer k.are_tries under;
+        head = k.head;
         sent = given;
-        relayable = connecting.accepted.relayable;
-        sends = sends;
+        relayable = k.accepted.relayable;
+        sends = made_asked s p w session (tries_in a.lease) k head (Ok given) is goes;
         under_way = under;
       }
     where
       origin : Origin
-      origin = origin_of s connecting.head given a.lease.reused
-
-      sends : Sends connecting.head given
-      sends = subst (λ (h : RequestHead). Sends h given)
-          (same_head head connecting.head session is connecting.is_head) goes
+      origin = origin_of s k.head given a.lease.reused
 
       under : IsUnderWay state start_at origin p w.client w.ahead a.exchange
       under = subst (λ (q : Passed). IsUnderWay state start_at origin q w.client w.ahead a.exchange)
-          (came_alone p connecting.written connecting.unsent)
+          (came_alone p k.written k.unsent)
           (begins origin p.came w.client w.ahead a.lease.reused refl refl
-          (connecting.begins given a.lease.reused) handed refl)
+          (k.begins given a.lease.reused) handed refl)
 
   -- the attempt is held
   pub held : (s : Start) (p : Passed) (w : World) (a : Attempt L C) (b : Box (Attempt L C))
@@ -267,14 +255,14 @@ module _ {L C : Type 0} (state : L → LinkState) (start_at : L → LinkStart) w
   -- the exchange was not begun, when out of memory
   pub not_begun : (s : Start) (p : Passed) (w : World) (context : C) (session : Box HttpSession)
       (head given : RequestHead) (link back : L) (lease : Lease) (why : Fail) (end : Outcome)
-      → head_of session.value.reading ≡ Some head → Sends head given
+      → MakesFramed (client_in session.value) head (Ok given)
       → IsHandedOut (state link) (start_at link) lease.reused → IsAskedPeer lease.peer
       → back ≡ link → end ≡ outcome_of why
       → IsMemoryOr (refused_from Internal BadFraming) why
       → (why ≡ fail.Error (refused_from Internal BadFraming) → request_framing given ≡ None)
       → RunSoFar {C = C} state start_at s p w [] (Connect context session (tries_in lease))
       → Advances {C = C} state start_at s w (Close back lease false end)
-  not_begun s p w context session head given link back lease why end is goes handed peer same ends
+  not_begun s p w context session head given link back lease why end made handed peer same ends
       causes refused run =
       record {
         passed = p;
@@ -295,18 +283,10 @@ module _ {L C : Type 0} (state : L → LinkState) (start_at : L → LinkStart) w
         };
       }
     where
-      framed : request_framing given ≡ Some run.holds.accepted.framing
-      framed =
-          (sends_agrees run.holds.head given run.holds.accepted.framing
-          run.holds.accepted.has.let_in.framed
-          (subst (λ (h : RequestHead). Sends h given)
-          (same_head head run.holds.head session.value is run.holds.is_head) goes)).framing
-          ∙ run.holds.accepted.has.let_in.framed
-
       is_memory : end ≡ outcome.OutOfMemory
       is_memory = ends ∙ ap (λ (f : Fail). outcome_of f)
-          (memory_alone (refused_from Internal BadFraming) why (request_framing given)
-          run.holds.accepted.framing causes refused framed)
+          (memory_alone (refused_from Internal BadFraming) why (request_framing given) made.1.0
+          causes refused made.1.1)
 
   -- no head was made to be sent, when out of memory
   pub not_made : (s : Start) (p : Passed) (w : World) (context : C) (session : Box HttpSession)
@@ -333,7 +313,8 @@ module _ {L C : Type 0} (state : L → LinkState) (start_at : L → LinkStart) w
   -- the head that was to be sent is refused, and the client is owed an answer for that
   pub not_sent : (s : Start) (p : Passed) (w : World) (context : C)
       (session session' : Box HttpSession) (head : RequestHead) (link : L) (lease : Lease)
-      (e : Error) → head_of session.value.reading ≡ Some head → RefusesToSend head e
+      (e : Error) → head_of session.value.reading ≡ Some head
+      → MakesFramed (client_in session.value) head (Err e)
       → IsHandedOut (state link) (start_at link) lease.reused → IsAskedPeer lease.peer
       → session'.value.writing.output ≡ Open (generated 500)
       → RunSoFar {C = C} state start_at s p w [] (Connect context session (tries_in lease))
@@ -356,7 +337,7 @@ module _ {L C : Type 0} (state : L → LinkState) (start_at : L → LinkStart) w
                 head = run.holds.head;
                 accepted = run.holds.accepted;
                 refused = refused;
-                status = refused_code run.holds.head e refused;
+                status = refused_code s.called run.holds.head e refused;
                 fresh = subst (λ (b : Bool). IsHandedOut (state link) (start_at link) b)
                     (sym handed.marked) handed;
                 unsent = run.holds.unsent;
@@ -372,9 +353,8 @@ module _ {L C : Type 0} (state : L → LinkState) (start_at : L → LinkStart) w
         };
       }
     where
-      refused : RefusesToSend run.holds.head e
-      refused = subst (λ (h : RequestHead). RefusesToSend h e)
-          (same_head head run.holds.head session.value is run.holds.is_head) refuses
+      refused : RefusesToSend s.called run.holds.head e
+      refused = made_asked s p w session.value (tries_in lease) run.holds head (Err e) is refuses
 
   -- the connector gave no link
   unconnected : (s : Start) (p : Passed) (w : World) (failed : ℕ) (context : C)
@@ -410,7 +390,8 @@ module _ {L C : Type 0} (state : L → LinkState) (start_at : L → LinkStart) w
       holds = record {
         head = run.holds.head;
         accepted = run.holds.accepted;
-        is_head = run.holds.is_head;
+        is_left = run.holds.is_left;
+        quiet = run.holds.quiet;
         begins = run.holds.begins;
         written = run.holds.written;
         unsent = run.holds.unsent;

@@ -1,5 +1,5 @@
 -- Each cause excludes the others, so that where one stands the outcome is its own.
-use Rattle.std.proofs.Common.{◌≡◌, ℕ, ◌⊎◌, Bool, true, false, List, [], ◌∷◌, Option, Some, None, refl, sym, ap, subst, ◌∙◌, inl, inr, lit<}
+use Rattle.std.proofs.Common.{◌≡◌, ◌≢◌, ℕ, ◌⊎◌, Bool, true, false, List, [], ◌∷◌, Option, Some, None, refl, sym, ap, subst, ◌∙◌, inl, inr, lit<}
 use Rattle.relay_tasks.specs.Head.{RequestHead}
 use Rattle.relay_tasks.specs.declared.Error.{Error}
 use Rattle.relay_links.specs.Count.{Rose}
@@ -12,6 +12,10 @@ use Rattle.relay_h1.specs.Verdict.{IsOpen, HasRequest, IsRefusedRequest}
 use Rattle.relay_h1.specs.Framing.{request_framing}
 use Rattle.relay_h1.specs.declared.framing.Framing.{Framing}
 use Rattle.relay_h1.proofs.VerdictLemmas.{HasRequest-IsOpen, IsRefusedRequest-IsOpen, HasRequest-IsRefusedRequest, HasRequest-unique}
+use Rattle.relay_tasks.specs.declared.log.LogEntry.{LogEntry}
+use Rattle.relay_phases.specs.Order.{Accepts, Station}
+use Rattle.relay_phases.specs.Order.{Station as station}
+use Rattle.relay_attempt.specs.Agrees.{Agrees}
 use Rattle.relay_attempt.specs.Order.{FailsFor}
 use Rattle.relay_attempt.specs.Order as order
 use Rattle.relay_attempt.specs.Passed.{Passed}
@@ -19,18 +23,19 @@ use Rattle.relay_valid.specs.Unfit.{IsUnfit}
 use Rattle.relay_valid.specs.Valid.{AsksFor, AnswersWith, IsValid}
 use Rattle.relay_valid.proofs.AskedLemmas.{asks_head, asks_unrefused, valid_over}
 use Rattle.relay_valid.proofs.UnfitLemmas.{relayed_fit}
+use Rattle.relay_proxy.specs.Ahead.{IsOwedAhead, IsStoppedFor, LetsGo}
 use Rattle.relay_proxy.specs.Answer.{past_at}
-use Rattle.relay_proxy.specs.Relayable.{IsConnect, IsRelayable, NamesUpgrade}
+use Rattle.relay_proxy.specs.Relayable.{IsAccepted, IsConnect, IsRelayable, NamesUpgrade}
 use Rattle.relay_proxy.specs.Sent.{Sends, RefusesToSend}
 use Rattle.relay_proxy.specs.Passed.{World, Start, origin_of, asked}
 use Rattle.relay_proxy.specs.Endings as endings
-use Rattle.relay_proxy.specs.Endings.{IsAccepted, IsTurnedDown, IsLeftAlone, EndsUnlinked, EndsLinked, IsEnded}
+use Rattle.relay_proxy.specs.Endings.{IsTurnedDown, IsLeftAlone, EndsUnlinked, EndsLinked, EndsAhead, IsEnded}
 use Rattle.relay_proxy.specs.Exact.{IsUnfinished, IsRefusal, IsLeft, IsMissed, IsExact}
 use Rattle.relay_proxy.specs.declared.outcome.Outcome.{Outcome}
 use Rattle.relay_proxy.specs.declared.outcome.Outcome.TheVariants.{NoRequest, Refused, Served, TurnLimit, OutOfMemory}
 use Rattle.relay_proxy.specs.declared.record.AttemptRecord.{AttemptRecord}
+use Rattle.relay_proxy.proofs.AnswerSteps.{owed_head}
 use Rattle.relay_proxy.proofs.OpenHead.{turns_down_open}
-use Rattle.relay_proxy.proofs.SentLemmas.{sends_agrees}
 
 -- no bytes are an open head
 open_nothing : IsOpen []
@@ -116,9 +121,13 @@ exact_no_request s p w (Refused error) ends none ended =
     left_nothing (endings.IsLeftAlone.ends_in_head inside is) = inside.begun none
     left_nothing (endings.IsLeftAlone.is_unrelayable unrelayable is) =
         has_nothing unrelayable.has none
-exact_no_request s p w (Served None reuse) ends none ended = absurd ends
+exact_no_request s p w (Served None reuse) ends none ended =
+    absurd (has_nothing (owed_head ends.0.why ends.0.text ends.0.owed).1.has none)
 exact_no_request s p w (Served (Some e) reuse) ends none ended =
-    absurd (has_nothing ends.0.unconnected.accepted.has none)
+    absurd (elim ends.0 as (λ _. ⊥) [
+      | inl missed ↦ has_nothing missed.unconnected.accepted.has none
+      | inr ahead ↦ has_nothing (owed_head ahead.why ahead.text ahead.owed).1.has none
+    ])
 exact_no_request s p w TurnLimit ends none ended = inl (inl refl)
 exact_no_request s p w OutOfMemory ends none ended = inl (inr refl)
 
@@ -131,6 +140,13 @@ turned_down_or_left down (endings.IsLeftAlone.ends_in_head inside is) =
 turned_down_or_left down (endings.IsLeftAlone.is_unrelayable unrelayable is) =
     turns_down_other unrelayable.head unrelayable.framing unrelayable.len down
     unrelayable.has unrelayable.entered unrelayable.no_connect
+
+-- nor is it accepted
+turned_down_or_accepted : {s : Start} {p : Passed} {answer : List ℕ} {error : Option Error}
+    → IsTurnedDown (asked s p) answer error → (head : RequestHead) → IsAccepted s p head → ⊥
+turned_down_or_accepted down head accepted =
+    turns_down_other head accepted.framing accepted.len down accepted.has
+    accepted.relayable.entered accepted.relayable.method
 
 -- the generated answer is one
 one_answer : {bytes a b : List ℕ} {d e : Option Error}
@@ -189,11 +205,17 @@ exact_refused s p w (Refused told) ends answer error down whole =
         ]
       ])
     ]
-exact_refused s p w (Served None reuse) ends answer error down whole = absurd ends
+exact_refused s p w (Served None reuse) ends answer error down whole =
+    let one = owed_head ends.0.why ends.0.text ends.0.owed in
+    absurd (turned_down_or_accepted down one.0 one.1)
 exact_refused s p w (Served (Some e) reuse) ends answer error down whole =
-    let u = ends.0.unconnected in
-    absurd (turns_down_other u.head u.accepted.framing u.accepted.len down u.accepted.has
-    u.accepted.relayable.entered u.accepted.relayable.method)
+    absurd (elim ends.0 as (λ _. ⊥) [
+      | inl missed ↦
+          turned_down_or_accepted down missed.unconnected.head missed.unconnected.accepted
+      | inr ahead ↦
+          let one = owed_head ahead.why ahead.text ahead.owed in
+          turned_down_or_accepted down one.0 one.1
+    ])
 exact_refused s p w TurnLimit ends answer error down whole = inl (inl refl)
 exact_refused s p w OutOfMemory ends answer error down whole = inl (inr refl)
 
@@ -204,6 +226,12 @@ relayed_or_not {s} {p} head accepted (endings.IsLeftAlone.ends_in_head inside is
     HasRequest-IsOpen (asked s p) head accepted.framing accepted.len accepted.has inside.open_head
 relayed_or_not head accepted (endings.IsLeftAlone.is_unrelayable unrelayable is) =
     relayable_or_not accepted.has accepted.relayable unrelayable.has unrelayable.upgrade
+
+-- nor is one that hooks ended
+ahead_or_left : {s : Start} {p : Passed} {w : World} {told : Option Error} {e : Error}
+    → EndsAhead s p w told → IsLeftAlone s p w e → ⊥
+ahead_or_left ends cause =
+    let one = owed_head ends.why ends.text ends.owed in relayed_or_not one.0 one.1 cause
 
 -- a head that is left alone is left so, where the request is finished
 exact_unrelayed : (s : Start) (p : Passed) (w : World) (outcome : Outcome)
@@ -236,9 +264,12 @@ exact_unrelayed s p w (Refused told) ends e cause =
     fails_or_left live open_head (endings.IsLeftAlone.is_unrelayable unrelayable is) =
         HasRequest-IsOpen (asked s p) unrelayable.head unrelayable.framing unrelayable.len
         unrelayable.has open_head
-exact_unrelayed s p w (Served None reuse) ends e cause = absurd ends
+exact_unrelayed s p w (Served None reuse) ends e cause = absurd (ahead_or_left ends.0 cause)
 exact_unrelayed s p w (Served (Some told) reuse) ends e cause =
-    absurd (relayed_or_not ends.0.unconnected.head ends.0.unconnected.accepted cause)
+    absurd (elim ends.0 as (λ _. ⊥) [
+      | inl missed ↦ relayed_or_not missed.unconnected.head missed.unconnected.accepted cause
+      | inr ahead ↦ ahead_or_left ahead cause
+    ])
 exact_unrelayed s p w TurnLimit ends e cause = inl (inl refl)
 exact_unrelayed s p w OutOfMemory ends e cause = inl (inr refl)
 
@@ -300,7 +331,7 @@ one_head {s} {p} {a} {b} x y =
 exact_unfit : (s : Start) (p : Passed) (w : World) (link : LinkState) (start : LinkStart)
     (keep : Bool) (told : Option Error) (outcome : Outcome)
     → EndsLinked s p w link start keep told outcome → (head : RequestHead) → IsAccepted s p head
-    → ((sent : RequestHead) → Sends head sent → IsUnfit sent.method false p.got link.ended)
+    → ((sent : RequestHead) → Sends s.called head sent → IsUnfit sent.method false p.got link.ended)
     → IsUnfinished outcome ⊎ IsMissed outcome
 exact_unfit s p w link start keep told NoRequest ends head accepted unfit = absurd ends
 exact_unfit s p w link start keep told (Refused error) ends head accepted unfit = absurd ends
@@ -310,7 +341,7 @@ exact_unfit s p w link start keep told (Served None reuse) ends head accepted un
     record { framing = asks.framing; len = asks.len; has = asks.has; relayable = ends.relayable } in
     absurd (relayed_fit (origin_of s ends.head ends.sent start.reused) p link start ends.relayed
     (unfit ends.sent
-    (subst (λ (h : RequestHead). Sends h ends.sent) (sym (one_head accepted own)) ends.sends)))
+    (subst (λ (h : RequestHead). Sends s.called h ends.sent) (sym (one_head accepted own)) ends.sends)))
 exact_unfit s p w link start keep told (Served (Some e) reuse) (inl ends) head accepted unfit =
     inr (e, ap (λ (b : Bool). Served (Some e) b) ends.stays)
 exact_unfit s p w link start keep told (Served (Some e) reuse) (inr ends) head accepted unfit =
@@ -346,15 +377,34 @@ asks_not_left s p w head relayable asks (endings.IsLeftAlone.is_unrelayable unre
     (asks_head (origin_of s head head false) p w.client unrelayable.head unrelayable.framing
     unrelayable.len asks unrelayable.has) unrelayable.upgrade)
 
+-- the calls of a log lead to one station
+one_station : (called : List LogEntry) (a b : Station) → Accepts station.accepted called a
+    → Accepts station.accepted called b → a ≢ b → ⊥
+one_station called a b at_a at_b other =
+    let same : Some a ≡ Some b = sym at_a ∙ at_b in other (cc)
+
+-- hooks that let the request go did not end it
+ahead_or_goes : (s : Start) (p : Passed) (why : Option Error) (text : List ℕ)
+    → IsOwedAhead s p why text → LetsGo s.called → ⊥
+ahead_or_goes s p why text
+    (IsOwedAhead.by_answer head tasks t has order is_answer is) lets =
+    one_station s.called station.answered station.trying order lets (λ same. cc)
+ahead_or_goes s p why text
+    (IsOwedAhead.by_error head e t has (IsStoppedFor.by_hook order last) is) lets =
+    one_station s.called station.failing station.trying order lets (λ same. cc)
+ahead_or_goes s p why text
+    (IsOwedAhead.by_error head e t has (IsStoppedFor.is_purge order same) is) lets =
+    one_station s.called station.purging station.trying order lets (λ same. cc)
+
 -- a valid request that had no link is served, where it is finished and no fault was met
 whole_unlinked : (s : Start) (p : Passed) (w : World) (outcome : Outcome)
     → EndsUnlinked s p w outcome → (head : RequestHead) → IsRelayable head
-    → AsksFor (origin_of s head head false) p w.client
+    → LetsGo s.called → AsksFor (origin_of s head head false) p w.client
     → ¬ (Rose s.faults w.client.faults) → ¬ (Rose s.connect_faults w.connect_faults)
     → IsUnfinished outcome ⊎ ((reuse : Bool) × (outcome ≡ Served None reuse))
-whole_unlinked s p w NoRequest ends head relayable asks client connector =
+whole_unlinked s p w NoRequest ends head relayable lets asks client connector =
     absurd (not_both ends.ended asks.stays)
-whole_unlinked s p w (Refused error) ends head relayable asks client connector =
+whole_unlinked s p w (Refused error) ends head relayable lets asks client connector =
     absurd (elim ends as (λ _. ⊥) [
       | inl answered ↦ asks_not_refused s p w head relayable asks answered.turned_down
       | inr other ↦ elim other as (λ _. ⊥) [
@@ -362,11 +412,15 @@ whole_unlinked s p w (Refused error) ends head relayable asks client connector =
         | inr fault ↦ client fault.rose
       ]
     ])
-whole_unlinked s p w (Served None reuse) ends head relayable asks client connector = absurd ends
-whole_unlinked s p w (Served (Some e) reuse) ends head relayable asks client connector =
-    absurd (connector ends.0.unconnected.rose)
-whole_unlinked s p w TurnLimit ends head relayable asks client connector = inl (inl refl)
-whole_unlinked s p w OutOfMemory ends head relayable asks client connector = inl (inr refl)
+whole_unlinked s p w (Served None reuse) ends head relayable lets asks client connector =
+    absurd (ahead_or_goes s p ends.0.why ends.0.text ends.0.owed lets)
+whole_unlinked s p w (Served (Some e) reuse) ends head relayable lets asks client connector =
+    absurd (elim ends.0 as (λ _. ⊥) [
+      | inl missed ↦ connector missed.unconnected.rose
+      | inr ahead ↦ ahead_or_goes s p ahead.why ahead.text ahead.owed lets
+    ])
+whole_unlinked s p w TurnLimit ends head relayable lets asks client connector = inl (inl refl)
+whole_unlinked s p w OutOfMemory ends head relayable lets asks client connector = inl (inr refl)
 
 -- what the client asks for does not depend on what is sent of it
 asks_still : (s : Start) (p : Passed) (w : World) (head sent : RequestHead)
@@ -383,44 +437,46 @@ asks_still s p w head sent asks = record {
 whole_linked : (s : Start) (p : Passed) (w : World) (link : LinkState) (start : LinkStart)
     (keep : Bool) (told : Option Error) (outcome : Outcome)
     → EndsLinked s p w link start keep told outcome → (head : RequestHead)
-    → ((e : Error) → ¬ (RefusesToSend head e)) → AsksFor (origin_of s head head false) p w.client
-    → ((sent : RequestHead) → Sends head sent → AnswersWith sent.method false p link)
+    → ((e : Error) → ¬ (RefusesToSend s.called head e))
+    → ((sent : RequestHead) → Sends s.called head sent → Agrees head sent)
+    → AsksFor (origin_of s head head false) p w.client
+    → ((sent : RequestHead) → Sends s.called head sent → AnswersWith sent.method false p link)
     → ¬ (Rose s.faults w.client.faults)
     → ¬ (Rose start.faults link.faults)
     → IsUnfinished outcome ⊎ ((reuse : Bool) × (outcome ≡ Served None reuse))
-whole_linked s p w link start keep told NoRequest ends head goes asks answers client faults =
+whole_linked s p w link start keep told NoRequest ends head goes agree asks answers client faults =
+
     absurd ends
-whole_linked s p w link start keep told (Refused error) ends head goes asks answers client faults =
+whole_linked s p w link start keep told (Refused error) ends head goes agree asks answers client
+    faults =
     absurd ends
-whole_linked s p w link start keep told (Served None reuse) ends head goes asks answers client
+whole_linked s p w link start keep told (Served None reuse) ends head goes agree asks answers client
     faults =
     inr (reuse, refl)
-whole_linked s p w link start keep told (Served (Some e) reuse) (inl ends) head goes asks answers
-    client faults =
+whole_linked s p w link start keep told (Served (Some e) reuse) (inl ends) head goes agree asks
+    answers client faults =
     let f = ends.failed in
     let own = failed_head s (past_at p f.before) f.head f.sent start.reused f.why in
     let same = asks_head (origin_of s head head false) p w.client f.head own.framing own.len asks
     own.has in
-    let sends : Sends head f.sent =
-    subst (λ (h : RequestHead). Sends h f.sent) same f.sends in
-    let framed : request_framing head ≡ Some own.framing =
-    subst (λ (h : RequestHead). request_framing h ≡ Some own.framing) same own.has.let_in.framed in
+    let sends : Sends s.called head f.sent =
+    subst (λ (h : RequestHead). Sends s.called h f.sent) same f.sends in
     absurd (ends.invalid
     (subst (λ (h : RequestHead). IsValid (origin_of s h f.sent start.reused) p w.client link start)
     (sym same)
     (valid_over (origin_of s head f.sent false) p w.client link start start.reused
     (asks_still s p w head f.sent asks) (answers f.sent sends)
-    (sends_agrees head f.sent own.framing framed sends) client faults)))
-whole_linked s p w link start keep told (Served (Some e) reuse) (inr ends) head goes asks answers
-    client faults =
+    (agree f.sent sends) client faults)))
+whole_linked s p w link start keep told (Served (Some e) reuse) (inr ends) head goes agree asks
+    answers client faults =
     let r = ends.refused in
-    absurd (goes e (subst (λ (h : RequestHead). RefusesToSend h e)
+    absurd (goes e (subst (λ (h : RequestHead). RefusesToSend s.called h e)
     (asks_head (origin_of s head head false) p w.client r.head r.accepted.framing r.accepted.len
     asks
     r.accepted.has) r.refused))
-whole_linked s p w link start keep told TurnLimit ends head goes asks answers client faults =
+whole_linked s p w link start keep told TurnLimit ends head goes agree asks answers client faults =
     inl (inl refl)
-whole_linked s p w link start keep told OutOfMemory ends head goes asks answers client faults =
+whole_linked s p w link start keep told OutOfMemory ends head goes agree asks answers client faults =
     inl (inr refl)
 
 -- lists of one and of none
@@ -440,8 +496,8 @@ module _ {L : Type 0} (state : L → LinkState) (start_at : L → LinkStart) whe
     refused = λ answer error down whole. exact_refused s p w outcome ends answer error down whole;
     not_relayed = λ e cause. exact_unrelayed s p w outcome ends e cause;
     unfit = λ r head one accepted unfit. absurd (one_not_none one);
-    whole = λ head relayable goes asks answers faultless.
-        whole_unlinked s p w outcome ends head relayable asks faultless.client
+    whole = λ head relayable lets goes agree asks answers faultless.
+        whole_unlinked s p w outcome ends head relayable lets asks faultless.client
         (faultless.connector refl);
   }
 
@@ -459,8 +515,7 @@ module _ {L : Type 0} (state : L → LinkState) (start_at : L → LinkStart) whe
         refused = λ answer error down whole.
             elim own as (λ _. IsUnfinished outcome ⊎ IsRefusal s p outcome) [
               | inl unfinished ↦ inl unfinished
-              | inr one ↦ absurd (turns_down_other one.0 one.1.framing one.1.len down one.1.has
-                  one.1.relayable.entered one.1.relayable.method)
+              | inr one ↦ absurd (turned_down_or_accepted down one.0 one.1)
             ];
         not_relayed = λ e cause.
             elim own as (λ _. IsUnfinished outcome ⊎ IsLeft s p w outcome) [
@@ -473,9 +528,9 @@ module _ {L : Type 0} (state : L → LinkState) (start_at : L → LinkStart) whe
             (λ sent sends. subst
             (λ (x : Returned L). IsUnfit sent.method false p.got (state x.link).ended)
             (sym (same_one one)) (unfit sent sends));
-        whole = λ head relayable goes asks answers faultless.
+        whole = λ head relayable lets goes agree asks answers faultless.
             whole_linked s p w (state r.link) (start_at r.link) r.keep told outcome ends head goes
-            asks
+            agree asks
             (λ sent sends. answers r sent refl sends) faultless.client (faultless.link r refl);
       }
 

@@ -35,7 +35,8 @@ use Rattle.relay_attempt.specs.Passed.{Passed}
 use Rattle.relay_authority.specs.Entry.{Entered}
 use Rattle.relay_proxy.specs.Relayable.{IsConnect, IsRelayable, NamesUpgrade}
 use Rattle.relay_proxy.specs.Passed.{World, Start, start_of, origin_of, nothing, asked, TellsClient, IsUnsent}
-use Rattle.relay_proxy.specs.Endings.{IsInOrder, IsLeftAlone, IsTurnedDown, EndsUnlinked, AttemptsUnlinked, ended_outcome, left_early, unrelayed}
+use Rattle.relay_proxy.specs.Endings.{IsInOrder, IsLeftAlone, IsTurnedDown, EndsUnlinked, AttemptsUnlinked, ended_outcome, left_early}
+use Rattle.relay_proxy.specs.Ahead.{unrelayed}
 use Rattle.relay_proxy.specs.Tries.{fault_error}
 use Rattle.relay_proxy.specs.Phases.{RunSoFar}
 use Rattle.relay_proxy.specs.Turn.{Advances}
@@ -72,7 +73,7 @@ pub record StandsBehind (head : RequestHead) (framing : Framing) (session : Http
   pub output : session.writing.output ≡ Open []
 
 -- such a session begins behind the client's bytes, out of which its head was taken
-begins_behind : (s : Start) (p : Passed) (w : World) (head : RequestHead) (framing : Framing)
+pub begins_behind : (s : Start) (p : Passed) (w : World) (head : RequestHead) (framing : Framing)
     (len : ℕ) (session : HttpSession) (sent : RequestHead) (reused : Bool)
     → TellsClient s p w → p.written ≡ [] → HasRequest (asked s p) head framing len
     → w.ahead ≡ drop len (asked s p) → StandsBehind head framing session
@@ -346,49 +347,6 @@ module _ {L C : Type 0} (state : L → LinkState) (start_at : L → LinkStart) w
           );
         };
       }
-
-  -- the head was accepted and taken from what is ahead, and a session begins behind it
-  pub head_accepted : (s : Start) (p : Passed) (w x : World) (head : RequestHead)
-      (framing : Framing) (len : ℕ) (context : C)
-      (session : Box HttpSession) (tries : List AttemptRecord) → x.client ≡ w.client
-      → x.ahead ≡ drop len w.ahead → x.connect_faults ≡ w.connect_faults → tries ≡ []
-      → HasRequest w.ahead head framing len → IsRelayable head
-      → StandsBehind head framing session.value
-      → RunSoFar {C = C} state start_at s p w [] ReadHead
-      → Advances {C = C} state start_at s x (Connect context session tries)
-  head_accepted s p w x head framing len context session tries client ahead same none has relayable
-      stands run =
-      record {
-        passed = p;
-        run = record {
-          tells = tells;
-          order = run.order;
-          untouched = λ open_head.
-              absurd (HasRequest-IsOpen (asked s p) head framing len asks open_head);
-          going = run.going;
-          calm = ap (λ (l : LinkState). l.faults) client ∙ run.calm;
-          holds = record {
-            head = head;
-            accepted = record { framing = framing; len = len; has = asks; relayable = relayable };
-            is_head = stands.is_head;
-            begins = λ sent reused. begins_behind s p x head framing len session.value sent reused
-                tells run.holds.written asks
-                (ahead ∙ ap (λ (xs : List ℕ). drop len xs) run.holds.whole) stands;
-            written = run.holds.written;
-            unsent = run.holds.unsent;
-            are_tries = no_tries s tries none;
-          };
-        };
-      }
-    where
-      tells : TellsClient s p x
-      tells = client_still s p w x (omega arith) (ap (λ (l : LinkState). l.given) client)
-          (ap (λ (l : LinkState). l.taken) client)
-          (omega (arith, ap (λ (l : LinkState). l.faults) client))
-          (grew_same w.client x.client client) run.tells
-
-      asks : HasRequest (asked s p) head framing len
-      asks = subst (λ (xs : List ℕ). HasRequest xs head framing len) run.holds.whole has
 
   -- the client is to be given a generated answer
   pub turned_down : (s : Start) (p : Passed) (w : World) (status : ℕ) (e : Option Error)

@@ -7,6 +7,8 @@ pub mod AnswerSteps
 pub mod FailSteps
 pub mod HeadSteps
 pub mod ConnectSteps
+pub mod OpenSteps
+pub mod CallLemmas
 pub mod RelaySteps
 pub mod BoundLemmas
 pub mod StepLemmas

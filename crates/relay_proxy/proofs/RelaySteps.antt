@@ -180,7 +180,7 @@ module _ {L : Type 0} (state : L → LinkState) (start_at : L → LinkStart) whe
 module _ {L : Type 0} (state : L → LinkState) (start_at : L → LinkStart) where
   -- a finished exchange relayed its request whole
   relayed_whole : (s : Start) (p : Passed) (w : World) (head sent : RequestHead)
-      (x : H1Exchange L) → IsRelayable head → Sends head sent → w.client.faults ≡ s.faults
+      (x : H1Exchange L) → IsRelayable head → Sends s.called head sent → w.client.faults ≡ s.faults
       → IsFinished state start_at (origin_of s head sent (start_at (link_of x)).reused) p w.ahead x
       → IsRelayedWhole s p w (state (link_of x)) (start_at (link_of x)) (may_keep x)
       (client_reusable x w.ahead)

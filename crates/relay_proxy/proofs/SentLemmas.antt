@@ -5,7 +5,7 @@
 --   client_is       whether the client's body has bytes, by the framing of its head
 use Rattle.std.proofs.Common.{◌≡◌, ◌≢◌, ◌⊎◌, Bool, true, false, not, List, [], ◌∷◌, Option, Some, None, refl, sym, ap, ◌∙◌, inl, inr, subst}
 use Rattle.std.proofs.lemmas.Bool.{cases_Bool}
-use Rattle.std.specs.Prelude.{Result, Ok, Err}
+use Rattle.std.specs.Prelude.{IsSome, Result, Ok, Err}
 use Rattle.http.specs.declared.version.TheConstants.Version.{HTTP_11}
 use Rattle.http_header.specs.FieldValue.{FieldValue}
 use Rattle.http_header.specs.HeaderMap.{get_all}
@@ -13,11 +13,12 @@ use Rattle.relay_tasks.specs.Head.{RequestHead}
 use Rattle.relay_tasks.specs.declared.Context.{Context}
 use Rattle.relay_tasks.specs.declared.Error.{Error}
 use Rattle.relay_tasks.specs.declared.ErrorSource.TheVariants as side
+use Rattle.relay_tasks.specs.declared.log.LogEntry.{LogEntry}
 use Rattle.relay_authority.specs.Framing.{content_length, transfer_encoding}
 use Rattle.relay_authority.specs.Kept.{KeepsFields, SaysFraming}
 use Rattle.relay_tasks.specs.declared.Fail.{Fail}
 use Rattle.relay_tasks.specs.declared.Fail.TheVariants as fail
-use Rattle.relay_authority.specs.Stage.{Makes, blamed}
+use Rattle.relay_authority.specs.Stage.{FailsToMake, blamed}
 use Rattle.relay_authority.specs.Table.{Outcome}
 use Rattle.relay_authority.specs.declared.upstream.Client.{Client}
 use Rattle.relay_authority.specs.Upstream.{ReadyHead, SentHead}
@@ -29,7 +30,8 @@ use Rattle.relay_session.specs.Asked.{asks_of}
 use Rattle.relay_session.specs.Front.{ends_with_head}
 use Rattle.relay_hooks.specs.DefaultAnswer.{answer_code}
 use Rattle.relay_attempt.specs.Agrees.{Agrees}
-use Rattle.relay_proxy.specs.Sent.{has_body, client_of, MakesSent, Sends, RefusesToSend}
+use Rattle.relay_opening.specs.Told.{head_behind}
+use Rattle.relay_proxy.specs.Sent.{has_body, client_of, unframed, MakesFramed, MakesSent, Sends, RefusesToSend}
 
 -- ---- framing
 
@@ -104,12 +106,17 @@ says_framing head some =
 
 -- ---- what is sent
 
--- a head that is sent asks as the client's does, and frames its body alike
-pub sends_agrees : (head sent : RequestHead) (framing : Framing)
-    → request_framing head ≡ Some framing → Sends head sent → Agrees head sent
-sends_agrees head sent framing framed (inl (error, failed, same)) =
+-- a client of HTTP/1, whose body has bytes or none
+abbrev client_with : Bool → Client
+client_with b = record { custom = false; has_body = b }
+
+-- a head that is made of the client's asks as it does, and frames its body alike
+made_agrees : (head sent : RequestHead) (framing : Framing)
+    → request_framing head ≡ Some framing → MakesSent (client_of head) head (Ok sent)
+    → Agrees head sent
+made_agrees head sent framing framed (inl (error, failed, same)) =
     absurd (let clash : Ok sent ≡ Err error = same in cc)
-sends_agrees head sent framing framed (inr (ready, readies, sends)) =
+made_agrees head sent framing framed (inr (ready, readies, sends)) =
     let is : ready ≡ record head { version = HTTP_11 } = readied head ready readies in
     let keeps : KeepsFields (record head { version = HTTP_11 }) sent =
     subst (λ (h : RequestHead). KeepsFields h sent) is
@@ -121,6 +128,14 @@ sends_agrees head sent framing framed (inr (ready, readies, sends)) =
           (keeps.fields transfer_encoding (λ other. cc)) framed
           ∙ sym framed;
     }
+
+-- so the head that is sent of a client's that hooks left as it was agrees with it
+pub sends_agrees : (called : List LogEntry) (head sent : RequestHead) (framing : Framing)
+    → head_behind head called ≡ head → request_framing head ≡ Some framing
+    → Sends called head sent → Agrees head sent
+sends_agrees called head sent framing same framed sends =
+    made_agrees head sent framing framed
+    (subst (λ (h : RequestHead). MakesSent (client_of head) h (Ok sent)) same sends.0)
 
 -- ---- what is refused
 
@@ -145,51 +160,86 @@ never_unready head error (why, left, is, inl spoke) =
 never_unready head error (why, left, is, inr (other, leaves)) =
     absurd (let clash : Some why ≡ None = ap (λ (o : Outcome). o.refusal) leaves in cc)
 
--- the error of a head that is refused where it was to be sent
-pub refused_code : (head : RequestHead) (e : Error) → RefusesToSend head e
-    → answer_code e.esource e.etype ≡ 500
-refused_code head e (inl (error, failed, same)) = absurd (never_unready head error failed)
-refused_code head e (inr (ready, readies, inl (error, inl custom, same))) =
+-- the error with which no head is made
+made_code : (b : Bool) (head : RequestHead) (e : Error)
+    → MakesSent (client_with b) head (Err e) → answer_code e.esource e.etype ≡ 500
+made_code b head e (inl (error, failed, same)) = absurd (never_unready head error failed)
+made_code b head e (inr (ready, readies, inl (error, inl custom, same))) =
     absurd (let clash : false ≡ true = custom.0 in cc)
-refused_code head e (inr (ready, readies, inl (error, inr (standard, refuses), same))) =
+made_code b head e (inr (ready, readies, inl (error, inr (standard, refuses), same))) =
     own_code e refuses.0 (same_error e error (Err e) refl same ∙ refuses.2)
-refused_code head e (inr (ready, readies, inr (middle, settles, refuses))) =
+made_code b head e (inr (ready, readies, inr (middle, settles, refuses))) =
     unset_code e refuses.0 refuses.2
+
+-- the error of a head that is refused where it was to be sent
+pub refused_code : (called : List LogEntry) (head : RequestHead) (e : Error)
+    → RefusesToSend called head e → answer_code e.esource e.etype ≡ 500
+refused_code called head e (inl made) =
+    made_code (has_body (request_framing head)) (head_behind head called) e made
+refused_code called head e (inr (bare, is)) = rw is refl
 
 -- ---- what a call makes
 
--- a head that was made ready, and then as it is sent, is the one that is sent
-pub made_of : (client : Client) (copy ready asked : RequestHead) (result : Result RequestHead Fail)
+-- a head that was made ready, and then as it is sent, is the one that is sent; with a framing
+pub framed_of : (client : Client) (copy ready asked sent framed : RequestHead)
     → ReadyHead over.H1 client.custom copy (Ok ready) → asked ≡ copy
-    → Makes (SentHead over.H1 client asked ready) result → Makes (MakesSent client copy) result
-made_of client copy ready asked (Ok sent) readies same made =
-    inr (
-      ready,
-      readies,
-      subst (λ (h : RequestHead). SentHead over.H1 client h ready (Ok sent)) same
-          made,
+    → SentHead over.H1 client asked ready (Ok sent)
+    → (framed ≡ sent) × IsSome (request_framing sent)
+    → MakesFramed client copy (Ok framed)
+framed_of client copy ready asked sent framed readies same made (is, some) =
+    subst (λ (h : RequestHead). MakesFramed client copy (Ok h)) (sym is) (
+      inr (
+        ready,
+        readies,
+        subst (λ (h : RequestHead). SentHead over.H1 client h ready (Ok sent)) same made,
+      ),
+      some_framing (request_framing sent) some,
     )
-made_of client copy ready asked (Err fail.OutOfMemory) readies same made = tt
-made_of client copy ready asked (Err (fail.Error e)) readies same made =
+  where
+    some_framing : (found : Option Framing) → IsSome found
+        → (framing : Framing) × (found ≡ Some framing)
+    some_framing None some = cc
+    some_framing (Some framing) some = (framing, refl)
+
+-- one without is refused
+pub unframed_of : (client : Client) (copy ready asked sent : RequestHead) (e : Error)
+    → ReadyHead over.H1 client.custom copy (Ok ready) → asked ≡ copy
+    → SentHead over.H1 client asked ready (Ok sent) → e ≡ unframed
+    → request_framing sent ≡ None → MakesFramed client copy (Err e)
+unframed_of client copy ready asked sent e readies same made is none =
     inr (
-      ready,
-      readies,
-      subst (λ (h : RequestHead). SentHead over.H1 client h ready (Err e)) same
-          made,
+      record {
+        sent = sent;
+        made = inr (
+          ready,
+          readies,
+          subst (λ (h : RequestHead). SentHead over.H1 client h ready (Ok sent)) same made,
+        );
+        no_framing = none;
+      },
+      is,
     )
 
--- one that was not made ready is not sent
-pub made_unready : (client : Client) (copy : RequestHead) (failure : Fail)
-    → Makes (ReadyHead over.H1 client.custom copy) (Err failure)
-    → Makes (MakesSent client copy) (Err failure)
-made_unready client copy fail.OutOfMemory made = tt
-made_unready client copy (fail.Error e) made = inl (e, made, refl)
+-- one that was not made ready is not sent, nor one that was not made as it is sent
+pub unready_of : (client : Client) (copy : RequestHead) (failure : Fail)
+    → FailsToMake (ReadyHead over.H1 client.custom copy) failure
+    → FailsToMake (MakesFramed client copy) failure
+unready_of client copy fail.OutOfMemory made = tt
+unready_of client copy (fail.Error e) made = inl (inl (e, made, refl))
+
+pub unsent_of : (client : Client) (copy ready asked : RequestHead) (failure : Fail)
+    → ReadyHead over.H1 client.custom copy (Ok ready) → asked ≡ copy
+    → FailsToMake (SentHead over.H1 client asked ready) failure
+    → FailsToMake (MakesFramed client copy) failure
+unsent_of client copy ready asked fail.OutOfMemory readies same made = tt
+unsent_of client copy ready asked (fail.Error e) readies same made =
+    inl (inr (
+      ready,
+      readies,
+      subst (λ (h : RequestHead). SentHead over.H1 client h ready (Err e)) same made,
+    ))
 
 -- ---- the client's body
-
--- a client of HTTP/1, whose body has bytes or none
-abbrev client_with : Bool → Client
-client_with b = record { custom = false; has_body = b }
 
 -- whether a body has bytes is said by the framing of its head
 pub client_is : (head : RequestHead) (framing : Framing) (done : Bool)

@@ -359,7 +359,8 @@ module _ {L C : Type 0} (state : L → LinkState) (start_at : L → LinkStart) w
       owing (Close link lease keep outcome) o = refl
       owing (Answer session owed attempts) o = refl
       owing (Ended outcome attempts) o = refl
-  owes_moved w x (Connect context session tries) next settled owes owes' moved = inr (inr owes')
+  owes_moved w x (Connect context session tries) next settled owes owes' moved =
+      inr (inr (inr owes'))
   owes_moved w x (Relay a) next settled owes owes' moved = inr owes'
   owes_moved w x (Fail link lease keep session e) next settled owes owes' moved = owes'
   owes_moved w x (Close link lease keep outcome) next settled owes owes' moved = absurd moved
@@ -388,10 +389,10 @@ module _ {L C : Type 0} (state : L → LinkState) (start_at : L → LinkStart) w
   settled_cause w x phase next settled step.Ended before after does over waits cause = tt
 
   -- a turn of a request that has not ended, settled, is a step
-  live_on : (s : Start) (p : Passed) (x : World) (phase next settled : Phase L C)
+  live_on : (s s' : Start) (p : Passed) (x : World) (phase next settled : Phase L C)
       (before mid after : Option (List (Returned L))) (told_before told_after : Option (List Fault))
       (had has : Option (List Offer)) → is_over phase ≡ false
-      → Advances state start_at s x next → mid ≡ before → Settles next mid after settled
+      → Advances state start_at s' x next → mid ≡ before → Settles next mid after settled
       → Gains told_before (faults_of_turn phase next) told_after
       → Takes had (offers_of_turn start_at phase next) has
       → offers_before start_at [] phase ++ offers_of_turn start_at phase next
@@ -402,13 +403,13 @@ module _ {L C : Type 0} (state : L → LinkState) (start_at : L → LinkStart) w
       → TurnCounts state start_at n client x.client extra.used [] next)
       → ((tasks ends : ℕ)
       → PhaseCounts {C = C} state start_at tasks ends s client ahead [] phase
-      → TurnedCounts {C = C} state start_at (extra.moved + tasks) (extra.ended + ends) s x.client
+      → TurnedCounts {C = C} state start_at (extra.moved + tasks) (extra.ended + ends) s' x.client
       x.ahead [] next)
-      → StepsOn state start_at s p x [] before after told_before told_after had has client ahead
+      → StepsOn state start_at s s' p x [] before after told_before told_after had has client ahead
       was now phase settled
-  live_on s p x phase next settled before mid after told_before told_after had has live turn kept
+  live_on s s' p x phase next settled before mid after told_before told_after had has live turn kept
       does told takes carries tells client ahead was now extra adds uses bounds =
-      let done = settle_run s turn.passed x next settled mid after does turn.run in
+      let done = settle_run s' turn.passed x next settled mid after does turn.run in
       record {
         passed = turn.passed;
         handed = done.handed;
@@ -452,7 +453,7 @@ module _ {L C : Type 0} (state : L → LinkState) (start_at : L → LinkStart) w
       → PhaseCounts {C = C} state start_at tasks ends s client ahead own (Ended outcome attempts)
       → TurnedCounts {C = C} state start_at (extra.moved + tasks) (extra.ended + ends) s x.client
       x.ahead own next)
-      → StepsOn {C = C} state start_at s p x own before after told_before told_after had has client
+      → StepsOn {C = C} state start_at s s p x own before after told_before told_after had has client
       ahead was now (Ended outcome attempts) settled
   ended_on s p own w x outcome attempts next settled did before mid after told_before told_after
       had has rests kept does told takes run client ahead was now extra adds uses bounds =
@@ -513,7 +514,7 @@ module _ {L C : Type 0} (state : L → LinkState) (start_at : L → LinkStart) w
       → (client : LinkState) (ahead : List ℕ) (was now extra : Work) → now ≡ added_work was extra
       → ((n : ℕ) → PhaseUses {C = C} state start_at n [] (Close link lease keep outcome)
       → TurnCounts state start_at n client x.client extra.used [] next)
-      → StepsOn state start_at s p x [] before after told_before told_after had has client ahead
+      → StepsOn state start_at s s p x [] before after told_before told_after had has client ahead
       was now (Close link lease keep outcome) settled
   closed_on s p w x link lease keep outcome next settled did before mid after told_before told_after
       had has rests kept does told takes run client ahead was now extra adds uses =
@@ -551,11 +552,11 @@ module _ {L C : Type 0} (state : L → LinkState) (start_at : L → LinkStart) w
       }
 
   -- a turn of a phase that answers, settled, is a step
-  answer_step : (s : Start) (p : Passed) (own : List (Returned L)) (x : World)
+  answer_step : (s s' : Start) (p : Passed) (own : List (Returned L)) (x : World)
       (session : Box HttpSession) (owes : Owed) (attempts : List AttemptRecord)
       (next settled : Phase L C) (before mid after : Option (List (Returned L)))
       (told_before told_after : Option (List Fault)) (had has : Option (List Offer))
-      → AnswersOn state start_at s x own attempts next → mid ≡ before
+      → AnswersOn state start_at s' x own attempts next → mid ≡ before
       → Settles next mid after settled → Gains told_before [] told_after → Takes had [] has
       → (client : LinkState) (ahead : List ℕ) (was now extra : Work) → now ≡ added_work was extra
       → ((n : ℕ) → PhaseUses {C = C} state start_at n own (Answer session owes attempts)
@@ -563,11 +564,11 @@ module _ {L C : Type 0} (state : L → LinkState) (start_at : L → LinkStart) w
       → ((tasks ends : ℕ)
       → PhaseCounts {C = C} state start_at tasks ends s client ahead own
       (Answer session owes attempts)
-      → TurnedCounts {C = C} state start_at (extra.moved + tasks) (extra.ended + ends) s x.client
+      → TurnedCounts {C = C} state start_at (extra.moved + tasks) (extra.ended + ends) s' x.client
       x.ahead own next)
-      → StepsOn state start_at s p x own before after told_before told_after had has client ahead
+      → StepsOn state start_at s s' p x own before after told_before told_after had has client ahead
       was now (Answer session owes attempts) settled
-  answer_step s p own x session owes attempts next settled before mid after told_before told_after
+  answer_step s s' p own x session owes attempts next settled before mid after told_before told_after
       had has turn kept does told takes client ahead was now extra adds uses bounds =
       let stayed = settles_same next settled mid after does
       (unlinked_open state start_at next turn.unlinked) in
@@ -578,9 +579,9 @@ module _ {L C : Type 0} (state : L → LinkState) (start_at : L → LinkStart) w
         gained = stayed.1 ∙ kept ∙ more-nil before;
         run = subst
             (λ (rs : List (Returned L)).
-            RunSoFar state start_at s turn.advances.passed x rs settled)
+            RunSoFar state start_at s' turn.advances.passed x rs settled)
             (sym (append-nil own))
-            (subst (λ (k : Phase L C). RunSoFar state start_at s turn.advances.passed x own k)
+            (subst (λ (k : Phase L C). RunSoFar state start_at s' turn.advances.passed x own k)
             (sym stayed.0) turn.advances.run);
         refused = record {
           faults = [];
@@ -612,10 +613,10 @@ module _ {L C : Type 0} (state : L → LinkState) (start_at : L → LinkStart) w
         adds = adds;
         bounded = λ tasks ends counted. subst
             (λ (rs : List (Returned L)). PhaseCounts state start_at (extra.moved + tasks)
-            (extra.ended + ends) s x.client x.ahead rs settled) (sym (append-nil own))
+            (extra.ended + ends) s' x.client x.ahead rs settled) (sym (append-nil own))
             (subst (λ (k : Phase L C). PhaseCounts state start_at (extra.moved + tasks)
-            (extra.ended + ends) s x.client x.ahead own k) (sym stayed.0)
-            (open_counts state start_at (extra.moved + tasks) (extra.ended + ends) s x.client
+            (extra.ended + ends) s' x.client x.ahead own k) (sym stayed.0)
+            (open_counts state start_at (extra.moved + tasks) (extra.ended + ends) s' x.client
             x.ahead
             own next (unlinked_open state start_at next turn.unlinked)
             (bounds tasks ends counted)));
@@ -623,11 +624,12 @@ module _ {L C : Type 0} (state : L → LinkState) (start_at : L → LinkStart) w
       }
 
   -- a step takes the run so far on
-  pub step_on : (s : Start) (p : Passed) (own : List (Returned L)) (w x : World)
+  pub step_on : (s s' : Start) (p : Passed) (own : List (Returned L)) (w x : World)
       (phase next settled : Phase L C) (did : RunStep)
       (before mid after : Option (List (Returned L))) (told_before told_after : Option (List Fault))
       (had has : Option (List Offer))
-      → (RunSoFar state start_at s p w own phase → TurnOf state start_at s x own phase next)
+      → (RunSoFar state start_at s p w own phase → TurnOf state start_at s' x own phase next)
+      → (is_over phase ≡ true → s' ≡ s)
       → Rests w x phase next did → mid ≡ before → Settles next mid after settled
       → Gains told_before (faults_of_turn phase next) told_after
       → Takes had (offers_of_turn start_at phase next) has
@@ -642,53 +644,66 @@ module _ {L C : Type 0} (state : L → LinkState) (start_at : L → LinkStart) w
       → TurnCounts state start_at n client x.client extra.used own next)
       → ((tasks ends : ℕ)
       → PhaseCounts {C = C} state start_at tasks ends s client ahead own phase
-      → TurnedCounts {C = C} state start_at (extra.moved + tasks) (extra.ended + ends) s x.client
+      → TurnedCounts {C = C} state start_at (extra.moved + tasks) (extra.ended + ends) s' x.client
       x.ahead own next)
-      → StepsOn state start_at s p x own before after told_before told_after had has client ahead
+      → StepsOn state start_at s s' p x own before after told_before told_after had has client ahead
       was now phase settled
-  step_on s p [] w x ReadHead next settled did before mid after t u h k
-      turn rests kept does told takes carries tells run c i j o m adds uses bounds =
-      live_on s p x ReadHead next settled before mid after t u h k refl
+  step_on s s' p [] w x ReadHead next settled did before mid after t u h k
+      turn same rests kept does told takes carries tells run c i j o m adds uses bounds =
+      live_on s s' p x ReadHead next settled before mid after t u h k refl
       (turn run) kept does told takes (carries refl) (tells refl) c i j o m adds uses bounds
-  step_on s p [] w x (Connect context session tries) next settled did before mid after t u h k
-      turn rests kept does told takes carries tells run c i j o m adds uses bounds =
-      live_on s p x (Connect context session tries) next settled before mid after t u h k refl
+  step_on s s' p [] w x (Connect context session tries) next settled did before mid after t u h k
+      turn same rests kept does told takes carries tells run c i j o m adds uses bounds =
+      live_on s s' p x (Connect context session tries) next settled before mid after t u h k refl
       (turn run) kept does told takes (carries refl) (tells refl) c i j o m adds uses bounds
-  step_on s p [] w x (Relay a) next settled did before mid after t u h k
-      turn rests kept does told takes carries tells run c i j o m adds uses bounds =
-      live_on s p x (Relay a) next settled before mid after t u h k refl
+  step_on s s' p [] w x (Relay a) next settled did before mid after t u h k
+      turn same rests kept does told takes carries tells run c i j o m adds uses bounds =
+      live_on s s' p x (Relay a) next settled before mid after t u h k refl
       (turn run) kept does told takes (carries refl) (tells refl) c i j o m adds uses bounds
-  step_on s p [] w x (Fail link lease keep session e) next settled did before mid after t u h k
-      turn rests kept does told takes carries tells run c i j o m adds uses bounds =
-      live_on s p x (Fail link lease keep session e) next settled before mid after t u h k refl
+  step_on s s' p [] w x (Fail link lease keep session e) next settled did before mid after t u h k
+      turn same rests kept does told takes carries tells run c i j o m adds uses bounds =
+      live_on s s' p x (Fail link lease keep session e) next settled before mid after t u h k refl
       (turn run) kept does told takes (carries refl) (tells refl) c i j o m adds uses bounds
-  step_on s p [] w x (Close link lease keep outcome) next settled did before mid after t u h k
-      turn rests kept does told takes carries tells run c i j o m adds uses bounds =
-      closed_on s p w x link lease keep outcome next settled did before mid after t u h k rests
-      kept does told takes run c i j o m adds uses
-  step_on s p (r ∷ own) w x ReadHead next settled did before mid after t u
-      h k turn rests kept does told takes carries tells run c i j o m adds uses bounds =
+  step_on s s' p [] w x (Close link lease keep outcome) next settled did before mid after t u h k
+      turn same rests kept does told takes carries tells run c i j o m adds uses bounds =
+      subst (λ (r : Start). StepsOn {C = C} state start_at s r p x [] before after t u h k c i j o
+      (Close link lease keep outcome) settled) (sym (same refl))
+      (closed_on s p w x link lease keep outcome next settled did before mid after t u h k rests
+      kept does told takes run c i j o m adds uses)
+  step_on s s' p (r ∷ own) w x ReadHead next settled did before mid after t u
+      h k turn same rests kept does told takes carries tells run c i j o m adds uses bounds =
       absurd run.holds
-  step_on s p (r ∷ own) w x (Connect context session tries) next settled did before mid after t u
-      h k turn rests kept does told takes carries tells run c i j o m adds uses bounds =
+  step_on s s' p (r ∷ own) w x (Connect context session tries) next settled did before mid after t u
+      h k turn same rests kept does told takes carries tells run c i j o m adds uses bounds =
       absurd run.holds
-  step_on s p (r ∷ own) w x (Relay a) next settled did before mid after t u
-      h k turn rests kept does told takes carries tells run c i j o m adds uses bounds =
+  step_on s s' p (r ∷ own) w x (Relay a) next settled did before mid after t u
+      h k turn same rests kept does told takes carries tells run c i j o m adds uses bounds =
       absurd run.holds
-  step_on s p (r ∷ own) w x (Fail link lease keep session e) next settled did before mid after t u
-      h k turn rests kept does told takes carries tells run c i j o m adds uses bounds =
+  step_on s s' p (r ∷ own) w x (Fail link lease keep session e) next settled did before mid after t u
+      h k turn same rests kept does told takes carries tells run c i j o m adds uses bounds =
       absurd run.holds
-  step_on s p (r ∷ own) w x (Close link lease keep outcome) next settled did before mid after t u
-      h k turn rests kept does told takes carries tells run c i j o m adds uses bounds =
+  step_on s s' p (r ∷ own) w x (Close link lease keep outcome) next settled did before mid after t u
+      h k turn same rests kept does told takes carries tells run c i j o m adds uses bounds =
       absurd run.holds
-  step_on s p own w x (Answer session owes attempts) next settled did before mid after t u h k
-      turn rests kept does told takes carries tells run c i j o m adds uses bounds =
-      answer_step s p own x session owes attempts next settled before mid after t u h k (turn run)
+  step_on s s' p own w x (Answer session owes attempts) next settled did before mid after t u h k
+      turn same rests kept does told takes carries tells run c i j o m adds uses bounds =
+      answer_step s s' p own x session owes attempts next settled before mid after t u h k (turn run)
       kept does told takes c i j o m adds uses bounds
-  step_on s p own w x (Ended outcome attempts) next settled did before mid after t u h k
-      turn rests kept does told takes carries tells run c i j o m adds uses bounds =
-      ended_on s p own w x outcome attempts next settled did before mid after t u h k rests kept
-      does told takes run c i j o m adds uses bounds
+  step_on s s' p own w x (Ended outcome attempts) next settled did before mid after t u h k
+      turn same rests kept does told takes carries tells run c i j o m adds uses bounds =
+      let back : (r : Start) → r ≡ s → ((tasks ends : ℕ)
+      → PhaseCounts {C = C} state start_at tasks ends s c i own (Ended outcome attempts)
+      → TurnedCounts {C = C} state start_at (m.moved + tasks) (m.ended + ends) r x.client x.ahead own
+      next)
+      → StepsOn {C = C} state start_at s r p x own before after t u h k c i j o
+      (Ended outcome attempts) settled =
+      λ r is counts. subst (λ (q : Start). StepsOn {C = C} state start_at s q p x own before after t
+      u h k c i j o (Ended outcome attempts) settled) (sym is)
+      (ended_on s p own w x outcome attempts next settled did before mid after t u h k rests kept
+      does told takes run c i j o m adds uses
+      (λ tasks ends had. subst (λ (q : Start). TurnedCounts {C = C} state start_at (m.moved + tasks)
+      (m.ended + ends) q x.client x.ahead own next) is (counts tasks ends had))) in
+      back s' (same refl) bounds
 
   -- an attempt in which all that can be done asks a silent link
   quiet_over : (s : Start) (p : Passed) (w : World) (a : Box (Attempt L C))

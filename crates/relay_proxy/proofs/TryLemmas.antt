@@ -111,9 +111,13 @@ pub at_most : {L : Type 0} (state : L → LinkState) (start_at : L → LinkStart
     → length attempts ≤ s.most
 at_most state start_at s p w [] attempts NoRequest ends some = none_made s attempts ends.1
 at_most state start_at s p w [] attempts (Refused error) ends some = none_made s attempts ends.1
-at_most state start_at s p w [] attempts (Served None reuse) ends some = absurd ends.0
+at_most state start_at s p w [] attempts (Served None reuse) ends some =
+    none_made s attempts ends.1
 at_most state start_at s p w [] attempts (Served (Some e) reuse) ends some =
-    with_last s ends.1.tries attempts ends.1.last ends.1.attempts_are ends.1.are_tries some
+    elim ends.1 [
+      | inl made ↦ with_last s made.tries attempts made.last made.attempts_are made.are_tries some
+      | inr ahead ↦ none_made s attempts ahead.0
+    ]
 at_most state start_at s p w [] attempts TurnLimit ends some =
     unfinished_within s p w attempts ends.1 some
 at_most state start_at s p w [] attempts OutOfMemory ends some =

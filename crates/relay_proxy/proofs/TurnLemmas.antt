@@ -51,22 +51,22 @@ module _ {L C : Type 0} (state : L → LinkState) (start_at : L → LinkStart) w
       absurd (true≢false (sym is))
 
   -- a turn that reads the head is one of a request that handed nothing back
-  pub head_turn : (s : Start) (p : Passed) (w x : World) (own : List (Returned L))
+  pub head_turn : (s s' : Start) (p : Passed) (w x : World) (own : List (Returned L))
       (next : Phase L C) → RunSoFar {C = C} state start_at s p w own ReadHead
-      → (RunSoFar {C = C} state start_at s p w [] ReadHead → Advances state start_at s x next)
-      → AdvancesOn state start_at s x own next
-  head_turn s p w x [] next run turn = turn run
-  head_turn s p w x (r ∷ own) next run turn = absurd run.holds
+      → (RunSoFar {C = C} state start_at s p w [] ReadHead → Advances state start_at s' x next)
+      → AdvancesOn state start_at s' x own next
+  head_turn s s' p w x [] next run turn = turn run
+  head_turn s s' p w x (r ∷ own) next run turn = absurd run.holds
 
-  -- and so is one that asks the connector
-  pub connect_turn : (s : Start) (p : Passed) (w x : World) (own : List (Returned L)) (context : C)
-      (session : Box HttpSession) (tries : List AttemptRecord) (next : Phase L C)
+  -- and so is one that calls a hook or asks the connector
+  pub connect_turn : (s s' : Start) (p : Passed) (w x : World) (own : List (Returned L))
+      (context : C) (session : Box HttpSession) (tries : List AttemptRecord) (next : Phase L C)
       → RunSoFar state start_at s p w own (Connect context session tries)
       → (RunSoFar state start_at s p w [] (Connect context session tries)
-      → Advances state start_at s x next)
-      → AdvancesOn state start_at s x own next
-  connect_turn s p w x [] context session tries next run turn = turn run
-  connect_turn s p w x (r ∷ own) context session tries next run turn = absurd run.holds
+      → Advances state start_at s' x next)
+      → AdvancesOn state start_at s' x own next
+  connect_turn s s' p w x [] context session tries next run turn = turn run
+  connect_turn s s' p w x (r ∷ own) context session tries next run turn = absurd run.holds
 
   -- it had not ended before
   pub relaying_rests : (w x : World) (phase next : Phase L C) (did : RunStep)

@@ -55,13 +55,13 @@ module _ {L : Type 0} (state : L → LinkState) (start_at : L → LinkStart) whe
       (turns : ℕ) (work : Work) (tasks ends : ℕ) → processed.history.turns_taken ≡ turns
       → processed.history.items_used ≡ work.used → processed.history.tasks_moved ≡ work.moved
       → processed.history.sides_ended ≡ work.ended → turns ≤ total_work work
-      → work.moved ≤ tasks → work.ended ≤ ends
+      → work.called ≤ length processed.history.log → work.moved ≤ tasks → work.ended ≤ ends
       → IsWithin tasks ends (most_sides (length processed.history.attempts)) s client
       (OwnGave state start_at own)
       → IsBounded state start_at s client own processed.history
-  bounded_by s client own processed turns work tasks ends taken used moved sides worked tasks_fit
-      ends_fit within = record {
-        worked = omega (arith, taken, used, moved, sides, worked);
+  bounded_by s client own processed turns work tasks ends taken used moved sides worked logged
+      tasks_fit ends_fit within = record {
+        worked = omega (arith, taken, used, moved, sides, worked, logged);
         within = record {
           came = within.came;
           got = within.got;
@@ -185,15 +185,15 @@ module _ {L C : Type 0} (state : L → LinkState) (start_at : L → LinkStart) w
       }
 
   -- one more step that is counted
-  pub goes_on : (s : Start) (w x : World) (before now after : Option (List (Returned L)))
+  pub goes_on : (s s' : Start) (w x : World) (before now after : Option (List (Returned L)))
       (t u v : Option (List Fault)) (h k l : Option (List Offer)) (first : LinkState)
       (m n : Machine L C) (turns : ℕ)
       (under : IsUnderWay s w before now t u h k first m turns)
-      → StepsOn state start_at s under.passed x under.own now after u v k l w.client w.ahead m.work
-      n.work m.phase n.phase
+      → StepsOn state start_at s s' under.passed x under.own now after u v k l w.client w.ahead
+      m.work n.work m.phase n.phase
       → n.turns ≡ up m.turns → turns + 1 ≤ last_count
-      → IsUnderWay s x before after t v h l first n (turns + 1)
-  goes_on s w x before now after t u v h k l first m n turns under steps one few = record {
+      → IsUnderWay s' x before after t v h l first n (turns + 1)
+  goes_on s s' w x before now after t u v h k l first m n turns under steps one few = record {
     passed = steps.passed;
     own = under.own ++ steps.handed;
     gained = steps.gained
@@ -228,9 +228,9 @@ module _ {L C : Type 0} (state : L → LinkState) (start_at : L → LinkStart) w
       → processed.history.items_used ≡ m.work.used
       → processed.history.tasks_moved ≡ m.work.moved
       → processed.history.sides_ended ≡ m.work.ended → m.turns ≤ total_work m.work
-      → Processes state start_at s x before after t v h l first most processed
+      → m.work.called ≤ length processed.history.log → Processes state start_at s x before after t v h l first most processed
   all_taken s w x before now after t u v h k l first m turns most processed under all ends told kept
-      taken same kept_ahead items tasks sides worked = record {
+      taken same kept_ahead items tasks sides worked logged = record {
         passed = under.passed;
         own = under.own ++ ends.handed;
         gained = ends.gained
@@ -249,7 +249,7 @@ module _ {L C : Type 0} (state : L → LinkState) (start_at : L → LinkStart) w
             under.uses) ends.uses items;
         bounded = bounded_by state start_at s x.client (under.own ++ ends.handed) processed m.turns
             m.work
-            under.tasks under.ends taken items tasks sides worked under.tasks_fit under.ends_fit
+            under.tasks under.ends taken items tasks sides worked logged under.tasks_fit under.ends_fit
             (ends.bounded under.tasks under.ends
             (still_counts under.tasks under.ends s w x under.own m.phase same kept_ahead
             under.bounded));
@@ -261,22 +261,23 @@ module _ {L C : Type 0} (state : L → LinkState) (start_at : L → LinkStart) w
       }
 
   -- the end of a request after a step that ended it, or that met silence
-  pub stopped : (s : Start) (w x y : World) (before now mid after : Option (List (Returned L)))
+  pub stopped : (s s' : Start) (w x y : World) (before now mid after : Option (List (Returned L)))
       (t u v z : Option (List Fault)) (h k l a : Option (List Offer)) (first : LinkState)
       (m n : Machine L C) (turns most : ℕ) (processed : Processed)
       (under : IsUnderWay s w before now t u h k first m turns)
-      (steps : StepsOn state start_at s under.passed x under.own now mid u v k l w.client
+      (steps : StepsOn state start_at s s' under.passed x under.own now mid u v k l w.client
       w.ahead m.work n.work m.phase n.phase)
-      → ComesToEnd state start_at s steps.passed y (under.own ++ steps.handed) mid after n.phase
+      → ComesToEnd state start_at s' steps.passed y (under.own ++ steps.handed) mid after n.phase
       processed
       → z ≡ v → a ≡ l → (processed.outcome ≡ TurnLimit → IsStalled state start_at y n.phase)
       → y.client ≡ x.client → y.ahead ≡ x.ahead → processed.history.turns_taken ≡ n.turns
       → processed.history.items_used ≡ n.work.used
       → processed.history.tasks_moved ≡ n.work.moved
       → processed.history.sides_ended ≡ n.work.ended → n.turns ≤ total_work n.work
-      → Processes state start_at s y before after t z h a first most processed
-  stopped s w x y before now mid after t u v z h k l a first m n turns most processed under steps
-      ends told kept stalled same kept_ahead taken items tasks sides worked =
+      → n.work.called ≤ length processed.history.log
+      → Processes state start_at s' y before after t z h a first most processed
+  stopped s s' w x y before now mid after t u v z h k l a first m n turns most processed under steps
+      ends told kept stalled same kept_ahead taken items tasks sides worked logged =
       record {
         passed = steps.passed;
         own = (under.own ++ steps.handed) ++ ends.handed;
@@ -308,18 +309,18 @@ module _ {L C : Type 0} (state : L → LinkState) (start_at : L → LinkStart) w
         bounded =
             let so_many = steps.work.moved + under.tasks in
             let so_often = steps.work.ended + under.ends in
-            bounded_by state start_at s y.client ((under.own ++ steps.handed) ++ ends.handed)
+            bounded_by state start_at s' y.client ((under.own ++ steps.handed) ++ ends.handed)
             processed n.turns
-            n.work so_many so_often taken items tasks sides worked
+            n.work so_many so_often taken items tasks sides worked logged
             (omega (arith, ap (λ (k : Work). k.moved) steps.adds, under.tasks_fit))
             (omega (arith, ap (λ (k : Work). k.ended) steps.adds, under.ends_fit))
             (ends.bounded so_many so_often
-            (still_counts so_many so_often s x y (under.own ++ steps.handed) n.phase same
+            (still_counts so_many so_often s' x y (under.own ++ steps.handed) n.phase same
             kept_ahead (steps.bounded under.tasks under.ends under.bounded)));
-        attempts = at_most state start_at s steps.passed y
+        attempts = at_most state start_at s' steps.passed y
             ((under.own ++ steps.handed) ++ ends.handed) processed.history.attempts
             processed.outcome ends.ended.ends;
-        exact = exact_of state start_at s steps.passed y
+        exact = exact_of state start_at s' steps.passed y
             ((under.own ++ steps.handed) ++ ends.handed) processed.history.attempts
             processed.outcome ends.ended;
         limit = λ is. inr (ends.quiet is (stalled is));

@@ -47,12 +47,12 @@ module _ {L : Type 0} (state : L → LinkState) (start_at : L → LinkStart) whe
   OwnGave (r ∷ []) got = LinkGave r.link got
   OwnGave (r ∷ q ∷ own) got = ⊥
 
-  -- what a request counted is bounded: each turn did some work, the tasks are no more than twice
+  -- what a request counted is bounded: each turn did some work or called a hook, the tasks are no more than twice
   -- the bytes that its links gave, and the ends are few
   pub record IsBounded (s : Start) (client : LinkState) (own : List (Returned L))
       (history : RunRecord) : Type 0 where
     pub worked : history.turns_taken
-        ≤ history.items_used + history.tasks_moved + history.sides_ended
+        ≤ history.items_used + history.tasks_moved + history.sides_ended + length history.log
     pub within : IsWithin history.tasks_moved history.sides_ended
         (most_sides (length history.attempts)) s client (OwnGave own)
 
@@ -115,6 +115,20 @@ CountsHead (Fail link lease keep session error) work = ⊥
 CountsHead (Close link lease keep outcome) work = ⊥
 CountsHead (Answer session owed attempts) work = (work.moved ≡ 0) × (work.ended ≡ 1)
 CountsHead (Ended outcome attempts) work = (work.moved ≡ 0) × (work.ended ≡ 1)
+
+-- what a turn counts that calls a hook behind those attempts: no task, and one end at most, also
+-- where it was out of memory
+abbrev pub CountsCall : {L C : Type 0} → List AttemptRecord → Phase L C → Work → Type 0
+CountsCall before ReadHead work = ⊥
+CountsCall before (Connect context session tries) work =
+    (work.moved ≡ 0) × (work.ended ≡ 0) × (tries ≡ before)
+CountsCall before (Relay a) work = ⊥
+CountsCall before (Fail link lease keep session error) work = ⊥
+CountsCall before (Close link lease keep outcome) work = ⊥
+CountsCall before (Answer session owed attempts) work =
+    (work.moved ≡ 0) × (work.ended ≡ 0) × (attempts ≡ before)
+CountsCall before (Ended outcome attempts) work =
+    (work.moved ≡ 0) × (work.ended ≤ 1) × (attempts ≡ before)
 
 -- what a turn counts that asks for a link behind those attempts: the head that is to be sent, or
 -- one end, also where that head is refused; one that is refused a link made one attempt more

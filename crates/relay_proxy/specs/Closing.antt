@@ -133,7 +133,7 @@ module _ {L : Type 0} (state : L → LinkState) (start_at : L → LinkStart) whe
     pub head : RequestHead
     pub sent : RequestHead
     pub relayable : IsRelayable head
-    pub sends : Sends head sent
+    pub sends : Sends s.called head sent
     pub under_way : IsUnderWay state start_at (origin_of s head sent (start_at link).reused) p
         w.client w.ahead exchange
     pub silent : SilentIn state start_at w.client exchange

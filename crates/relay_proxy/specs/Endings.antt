@@ -32,21 +32,15 @@ use Rattle.relay_attempt.specs.Order as exchange
 use Rattle.relay_attempt.specs.Order.{FailsFor, order_of, IsRelayed, HasEnded, MayServe, SendsShort}
 use Rattle.relay_attempt.specs.Passed.{Passed}
 use Rattle.relay_valid.specs.Valid.{IsValid}
+use Rattle.relay_proxy.specs.Ahead.{IsOwedAhead, unrelayed}
 use Rattle.relay_proxy.specs.Answer.{owed_text, past_at}
-use Rattle.relay_proxy.specs.Relayable.{IsConnect, IsRelayable, NamesUpgrade}
+use Rattle.relay_proxy.specs.Relayable.{IsAccepted, IsConnect, IsRelayable, NamesUpgrade}
 use Rattle.relay_proxy.specs.Passed.{World, Start, origin_of, asked, TellsClient, TellsLink, IsUnsent, IsUntouched}
 use Rattle.relay_proxy.specs.Sent.{Sends, RefusesToSend}
 use Rattle.relay_proxy.specs.Tries.{AreTries, EndsTrying, IsAskedPeer, fault_error}
 use Rattle.relay_proxy.specs.declared.outcome.Outcome.{Outcome}
 use Rattle.relay_proxy.specs.declared.outcome.Outcome.TheVariants.{NoRequest, Refused, Served, TurnLimit, OutOfMemory}
 use Rattle.relay_proxy.specs.declared.record.AttemptRecord.{AttemptRecord}
-
--- the client's bytes begin with this head, which is of a form that is relayed
-pub record IsAccepted (s : Start) (p : Passed) (head : RequestHead) : Type 0 where
-  pub framing : Framing
-  pub len : ℕ
-  pub has : HasRequest (asked s p) head framing len
-  pub relayable : IsRelayable head
 
 -- why the client is given a generated answer, which one, and the error that goes with it
 pub data IsTurnedDown (bytes answer : List ℕ) (error : Option Error) : Type 0 where
@@ -64,28 +58,26 @@ pub data IsTurnedDown (bytes answer : List ℕ) (error : Option Error) : Type 0 
       → answer ≡ generated 405 → error ≡ None → IsTurnedDown bytes answer error
 
 -- what was sent and what was written, whatever the outcome: nothing; the front of a generated
--- answer, with nothing sent; those of one exchange, whose request is of a form that is relayed; or
--- those of one that failed when a part had been written: the front of what was queued, with the
--- answer to its error behind it
+-- answer, or of what hooks answered, with nothing sent; those of one exchange, whose request is of a
+-- form that is relayed; or those of one that failed when a part had been written: the front of what
+-- was queued, with the answer to its error behind it
 pub data IsInOrder (s : Start) (p : Passed) : Type 0 where
   is_nothing : p.written ≡ [] → p.sent ≡ [] → IsInOrder s p
   is_refusal : (answer : List ℕ) (error : Option Error) → IsTurnedDown (asked s p) answer error
       → IsFrontOf p.written answer → p.sent ≡ [] → IsInOrder s p
+  is_ahead : (why : Option Error) (text : List ℕ) → IsOwedAhead s p why text
+      → IsFrontOf p.written text → p.sent ≡ [] → IsInOrder s p
   is_exchange : (head sent : RequestHead) (reused closed : Bool) → IsRelayable head
-      → Sends head sent → exchange.IsInOrder (origin_of s head sent reused) p closed
+      → Sends s.called head sent → exchange.IsInOrder (origin_of s head sent reused) p closed
       → IsInOrder s p
   is_unlinked : (head : RequestHead) → IsAccepted s p head
       → IsFrontOf p.written (generated 502) → p.sent ≡ [] → IsInOrder s p
-  is_unsent : (head : RequestHead) (e : Error) → IsAccepted s p head → RefusesToSend head e
+  is_unsent : (head : RequestHead) (e : Error) → IsAccepted s p head → RefusesToSend s.called head e
       → IsFrontOf p.written (generated 500) → p.sent ≡ [] → IsInOrder s p
   is_failure : (head sent : RequestHead) (reused closed : Bool) (before : List ℕ) (e : Error)
-      → IsRelayable head → Sends head sent
+      → IsRelayable head → Sends s.called head sent
       → (order : exchange.IsInOrder (origin_of s head sent reused) (past_at p before) closed)
       → IsFrontOf p.written (owed_text order e) → IsInOrder s p
-
--- the error of a request that is not relayed
-abbrev pub unrelayed : ErrorSource → Error
-unrelayed side = new_error (kind.Custom 1) side
 
 -- the error of a client that ended inside its head
 abbrev pub left_early : Error
@@ -194,6 +186,30 @@ pub record FailsToConnect (s : Start) (p : Passed) (w : World) (e : Error) : Typ
   pub unconnected : IsUnconnected s p w e
   pub answered : IsGiven s p w (generated 502)
 
+-- a write of the client's link failed, and its fault is the last that the link tells of its writes
+-- since the request began
+pub record FailsToGive (s : Start) (w : World) (fault : Fault) : Type 0 where
+  pub kind : IsWriteFault fault
+  pub rose : Rose s.faults w.client.faults
+  pub told : IsLast s.write_faults w.client.write_faults fault
+
+-- the client was given what hooks answered, or a write of it failed; or, where they stopped the
+-- request with an error, the answer to that
+abbrev pub IsGivenAhead : Start → Passed → World → Option Error → List ℕ → Option Error → Type 0
+IsGivenAhead s p w None text told =
+    ((told ≡ None) × (p.written ≡ text))
+    ⊎ ((fault : Fault) × FailsToGive s w fault × (told ≡ Some (fault_error Downstream fault))
+    × IsFrontOf p.written text)
+IsGivenAhead s p w (Some e) text told = (told ≡ Some e) × IsGiven s p w text
+
+-- the hooks before the attempts ended the request, by that error or without one
+pub record EndsAhead (s : Start) (p : Passed) (w : World) (told : Option Error) : Type 0 where
+  pub why : Option Error
+  pub text : List ℕ
+  pub owed : IsOwedAhead s p why text
+  pub given : IsGivenAhead s p w why text told
+  pub unsent : IsUnsent p
+
 -- how it ends where the client ended with these bytes of its head
 abbrev pub ended_outcome : List ℕ → Outcome
 ended_outcome [] = NoRequest
@@ -204,8 +220,9 @@ abbrev pub EndsUnlinked : Start → Passed → World → Outcome → Type 0
 EndsUnlinked s p w NoRequest = IsNoRequest s p w
 EndsUnlinked s p w (Refused error) =
     IsAnsweredHere s p error ⊎ (IsNotRelayed s p w error ⊎ IsClientFault s p w error)
-EndsUnlinked s p w (Served None reuse) = ⊥
-EndsUnlinked s p w (Served (Some e) reuse) = FailsToConnect s p w e × (reuse ≡ false)
+EndsUnlinked s p w (Served None reuse) = EndsAhead s p w None × (reuse ≡ false)
+EndsUnlinked s p w (Served (Some e) reuse) =
+    (FailsToConnect s p w e ⊎ EndsAhead s p w (Some e)) × (reuse ≡ false)
 EndsUnlinked s p w TurnLimit = IsUnsent p
 EndsUnlinked s p w OutOfMemory = IsUnsent p
 
@@ -228,7 +245,7 @@ pub record IsRelayedWhole
   pub head : RequestHead
   pub sent : RequestHead
   pub relayable : IsRelayable head
-  pub sends : Sends head sent
+  pub sends : Sends s.called head sent
   pub relayed : IsRelayed (origin_of s head sent start.reused) p link start
   -- both heads agree, so the request does not end short
   pub unshort : ¬ (SendsShort (origin_of s head sent start.reused) p link.ended relayed.order)
@@ -256,7 +273,7 @@ pub record HasFailed
   pub head : RequestHead
   pub sent : RequestHead
   pub relayable : IsRelayable head
-  pub sends : Sends head sent
+  pub sends : Sends s.called head sent
   pub before : List ℕ
   pub why : FailsFor (origin_of s head sent start.reused) (past_at p before) client link start e
 
@@ -272,7 +289,7 @@ pub record IsRefusedAhead (s : Start) (p : Passed) (link : LinkState) (start : L
     : Type 0 where
   pub head : RequestHead
   pub accepted : IsAccepted s p head
-  pub refused : RefusesToSend head e
+  pub refused : RefusesToSend s.called head e
   -- which is answered so
   pub status : answer_code e.esource e.etype ≡ 500
   pub fresh : IsHandedOut link start start.reused
@@ -315,7 +332,7 @@ pub record IsPartRelayed (s : Start) (p : Passed) (link : LinkState) (start : Li
   pub head : RequestHead
   pub sent : RequestHead
   pub relayable : IsRelayable head
-  pub sends : Sends head sent
+  pub sends : Sends s.called head sent
   pub order : exchange.IsInOrder (origin_of s head sent start.reused) p link.ended
 
 -- the same of an attempt that failed with that error: a part of what the client is owed
@@ -389,12 +406,14 @@ pub record IsHalfRefused (s : Start) (p : Passed) (w : World) (attempts : List A
   pub made : EndsTrying s attempts e
 
 -- what the client was given of a request that made no attempt, where it was not brought to an end:
--- nothing, or the front of the answer to a head that is turned down
+-- nothing, or the front of the answer to a head that is turned down, or of what it is owed by hooks
 abbrev pub IsPartRefused : Start → Passed → Type 0
 IsPartRefused s p =
     (p.written ≡ [])
-    ⊎ ((answer : List ℕ) × (error : Option Error) × IsTurnedDown (asked s p) answer error
+    ⊎ (((answer : List ℕ) × (error : Option Error) × IsTurnedDown (asked s p) answer error
     × IsFrontOf p.written answer)
+    ⊎ ((why : Option Error) × (text : List ℕ) × IsOwedAhead s p why text
+    × IsFrontOf p.written text))
 
 -- the attempts of a request that had no link and was not brought to an end: none; those before
 -- another one, with nothing written; or those behind which the client was owed an answer
@@ -403,12 +422,14 @@ AttemptsUnfinished s p w attempts =
     ((attempts ≡ []) × IsPartRefused s p)
     ⊎ ((AreTries s attempts × (p.written ≡ [])) ⊎ IsHalfRefused s p w attempts)
 
--- the attempts of a request that had no link: those to which the connector gave none
+-- the attempts of a request that had no link: those to which the connector gave none; and none
+-- where hooks ended it before
 abbrev pub AttemptsUnlinked : Start → Passed → World → List AttemptRecord → Outcome → Type 0
 AttemptsUnlinked s p w attempts NoRequest = attempts ≡ []
 AttemptsUnlinked s p w attempts (Refused error) = attempts ≡ []
-AttemptsUnlinked s p w attempts (Served None reuse) = ⊥
-AttemptsUnlinked s p w attempts (Served (Some e) reuse) = EndsTrying s attempts e
+AttemptsUnlinked s p w attempts (Served None reuse) = attempts ≡ []
+AttemptsUnlinked s p w attempts (Served (Some e) reuse) =
+    EndsTrying s attempts e ⊎ ((attempts ≡ []) × EndsAhead s p w (Some e))
 AttemptsUnlinked s p w attempts TurnLimit = AttemptsUnfinished s p w attempts
 AttemptsUnlinked s p w attempts OutOfMemory = AttemptsUnfinished s p w attempts
 

@@ -5,13 +5,15 @@ use Rattle.relay_tasks.specs.declared.Error.{Error}
 use Rattle.relay_links.specs.Count.{Rose}
 use Rattle.relay_links.specs.Link.{LinkState, LinkStart}
 use Rattle.relay_links.specs.declared.Returned.{Returned}
+use Rattle.relay_attempt.specs.Agrees.{Agrees}
 use Rattle.relay_attempt.specs.Passed.{Passed}
 use Rattle.relay_valid.specs.Unfit.{IsUnfit}
 use Rattle.relay_valid.specs.Valid.{AsksFor, AnswersWith}
-use Rattle.relay_proxy.specs.Relayable.{IsRelayable}
+use Rattle.relay_proxy.specs.Relayable.{IsAccepted, IsRelayable}
+use Rattle.relay_proxy.specs.Ahead.{LetsGo}
 use Rattle.relay_proxy.specs.Passed.{World, Start, origin_of, asked}
 use Rattle.relay_proxy.specs.Sent.{Sends, RefusesToSend}
-use Rattle.relay_proxy.specs.Endings.{IsAccepted, IsTurnedDown, IsLeftAlone}
+use Rattle.relay_proxy.specs.Endings.{IsTurnedDown, IsLeftAlone}
 use Rattle.relay_proxy.specs.declared.outcome.Outcome.{Outcome}
 use Rattle.relay_proxy.specs.declared.outcome.Outcome.TheVariants.{NoRequest, Refused, Served, TurnLimit, OutOfMemory}
 
@@ -61,14 +63,16 @@ module _ {L : Type 0} (state : L → LinkState) (start_at : L → LinkStart) whe
         → IsUnfinished outcome ⊎ IsLeft s p w outcome
     -- the response is broken, cut off, or switches protocols, whatever head is sent of the client's
     pub unfit : (r : Returned L) (head : RequestHead) → own ≡ r ∷ [] → IsAccepted s p head
-        → ((sent : RequestHead) → Sends head sent
+        → ((sent : RequestHead) → Sends s.called head sent
         → IsUnfit sent.method false p.got (state r.link).ended)
         → IsUnfinished outcome ⊎ IsMissed outcome
-    -- a valid request of a form that is relayed, of which a head can be sent, and a valid response
-    -- to whatever head is sent of it, with no fault
-    pub whole : (head : RequestHead) → IsRelayable head → ((e : Error) → ¬ (RefusesToSend head e))
+    -- a valid request of a form that is relayed, which hooks let go, and of which a head can be sent
+    -- that agrees with it; and a valid response to whatever head is sent of it, with no fault
+    pub whole : (head : RequestHead) → IsRelayable head → LetsGo s.called
+        → ((e : Error) → ¬ (RefusesToSend s.called head e))
+        → ((sent : RequestHead) → Sends s.called head sent → Agrees head sent)
         → AsksFor (origin_of s head head false) p w.client
-        → ((r : Returned L) (sent : RequestHead) → own ≡ r ∷ [] → Sends head sent
+        → ((r : Returned L) (sent : RequestHead) → own ≡ r ∷ [] → Sends s.called head sent
         → AnswersWith sent.method false p (state r.link))
         → IsFaultless s w own
         → IsUnfinished outcome ⊎ ((reuse : Bool) × (outcome ≡ Served None reuse))

@@ -25,7 +25,7 @@ pub record LeavesSession (s : Start) (p : Passed) (client link : LinkState) (sta
   pub head : RequestHead
   pub sent : RequestHead
   pub relayable : IsRelayable head
-  pub sends : Sends head sent
+  pub sends : Sends s.called head sent
   pub why : FailsFor (origin_of s head sent start.reused) p client link start e
   pub answers : session.writing.request ≡ request_of head
   pub holds : Holds session.writing (queued_in (order_of why)) p.written

@@ -1,12 +1,14 @@
+pub mod Passed
 pub mod Relayable
 pub mod Sent
-pub mod Passed
 pub mod Tries
 pub mod Answer
+pub mod Ahead
 pub mod Endings
 pub mod Owed
 pub mod Phases
 pub mod Work
+pub mod Calls
 pub mod Uses
 pub mod Bound
 pub mod Turn

@@ -1,5 +1,5 @@
 -- What a request still owes its client: why it is given a generated answer, and how it ends then.
-use Rattle.std.specs.Prelude.{◌≡◌, ◌≢◌, ℕ, false, List, [], ◌∷◌, ◌++◌, Some}
+use Rattle.std.specs.Prelude.{◌≡◌, ◌≢◌, ℕ, false, List, [], ◌∷◌, ◌++◌, None, Some}
 use Rattle.relay_tasks.specs.declared.Error.{Error}
 use Rattle.relay_tasks.specs.declared.ErrorSource.TheVariants.{Downstream}
 use Rattle.relay_tasks.specs.declared.Fault.{Fault}
@@ -9,6 +9,7 @@ use Rattle.relay_h1.specs.Wire.{generated}
 use Rattle.relay_session.specs.declared.writing.Outgoing.{Outgoing}
 use Rattle.relay_peer.specs.Body.{IsFrontOf}
 use Rattle.relay_attempt.specs.Passed.{Passed}
+use Rattle.relay_proxy.specs.Ahead.{IsOwedAhead}
 use Rattle.relay_proxy.specs.Answer.{WaitsOf}
 use Rattle.relay_proxy.specs.Endings.{IsTurnedDown, IsUnconnected, Misses, IsRecordOf}
 use Rattle.relay_proxy.specs.Passed.{World, Start, asked, TellsLink, IsUnsent}
@@ -16,26 +17,32 @@ use Rattle.relay_proxy.specs.Tries.{AreTries, EndsTrying, IsAskedPeer, fault_err
 use Rattle.relay_proxy.specs.declared.outcome.Outcome.{Outcome}
 use Rattle.relay_proxy.specs.declared.outcome.Outcome.TheVariants as outcome
 use Rattle.relay_proxy.specs.declared.owed.Owed.{Owed}
-use Rattle.relay_proxy.specs.declared.owed.Owed.TheVariants.{Refused, Served}
+use Rattle.relay_proxy.specs.declared.owed.Owed.TheVariants.{Refused, Ahead, Served}
 use Rattle.relay_proxy.specs.declared.record.AttemptRecord.{AttemptRecord}
 
 -- the outcome of a request whose answer was written whole
 abbrev pub outcome_owed : Owed → Outcome
 outcome_owed (Refused error) = outcome.Refused error
+outcome_owed (Ahead why) = outcome.Served why false
 outcome_owed (Served e) = outcome.Served (Some e) false
 
--- the outcome where a write of the answer failed so; an attempt that failed before keeps its error
+-- the outcome where a write of the answer failed so; a request that failed before keeps its error
 abbrev pub outcome_failed : Owed → Fault → Outcome
 outcome_failed (Refused error) fault = outcome.Refused (Some (fault_error Downstream fault))
+outcome_failed (Ahead None) fault = outcome.Served (Some (fault_error Downstream fault)) false
+outcome_failed (Ahead (Some e)) fault = outcome.Served (Some e) false
 outcome_failed (Served e) fault = outcome.Served (Some e) false
 
 module _ {L : Type 0} (state : L → LinkState) (start_at : L → LinkStart) where
   -- why the client is given that text, by the links that the request handed back: its head was
-  -- turned down; the connector gave no link; or the attempt over its link failed
+  -- turned down; hooks answered it or stopped it; the connector gave no link; or the attempt over its
+  -- link failed
   abbrev pub Owes : Start → Passed → World → List (Returned L) → Owed → List ℕ → Type 0
   Owes s p w [] (Refused error) text = IsTurnedDown (asked s p) text error × IsUnsent p
+  Owes s p w [] (Ahead why) text = IsOwedAhead s p why text × IsUnsent p
   Owes s p w [] (Served e) text = IsUnconnected s p w e × (text ≡ generated 502)
   Owes s p w (r ∷ own) (Refused error) text = ⊥
+  Owes s p w (r ∷ own) (Ahead why) text = ⊥
   Owes s p w (r ∷ own) (Served e) text =
       Misses s p w.client (state r.link) (start_at r.link) r.keep e text
 
@@ -54,8 +61,10 @@ module _ {L : Type 0} (state : L → LinkState) (start_at : L → LinkStart) whe
   -- the attempts of a request that owes its client an answer
   abbrev pub HasAttempts : Start → Passed → List (Returned L) → Owed → List AttemptRecord → Type 0
   HasAttempts s p [] (Refused error) attempts = attempts ≡ []
+  HasAttempts s p [] (Ahead why) attempts = attempts ≡ []
   HasAttempts s p [] (Served e) attempts = EndsTrying s attempts e
   HasAttempts s p (r ∷ []) (Refused error) attempts = ⊥
+  HasAttempts s p (r ∷ []) (Ahead why) attempts = ⊥
   HasAttempts s p (r ∷ []) (Served e) attempts = IsGivenBack s p r attempts e
   HasAttempts s p (r ∷ q ∷ own) owed attempts = ⊥
 

@@ -1,6 +1,7 @@
 -- What passed between the outside and one request since it began.
 use Rattle.std.specs.Prelude.{◌≡◌, ℕ, Bool, false, ◌≤◌, List, [], ◌++◌}
 use Rattle.relay_tasks.specs.Head.{RequestHead}
+use Rattle.relay_tasks.specs.declared.log.LogEntry.{LogEntry}
 use Rattle.relay_links.specs.Link.{LinkState, LinkStart}
 use Rattle.relay_links.specs.Told.{Since, told_length}
 use Rattle.relay_h1.specs.Verdict.{IsOpen}
@@ -15,7 +16,8 @@ pub record World : Type 0 where
   pub ahead : List ℕ
   pub connect_faults : ℕ
 
--- the places and counts at which a request began, and how many attempts it may make
+-- the places and counts at which a request began, how many attempts it may make, and the calls of
+-- hooks that were made for it so far
 pub record Start : Type 0 where
   pub ahead : List ℕ
   pub given : ℕ
@@ -25,6 +27,7 @@ pub record Start : Type 0 where
   pub read_faults : ℕ
   pub write_faults : ℕ
   pub most : ℕ
+  pub called : List LogEntry
 
 -- where a request begins that may make so many attempts, as the world stands
 abbrev pub start_of : ℕ → World → Start
@@ -37,7 +40,12 @@ start_of most w = record {
   read_faults = told_length w.client.read_faults;
   write_faults = told_length w.client.write_faults;
   most = most;
+  called = [];
 }
+
+-- the same, once these calls were made
+abbrev pub called_to : Start → List LogEntry → Start
+called_to s log = record s { called = log }
 
 -- where the exchange of a request began that has that head, and of which that head is sent, over a
 -- link that had been used before or not; a request that asks for an upgrade is not relayed

@@ -4,17 +4,19 @@ use Rattle.relay_tasks.specs.Head.{RequestHead}
 use Rattle.relay_tasks.specs.declared.Error.{Error}
 use Rattle.relay_links.specs.Link.{LinkState, LinkStart}
 use Rattle.relay_links.specs.declared.Returned.{Returned}
+use Rattle.relay_opening.specs.Told.{head_behind}
+use Rattle.relay_phases.specs.Turns.{wrote_in}
 use Rattle.relay_session.specs.Reading.{head_of}
 use Rattle.relay_session.specs.declared.session.HttpSession.{HttpSession}
 use Rattle.relay_sides.specs.Client.{BeginsBehind}
 use Rattle.relay_attempt.specs.Exchange.{IsUnderWay}
 use Rattle.relay_attempt.specs.Passed.{Passed}
 use Rattle.relay_attempt.specs.Head.{link_of}
-use Rattle.relay_proxy.specs.Relayable.{IsRelayable}
+use Rattle.relay_proxy.specs.Relayable.{IsAccepted, IsRelayable}
 use Rattle.relay_proxy.specs.Passed.{World, Start, origin_of, asked, TellsClient, TellsLink, IsUnsent, IsUntouched}
 use Rattle.relay_proxy.specs.Sent.{Sends}
 use Rattle.relay_proxy.specs.Answer.{WaitsOf}
-use Rattle.relay_proxy.specs.Endings.{IsAccepted, IsInOrder, Misses, error_of, EndsUnlinked, EndsLinked, EndsWith, AttemptsUnlinked}
+use Rattle.relay_proxy.specs.Endings.{IsInOrder, Misses, error_of, EndsUnlinked, EndsLinked, EndsWith, AttemptsUnlinked}
 use Rattle.relay_proxy.specs.Owed.{IsAnswering}
 use Rattle.relay_proxy.specs.Tries.{AreTries, IsAskedPeer, tries_in}
 use Rattle.relay_proxy.specs.declared.outcome.Outcome.TheVariants.{TurnLimit}
@@ -30,13 +32,14 @@ pub record IsReadingHead (s : Start) (p : Passed) (ahead : List ℕ) : Type 0 wh
   pub written : p.written ≡ []
   pub unsent : IsUnsent p
 
--- the head was accepted, and a link is wanted for the session that begins behind it, after those
--- attempts
+-- the head was accepted, which hooks then may have changed, and a link is wanted for the session that
+-- begins behind it, after those attempts; nothing was queued for the client
 pub record IsConnecting (s : Start) (p : Passed) (w : World) (session : HttpSession)
     (tries : List AttemptRecord) : Type 0 where
   pub head : RequestHead
   pub accepted : IsAccepted s p head
-  pub is_head : head_of session.reading ≡ Some head
+  pub is_left : head_of session.reading ≡ Some (head_behind head s.called)
+  pub quiet : wrote_in s.called ≡ []
   pub begins : (sent : RequestHead) (reused : Bool)
       → BeginsBehind (origin_of s head sent reused) p.came w.client w.ahead session
   pub written : p.written ≡ []
@@ -68,7 +71,7 @@ module _ {L C : Type 0} (state : L → LinkState) (start_at : L → LinkStart) w
     pub head : RequestHead
     pub sent : RequestHead
     pub relayable : IsRelayable head
-    pub sends : Sends head sent
+    pub sends : Sends s.called head sent
     pub under_way : IsUnderWay state start_at (origin_of s head sent a.lease.reused) p w.client
         w.ahead a.exchange
 

@@ -51,18 +51,19 @@ ended_after ended TurnLimit = ended
 ended_after ended OutOfMemory = ended
 
 module _ {L C : Type 0} (state : L → LinkState) (start_at : L → LinkStart) where
-  -- a step took the run so far on from one phase to the next, and handed these links back; it took
+  -- a step took the run so far on from one phase to the next, from the one start to the other, which
+  -- differ in the calls that were made, and handed these links back; it took
   -- no more of the connector's offers than the request's link, or the fault with which the request
   -- ended; and the connector answered no fault but that one
   pub record StepsOn
-      (s : Start) (p : Passed) (w : World) (own : List (Returned L))
+      (s t : Start) (p : Passed) (w : World) (own : List (Returned L))
       (before after : Option (List (Returned L))) (told_before told_after : Option (List Fault))
       (had has : Option (List Offer)) (client : LinkState) (ahead : List ℕ) (was now : Work)
       (phase next : Phase L C) : Type 0 where
     pub passed : Passed
     pub handed : List (Returned L)
     pub gained : after ≡ more before handed
-    pub run : RunSoFar state start_at s passed w (own ++ handed) next
+    pub run : RunSoFar state start_at t passed w (own ++ handed) next
     pub refused : AnswersFaults told_before told_after own phase (own ++ handed) next
     pub offered : TakesOn start_at had has own phase (own ++ handed) next
     -- so often were both links asked
@@ -72,7 +73,7 @@ module _ {L C : Type 0} (state : L → LinkState) (start_at : L → LinkStart) w
     pub work : Work
     pub adds : now ≡ added_work was work
     pub bounded : (tasks ends : ℕ) → PhaseCounts state start_at tasks ends s client ahead own phase
-        → PhaseCounts state start_at (work.moved + tasks) (work.ended + ends) s w.client w.ahead
+        → PhaseCounts state start_at (work.moved + tasks) (work.ended + ends) t w.client w.ahead
         (own ++ handed) next
     -- a request that has ended passes nothing more
     pub rested : is_over phase ≡ true → passed ≡ p

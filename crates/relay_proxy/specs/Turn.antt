@@ -51,6 +51,26 @@ is_reading_head (Close link lease keep outcome) = false
 is_reading_head (Answer session owed attempts) = false
 is_reading_head (Ended outcome attempts) = false
 
+-- hooks before the attempts are called, or a link is wanted
+abbrev pub is_connecting : {L C : Type 0} → Phase L C → Bool
+is_connecting ReadHead = false
+is_connecting (Connect context session tries) = true
+is_connecting (Relay a) = false
+is_connecting (Fail link lease keep session error) = false
+is_connecting (Close link lease keep outcome) = false
+is_connecting (Answer session owed attempts) = false
+is_connecting (Ended outcome attempts) = false
+
+-- where a link is wanted still, it is for that session and that context
+abbrev pub KeepsAsked : {L C : Type 0} → C → Box HttpSession → Phase L C → Type 0
+KeepsAsked context session ReadHead = ⊥
+KeepsAsked context session (Connect other stays tries) = (other ≡ context) × (stays ≡ session)
+KeepsAsked context session (Relay a) = Unit {0}
+KeepsAsked context session (Fail link lease keep stays error) = Unit {0}
+KeepsAsked context session (Close link lease keep outcome) = Unit {0}
+KeepsAsked context session (Answer stays owed attempts) = Unit {0}
+KeepsAsked context session (Ended outcome attempts) = Unit {0}
+
 -- the link that a phase holds, as it stands
 abbrev pub held_state : {L C : Type 0} → (L → LinkState) → Phase L C → Option LinkState
 held_state state ReadHead = None
@@ -116,13 +136,20 @@ module _ {L C : Type 0} (state : L → LinkState) (start_at : L → LinkStart) w
     pub attempt : AttemptRecord
     pub again : next ≡ Connect context session (tries ++ attempt ∷ [])
 
-  -- what a turn moved: bytes of the client's head came, or it was judged; a link was given, or
-  -- none and another is asked for or the client is owed an answer; a branch of the exchange moved,
-  -- or it failed and the client is owed an answer; or bytes of that were taken
+  -- a hook was called, behind which the request goes on as it stood
+  pub record CallsOn (tries : List AttemptRecord) (next : Phase L C) : Type 0 where
+    pub context : C
+    pub session : Box HttpSession
+    pub goes_on : next ≡ Connect context session tries
+
+  -- what a turn moved: bytes of the client's head came, or it was judged; a hook was called; a link
+  -- was given, or none and another is asked for; the client is owed an answer for one of these; a
+  -- branch of the exchange moved, or it failed and the client is owed an answer; or bytes of that
+  -- were taken
   abbrev pub HasMoved : World → World → Phase L C → Phase L C → Type 0
   HasMoved w x ReadHead next = HasGiven w.client x.client ⊎ (is_reading_head next ≡ false)
   HasMoved w x (Connect context session tries) next =
-      (links_held next ≡ 1) ⊎ (TriesOn tries next ⊎ OwesAnswer next)
+      (links_held next ≡ 1) ⊎ (TriesOn tries next ⊎ (CallsOn tries next ⊎ OwesAnswer next))
   HasMoved w x (Relay a) next =
       ((branch : Option Branch) × ExchangeMoved state start_at branch w x a.value.exchange next)
       ⊎ OwesAnswer next

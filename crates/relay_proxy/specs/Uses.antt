@@ -18,7 +18,7 @@ use Rattle.relay_proxy.specs.Work.{added_work}
 use Rattle.relay_proxy.specs.declared.machine.Attempt.{Attempt}
 use Rattle.relay_proxy.specs.declared.machine.Phase.{Phase}
 use Rattle.relay_proxy.specs.declared.machine.Phase.TheVariants.{ReadHead, Connect, Relay, Fail, Close, Answer, Ended}
-use Rattle.relay_proxy.specs.declared.owed.Owed.TheVariants.{Refused, Served}
+use Rattle.relay_proxy.specs.declared.owed.Owed.TheVariants.{Refused, Ahead, Served}
 use Rattle.relay_proxy.specs.declared.work.Work.{Work}
 
 -- ---- how often the links were asked
@@ -117,7 +117,7 @@ module _ {L C : Type 0} (state : L → LinkState) (start_at : L → LinkStart) w
 
 -- ---- what moved in an exchange
 
--- the attempt failed, and its client is owed an answer, or what was queued for it
+-- hooks or an attempt ended the request, and its client is owed an answer, or what was queued for it
 abbrev pub OwesAnswer : {L C : Type 0} → Phase L C → Type 0
 OwesAnswer ReadHead = ⊥
 OwesAnswer (Connect context session tries) = ⊥
@@ -125,20 +125,21 @@ OwesAnswer (Relay a) = ⊥
 OwesAnswer (Fail link lease keep session error) = Unit {0}
 OwesAnswer (Close link lease keep outcome) = ⊥
 OwesAnswer (Answer session (Refused error) attempts) = ⊥
+OwesAnswer (Answer session (Ahead why) attempts) = Unit {0}
 OwesAnswer (Answer session (Served e) attempts) = Unit {0}
 OwesAnswer (Ended outcome attempts) = ⊥
 
 -- a use of a link
 abbrev pub one_use : Work
-one_use = record { used = 1; moved = 0; ended = 0 }
+one_use = record { used = 1; moved = 0; ended = 0; called = 0 }
 
 -- a task that moved
 abbrev pub one_task : Work
-one_task = record { used = 0; moved = 1; ended = 0 }
+one_task = record { used = 0; moved = 1; ended = 0; called = 0 }
 
 -- an end
 abbrev pub one_end : Work
-one_end = record { used = 0; moved = 0; ended = 1 }
+one_end = record { used = 0; moved = 0; ended = 1; called = 0 }
 
 -- the work of a turn of an exchange that moved, by its branch: a use of a link, a task that moved
 -- or an end. A read is a use where it asked its link, and else the task that it put; a turn without

@@ -38,6 +38,7 @@ pub(crate) fn write_answer<D: ByteLink, U: Drop, L: ByteLink, C>(
         (world_of D.state client.old faults) (world_of D.state client.new faults)
         (Phase.Answer session owed attempts) result.phase result.step }
     ensures work { DoesWork result.step result.work }
+    ensures uncalled { result.work.called ≡ 0 }
     ensures counts { CountsAnswer result.phase result.work }
     ensures gives { (D.state client.new.link).given ≡ (D.state client.old.link).given }
     ensures over { is_over result.phase ≡ is_end result.step }
@@ -71,6 +72,7 @@ fn write_on<D: ByteLink, U: Drop, L: ByteLink, C>(
         (world_of D.state client.old faults) (world_of D.state client.new faults)
         (Phase.Answer session owed attempts) result.phase result.step }
     ensures work { DoesWork result.step result.work }
+    ensures uncalled { result.work.called ≡ 0 }
     ensures counts { CountsAnswer result.phase result.work }
     ensures gives { (D.state client.new.link).given ≡ (D.state client.old.link).given }
     ensures over { is_over result.phase ≡ is_end result.step }

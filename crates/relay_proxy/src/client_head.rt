@@ -1,5 +1,5 @@
 //! The client's head: read, judged, and refused where it must be (RFC 9112, sections 2 and 3).
-ghost use Rattle.std.specs.Prelude.{◌≡◌, ◌≤◌, ℕ, [], length, None};
+ghost use Rattle.std.specs.Prelude.{◌≡◌, ◌≤◌, ℕ, [], length, None, false};
 ghost use Rattle.relay_tasks.specs.Head.{IsStatus};
 ghost use Rattle.relay_h1.specs.Verdict.{IsOpen, HasRequest};
 ghost use Rattle.relay_h1.specs.Wire.{generated};
@@ -8,15 +8,16 @@ ghost use Rattle.relay_proxy.specs.Relayable.{IsConnect};
 ghost use Rattle.relay_proxy.specs.Bound.{CountsHead};
 ghost use Rattle.relay_proxy.specs.Endings.{IsTurnedDown, ended_outcome};
 ghost use Rattle.relay_attempt.specs.Passed.{Passed};
-ghost use Rattle.relay_proxy.specs.Passed.{World, Start};
+ghost use Rattle.relay_proxy.specs.Calls.{CallsSoFar, CountsCalls, allowed_by, log_of};
+ghost use Rattle.relay_proxy.specs.Passed.{World, Start, called_to};
 ghost use Rattle.relay_proxy.specs.Phases.{RunSoFar};
 ghost use Rattle.relay_proxy.specs.Refusals.{attempts_in};
 ghost use Rattle.relay_proxy.specs.Stock.{items_held};
 ghost use Rattle.relay_proxy.specs.Uses.{ClientUses};
-ghost use Rattle.relay_proxy.specs.Turn.{world_of, DoesWork, is_over, is_end, links_held, Advances, HasCause};
+ghost use Rattle.relay_proxy.specs.Turn.{world_of, DoesWork, is_connecting, is_over, is_end, links_held, Advances, HasCause};
 
+use crate::calls::{Calls, begin_calls};
 use crate::connecting::out_of_memory;
-use crate::hooks::ProxyHttp;
 use crate::machine::{Next, Phase, RunStep};
 use crate::outcome::Outcome;
 use crate::owed::Owed;
@@ -24,6 +25,7 @@ use crate::record::AttemptList;
 use crate::relayable::{is_connect, names_upgrade};
 use crate::work::Work;
 use relay_authority::check_entry;
+use relay_hooks::ProxyHttp;
 use relay_h1::{Connection, RequestRead};
 use relay_links::{ByteLink, Got};
 use relay_session::HttpSession;
@@ -34,13 +36,18 @@ use std::alloc::Global;
 pub(crate) fn read_head<SV: ProxyHttp, D: ByteLink, U, L: ByteLink>(
     alloc: Global,
     hooks: &SV,
+    calls: &mut Calls<SV::Modules, SV::Kept>,
     client: &mut Connection<D, U>,
 ) -> Next<L, SV::CTX>
-    ensures run { (s : Start) (p : Passed) (faults : ℕ)
-        → RunSoFar {C = SV.CTX} L.state L.start s p (world_of D.state client.old faults) []
-        (Phase.ReadHead)
-        → Advances L.state L.start s (world_of D.state client.new faults)
+    ensures run { (s : Start) (p : Passed) (faults : ℕ) → log_of calls.old ≡ []
+        → RunSoFar {C = SV.CTX} L.state L.start (called_to s (log_of calls.old)) p
+        (world_of D.state client.old faults) [] (Phase.ReadHead)
+        → Advances L.state L.start (called_to s (log_of calls.new))
+        (world_of D.state client.new faults) result.phase }
+    ensures calls { log_of calls.old ≡ [] → CallsSoFar {L = L}
+        (allowed_by (SV.allows hooks.now) SV.Modules.allows) (SV.mark_of hooks.now) calls.new
         result.phase }
+    ensures called { CountsCalls calls.old calls.new result.work }
     ensures cause { (faults : ℕ) → HasCause {C = SV.CTX} L.state L.start
         (world_of D.state client.old faults) (world_of D.state client.new faults)
         (Phase.ReadHead) result.phase result.step }
@@ -56,7 +63,7 @@ pub(crate) fn read_head<SV: ProxyHttp, D: ByteLink, U, L: ByteLink>(
 {
     match client.judge_request(alloc) {
         Ok(None) => await_head(alloc, client),
-        Ok(Some(read)) => take_head(alloc, hooks, client, read),
+        Ok(Some(read)) => take_head(alloc, hooks, calls, client, read),
         Err(Fail::Error(error)) => give_answer(alloc, 400, Some(error)),
         Err(Fail::OutOfMemory) => out_of_memory(alloc),
     }
@@ -77,6 +84,8 @@ fn await_head<D: ByteLink, U, L: ByteLink, C>(
         (world_of D.state client.old faults) (world_of D.state client.new faults)
         (Phase.ReadHead) result.phase result.step }
     ensures work { DoesWork result.step result.work }
+    ensures uncalled { result.work.called ≡ 0 }
+    ensures unopened { is_connecting result.phase ≡ false }
     ensures counts { CountsHead result.phase result.work }
     ensures over { is_over result.phase ≡ is_end result.step }
     ensures unlinked { links_held L.state L.start result.phase ≡ 0 }
@@ -141,16 +150,21 @@ fn end_of_client(came: &[u8]) -> Outcome
 fn take_head<SV: ProxyHttp, D: ByteLink, U, L: ByteLink>(
     alloc: Global,
     hooks: &SV,
+    calls: &mut Calls<SV::Modules, SV::Kept>,
     client: &mut Connection<D, U>,
     read: RequestRead,
 ) -> Next<L, SV::CTX>
     requires { read.len ≤ length client.old.ahead }
-    ensures run { (s : Start) (p : Passed) (faults : ℕ)
-        → RunSoFar {C = SV.CTX} L.state L.start s p (world_of D.state client.old faults) []
-        (Phase.ReadHead)
+    ensures run { (s : Start) (p : Passed) (faults : ℕ) → log_of calls.old ≡ []
+        → RunSoFar {C = SV.CTX} L.state L.start (called_to s (log_of calls.old)) p
+        (world_of D.state client.old faults) [] (Phase.ReadHead)
         → HasRequest client.old.ahead read.head read.framing read.len
-        → Advances L.state L.start s (world_of D.state client.new faults)
+        → Advances L.state L.start (called_to s (log_of calls.new))
+        (world_of D.state client.new faults) result.phase }
+    ensures calls { log_of calls.old ≡ [] → CallsSoFar {L = L}
+        (allowed_by (SV.allows hooks.now) SV.Modules.allows) (SV.mark_of hooks.now) calls.new
         result.phase }
+    ensures called { CountsCalls calls.old calls.new result.work }
     ensures cause { (faults : ℕ) → HasCause {C = SV.CTX} L.state L.start
         (world_of D.state client.old faults) (world_of D.state client.new faults)
         (Phase.ReadHead) result.phase result.step }
@@ -170,7 +184,7 @@ fn take_head<SV: ProxyHttp, D: ByteLink, U, L: ByteLink>(
     if is_connect(&read.head) {
         return give_answer(alloc, 405, None);
     }
-    accept_head(alloc, hooks, client, read)
+    accept_head(alloc, hooks, calls, client, read)
 }
 
 /// A head that passed the entry check and is no request for a tunnel: it is taken from what is
@@ -178,18 +192,23 @@ fn take_head<SV: ProxyHttp, D: ByteLink, U, L: ByteLink>(
 fn accept_head<SV: ProxyHttp, D: ByteLink, U, L: ByteLink>(
     alloc: Global,
     hooks: &SV,
+    calls: &mut Calls<SV::Modules, SV::Kept>,
     client: &mut Connection<D, U>,
     read: RequestRead,
 ) -> Next<L, SV::CTX>
     requires { read.len ≤ length client.old.ahead }
-    ensures run { (s : Start) (p : Passed) (faults : ℕ)
-        → RunSoFar {C = SV.CTX} L.state L.start s p (world_of D.state client.old faults) []
-        (Phase.ReadHead)
+    ensures run { (s : Start) (p : Passed) (faults : ℕ) → log_of calls.old ≡ []
+        → RunSoFar {C = SV.CTX} L.state L.start (called_to s (log_of calls.old)) p
+        (world_of D.state client.old faults) [] (Phase.ReadHead)
         → HasRequest client.old.ahead read.head read.framing read.len
         → Entered read.head None
         → ¬ (IsConnect read.head)
-        → Advances L.state L.start s (world_of D.state client.new faults)
+        → Advances L.state L.start (called_to s (log_of calls.new))
+        (world_of D.state client.new faults) result.phase }
+    ensures calls { log_of calls.old ≡ [] → CallsSoFar {L = L}
+        (allowed_by (SV.allows hooks.now) SV.Modules.allows) (SV.mark_of hooks.now) calls.new
         result.phase }
+    ensures called { CountsCalls calls.old calls.new result.work }
     ensures cause { (faults : ℕ) → HasCause {C = SV.CTX} L.state L.start
         (world_of D.state client.old faults) (world_of D.state client.new faults)
         (Phase.ReadHead) result.phase result.step }
@@ -214,17 +233,18 @@ fn accept_head<SV: ProxyHttp, D: ByteLink, U, L: ByteLink>(
             work: Work::ENDED,
         };
     }
-    let Ok(session) = Box::new(
-        alloc,
-        HttpSession::begun_http1(alloc, read.head, read.framing),
-    ) else {
+    let mut session = HttpSession::begun_http1(alloc, read.head, read.framing);
+    let Ok(context) = begin_calls(hooks, calls, &mut session) else {
+        return out_of_memory(alloc);
+    };
+    let Ok(session) = Box::new(alloc, session) else {
         return out_of_memory(alloc);
     };
     client.consume(read.len);
     Next {
-        phase: Phase::Connect(hooks.new_ctx(), session, AttemptList::new(alloc)),
+        phase: Phase::Connect(context, session, AttemptList::new(alloc)),
         step: RunStep::Moved,
-        work: Work::ENDED,
+        work: Work::BEGUN,
     }
 }
 
@@ -239,6 +259,8 @@ fn give_answer<L: ByteLink, C>(alloc: Global, status: u16, error: Option<Error>)
     ensures cause { (w x : World) → HasCause {C = C} L.state L.start w x
         (Phase.ReadHead) result.phase result.step }
     ensures work { DoesWork result.step result.work }
+    ensures uncalled { result.work.called ≡ 0 }
+    ensures unopened { is_connecting result.phase ≡ false }
     ensures counts { CountsHead result.phase result.work }
     ensures over { is_over result.phase ≡ is_end result.step }
     ensures unlinked { links_held L.state L.start result.phase ≡ 0 }

@@ -1,7 +1,7 @@
 //! The connector: asked for a link, over which the attempt then goes. Where it refuses one with a
 //! fault that lets it be asked again, it is, while the request may make a further attempt (RFC
 //! 9110, section 9.2.2): nothing of the request was sent then.
-ghost use Rattle.std.specs.Prelude.{◌≡◌, ◌⊎◌, ◌↔◌, ◌+◌, ◌≤◌, [], ◌∷◌, ◌++◌, length, ℕ, List, Some, IsTrue, IfSome, false, not};
+ghost use Rattle.std.specs.Prelude.{◌≡◌, ◌⊎◌, ◌↔◌, ◌+◌, ◌≤◌, [], ◌∷◌, ◌++◌, length, ℕ, List, None, Some, Ok, Err, IsTrue, IsSome, IfErr, IfOk, IfSome, false};
 ghost use Rattle.std.specs.Global.{Box};
 ghost use Rattle.relay_links.specs.Connector.{IsConnectFault, connect_fault};
 ghost use Rattle.relay_links.specs.Count.{last_count, Rose};
@@ -9,7 +9,8 @@ ghost use Rattle.relay_links.specs.Link.{LinkState, IsHandedOut};
 ghost use Rattle.relay_attempt.specs.Head.{link_of};
 ghost use Rattle.relay_attempt.specs.Passed.{Passed};
 ghost use Rattle.relay_authority.specs.Stage.{Makes};
-ghost use Rattle.relay_session.specs.Reading.{head_of, is_body_done};
+ghost use Rattle.relay_h1.specs.Framing.{request_framing};
+ghost use Rattle.relay_session.specs.Reading.{head_of};
 ghost use Rattle.relay_tasks.specs.Head.{RequestHead};
 ghost use Rattle.relay_proxy.specs.Bound.{CountsLink};
 ghost use Rattle.relay_proxy.specs.Endings.{IsInOrder, outcome_of};
@@ -17,11 +18,11 @@ ghost use Rattle.relay_proxy.specs.Taken.{TakesAfter};
 ghost use Rattle.relay_proxy.specs.Passed.{World, Start, TellsClient};
 ghost use Rattle.relay_proxy.specs.Phases.{IsRelaying, RunSoFar};
 ghost use Rattle.relay_proxy.specs.Refusals.{attempts_in, faults_before, faults_told};
-ghost use Rattle.relay_proxy.specs.Sent.{MakesSent, RefusesToSend, Sends};
+ghost use Rattle.relay_proxy.specs.Sent.{MakesFramed, client_in, unframed};
 ghost use Rattle.relay_proxy.specs.Stock.{items_held};
 ghost use Rattle.relay_proxy.specs.Uses.{LinkUses, PhaseUses};
 ghost use Rattle.relay_proxy.specs.Tries.{EndsTrying, IsAskedPeer, MayTry, fault_error, tries_in};
-ghost use Rattle.relay_proxy.specs.Turn.{world_with, DoesWork, is_over, is_end, links_held, Advances, HasCause};
+ghost use Rattle.relay_proxy.specs.Turn.{world_with, DoesWork, KeepsAsked, is_connecting, is_over, is_end, links_held, Advances, HasCause};
 
 use crate::machine::{Attempt, Lease, Next, Phase, RunStep};
 use crate::outcome::Outcome;
@@ -30,6 +31,7 @@ use crate::record::{AttemptList, AttemptRecord, AttemptRoom};
 use crate::work::Work;
 use bytes::Bytes;
 use relay_attempt::{H1Exchange, Unbegun};
+use relay_h1::request_framing;
 use relay_authority::{Client, Upstream, ready_head, sent_head};
 use relay_links::{ByteLink, Connector};
 use relay_session::HttpSession;
@@ -61,7 +63,7 @@ pub(crate) fn out_of_memory<L, C>(alloc: Global) -> Next<L, C>
 }
 
 /// A request that ended without a link, behind those attempts, when out of memory.
-fn lacks_memory<L, C>(attempts: AttemptList) -> Next<L, C>
+pub(crate) fn lacks_memory<L, C>(attempts: AttemptList) -> Next<L, C>
     ensures phase { result.phase ≡ Phase.Ended Outcome.OutOfMemory attempts }
     ensures step { result.step ≡ RunStep.Ended }
     ensures work { result.work ≡ Work.ENDED }
@@ -95,6 +97,8 @@ pub(crate) fn connect<K: Connector, C: Drop>(
         (world_with client ahead (K.fault_count connector.new))
         (Phase.Connect context session tries) result.phase result.step }
     ensures work { DoesWork result.step result.work }
+    ensures uncalled { result.work.called ≡ 0 }
+    ensures asked { KeepsAsked context session result.phase }
     ensures counts { CountsLink tries result.phase result.work }
     ensures unused { result.work.used ≡ 0 }
     ensures step { (result.step ≡ RunStep.Moved) ⊎ (result.step ≡ RunStep.Ended) }
@@ -151,6 +155,8 @@ fn refused_link<L: ByteLink, C: Drop>(
     ensures told { faults_before [] result.phase
         ≡ faults_told room.items.items ++ connect_fault fault.retry ∷ [] }
     ensures work { DoesWork result.step result.work }
+    ensures uncalled { result.work.called ≡ 0 }
+    ensures asked { KeepsAsked context session result.phase }
     ensures counts { CountsLink room.items.items result.phase result.work }
     ensures unused { result.work.used ≡ 0 }
     ensures fresh { PhaseUses L.state L.start 0 [] result.phase }
@@ -200,6 +206,8 @@ fn answer_unlinked<L: ByteLink, C>(
     ensures no_items { items_held L.start result.phase ≡ [] }
     ensures attempts { attempts_in result.phase ≡ attempts }
     ensures work { DoesWork result.step result.work }
+    ensures uncalled { result.work.called ≡ 0 }
+    ensures unopened { is_connecting result.phase ≡ false }
     ensures counts { (tries : List AttemptRecord) → length attempts ≡ length tries + 1
         → CountsLink tries result.phase result.work }
     ensures unused { result.work.used ≡ 0 }
@@ -246,6 +254,7 @@ fn send<L: ByteLink, C: Drop>(
     ensures cause { (w x : World) → HasCause L.state L.start w x
         (Phase.Connect context session (tries_in lease)) result.phase result.step }
     ensures work { DoesWork result.step result.work }
+    ensures uncalled { result.work.called ≡ 0 }
     ensures counts { CountsLink (tries_in lease) result.phase result.work }
     ensures unused { result.work.used ≡ 0 }
     ensures step { (result.step ≡ RunStep.Moved) ⊎ (result.step ≡ RunStep.Ended) }
@@ -263,24 +272,33 @@ fn send<L: ByteLink, C: Drop>(
 }
 
 /// The head that is sent, of a copy of the session's: made ready, and settled. No hook stands
-/// between.
+/// between. One whose body has no framing is refused.
 fn sent_of(
     alloc: Global,
     session: &HttpSession,
     copy: RequestHeader,
 ) -> relay_tasks::Result<RequestHeader>
     requires { head_of session.now.reading ≡ Some copy }
-    ensures { Makes (MakesSent
-        (record { custom = false; has_body = not (is_body_done session.now.reading) }) copy)
-        result }
+    ensures { Makes (MakesFramed (client_in session.now) copy) result }
 {
     let client = Client {
         custom: false,
         has_body: !session.is_body_done(),
     };
-    match ready_head(alloc, copy, Upstream::H1, client.custom) {
-        Ok(ready) => sent_head(alloc, session.req_header(), ready, Upstream::H1, client),
-        Err(failure) => Err(failure),
+    let ready = ready_head(alloc, copy, Upstream::H1, client.custom)?;
+    let sent = sent_head(alloc, session.req_header(), ready, Upstream::H1, client)?;
+    framed(sent)
+}
+
+/// A head whose body has a framing; one without is refused, for the relay's own side.
+fn framed(sent: RequestHeader) -> relay_tasks::Result<RequestHeader>
+    ensures ok { IfOk result (λ head. (head ≡ sent) × IsSome (request_framing sent)) }
+    ensures err { IfErr result (λ why. (why ≡ Fail.Error unframed)
+        × (request_framing sent ≡ None)) }
+{
+    match request_framing(&sent) {
+        Ok(_) => Ok(sent),
+        Err(error) => Err(Fail::Error(error.into_in())),
     }
 }
 
@@ -294,12 +312,14 @@ fn refused_head<L: ByteLink, C>(
 ) -> Next<L, C>
     ensures run { (s : Start) (p : Passed) (w : World) (context : C) (head : RequestHead)
         → RunSoFar {C = C} L.state L.start s p w [] (Phase.Connect context session (tries_in lease))
-        → head_of session.value.reading ≡ Some head → RefusesToSend head error
+        → head_of session.value.reading ≡ Some head
+        → MakesFramed (client_in session.value) head (Err error)
         → IsHandedOut (L.state link) (L.start link) lease.reused → IsAskedPeer lease.peer
         → Advances {C = C} L.state L.start s w result.phase }
     ensures cause { (w x : World) (context : C) → HasCause {C = C} L.state L.start w x
         (Phase.Connect context session (tries_in lease)) result.phase result.step }
     ensures work { DoesWork result.step result.work }
+    ensures uncalled { result.work.called ≡ 0 }
     ensures counts { CountsLink (tries_in lease) result.phase result.work }
     ensures unused { result.work.used ≡ 0 }
     ensures step { (result.step ≡ RunStep.Moved) ⊎ (result.step ≡ RunStep.Ended) }
@@ -344,12 +364,14 @@ fn begin<L: ByteLink, C: Drop>(
 ) -> Next<L, C>
     ensures run { (s : Start) (p : Passed) (w : World) (asked : RequestHead)
         → RunSoFar {C = C} L.state L.start s p w [] (Phase.Connect context session (tries_in lease))
-        → head_of session.value.reading ≡ Some asked → Sends asked head
+        → head_of session.value.reading ≡ Some asked
+        → MakesFramed (client_in session.value) asked (Ok head)
         → IsHandedOut (L.state link) (L.start link) lease.reused → IsAskedPeer lease.peer
         → Advances {C = C} L.state L.start s w result.phase }
     ensures cause { (w x : World) → HasCause L.state L.start w x
         (Phase.Connect context session (tries_in lease)) result.phase result.step }
     ensures work { DoesWork result.step result.work }
+    ensures uncalled { result.work.called ≡ 0 }
     ensures counts { CountsLink (tries_in lease) result.phase result.work }
     ensures unused { result.work.used ≡ 0 }
     ensures step { (result.step ≡ RunStep.Moved) ⊎ (result.step ≡ RunStep.Ended) }
@@ -382,6 +404,7 @@ fn hold<L: ByteLink, C: Drop>(alloc: Global, attempt: Attempt<L, C>) -> Next<L, 
         → HasCause L.state L.start w x (Phase.Connect context session (tries_in attempt.lease))
         result.phase result.step }
     ensures work { DoesWork result.step result.work }
+    ensures uncalled { result.work.called ≡ 0 }
     ensures counts { CountsLink (tries_in attempt.lease) result.phase result.work }
     ensures unused { result.work.used ≡ 0 }
     ensures step { (result.step ≡ RunStep.Moved) ⊎ (result.step ≡ RunStep.Ended) }

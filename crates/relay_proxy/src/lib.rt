@@ -2,11 +2,12 @@
 #![tactic(auto)]
 
 mod answering;
+mod calls;
 mod client_head;
 mod connecting;
 mod finish;
-mod hooks;
 mod machine;
+mod opening;
 mod outcome;
 mod owed;
 mod proxy;
@@ -17,8 +18,8 @@ mod turn;
 mod uses;
 mod work;
 
-pub use hooks::{NoHooks, ProxyHttp};
 pub use machine::RunStep;
 pub use outcome::{Outcome, Processed};
 pub use proxy::{HttpProxy, Outside, RequestMachine, ServerConf};
 pub use record::{AttemptList, AttemptRecord, RunRecord};
+pub use relay_hooks::{Defaults, ProxyHttp};

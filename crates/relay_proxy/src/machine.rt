@@ -3,9 +3,9 @@
 //! ```text
 //! ReadHead -> Connect -> Relay -> Close -> Ended (relayed)
 //!    |         |    |      |
-//!    |         | (again)   |
+//!    |         | (a hook, or again)
 //!    |           |         +-> Fail -> Answer -> Ended (the exchange failed)
-//!    |           +-> Answer -> Ended (no link was given)
+//!    |           +-> Answer -> Ended (hooks ended it, or no link was given)
 //!    |           +-> Fail -> Answer -> Ended (the head that was to be sent is refused)
 //!    +-> Answer -> Ended (the head was turned down)
 //!    +-> Ended (nothing asked, nothing relayed)
@@ -56,8 +56,9 @@ pub(crate) struct Attempt<L, C> {
 pub(crate) enum Phase<L, C> {
     /// The client's head is read.
     ReadHead,
-    /// The head was accepted, and a link is wanted for the session that begins behind it. These
-    /// attempts were refused one, and the connector may be asked again.
+    /// The head was accepted. The hooks before the attempts are called one a turn, and then a link is
+    /// wanted for the session that begins behind it. These attempts were refused one, and the
+    /// connector may be asked again.
     Connect(C, Box<HttpSession>, AttemptList),
     /// The request is sent, and the response comes back, over the attempt's link.
     Relay(Box<Attempt<L, C>>),

@@ -14,10 +14,12 @@ use std::alloc::AllocError;
 /// How a request ends once its generated answer was written.
 ///
 /// - `Refused`: nothing of it was relayed, for that error where there is one.
+/// - `Ahead`: hooks ended it before its attempts: they answered it, or stopped it with that error.
 /// - `Served`: its attempt failed with that error.
 #[derive(Clone, Copy)]
 pub(crate) enum Owed {
     Refused(Option<Error>),
+    Ahead(Option<Error>),
     Served(Error),
 }
 
@@ -28,12 +30,13 @@ impl Owed {
     {
         match self {
             Owed::Refused(error) => Outcome::Refused { error },
-            Owed::Served(error) => served(error),
+            Owed::Ahead(why) => served(why),
+            Owed::Served(error) => served(Some(error)),
         }
     }
 
-    /// The outcome of a request where a write of its answer failed so. An attempt that failed
-    /// before keeps its own error.
+    /// The outcome of a request where a write of its answer failed so. One that failed before keeps
+    /// its own error.
     pub(crate) fn outcome_failed(self, fault: Fault) -> Outcome
         ensures { result ≡ outcome_failed self fault }
     {
@@ -41,17 +44,19 @@ impl Owed {
             Owed::Refused(_) => Outcome::Refused {
                 error: Some(Error::of_fault(fault).into_down()),
             },
-            Owed::Served(error) => served(error),
+            Owed::Ahead(None) => served(Some(Error::of_fault(fault).into_down())),
+            Owed::Ahead(Some(error)) | Owed::Served(error) => served(Some(error)),
         }
     }
 }
 
-/// The outcome of a request whose attempt failed.
-fn served(error: Error) -> Outcome
-    ensures { result ≡ outcome_owed (Owed.Served error) }
+/// The outcome of a request that ended with that error or without one, and whose client does not go
+/// back.
+fn served(error: Option<Error>) -> Outcome
+    ensures { result ≡ outcome_owed (Owed.Ahead error) }
 {
     Outcome::Served {
-        error: Some(error),
+        error,
         reuse: false,
     }
 }

@@ -1,11 +1,13 @@
 //! The proxy: requests are begun, stepped and ended, or processed in one call.
-ghost use Rattle.std.specs.Prelude.{◌≡◌, ◌⊎◌, ◌+◌, ◌≤◌, ℕ, [], List, None, true, false};
+ghost use Rattle.std.specs.Prelude.{◌≡◌, ◌⊎◌, ◌+◌, ◌≤◌, ℕ, [], List, length, None, true, false};
 ghost use Rattle.std.specs.Global.{Box};
 ghost use Rattle.relay_links.specs.Count.{Rose};
 ghost use Rattle.relay_links.specs.Link.{LinkState};
 ghost use Rattle.relay_attempt.specs.Passed.{Passed};
 ghost use Rattle.relay_proxy.specs.Bound.{PhaseCounts};
-ghost use Rattle.relay_proxy.specs.Passed.{Start, start_of, nothing};
+ghost use Rattle.relay_phases.specs.Order.{Station};
+ghost use Rattle.relay_proxy.specs.Calls.{CallsSoFar, IsLogged, allowed_by, log_of};
+ghost use Rattle.relay_proxy.specs.Passed.{Start, called_to, start_of, nothing};
 ghost use Rattle.relay_proxy.specs.Phases.{RunSoFar};
 ghost use Rattle.relay_proxy.specs.Refusals.{attempts_in};
 ghost use Rattle.relay_proxy.specs.Request.{is_stop, ended_after, Counts, StepsOn, ComesToEnd, Processes};
@@ -13,18 +15,20 @@ ghost use Rattle.relay_proxy.specs.Stock.{items_held, all_items};
 ghost use Rattle.relay_proxy.specs.Turn.{world_of, held_state, links_held, is_reading_head, is_over, is_end, HasCause};
 ghost use Rattle.relay_proxy.specs.Uses.{CountsUses, MovesOn, OwesAnswer, StandsBehind};
 ghost use Rattle.relay_proxy.specs.Work.{total_work, Grows};
+ghost use Rattle.relay_proxy.specs.declared.calls.At.{At};
 ghost use Rattle.relay_proxy.specs.declared.machine.Phase.{Phase};
 
+use crate::calls::Calls;
 use crate::finish::{finish, settle};
-use crate::hooks::ProxyHttp;
 use crate::machine::{Did, Machine, RunStep};
 use crate::outcome::{Outcome, Processed, count_ended};
 use crate::record::RunRecord;
 use crate::turn::take_turn;
 use crate::work::{Work, count_turn};
 use relay_h1::Connection;
+use relay_hooks::ProxyHttp;
 use relay_links::{ByteLink, Connector, Delay, Purger, Schedule, ShutdownWatch};
-use relay_tasks::{Pause, PhaseLog};
+use relay_tasks::Pause;
 use std::alloc::Global;
 
 /// How a proxy is set up.
@@ -56,7 +60,7 @@ pub struct HttpProxy<SV, K, P> {
 /// A request under way. It holds the link of its attempt, so it is given to `end`.
 pub struct RequestMachine<SV: ProxyHttp, K: Connector> {
     machine: Machine<K::Byte, SV::CTX>,
-    kept: Option<SV::Kept>,
+    calls: Calls<SV::Modules, SV::Kept>,
 }
 
 impl<SV: ProxyHttp, K: Connector> RequestMachine<SV, K> {
@@ -111,7 +115,8 @@ impl<SV: ProxyHttp, K: Connector, P: Purger> HttpProxy<SV, K, P> {
     }
 
     /// Begins a request on a client's connection, with the value that was kept from the request
-    /// before. It takes no memory and calls nothing.
+    /// before, which is handed to the application once its context was made. It takes no memory
+    /// and calls nothing.
     pub fn begin<D: ByteLink>(
         &self,
         client: &mut Connection<D, SV::Kept>,
@@ -122,27 +127,31 @@ impl<SV: ProxyHttp, K: Connector, P: Purger> HttpProxy<SV, K, P> {
             (world_of D.state client.old (K.fault_count self.now.connector)))
             nothing (world_of D.state client.new (K.fault_count self.now.connector)) []
             result.machine.phase }
+        ensures calls { CallsSoFar (allowed_by (SV.allows self.now.inner) SV.Modules.allows)
+            (SV.mark_of self.now.inner) result.calls result.machine.phase }
+        ensures no_log { log_of result.calls ≡ [] }
         ensures no_turns { result.machine.turns ≡ 0 }
         ensures unused { result.machine.work.used ≡ 0 }
         ensures unmoved { result.machine.work.moved ≡ 0 }
         ensures unended { result.machine.work.ended ≡ 0 }
+        ensures uncalled { result.machine.work.called ≡ 0 }
         ensures uncounted { (s : Start) (link : LinkState) (ahead : List ℕ) (own : List _)
             → PhaseCounts K.Byte.state K.Byte.start 0 0 s link ahead own result.machine.phase }
         ensures going { is_over result.machine.phase ≡ false }
         ensures no_link { links_held K.Byte.state K.Byte.start result.machine.phase ≡ 0 }
         ensures no_items { items_held K.Byte.start result.machine.phase ≡ [] }
         ensures no_attempts { attempts_in result.machine.phase ≡ [] }
-        ensures kept { result.kept ≡ kept }
+        ensures kept { result.calls.at ≡ At.Kept kept }
         ensures client { client.new ≡ client.old }
     {
         RequestMachine {
             machine: Machine::new(),
-            kept,
+            calls: Calls::new(self.alloc, kept),
         }
     }
 
     /// Takes one turn of a request: one call of the link that it waits for, one verdict on a head,
-    /// one call of the connector, or one branch of the duplex. In the duplex the schedule picks the
+    /// one call of a hook or of the connector, or one branch of the duplex. In the duplex the schedule picks the
     /// branch; where it names none or one that cannot be taken, the first that can is taken. A
     /// branch whose link is silent passes the turn on to the next, going round; where all are
     /// silent the answer is `Waited(Silent)`.
@@ -161,16 +170,30 @@ impl<SV: ProxyHttp, K: Connector, P: Purger> HttpProxy<SV, K, P> {
         // request took its link, or the one fault of which its attempt's error tells. What it
         // counts of tasks and ends is bounded by the bytes that both links gave.
         ensures steps { (s : Start) (p : Passed) (own : List _)
-            → s.most ≡ self.old.conf.max_retries → RunSoFar K.Byte.state K.Byte.start s p
+            → s.most ≡ self.old.conf.max_retries
+            → CallsSoFar (allowed_by (SV.allows self.old.inner) SV.Modules.allows)
+            (SV.mark_of self.old.inner) machine.old.calls machine.old.machine.phase
+            → RunSoFar K.Byte.state K.Byte.start (called_to s (log_of machine.old.calls)) p
             (world_of D.state client.old (K.fault_count self.old.connector)) own
             machine.old.machine.phase
-            → StepsOn K.Byte.state K.Byte.start s p
+            → StepsOn K.Byte.state K.Byte.start (called_to s (log_of machine.old.calls))
+            (called_to s (log_of machine.new.calls)) p
             (world_of D.state client.new (K.fault_count self.new.connector)) own
             (K.returned self.old.connector) (K.returned self.new.connector)
             (K.refusals self.old.connector) (K.refusals self.new.connector)
             (K.stock self.old.connector) (K.stock self.new.connector)
             (D.state client.old.link) client.old.ahead machine.old.machine.work
             machine.new.machine.work machine.old.machine.phase machine.new.machine.phase }
+        // The log goes on with the call of this step, if it made one: it is allowed where it stood,
+        // and comes in order. The log ends at the mark of the context that is held.
+        ensures calls { CallsSoFar (allowed_by (SV.allows self.old.inner) SV.Modules.allows)
+            (SV.mark_of self.old.inner) machine.old.calls machine.old.machine.phase
+            → CallsSoFar (allowed_by (SV.allows self.old.inner) SV.Modules.allows)
+            (SV.mark_of self.old.inner) machine.new.calls machine.new.machine.phase }
+        ensures logs { machine.old.machine.work.called ≤ length (log_of machine.old.calls)
+            → machine.new.machine.work.called ≤ length (log_of machine.new.calls) }
+        ensures once { length (log_of machine.new.calls)
+            ≤ 1 + length (log_of machine.old.calls) }
         // Before there is a link it moved something of the client, or went on to its next phase; in
         // an exchange it asked a link once, or none and it moved a task or brought an end, by the
         // branch that it took. It waits only where a link answered so in this step; and in silence
@@ -231,7 +254,6 @@ impl<SV: ProxyHttp, K: Connector, P: Purger> HttpProxy<SV, K, P> {
         ensures kept { client.new.kept ≡ client.old.kept }
         // Beside the links and the connector it asks the schedule alone.
         ensures outside { outside.new ≡ record outside.old { schedule = outside.new.schedule } }
-        ensures keeps { machine.new.kept ≡ machine.old.kept }
         ensures same { self.new ≡ record self.old { connector = self.new.connector } }
     {
         let Did { step, work } = take_turn(
@@ -239,6 +261,7 @@ impl<SV: ProxyHttp, K: Connector, P: Purger> HttpProxy<SV, K, P> {
             &self.inner,
             &mut self.connector,
             self.conf.max_retries,
+            &mut machine.calls,
             client,
             &mut outside.schedule,
             &mut machine.machine.phase,
@@ -277,8 +300,7 @@ impl<SV: ProxyHttp, K: Connector, P: Purger> HttpProxy<SV, K, P> {
         ensures moved { result.0.history.tasks_moved ≡ machine.machine.work.moved }
         ensures used { result.0.history.items_used ≡ machine.machine.work.used }
         ensures sides { result.0.history.sides_ended ≡ machine.machine.work.ended }
-        // No hook is called yet.
-        ensures log { result.0.history.log ≡ [] }
+        ensures log { result.0.history.log ≡ log_of machine.calls }
         ensures faults { K.fault_count self.new.connector ≡ K.fault_count self.old.connector }
         ensures refusals { K.refusals self.new.connector ≡ K.refusals self.old.connector }
         ensures offers { K.stock self.new.connector ≡ K.stock self.old.connector }
@@ -295,14 +317,11 @@ impl<SV: ProxyHttp, K: Connector, P: Purger> HttpProxy<SV, K, P> {
           requests_ended = ended_after self.old.requests_ended result.0.outcome;
         } }
     {
-        let RequestMachine {
-            machine,
-            kept: _kept,
-        } = machine;
+        let RequestMachine { machine, calls } = machine;
         let Machine { phase, turns, work } = machine;
         let ending = finish(self.alloc, &mut self.connector, phase);
         let history = RunRecord {
-            log: PhaseLog::new(self.alloc),
+            log: calls.into_log(),
             attempts: ending.attempts,
             turns_taken: turns,
             tasks_moved: work.moved,
@@ -326,17 +345,22 @@ impl<SV: ProxyHttp, K: Connector, P: Purger> HttpProxy<SV, K, P> {
         turns: u64,
     ) -> Processed
         ensures processes { Processes K.Byte.state K.Byte.start
-            (start_of self.old.conf.max_retries
-            (world_of D.state client.old (K.fault_count self.old.connector)))
+            (called_to (start_of self.old.conf.max_retries
+            (world_of D.state client.old (K.fault_count self.old.connector))) result.history.log)
             (world_of D.state client.new (K.fault_count self.new.connector))
             (K.returned self.old.connector) (K.returned self.new.connector)
             (K.refusals self.old.connector) (K.refusals self.new.connector)
             (K.stock self.old.connector) (K.stock self.new.connector)
             (D.state client.old.link) turns result }
         ensures within { result.history.turns_taken ≤ turns }
-        // Each turn that was counted did some work.
+        // Each entry of the log tells a call that the application allows where it stood, and they
+        // come in order.
+        ensures logged { (at : Station) × IsLogged
+            (allowed_by (SV.allows self.old.inner) SV.Modules.allows) result.history.log at }
+        // Each turn that was counted did some work, or called a hook.
         ensures worked { result.history.turns_taken ≤ result.history.items_used
-            + result.history.tasks_moved + result.history.sides_ended }
+            + result.history.tasks_moved + result.history.sides_ended
+            + length result.history.log }
         ensures out { K.out self.new.connector ≡ K.out self.old.connector }
         // The client's link is the one that it was, and the connector's links are those that it
         // had.
@@ -347,8 +371,6 @@ impl<SV: ProxyHttp, K: Connector, P: Purger> HttpProxy<SV, K, P> {
         // Beside the links and the connector it asks the schedule alone.
         ensures outside { outside.new ≡ record outside.old { schedule = outside.new.schedule } }
         ensures kept { client.new.kept ≡ None }
-        // No hook is called yet.
-        ensures log { result.history.log ≡ [] }
         ensures same { self.new ≡ record self.old {
           connector = self.new.connector;
           requests_ended = ended_after self.old.requests_ended result.outcome;
@@ -395,8 +417,7 @@ impl<SV: ProxyHttp, K: Connector, P: Purger> HttpProxy<SV, K, P> {
             (K.stock self.new.connector) ≡ all_items K.Byte.start (K.returned self.old.connector)
             (items_held K.Byte.start machine.machine.phase) (K.stock self.old.connector) }
         ensures client { client.new ≡ client.old }
-        // No hook is called yet.
-        ensures log { result.history.log ≡ [] }
+        ensures log { result.history.log ≡ log_of machine.calls }
         ensures same { self.new ≡ record self.old {
           connector = self.new.connector;
           requests_ended = ended_after self.old.requests_ended result.outcome;

@@ -113,7 +113,7 @@ impl AttemptRoom {
 /// What was done for a request. Numbers stand still at their type's last value.
 #[derive(Drop)]
 pub struct RunRecord {
-    /// The hooks that were called. None are yet.
+    /// The hooks that were called.
     pub log: PhaseLog,
     pub attempts: AttemptList,
     /// The turns that were counted.

@@ -59,6 +59,7 @@ pub(crate) fn relay<D: ByteLink, U: Drop, L: ByteLink, H: Schedule, C: Drop>(
         phase.new result.step }
     ensures hands_on { HandsOn phase.new result.step }
     ensures work { DoesWork result.step result.work }
+    ensures uncalled { result.work.called ≡ 0 }
     ensures uses { (s : Origin) (p : Passed) (a : Box (Attempt L C)) → phase.old ≡ Phase.Relay a
         → IsUnderWay L.state L.start s p (D.state client.old.link) client.old.ahead
         a.value.exchange
@@ -164,6 +165,7 @@ fn leave_failed<L: ByteLink, C: Drop>(
     ensures linked { links_held L.state L.start phase.new ≡ links_held L.state L.start phase.old }
     ensures items { items_held L.start phase.new ≡ items_held L.start phase.old }
     ensures work { 0 < total_work result.work }
+    ensures uncalled { result.work.called ≡ 0 }
     ensures used { result.work.used ≡ (if asked then 1 else 0) }
     ensures unmoved { result.work.moved ≡ 0 }
     ensures end { result.work.ended ≡ 1 }

@@ -1,13 +1,14 @@
 //! One turn of a request, by the phase in which it stands.
-ghost use Rattle.std.specs.Prelude.{◌≡◌, ◌⊎◌, ◌+◌, ◌≤◌, ℕ, List, [], ◌++◌, Some, false};
+ghost use Rattle.std.specs.Prelude.{◌≡◌, ◌⊎◌, ◌+◌, ◌≤◌, ℕ, List, [], ◌++◌, Some, true, false};
 ghost use Rattle.std.specs.Global.{Box};
 ghost use Rattle.relay_links.specs.Link.{LinkState};
 ghost use Rattle.relay_links.specs.Told.{Gains};
 ghost use Rattle.relay_attempt.specs.Passed.{Passed};
 ghost use Rattle.relay_proxy.specs.Bound.{PhaseCounts, TurnedCounts};
+ghost use Rattle.relay_proxy.specs.Calls.{CallsSoFar, CountsCalls, allowed_by, log_of};
 ghost use Rattle.relay_proxy.specs.Closing.{Rests, TurnOf};
 ghost use Rattle.relay_proxy.specs.Taken.{Takes, offers_before, offers_of_turn};
-ghost use Rattle.relay_proxy.specs.Passed.{Start};
+ghost use Rattle.relay_proxy.specs.Passed.{Start, called_to};
 ghost use Rattle.relay_proxy.specs.Phases.{RunSoFar};
 ghost use Rattle.relay_proxy.specs.Refusals.{faults_before, faults_of_turn};
 ghost use Rattle.relay_proxy.specs.Relaying.{is_relaying};
@@ -16,35 +17,45 @@ ghost use Rattle.relay_proxy.specs.Turn.{world_of, held_state, links_held, is_ov
 ghost use Rattle.relay_proxy.specs.Uses.{MovedBy, OwesAnswer, PhaseUses, TurnCounts, TurnUses};
 
 use crate::answering::write_answer;
+use crate::calls::Calls;
 use crate::client_head::read_head;
-use crate::connecting::connect;
-use crate::hooks::ProxyHttp;
 use crate::machine::{Did, Next, Phase, RunStep};
+use crate::opening::reach;
 use crate::relaying::relay;
 use crate::work::Work;
 use relay_h1::Connection;
+use relay_hooks::ProxyHttp;
 use relay_links::{ByteLink, Connector, Schedule};
 use std::alloc::Global;
 use std::mem;
 
-/// One turn: one call of one link or of the connector, one verdict on a head, or one branch of the
-/// duplex. A request makes `most` attempts at most. A phase that relays is turned where it stands,
+/// One turn: one call of one link, of the connector or of a hook, one verdict on a head, or one
+/// branch of the duplex. A request makes `most` attempts at most. A phase that relays is turned where it stands,
 /// since it has the most turns.
 pub(crate) fn take_turn<SV: ProxyHttp, K: Connector, D: ByteLink, U: Drop, H: Schedule>(
     alloc: Global,
     hooks: &SV,
     connector: &mut K,
     most: usize,
+    calls: &mut Calls<SV::Modules, SV::Kept>,
     client: &mut Connection<D, U>,
     schedule: &mut H,
     phase: &mut Phase<K::Byte, SV::CTX>,
 ) -> Did
     ensures turn { (s : Start) (p : Passed) (own : List _) → s.most ≡ most
-        → RunSoFar {C = SV.CTX} K.Byte.state K.Byte.start s p
+        → CallsSoFar (allowed_by (SV.allows hooks.now) SV.Modules.allows) (SV.mark_of hooks.now)
+        calls.old phase.old
+        → RunSoFar {C = SV.CTX} K.Byte.state K.Byte.start (called_to s (log_of calls.old)) p
         (world_of D.state client.old (K.fault_count connector.old)) own phase.old
-        → TurnOf K.Byte.state K.Byte.start s
+        → TurnOf K.Byte.state K.Byte.start (called_to s (log_of calls.new))
         (world_of D.state client.new (K.fault_count connector.new)) own
         phase.old phase.new }
+    ensures calls { CallsSoFar (allowed_by (SV.allows hooks.now) SV.Modules.allows)
+        (SV.mark_of hooks.now) calls.old phase.old
+        → CallsSoFar (allowed_by (SV.allows hooks.now) SV.Modules.allows) (SV.mark_of hooks.now)
+        calls.new phase.new }
+    ensures called { CountsCalls calls.old calls.new result.work }
+    ensures still { is_over phase.old ≡ true → log_of calls.new ≡ log_of calls.old }
     ensures cause { HasCause K.Byte.state K.Byte.start
         (world_of D.state client.old (K.fault_count connector.old))
         (world_of D.state client.new (K.fault_count connector.new))
@@ -67,12 +78,15 @@ pub(crate) fn take_turn<SV: ProxyHttp, K: Connector, D: ByteLink, U: Drop, H: Sc
         → TurnCounts K.Byte.state K.Byte.start n (D.state client.old.link)
         (D.state client.new.link) result.work.used own phase.new }
     ensures bounds { (s : Start) (p : Passed) (own : List _) (tasks ends : ℕ) → s.most ≡ most
-        → RunSoFar {C = SV.CTX} K.Byte.state K.Byte.start s p
+        → CallsSoFar (allowed_by (SV.allows hooks.now) SV.Modules.allows) (SV.mark_of hooks.now)
+        calls.old phase.old
+        → RunSoFar {C = SV.CTX} K.Byte.state K.Byte.start (called_to s (log_of calls.old)) p
         (world_of D.state client.old (K.fault_count connector.old)) own phase.old
-        → PhaseCounts {C = SV.CTX} K.Byte.state K.Byte.start tasks ends s
-        (D.state client.old.link) client.old.ahead own phase.old
+        → PhaseCounts {C = SV.CTX} K.Byte.state K.Byte.start tasks ends
+        (called_to s (log_of calls.old)) (D.state client.old.link) client.old.ahead own phase.old
         → TurnedCounts {C = SV.CTX} K.Byte.state K.Byte.start (result.work.moved + tasks)
-        (result.work.ended + ends) s (D.state client.new.link) client.new.ahead own phase.new }
+        (result.work.ended + ends) (called_to s (log_of calls.new)) (D.state client.new.link)
+        client.new.ahead own phase.new }
     ensures moves { (a : Box _) → phase.old ≡ Phase.Relay a → result.step ≡ RunStep.Moved
         → MovedBy {C = SV.CTX} K.Byte.state K.Byte.start
         (world_of D.state client.old (K.fault_count connector.old))
@@ -105,7 +119,7 @@ pub(crate) fn take_turn<SV: ProxyHttp, K: Connector, D: ByteLink, U: Drop, H: Sc
     if phase.is_relaying() {
         return relay(alloc, client, schedule, phase);
     }
-    move_on(alloc, hooks, connector, most, client, phase)
+    move_on(alloc, hooks, connector, most, calls, client, phase)
 }
 
 /// One turn of a phase that does not relay. It is taken out of its place, and the next is put
@@ -115,16 +129,25 @@ fn move_on<SV: ProxyHttp, K: Connector, D: ByteLink, U: Drop>(
     hooks: &SV,
     connector: &mut K,
     most: usize,
+    calls: &mut Calls<SV::Modules, SV::Kept>,
     client: &mut Connection<D, U>,
     phase: &mut Phase<K::Byte, SV::CTX>,
 ) -> Did
     requires { is_relaying phase.old ≡ false }
     ensures turn { (s : Start) (p : Passed) (own : List _) → s.most ≡ most
-        → RunSoFar {C = SV.CTX} K.Byte.state K.Byte.start s p
+        → CallsSoFar (allowed_by (SV.allows hooks.now) SV.Modules.allows) (SV.mark_of hooks.now)
+        calls.old phase.old
+        → RunSoFar {C = SV.CTX} K.Byte.state K.Byte.start (called_to s (log_of calls.old)) p
         (world_of D.state client.old (K.fault_count connector.old)) own phase.old
-        → TurnOf K.Byte.state K.Byte.start s
+        → TurnOf K.Byte.state K.Byte.start (called_to s (log_of calls.new))
         (world_of D.state client.new (K.fault_count connector.new)) own
         phase.old phase.new }
+    ensures calls { CallsSoFar (allowed_by (SV.allows hooks.now) SV.Modules.allows)
+        (SV.mark_of hooks.now) calls.old phase.old
+        → CallsSoFar (allowed_by (SV.allows hooks.now) SV.Modules.allows) (SV.mark_of hooks.now)
+        calls.new phase.new }
+    ensures called { CountsCalls calls.old calls.new result.work }
+    ensures still { is_over phase.old ≡ true → log_of calls.new ≡ log_of calls.old }
     ensures cause { HasCause K.Byte.state K.Byte.start
         (world_of D.state client.old (K.fault_count connector.old))
         (world_of D.state client.new (K.fault_count connector.new))
@@ -147,12 +170,15 @@ fn move_on<SV: ProxyHttp, K: Connector, D: ByteLink, U: Drop>(
         → TurnCounts K.Byte.state K.Byte.start n (D.state client.old.link)
         (D.state client.new.link) result.work.used own phase.new }
     ensures bounds { (s : Start) (p : Passed) (own : List _) (tasks ends : ℕ) → s.most ≡ most
-        → RunSoFar {C = SV.CTX} K.Byte.state K.Byte.start s p
+        → CallsSoFar (allowed_by (SV.allows hooks.now) SV.Modules.allows) (SV.mark_of hooks.now)
+        calls.old phase.old
+        → RunSoFar {C = SV.CTX} K.Byte.state K.Byte.start (called_to s (log_of calls.old)) p
         (world_of D.state client.old (K.fault_count connector.old)) own phase.old
-        → PhaseCounts {C = SV.CTX} K.Byte.state K.Byte.start tasks ends s
-        (D.state client.old.link) client.old.ahead own phase.old
+        → PhaseCounts {C = SV.CTX} K.Byte.state K.Byte.start tasks ends
+        (called_to s (log_of calls.old)) (D.state client.old.link) client.old.ahead own phase.old
         → TurnedCounts {C = SV.CTX} K.Byte.state K.Byte.start (result.work.moved + tasks)
-        (result.work.ended + ends) s (D.state client.new.link) client.new.ahead own phase.new }
+        (result.work.ended + ends) (called_to s (log_of calls.new)) (D.state client.new.link)
+        client.new.ahead own phase.new }
     ensures over { is_over phase.new ≡ is_end result.step }
     ensures out { K.out connector.new + links_held K.Byte.state K.Byte.start phase.old
         ≡ K.out connector.old + links_held K.Byte.state K.Byte.start phase.new }
@@ -178,9 +204,11 @@ fn move_on<SV: ProxyHttp, K: Connector, D: ByteLink, U: Drop>(
         (K.stock connector.old) }
 {
     match mem::replace(phase, Phase::ReadHead) {
-        Phase::ReadHead => phase.go_on(read_head(alloc, hooks, client)),
+        Phase::ReadHead => phase.go_on(read_head(alloc, hooks, calls, client)),
         Phase::Connect(context, session, tries) => {
-            phase.go_on(connect(alloc, connector, most, context, session, tries))
+            phase.go_on(reach(
+                alloc, hooks, connector, most, calls, context, session, tries,
+            ))
         }
         Phase::Relay(_attempt) => unreachable!(),
         Phase::Fail(link, lease, keep, session, error) => phase.go_on(Next {

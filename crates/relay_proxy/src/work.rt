@@ -14,6 +14,8 @@ pub(crate) struct Work {
     pub(crate) moved: u64,
     /// Sides that ended, and refusals.
     pub(crate) ended: u64,
+    /// Calls of hooks.
+    pub(crate) called: u64,
 }
 
 impl Work {
@@ -21,30 +23,50 @@ impl Work {
         used: 0,
         moved: 0,
         ended: 0,
+        called: 0,
     };
 
     pub(crate) const USED: Work = Work {
         used: 1,
         moved: 0,
         ended: 0,
+        called: 0,
     };
 
     pub(crate) const MOVED: Work = Work {
         used: 0,
         moved: 1,
         ended: 0,
+        called: 0,
     };
 
     pub(crate) const ENDED: Work = Work {
         used: 0,
         moved: 0,
         ended: 1,
+        called: 0,
     };
 
     pub(crate) const USED_AND_ENDED: Work = Work {
         used: 1,
         moved: 0,
         ended: 1,
+        called: 0,
+    };
+
+    pub(crate) const CALLED: Work = Work {
+        used: 0,
+        moved: 0,
+        ended: 0,
+        called: 1,
+    };
+
+    /// The head of a request was judged, and its first hook called.
+    pub(crate) const BEGUN: Work = Work {
+        used: 0,
+        moved: 0,
+        ended: 1,
+        called: 1,
     };
 }
 
@@ -55,7 +77,7 @@ impl Work {
     fn is_some(&self) -> bool
         ensures { IsTrue result ↔ (0 < total_work self.now) }
     {
-        self.used > 0 || self.moved > 0 || self.ended > 0
+        self.used > 0 || self.moved > 0 || self.ended > 0 || self.called > 0
     }
 
     /// The work so far and that of one more turn. Each number stands still at its last value.
@@ -68,6 +90,7 @@ impl Work {
             used: self.used.saturating_add(turn.used),
             moved: self.moved.saturating_add(turn.moved),
             ended: self.ended.saturating_add(turn.ended),
+            called: self.called.saturating_add(turn.called),
         }
     }
 }
@@ -89,6 +112,7 @@ pub(crate) fn count_turn(turns: u64, work: Work) -> u64
 /// asked, and else the task that it put.
 pub(crate) fn work_of(branch: Option<Branch>, asked: bool) -> Work
     ensures one { total_work result ≡ 1 }
+    ensures uncalled { result.called ≡ 0 }
     ensures exact { result ≡ work_by branch asked }
 {
     match branch {
@@ -106,6 +130,7 @@ pub(crate) fn work_of(branch: Option<Branch>, asked: bool) -> Work
 /// A use of a link, where it was asked, and else a task.
 fn used_or_moved(asked: bool) -> Work
     ensures one { total_work result ≡ 1 }
+    ensures uncalled { result.called ≡ 0 }
     ensures exact { result ≡ (if asked then one_use else one_task) }
 {
     if asked { Work::USED } else { Work::MOVED }
@@ -117,6 +142,7 @@ pub(crate) fn work_of_failure(asked: bool) -> Work
     ensures used { result.used ≡ (if asked then 1 else 0) }
     ensures unmoved { result.moved ≡ 0 }
     ensures end { result.ended ≡ 1 }
+    ensures uncalled { result.called ≡ 0 }
 {
     if asked {
         Work::USED_AND_ENDED

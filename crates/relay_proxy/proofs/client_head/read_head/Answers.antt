@@ -2,6 +2,8 @@
 use Rattle.std.proofs.Common.{refl}
 use Rattle.relay_h1.proofs.HeadEndLemmas.{head_end-within}
 use Rattle.relay_proxy.specs.Endings as endings
+use Rattle.relay_proxy.specs.Calls.{log_of}
+use Rattle.relay_proxy.specs.Passed.{called_to}
 use Rattle.relay_proxy.specs.Turn.{world_of}
 use Rattle.relay_proxy.proofs.client_head.read_head.Goals as goal
 
@@ -13,9 +15,9 @@ take_head-requires g c =
 
 -- a bad head is turned down
 pub returns-in-Err-Error-clause-run : goal.returns-in-Err-Error-clause-run
-returns-in-Err-Error-clause-run g c = λ s p faults run.
+returns-in-Err-Error-clause-run g c = λ s p faults none run.
     let verdict = rw c.in-Err-Error.field-0-is at c.in-Err-Error.ensures.verdict in
-    rw c.judge_request.ensures.same (c.give_answer.ensures.run s p
+    rw c.judge_request.ensures.same (c.give_answer.ensures.run (called_to s (log_of c.args.calls.now)) p
     (world_of g.D.ByteLink.state c.args.client.now faults) run
     (endings.IsTurnedDown.has_bad_head verdict.0 verdict.2 refl
     (rw verdict.1 refl)))

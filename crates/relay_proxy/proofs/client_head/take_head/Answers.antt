@@ -3,14 +3,16 @@ use Rattle.std.proofs.Common.{refl, ap, ◌∙◌, Some}
 use Rattle.relay_tasks.specs.declared.Error.{Error}
 use Rattle.relay_tasks.specs.declared.ErrorSource.TheVariants.{Downstream}
 use Rattle.relay_proxy.specs.Endings as endings
+use Rattle.relay_proxy.specs.Calls.{log_of}
+use Rattle.relay_proxy.specs.Passed.{called_to}
 use Rattle.relay_proxy.specs.Turn.{world_of}
 use Rattle.relay_proxy.proofs.client_head.take_head.Goals as goal
 
 -- a head that the entry check refuses is turned down, for the first line that applies
 pub returns-in-Err-clause-run : goal.returns-in-Err-clause-run
-returns-in-Err-clause-run g c = λ s p faults run has.
+returns-in-Err-clause-run g c = λ s p faults none run has.
     let refused = c.in-Err.ensures in
-    c.give_answer.ensures.run s p _ run
+    c.give_answer.ensures.run (called_to s (log_of c.args.calls.now)) p _ run
     (endings.IsTurnedDown.is_not_entered c.args.read.head c.args.read.framing c.args.read.len
     refused.0 has refused.2 refl
     (ap Some (c.into_down.ensures
@@ -24,8 +26,8 @@ returns-in-Err-clause-cause g c = λ faults.
 
 -- a request for a tunnel is turned down
 pub returns-then-is_connect-clause-run : goal.returns-then-is_connect-clause-run
-returns-then-is_connect-clause-run g c = λ s p faults run has.
-    c.give_answer-then-is_connect.ensures.run s p _ run
+returns-then-is_connect-clause-run g c = λ s p faults none run has.
+    c.give_answer-then-is_connect.ensures.run (called_to s (log_of c.args.calls.now)) p _ run
     (endings.IsTurnedDown.asks_to_connect c.args.read.head c.args.read.framing c.args.read.len has
     c.in_default.ensures (c.if-is_connect.ensures.0 refl) refl refl)
 
@@ -37,6 +39,6 @@ returns-then-is_connect-clause-cause g c = λ faults.
 
 -- any other is looked at further
 pub returns-clause-run : goal.returns-clause-run
-returns-clause-run g c = λ s p faults run has.
-    c.accept_head.ensures.run s p faults run has c.in_default.ensures
+returns-clause-run g c = λ s p faults none run has.
+    c.accept_head.ensures.run s p faults none run has c.in_default.ensures
     (λ asks. let clash = c.if-is_connect.ensures.1 asks in cc)

@@ -1,27 +1,20 @@
 -- The attempt begins with the head that is sent of the client's; one whose head is refused fails.
-use Rattle.std.proofs.Common.{sym, subst, Ok}
-use Rattle.relay_authority.specs.declared.upstream.Client.{Client}
-use Rattle.relay_proxy.specs.Sent.{MakesSent}
-use Rattle.relay_proxy.proofs.ConnectSteps.{client_asked, not_made, refused_asked}
+use Rattle.std.proofs.Common.{sym}
+use Rattle.relay_proxy.proofs.ConnectSteps.{not_made, refused_made}
 use Rattle.relay_proxy.proofs.connecting.send.Goals as goal
 
 -- the attempt begins with that head
 pub returns-in-Ok-clause-run : goal.returns-in-Ok-clause-run
 returns-in-Ok-clause-run g c = λ s p w run handed peer.
-    c.begin.ensures.run s p w c.args.copy run c.requires
-    (subst (λ (k : Client). MakesSent k c.args.copy (Ok c.in-Ok.sent))
-    (client_asked s p w c.args.session.value _ c.args.copy c.requires run.holds)
-    (rw c.deref.ensures at c.in-Ok.ensures))
+    c.begin.ensures.run s p w c.args.copy run c.requires (rw c.deref.ensures at c.in-Ok.ensures)
     handed peer
 
 -- the head is refused
 pub returns-in-Err-Error-clause-run : goal.returns-in-Err-Error-clause-run
 returns-in-Err-Error-clause-run g c = λ s p w run handed peer.
     c.refused_head.ensures.run s p w c.args.context c.args.copy run c.requires
-    (refused_asked s p w c.args.session.value c.deref.result.now _ c.args.copy
-    c.in-Err-Error.field-0
-    c.in-Err-Error.error _ (cc) c.deref.ensures c.requires run.holds c.in-Err-Error.field-0-is
-    c.in-Err-Error.ensures)
+    (refused_made c.args.session.value c.deref.result.now c.args.copy c.in-Err-Error.field-0
+    c.in-Err-Error.error c.deref.ensures c.in-Err-Error.field-0-is c.in-Err-Error.ensures)
     handed peer
 
 -- memory was wanted for it

@@ -5,6 +5,8 @@ use Rattle.relay_tasks.specs.declared.Fault.{Fault}
 use Rattle.relay_links.specs.Told.{Gains}
 use Rattle.relay_proxy.specs.Refusals.{faults_told}
 use Rattle.relay_proxy.specs.declared.record.AttemptRecord.{AttemptRecord}
+use Rattle.relay_proxy.specs.Calls.{log_of}
+use Rattle.relay_proxy.specs.Passed.{called_to}
 use Rattle.relay_proxy.specs.Turn.{world_of}
 use Rattle.relay_proxy.proofs.BoundLemmas.{answer_bounds, head_turn_bounds, link_turn_bounds}
 use Rattle.relay_proxy.proofs.RefusalLemmas.{none_added, none_unmade, others_told}
@@ -15,20 +17,23 @@ use Rattle.relay_proxy.proofs.turn.move_on.Goals as goal
 -- a turn that reads the head is a turn
 pub returns-in-ReadHead-clause-turn : goal.returns-in-ReadHead-clause-turn
 returns-in-ReadHead-clause-turn g c =
-    rw (c.go_on.ensures.phase, sym c.replace.ensures.value ∙ c.in-ReadHead.is) (λ s p own most run.
-    head_turn g.K.Byte.ByteLink.state g.K.Byte.ByteLink.start s p
+    rw (c.go_on.ensures.phase, sym c.replace.ensures.value ∙ c.in-ReadHead.is)
+    (λ s p own most calls run.
+    head_turn g.K.Byte.ByteLink.state g.K.Byte.ByteLink.start
+    (called_to s (log_of c.args.calls.now)) (called_to s (log_of c.read_head.new.calls)) p
     (world_of g.D.ByteLink.state c.args.client.now
     (g.K.Connector.fault_count c.args.connector.now))
     (world_of g.D.ByteLink.state c.read_head.new.client
     (g.K.Connector.fault_count c.args.connector.now)) own c.read_head.result.phase run
-    (λ first. c.read_head.ensures.run s p (g.K.Connector.fault_count c.args.connector.now) first))
+    (λ first. c.read_head.ensures.run s p (g.K.Connector.fault_count c.args.connector.now) calls
+    first))
 
 -- a write of the answer is a turn
 pub returns-in-Answer-clause-turn : goal.returns-in-Answer-clause-turn
 returns-in-Answer-clause-turn g c =
     rw (c.go_on-in-Answer.ensures.phase, sym c.replace.ensures.value ∙ c.in-Answer.is)
-    (λ s p own most run. record {
-      advances = c.write_answer.ensures.run s p own
+    (λ s p own most calls run. record {
+      advances = c.write_answer.ensures.run (called_to s (log_of c.args.calls.now)) p own
           (g.K.Connector.fault_count c.args.connector.now) run;
       same = c.write_answer.ensures.attempts;
       unlinked = c.write_answer.ensures.unlinked;
@@ -38,26 +43,27 @@ returns-in-Answer-clause-turn g c =
 pub returns-in-Fail-clause-turn : goal.returns-in-Fail-clause-turn
 returns-in-Fail-clause-turn g c =
     rw (c.go_on-in-Fail.ensures.phase, sym c.replace.ensures.value ∙ c.in-Fail.is)
-    (λ s p own most run. record { passed = p; run = run })
+    (λ s p own most calls run. record { passed = p; run = run })
 
 -- a turn that asks the connector is a turn
 pub returns-in-Connect-clause-turn : goal.returns-in-Connect-clause-turn
 returns-in-Connect-clause-turn g c =
     rw (c.go_on-in-Connect.ensures.phase, sym c.replace.ensures.value ∙ c.in-Connect.is)
-    (λ s p own most run. connect_turn g.K.Byte.ByteLink.state g.K.Byte.ByteLink.start s p
+    (λ s p own most calls run. connect_turn g.K.Byte.ByteLink.state g.K.Byte.ByteLink.start
+    (called_to s (log_of c.args.calls.now)) (called_to s (log_of c.reach.new.calls)) p
     (world_of g.D.ByteLink.state c.args.client.now
     (g.K.Connector.fault_count c.args.connector.now))
     (world_of g.D.ByteLink.state c.args.client.now
-    (g.K.Connector.fault_count c.connect.new.connector)) own _ _ _ c.connect.result.phase run
-    (λ first. c.connect.ensures.run s p (g.D.ByteLink.state c.args.client.now.link)
-    c.args.client.now.ahead most first))
+    (g.K.Connector.fault_count c.reach.new.connector)) own _ _ _ c.reach.result.phase run
+    (λ first. c.reach.ensures.run s p (g.D.ByteLink.state c.args.client.now.link)
+    c.args.client.now.ahead most calls first))
 
 -- the link that the connector gave was the first of those that were left
 pub returns-in-Connect-clause-stock : goal.returns-in-Connect-clause-stock
 returns-in-Connect-clause-stock g c =
     rw (c.go_on-in-Connect.ensures.phase, sym c.replace.ensures.value ∙ c.in-Connect.is)
-    (one_out g.K.Byte.ByteLink.start _ _ _ _ _ _ c.connect.ensures.returned
-    c.connect.ensures.asks.takes)
+    (one_out g.K.Byte.ByteLink.start _ _ _ _ _ _ c.reach.ensures.returned
+    c.reach.ensures.asks.takes)
 
 -- the cause of a turn that reads the head
 pub returns-in-ReadHead-clause-cause : goal.returns-in-ReadHead-clause-cause
@@ -93,7 +99,7 @@ returns-in-Answer-clause-hands_on g c =
 -- one that asks the connector moved or ended
 pub returns-in-Connect-clause-hands_on : goal.returns-in-Connect-clause-hands_on
 returns-in-Connect-clause-hands_on g c =
-    rw c.go_on-in-Connect.ensures.step (λ closing. c.connect.ensures.step)
+    rw c.go_on-in-Connect.ensures.step (λ closing. c.reach.ensures.step)
 
 -- the cause of a turn that asks the connector
 pub returns-in-Connect-clause-cause : goal.returns-in-Connect-clause-cause
@@ -103,7 +109,7 @@ returns-in-Connect-clause-cause g c =
       c.go_on-in-Connect.ensures.step,
       sym c.replace.ensures.value ∙ c.in-Connect.is,
     )
-    (c.connect.ensures.cause (g.D.ByteLink.state c.args.client.now.link) c.args.client.now.ahead)
+    (c.reach.ensures.cause (g.D.ByteLink.state c.args.client.now.link) c.args.client.now.ahead)
 
 -- a turn that reads the head adds no refusal of the connector
 pub returns-in-ReadHead-clause-refusals : goal.returns-in-ReadHead-clause-refusals
@@ -116,17 +122,17 @@ pub returns-in-Connect-clause-refusals : goal.returns-in-Connect-clause-refusals
 returns-in-Connect-clause-refusals g c =
     rw (c.go_on-in-Connect.ensures.phase, sym c.replace.ensures.value ∙ c.in-Connect.is)
     (subst (λ (fs : List Fault). Gains (g.K.Connector.refusals c.args.connector.now) fs
-    (g.K.Connector.refusals c.connect.new.connector))
-    (others_told _ c.connect.ensures.asks.faults _ c.connect.ensures.asks.are)
-    c.connect.ensures.asks.gained)
+    (g.K.Connector.refusals c.reach.new.connector))
+    (others_told _ c.reach.ensures.asks.faults _ c.reach.ensures.asks.are)
+    c.reach.ensures.asks.gained)
 
 -- which are told behind those from before
 pub returns-in-Connect-clause-tells : goal.returns-in-Connect-clause-tells
 returns-in-Connect-clause-tells g c =
     rw (c.go_on-in-Connect.ensures.phase, sym c.replace.ensures.value ∙ c.in-Connect.is) (λ live.
     ap (λ (fs : List Fault). faults_told c.in-Connect.tries ++ fs)
-    (sym (others_told _ c.connect.ensures.asks.faults _ c.connect.ensures.asks.are))
-    ∙ c.connect.ensures.asks.are)
+    (sym (others_told _ c.reach.ensures.asks.faults _ c.reach.ensures.asks.are))
+    ∙ c.reach.ensures.asks.are)
 
 -- a link that is to go back adds none
 pub returns-in-Fail-clause-tells : goal.returns-in-Fail-clause-tells
@@ -167,13 +173,13 @@ returns-in-Answer-clause-carries g c =
 pub returns-in-Connect-clause-offers : goal.returns-in-Connect-clause-offers
 returns-in-Connect-clause-offers g c =
     rw (c.go_on-in-Connect.ensures.phase, sym c.replace.ensures.value ∙ c.in-Connect.is)
-    (takes_more g.K.Byte.ByteLink.start _ c.connect.result.phase _ _ _ _ c.connect.ensures.asks)
+    (takes_more g.K.Byte.ByteLink.start _ c.reach.result.phase _ _ _ _ c.reach.ensures.asks)
 
 -- behind what was taken before
 pub returns-in-Connect-clause-carries : goal.returns-in-Connect-clause-carries
 returns-in-Connect-clause-carries g c =
     rw (c.go_on-in-Connect.ensures.phase, sym c.replace.ensures.value ∙ c.in-Connect.is) (λ live.
-    took_more g.K.Byte.ByteLink.start _ c.connect.result.phase _ _ _ _ c.connect.ensures.asks)
+    took_more g.K.Byte.ByteLink.start _ c.reach.result.phase _ _ _ _ c.reach.ensures.asks)
 
 -- one that was to be closed, or had ended, asks no link
 pub returns-in-Close-clause-uses : goal.returns-in-Close-clause-uses
@@ -232,8 +238,8 @@ returns-in-Connect-clause-counts g c =
       sym c.replace.ensures.value ∙ c.in-Connect.is,
     )
     (λ s p own n run had. connect_counts g.K.Byte.ByteLink.state g.K.Byte.ByteLink.start s p own
-    _ _ _ _ n c.connect.result.work.used _ c.connect.result.phase run had c.connect.ensures.unused
-    c.connect.ensures.fresh)
+    _ _ _ _ n c.reach.result.work.used _ c.reach.result.phase run had c.reach.ensures.unused
+    c.reach.ensures.fresh)
 
 -- nor does one of a request that is to be closed
 pub returns-in-Close-clause-counts : goal.returns-in-Close-clause-counts
@@ -272,14 +278,16 @@ returns-in-Ended-clause-counts g c =
 pub returns-in-ReadHead-clause-bounds : goal.returns-in-ReadHead-clause-bounds
 returns-in-ReadHead-clause-bounds g c =
     rw (c.go_on.ensures.phase, c.go_on.ensures.work, sym c.replace.ensures.value ∙ c.in-ReadHead.is)
-    (λ s p own tasks ends most run had.
-    head_turn_bounds g.K.Byte.ByteLink.state g.K.Byte.ByteLink.start s p
+    (λ s p own tasks ends most calls run had.
+    head_turn_bounds g.K.Byte.ByteLink.state g.K.Byte.ByteLink.start
+    (called_to s (log_of c.args.calls.now)) (called_to s (log_of c.read_head.new.calls)) p
     (world_of g.D.ByteLink.state c.args.client.now
     (g.K.Connector.fault_count c.args.connector.now))
     (world_of g.D.ByteLink.state c.read_head.new.client
     (g.K.Connector.fault_count c.args.connector.now)) own c.read_head.result.phase
     c.read_head.result.work tasks ends run
-    (λ first. c.read_head.ensures.run s p (g.K.Connector.fault_count c.args.connector.now) first)
+    (λ first. c.read_head.ensures.run s p (g.K.Connector.fault_count c.args.connector.now) calls
+    first)
     c.read_head.ensures.counts had)
 
 -- one that asks the connector counts one head or one end
@@ -290,15 +298,16 @@ returns-in-Connect-clause-bounds g c =
       c.go_on-in-Connect.ensures.work,
       sym c.replace.ensures.value ∙ c.in-Connect.is,
     )
-    (λ s p own tasks ends most run had. link_turn_bounds g.K.Byte.ByteLink.state
-    g.K.Byte.ByteLink.start s p
+    (λ s p own tasks ends most calls run had. link_turn_bounds g.K.Byte.ByteLink.state
+    g.K.Byte.ByteLink.start (called_to s (log_of c.args.calls.now))
+    (called_to s (log_of c.reach.new.calls)) p
     (world_of g.D.ByteLink.state c.args.client.now
     (g.K.Connector.fault_count c.args.connector.now))
     (world_of g.D.ByteLink.state c.args.client.now
-    (g.K.Connector.fault_count c.connect.new.connector)) own _ _ _ c.connect.result.phase
-    c.connect.result.work tasks ends run
-    (λ first. c.connect.ensures.run s p (g.D.ByteLink.state c.args.client.now.link)
-    c.args.client.now.ahead most first) c.connect.ensures.counts had)
+    (g.K.Connector.fault_count c.reach.new.connector)) own _ _ _ c.reach.result.phase
+    c.reach.result.work tasks ends run
+    (λ first. c.reach.ensures.run s p (g.D.ByteLink.state c.args.client.now.link)
+    c.args.client.now.ahead most calls first) c.reach.ensures.counts had)
 
 -- one that writes the answer counts one end at most
 pub returns-in-Answer-clause-bounds : goal.returns-in-Answer-clause-bounds
@@ -308,8 +317,9 @@ returns-in-Answer-clause-bounds g c =
       c.go_on-in-Answer.ensures.work,
       sym c.replace.ensures.value ∙ c.in-Answer.is,
     )
-    (λ s p own tasks ends most run had.
-    answer_bounds g.K.Byte.ByteLink.state g.K.Byte.ByteLink.start s _ _ _ own
+    (λ s p own tasks ends most calls run had.
+    answer_bounds g.K.Byte.ByteLink.state g.K.Byte.ByteLink.start
+    (called_to s (log_of c.args.calls.now)) _ _ _ own
     c.write_answer.result.phase c.write_answer.result.work tasks ends
     c.write_answer.ensures.gives c.write_answer.ensures.counts _ c.write_answer.ensures.attempts
     had)
@@ -317,12 +327,12 @@ returns-in-Answer-clause-bounds g c =
 -- one whose link is to go back is settled before it is turned
 pub returns-in-Fail-clause-bounds : goal.returns-in-Fail-clause-bounds
 returns-in-Fail-clause-bounds g c =
-    rw (sym c.replace.ensures.value ∙ c.in-Fail.is) (λ s p own tasks ends most run had. absurd had)
+    rw (sym c.replace.ensures.value ∙ c.in-Fail.is) (λ s p own tasks ends most calls run had. absurd had)
 
 -- and so is one that is to be closed
 pub returns-in-Close-clause-bounds : goal.returns-in-Close-clause-bounds
 returns-in-Close-clause-bounds g c =
-    rw (sym c.replace.ensures.value ∙ c.in-Close.is) (λ s p own tasks ends most run had. absurd had)
+    rw (sym c.replace.ensures.value ∙ c.in-Close.is) (λ s p own tasks ends most calls run had. absurd had)
 
 -- one that has ended counts nothing
 pub returns-in-Ended-clause-bounds : goal.returns-in-Ended-clause-bounds
@@ -332,7 +342,7 @@ returns-in-Ended-clause-bounds g c =
       c.go_on-in-Ended.ensures.work,
       sym c.replace.ensures.value ∙ c.in-Ended.is,
     )
-    (λ s p own tasks ends most run had. record {
+    (λ s p own tasks ends most calls run had. record {
       came = had.came;
       got = had.got;
       client_gave = had.client_gave;

@@ -1,5 +1,7 @@
 -- A turn of a phase that relays asks no connector, and is a turn of the request.
 use Rattle.std.proofs.Common.{◌+◌, refl, sym, ◌∙◌}
+use Rattle.relay_proxy.specs.Calls.{log_of}
+use Rattle.relay_proxy.specs.Passed.{called_to}
 use Rattle.relay_proxy.specs.Turn.{world_of}
 use Rattle.relay_proxy.proofs.BoundLemmas.{relay_turn_bounds}
 use Rattle.relay_proxy.proofs.RefusalLemmas.{none_added}
@@ -10,14 +12,16 @@ use Rattle.relay_proxy.proofs.turn.take_turn.Goals as goal
 -- a turn of the attempt is a turn
 pub returns-then-is_relaying-clause-turn : goal.returns-then-is_relaying-clause-turn
 returns-then-is_relaying-clause-turn g c =
-    λ s p own most run.
-    relaying_turn g.K.Byte.ByteLink.state g.K.Byte.ByteLink.start s p
+    λ s p own most calls run.
+    relaying_turn g.K.Byte.ByteLink.state g.K.Byte.ByteLink.start
+    (called_to s (log_of c.args.calls.now)) p
     (world_of g.D.ByteLink.state c.args.client.now
     (g.K.Connector.fault_count c.args.connector.now))
     (world_of g.D.ByteLink.state c.relay.new.client
     (g.K.Connector.fault_count c.args.connector.now)) own
     c.args.phase.now c.relay.new.phase (sym c.is_relaying.ensures ∙ c.if-is_relaying.true) run
-    (λ first. c.relay.ensures.run s p (g.K.Connector.fault_count c.args.connector.now) first)
+    (λ first. c.relay.ensures.run (called_to s (log_of c.args.calls.now)) p
+    (g.K.Connector.fault_count c.args.connector.now) first)
 
 -- its cause is that of the attempt
 pub returns-then-is_relaying-clause-cause : goal.returns-then-is_relaying-clause-cause
@@ -78,15 +82,17 @@ returns-then-is_relaying-clause-uses g c = λ s p own run.
 
 -- what it counted of tasks and ends is that of the exchange
 pub returns-then-is_relaying-clause-bounds : goal.returns-then-is_relaying-clause-bounds
-returns-then-is_relaying-clause-bounds g c = λ s p own tasks ends most run had.
-    relay_turn_bounds g.K.Byte.ByteLink.state g.K.Byte.ByteLink.start s p
+returns-then-is_relaying-clause-bounds g c = λ s p own tasks ends most calls run had.
+    relay_turn_bounds g.K.Byte.ByteLink.state g.K.Byte.ByteLink.start
+    (called_to s (log_of c.args.calls.now)) p
     (world_of g.D.ByteLink.state c.args.client.now
     (g.K.Connector.fault_count c.args.connector.now))
     (world_of g.D.ByteLink.state c.relay.new.client
     (g.K.Connector.fault_count c.args.connector.now)) own c.args.phase.now c.relay.new.phase tasks
     ends (c.relay.result.work.moved + tasks) (c.relay.result.work.ended + ends)
     (sym c.is_relaying.ensures ∙ c.if-is_relaying.true) run
-    (λ counted. c.relay.ensures.bounds s tasks ends counted) had
+    (λ counted. c.relay.ensures.bounds (called_to s (log_of c.args.calls.now)) tasks ends counted)
+    had
 
 -- and what it moved is what the exchange moved
 pub returns-then-is_relaying-clause-moves : goal.returns-then-is_relaying-clause-moves

@@ -1,7 +1,8 @@
 -- The steps add up to the whole request.
 use Rattle.std.proofs.Common.{◌≡◌, [], ◌∙◌, ◌+◌, ◌≤◌, arith, refl, ap, sym}
 use Rattle.relay_links.specs.Count.{last_count}
-use Rattle.relay_proxy.specs.Passed.{start_of}
+use Rattle.relay_proxy.specs.Calls.{log_of}
+use Rattle.relay_proxy.specs.Passed.{called_to, start_of}
 use Rattle.relay_proxy.specs.Turn.{world_of}
 use Rattle.relay_proxy.specs.declared.proxy.HttpProxy.{HttpProxy}
 use Rattle.relay_proxy.specs.declared.proxy.Outside.{Outside}
@@ -31,6 +32,8 @@ loop-turn-init g c =
       refl,
       omega (arith, c.begin-machine.ensures.no_turns),
       refl,
+      c.begin-machine.ensures.calls,
+      omega (arith, c.begin-machine.ensures.uncalled),
     )
 
 -- a step that stops ends the request
@@ -44,9 +47,11 @@ returns-then-is_stop-clause-processes g c =
     (g.K.Connector.fault_count c.args.self.now.connector)) in
     let steps = c.step-step.ensures.steps s under.passed under.own
     (ap (λ (k : HttpProxy g.row.SV.Denot g.row.K.Denot g.row.P.Denot). k.conf.max_retries)
-    (sym c.loop-turn.invariant.6)) under.run in
-    let ends = c.close.ensures.ends s steps.passed _ steps.run in
-    stopped state start s _ _ _ _ _ _ _ _ _ _ _ _ _ _ _ _ c.loop-turn.machine.machine
+    (sym c.loop-turn.invariant.6)) c.loop-turn.invariant.9 under.run in
+    let now = called_to s (log_of c.step-step.new.machine.calls) in
+    let ends = c.close.ensures.ends now steps.passed _ steps.run in
+    rw c.close.ensures.log
+    (stopped state start (called_to s (log_of c.loop-turn.machine.calls)) now _ _ _ _ _ _ _ _ _ _ _ _ _ _ _ _ c.loop-turn.machine.machine
     c.step-step.new.machine.machine _ _ c.close.result under steps ends c.close.ensures.refusals
     c.close.ensures.offers
     (stops_at state start _
@@ -61,6 +66,7 @@ returns-then-is_stop-clause-processes g c =
     (rw c.close.ensures.client refl) (rw c.close.ensures.client refl) c.close.ensures.turns
     c.close.ensures.used c.close.ensures.moved c.close.ensures.sides
     (c.step-step.ensures.worked c.loop-turn.invariant.7)
+    (rw c.close.ensures.log (c.step-step.ensures.logs c.loop-turn.invariant.10)))
 
 -- one more step leaves the request under way
 pub loop-turn-preserved : goal.loop-turn-preserved
@@ -73,11 +79,12 @@ loop-turn-preserved g c =
     (g.K.Connector.fault_count c.args.self.now.connector)) in
     let steps = c.step-step.ensures.steps s under.passed under.own
     (ap (λ (k : HttpProxy g.row.SV.Denot g.row.K.Denot g.row.P.Denot). k.conf.max_retries)
-    (sym c.loop-turn.invariant.6)) under.run in
+    (sym c.loop-turn.invariant.6)) c.loop-turn.invariant.9 under.run in
     let goes = sym c.is_stop.ensures ∙ c.if-is_stop.false in
     let few : c.loop-turn._turn + 1 ≤ last_count =
     omega (arith, c.loop-turn-test.true, c.ranges.turns.fits) in (
-      goes_on state start s _ _ _ _ _ _ _ _ _ _ _ _ c.loop-turn.machine.machine
+      goes_on state start (called_to s (log_of c.loop-turn.machine.calls))
+          (called_to s (log_of c.step-step.new.machine.calls)) _ _ _ _ _ _ _ _ _ _ _ _ c.loop-turn.machine.machine
           c.step-step.new.machine.machine _ under steps
           (one_more _ _ c.step-step.result c.step-step.ensures.counted goes) few,
       c.step-step.ensures.client_start ∙ c.loop-turn.invariant.1,
@@ -93,6 +100,8 @@ loop-turn-preserved g c =
           (λ (o : Outside g.row.H.Denot g.row.W.Denot g.row.Y.Denot).
           record o { schedule = c.step-step.new.outside.schedule })
           c.loop-turn.invariant.8,
+      rw c.step-step.ensures.same (c.step-step.ensures.calls c.loop-turn.invariant.9),
+      c.step-step.ensures.logs c.loop-turn.invariant.10,
     )
 
 -- where all turns were taken the request ends by its limit
@@ -104,11 +113,14 @@ returns-clause-processes g c =
     let s = start_of c.args.self.now.conf.max_retries
     (world_of g.D.ByteLink.state c.args.client.now
     (g.K.Connector.fault_count c.args.self.now.connector)) in
-    let ends = c.close-2.ensures.ends s under.passed under.own under.run in
+    let now = called_to s (log_of c.loop-turn.machine.calls) in
+    let ends = c.close-2.ensures.ends now under.passed under.own under.run in
     let all : c.args.turns ≡ c.loop-turn._turn =
     omega (arith, c.loop-turn-test.false, c.loop-turn.auto._turn-end) in
-    all_taken state start s _ _ _ _ _ _ _ _ _ _ _ _ c.loop-turn.machine.machine _ _ c.close-2.result
+    rw c.close-2.ensures.log
+    (all_taken state start now _ _ _ _ _ _ _ _ _ _ _ _ c.loop-turn.machine.machine _ _ c.close-2.result
     under all ends c.close-2.ensures.refusals c.close-2.ensures.offers
     c.close-2.ensures.turns
     (rw c.close-2.ensures.client refl) (rw c.close-2.ensures.client refl) c.close-2.ensures.used
     c.close-2.ensures.moved c.close-2.ensures.sides c.loop-turn.invariant.7
+    (rw c.close-2.ensures.log c.loop-turn.invariant.10))

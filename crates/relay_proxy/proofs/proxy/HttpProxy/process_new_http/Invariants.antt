@@ -1,6 +1,7 @@
 -- What holds between two steps of the call.
-use Rattle.std.proofs.Common.{◌≡◌, ◌+◌, ◌≤◌, [], None, false}
-use Rattle.relay_proxy.specs.Passed.{start_of}
+use Rattle.std.proofs.Common.{◌≡◌, ◌+◌, ◌≤◌, [], length, None, false}
+use Rattle.relay_proxy.specs.Calls.{CallsSoFar, allowed_by, log_of}
+use Rattle.relay_proxy.specs.Passed.{called_to, start_of}
 use Rattle.relay_proxy.specs.Stock.{items_held, all_items}
 use Rattle.relay_proxy.specs.Turn.{world_of, links_held, is_over}
 use Rattle.relay_proxy.specs.Work.{total_work}
@@ -11,8 +12,9 @@ use Rattle.relay_proxy.proofs.proxy.HttpProxy.process_new_http.Given as goal
 abbrev pub invariant-loop-turn : goal.invariant-loop-turn
 invariant-loop-turn g l =
     IsUnderWay g.K.Byte.ByteLink.state g.K.Byte.ByteLink.start
-    (start_of l.fn.self.conf.max_retries
+    (called_to (start_of l.fn.self.conf.max_retries
     (world_of g.D.ByteLink.state l.fn.client (g.K.Connector.fault_count l.fn.self.connector)))
+    (log_of l.machine.calls))
     (world_of g.D.ByteLink.state l.client (g.K.Connector.fault_count l.self.connector))
     (g.K.Connector.returned l.fn.self.connector) (g.K.Connector.returned l.self.connector)
     (g.K.Connector.refusals l.fn.self.connector) (g.K.Connector.refusals l.self.connector)
@@ -32,3 +34,6 @@ invariant-loop-turn g l =
     × (l.self ≡ record l.fn.self { connector = l.self.connector })
     × (l.machine.machine.turns ≤ total_work l.machine.machine.work)
     × (l.outside ≡ record l.fn.outside { schedule = l.outside.schedule })
+    × CallsSoFar (allowed_by (g.SV.ProxyHttp.allows l.self.inner) g.SV.Modules.HttpModule.allows)
+    (g.SV.ProxyHttp.mark_of l.self.inner) l.machine.calls l.machine.machine.phase
+    × (l.machine.machine.work.called ≤ length (log_of l.machine.calls))

@@ -1,5 +1,8 @@
 -- The turn and its settling are a step.
-use Rattle.std.proofs.Common.{ap}
+use Rattle.std.proofs.Common.{List, ap}
+use Rattle.relay_tasks.specs.declared.log.LogEntry.{LogEntry}
+use Rattle.relay_proxy.specs.Calls.{log_of}
+use Rattle.relay_proxy.specs.Passed.{called_to}
 use Rattle.relay_proxy.specs.declared.work.Work.{Work}
 use Rattle.relay_proxy.proofs.StepLemmas.{step_on, settled_cause}
 use Rattle.relay_proxy.proofs.UseLemmas.{moves_on, settled_moves, settled_uses}
@@ -7,18 +10,22 @@ use Rattle.relay_proxy.proofs.proxy.HttpProxy.step.Goals as goal
 
 -- a turn that was settled is a step
 pub returns-clause-steps : goal.returns-clause-steps
-returns-clause-steps g c = λ s p own most run.
+returns-clause-steps g c = λ s p own most calls run.
+    let old = called_to s (log_of c.args.machine.now.calls) in
+    let new = called_to s (log_of c.take_turn-step.new.calls) in
     rw (c.settle.ensures.faults, c.settle.ensures.refusals, c.settle.ensures.offers)
-    (step_on g.K.Byte.ByteLink.state g.K.Byte.ByteLink.start s p own _ _
+    (step_on g.K.Byte.ByteLink.state g.K.Byte.ByteLink.start old new p own _ _
     c.args.machine.now.machine.phase c.take_turn-step.new.phase c.settle.new.phase
-    c.take_turn-step.result.step _ _ _ _ _ _ _ (c.take_turn-step.ensures.turn s p own most)
+    c.take_turn-step.result.step _ _ _ _ _ _ _
+    (c.take_turn-step.ensures.turn s p own most calls)
+    (λ over. ap (λ (l : List LogEntry). called_to s l) (c.take_turn-step.ensures.still over))
     c.take_turn-step.ensures.rests c.take_turn-step.ensures.returned c.settle.ensures.settles
     c.take_turn-step.ensures.refusals c.take_turn-step.ensures.offers
     c.take_turn-step.ensures.carries c.take_turn-step.ensures.tells run
     (g.D.ByteLink.state c.args.client.now.link)
     c.args.client.now.ahead c.args.machine.now.machine.work _ c.take_turn-step.result.work
-    c.plus-machine.ensures.sum (λ n had. c.take_turn-step.ensures.counts s p own n run had)
-    (λ tasks ends had. c.take_turn-step.ensures.bounds s p own tasks ends most run had))
+    c.plus-machine.ensures.sum (λ n had. c.take_turn-step.ensures.counts old p own n run had)
+    (λ tasks ends had. c.take_turn-step.ensures.bounds s p own tasks ends most calls run had))
 
 -- its cause is that of the turn
 pub returns-clause-cause : goal.returns-clause-cause

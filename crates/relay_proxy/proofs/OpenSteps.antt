@@ -1,0 +1,512 @@
+-- Turns that call a hook before the attempts: the request goes on, is answered, or is stopped.
+--
+--   called_tells, called_reads     what passed, by the calls that were made since
+--   begins_on                      a session whose head a hook may have changed begins as before
+--   left_on                        the head that the log tells is the session's
+--   stays_connecting               a call behind which the request goes on
+--   hooks_answer, hooks_stop       calls that end it
+use Rattle.std.specs.Global.{Box}
+use Rattle.std.proofs.Common.{◌≡◌, ℕ, ◌<◌, Bool, true, false, List, [], ◌∷◌, ◌++◌, length, drop, Option, Some, None, refl, sym, ap, subst, ◌∙◌, inl, inr, arith, append-nil, unwrap_or, is_some}
+use Rattle.std.specs.Prelude.{IsSome}
+use Rattle.relay_tasks.specs.Head.{RequestHead, new_request}
+use Rattle.relay_tasks.specs.declared.Error.{Error}
+use Rattle.relay_tasks.specs.declared.hook.Hook.{Hook}
+use Rattle.relay_tasks.specs.declared.log.LogEntry.{LogEntry}
+use Rattle.relay_tasks.specs.declared.task.HttpTask.{HttpTask}
+use Rattle.relay_links.specs.Link.{LinkState, LinkStart}
+use Rattle.relay_session.specs.Reading.{RequestSoFar, IsWhole, head_of, is_body_done}
+use Rattle.relay_session.specs.Response.{Holds, HoldsOn, has_head, pending}
+use Rattle.relay_session.specs.TaskWire.{Sent, wire}
+use Rattle.relay_session.specs.declared.reading.Reading.{Reading}
+use Rattle.relay_session.specs.declared.session.HttpSession.{HttpSession}
+use Rattle.relay_session.specs.Asked.{request_of}
+use Rattle.relay_session.specs.declared.task_text.Place.{Place}
+use Rattle.relay_session.specs.declared.task_text.Place.TheVariants as stands
+use Rattle.relay_session.specs.declared.task_text.Request.{Request}
+use Rattle.relay_session.specs.declared.writing.Outgoing.{Outgoing}
+use Rattle.relay_session.specs.declared.writing.Outgoing.TheVariants as outgoing
+use Rattle.relay_session.specs.declared.writing.Writing.{Writing}
+use Rattle.relay_modules.specs.declared.seen.Seen.{Seen}
+use Rattle.relay_hooks.specs.Session.{moment, request_head}
+use Rattle.relay_hooks.specs.Standing.{Standing, standing}
+use Rattle.relay_phases.specs.Order.{Accepts, Station}
+use Rattle.relay_phases.specs.Order.{Station as station}
+use Rattle.relay_phases.specs.Turns.{HasCalled, QueuesNothing, ReadsNothing, Turns, wrote_in}
+use Rattle.relay_phases.proofs.TurnLemmas.{wrote_in-append}
+use Rattle.relay_opening.specs.Told.{TellsHead, head_behind}
+use Rattle.relay_opening.proofs.ToldLemmas.{called_head, head_or, reads_done, reads_so_far, walk_head}
+use Rattle.relay_opening.specs.Queued.{Completes, QueuesAnswer, QueuesAtEnd}
+use Rattle.relay_opening.specs.Opens.{OpensSoFar}
+use Rattle.relay_opening.specs.Place.{end_station}
+use Rattle.relay_opening.specs.declared.place.Place as stage
+use Rattle.relay_opening.specs.declared.place.Place.TheVariants as opening
+use Rattle.relay_opening.specs.declared.place.End.{End}
+use Rattle.relay_opening.specs.declared.place.End.TheVariants as end
+use Rattle.relay_hooks.specs.DefaultLaw.{lone_answer}
+use Rattle.relay_core.specs.Past.{Origin}
+use Rattle.relay_sides.specs.Client.{BeginsBehind}
+use Rattle.relay_attempt.specs.Passed.{Passed}
+use Rattle.relay_h1.specs.Verdict.{HasRequest}
+use Rattle.relay_h1.specs.declared.framing.Framing.{Framing}
+use Rattle.relay_h1.proofs.VerdictLemmas.{HasRequest-IsOpen}
+use Rattle.relay_peer.proofs.FaultLemmas.{grew_same}
+use Rattle.relay_proxy.specs.Calls.{log_of, seen_with}
+use Rattle.relay_proxy.specs.Ahead.{IsAnswerOf, IsOwedAhead}
+use Rattle.relay_proxy.specs.Endings.{IsInOrder, AttemptsUnlinked, EndsAhead, EndsUnlinked}
+use Rattle.relay_proxy.specs.Passed.{World, Start, asked, called_to, origin_of, IsUnsent, TellsClient}
+use Rattle.relay_proxy.specs.Phases.{IsConnecting, RunSoFar}
+use Rattle.relay_proxy.specs.Relayable.{IsAccepted, IsRelayable}
+use Rattle.relay_proxy.specs.Tries.{AreTries}
+use Rattle.relay_proxy.specs.Turn.{Advances}
+use Rattle.relay_proxy.specs.declared.calls.Calls.{Calls}
+use Rattle.relay_proxy.specs.declared.machine.Phase.{Phase}
+use Rattle.relay_proxy.specs.declared.machine.Phase.TheVariants.{ReadHead, Connect, Answer, Ended}
+use Rattle.relay_proxy.specs.declared.outcome.Outcome.TheVariants as outcome
+use Rattle.relay_proxy.specs.declared.owed.Owed.TheVariants as owed
+use Rattle.relay_proxy.specs.declared.record.AttemptRecord.{AttemptRecord}
+use Rattle.relay_proxy.proofs.AnswerSteps.{answer_on}
+use Rattle.relay_proxy.proofs.HeadSteps.{StandsBehind, begins_behind}
+use Rattle.relay_proxy.proofs.Tells.{client_still}
+use Rattle.relay_proxy.proofs.TryLemmas.{no_tries}
+
+-- ---- the same start, once more calls were made
+
+-- what the client's link tells does not depend on the calls
+pub called_tells : (s : Start) (these those : List LogEntry) (p : Passed) (w : World)
+    → TellsClient (called_to s these) p w → TellsClient (called_to s those) p w
+called_tells s these those p w tells = record {
+  came = tells.came;
+  written = tells.written;
+  faults = tells.faults;
+  connect_faults = tells.connect_faults;
+  fault_lists = tells.fault_lists;
+}
+
+-- nor does the head that was accepted
+pub called_accepted : (s : Start) (these those : List LogEntry) (p : Passed) (head : RequestHead)
+    → IsAccepted (called_to s these) p head → IsAccepted (called_to s those) p head
+called_accepted s these those p head accepted = record {
+  framing = accepted.framing;
+  len = accepted.len;
+  has = accepted.has;
+  relayable = accepted.relayable;
+}
+
+-- nor how many attempts may be made
+pub called_tries : (s : Start) (these those : List LogEntry) (tries : List AttemptRecord)
+    → AreTries (called_to s these) tries → AreTries (called_to s those) tries
+called_tries s these those tries are = record { each = are.each; allowed = are.allowed }
+
+-- ---- the session
+
+-- a session of which nothing was read or queued begins as before, whatever its head
+pub begins_on : (o : Origin) (came : List ℕ) (link : LinkState) (ahead : List ℕ)
+    (first now : Seen) → ReadsNothing first now
+    → now.downstream.writing ≡ first.downstream.writing
+    → BeginsBehind o came link ahead first.downstream
+    → BeginsBehind o came link ahead now.downstream
+begins_on o came link ahead first now reads same begins = record {
+  gave = begins.gave;
+  written = begins.written;
+  faults = begins.faults;
+  head = begins.head;
+  framing = begins.framing;
+  len = begins.len;
+  has = begins.has;
+  has_head = reads.head begins.has_head;
+  own = begins.own;
+  answers = ap (λ (w : Writing). w.request) same ∙ begins.answers;
+  request = reads_so_far (o.ahead ++ came) [] ahead first now reads begins.request;
+  done = reads_done first now reads ∙ begins.done;
+  whole = λ done. begins.whole (sym (reads_done first now reads) ∙ done);
+  response = subst (λ (w : Writing). Holds w [] []) (sym same) begins.response;
+  output = ap (λ (w : Writing). w.output) same ∙ begins.output;
+  tells = begins.tells;
+}
+
+-- a log with one entry more tells the head behind it
+head_behind_append : (head : RequestHead) (es : List LogEntry) (e : LogEntry)
+    → head_behind head (es ++ e ∷ []) ≡ unwrap_or e.head (head_behind head es)
+head_behind_append head [] e = refl
+head_behind_append head (x ∷ es) e = head_behind_append (unwrap_or x.head head) es e
+
+module _ {M K : Type 0} (allows : Standing → LogEntry → Type 0) (c d : Calls M K)
+    (client left : HttpSession) (mark behind : ℕ) (which : Hook) (from to : Station)
+    (queues : Writing → Writing → List HttpTask → Type 0)
+    (t : Turns allows which from to queues (seen_with c client) mark (seen_with d left) behind)
+  where
+    -- the log has one entry more
+    pub log_on : log_of d ≡ log_of c ++ t.e ∷ []
+    log_on = t.calls.log
+
+    -- the head that it tells is the session's
+    pub left_on : (head : RequestHead)
+        → head_of client.reading ≡ Some (head_behind head (log_of c))
+        → head_of left.reading ≡ Some (head_behind head (log_of d))
+    left_on head is =
+        let other = new_request [] [] in
+        let walked : unwrap_or (head_of left.reading) other
+        ≡ unwrap_or t.e.head (unwrap_or (head_of client.reading) other) =
+        walk_head allows (t.e ∷ []) (standing None false (moment (seen_with c client) mark))
+        (standing None false (moment (seen_with d left) behind)) t.calls.walk in
+        head_or left.reading other (t.calls.reads.head (ap is_some is))
+        ∙ ap (λ (h : RequestHead). Some h)
+        (walked
+        ∙ ap (λ (h : Option RequestHead). unwrap_or t.e.head (unwrap_or h other)) is
+        ∙ sym (head_behind_append head (log_of c) t.e)
+        ∙ ap (λ (l : List LogEntry). head_behind head l) (sym log_on))
+
+    -- what its calls queued is what was queued before, and then that of this call
+    pub wrote_on : wrote_in (log_of c) ≡ [] → wrote_in (log_of d) ≡ t.e.wrote
+    wrote_on none =
+        ap (λ (l : List LogEntry). wrote_in l) log_on
+        ∙ wrote_in-append (log_of c) (t.e ∷ [])
+        ∙ ap (λ (l : List HttpTask). l ++ (t.e.wrote ++ [])) none
+        ∙ append-nil t.e.wrote
+
+-- a call that queued nothing leaves a request that wants a link as it stood
+pub stays_connecting : {M K : Type 0} (allows : Standing → LogEntry → Type 0) (c d : Calls M K)
+    (client left : HttpSession) (mark behind : ℕ) (which : Hook) (from to : Station)
+    → Turns allows which from to QueuesNothing (seen_with c client) mark (seen_with d left) behind
+    → (s : Start) (p : Passed) (w : World) (tries : List AttemptRecord)
+    → IsConnecting (called_to s (log_of c)) p w client tries
+    → IsConnecting (called_to s (log_of d)) p w left tries
+stays_connecting allows c d client left mark behind which from to t s p w tries k = record {
+  head = k.head;
+  accepted = called_accepted s (log_of c) (log_of d) p k.head k.accepted;
+  is_left = left_on allows c d client left mark behind which from to QueuesNothing t k.head
+      k.is_left;
+  quiet = wrote_on allows c d client left mark behind which from to QueuesNothing t k.quiet
+      ∙ t.queued.wrote_none;
+  begins = λ sent reused. begins_on (origin_of s k.head sent reused) p.came w.client w.ahead
+      (seen_with c client) (seen_with d left) t.calls.reads t.queued.same (k.begins sent reused);
+  written = k.written;
+  unsent = k.unsent;
+  are_tries = called_tries s (log_of c) (log_of d) tries k.are_tries;
+}
+
+-- ---- what waits
+
+-- a response of which nothing was queued stands before its head
+pub stands_first : (writing : Writing) → Holds writing [] []
+    → writing.output ≡ outgoing.Open [] → writing.place ≡ stands.NoHead
+stands_first writing holds is_open =
+    let held : HoldsOn writing (outgoing.Open []) [] [] =
+    subst (λ (o : Outgoing). HoldsOn writing o [] []) is_open holds in
+    sym (ap (λ (k : Sent). k.place) held.wire.is)
+
+-- what waits behind tasks of which none was taken is their text
+pub waits_of : (writing : Writing) (tasks : List HttpTask) (waiting : List ℕ)
+    → Holds writing tasks [] → writing.output ≡ outgoing.Open waiting
+    → waiting ≡ (wire writing.request stands.NoHead tasks).text
+waits_of writing tasks waiting holds is_open =
+    let held : HoldsOn writing (outgoing.Open waiting) tasks [] =
+    subst (λ (o : Outgoing). HoldsOn writing o tasks []) is_open holds in
+    sym (ap (λ (k : Sent). k.text) held.wire.is)
+
+-- and they lead to the place where the response stands
+held_place : (writing : Writing) (output : Outgoing) (tasks : List HttpTask)
+    → HoldsOn writing output tasks []
+    → (wire writing.request stands.NoHead tasks).place ≡ writing.place
+held_place writing (outgoing.Open queue) tasks held = ap (λ (k : Sent). k.place) held.wire.is
+held_place writing (outgoing.Broken fault) tasks (lost, held) =
+    ap (λ (k : Sent). k.place) held.wire.is
+
+pub leads_to : (writing : Writing) (tasks : List HttpTask) → Holds writing tasks []
+    → (wire writing.request stands.NoHead tasks).place ≡ writing.place
+leads_to writing tasks holds = held_place writing writing.output tasks holds
+
+-- ---- a request that hooks answered
+
+-- the tasks that a hook queued are an answer of that request, and their text waits
+record IsAnswerWaiting (request : Request) (wrote : List HttpTask) (waiting : List ℕ) : Type 0 where
+  tasks : List HttpTask
+  is_answer : IsAnswerOf request wrote tasks
+  text : waiting ≡ (wire request stands.NoHead tasks).text
+
+-- what a hook queued that answered the request is an answer of it
+answer_queued : (old new : Writing) (wrote : List HttpTask) (waiting : List ℕ)
+    → Holds old [] [] → QueuesAnswer old new wrote → new.output ≡ outgoing.Open waiting
+    → IsAnswerWaiting old.request wrote waiting
+answer_queued old new wrote waiting holds queues is_open =
+    record {
+      tasks = wrote;
+      is_answer = IsAnswerOf.as_queued (inl queues.whole);
+      text = waits_of new wrote waiting (queues.queued [] [] holds) is_open
+          ∙ ap (λ (r : Request). (wire r stands.NoHead wrote).text) queues.answers_to;
+    }
+
+-- and so is what a hook queued that declined it, with the 502 behind it where there was no head
+declined_queued : (has : Bool) (left new : Writing) (wrote : List HttpTask) (waiting : List ℕ)
+    → has_head left.place ≡ has → Holds left wrote [] → Completes has left new
+    → new.output ≡ outgoing.Open waiting → IsAnswerWaiting left.request wrote waiting
+declined_queued true left new wrote waiting has holds same is_open =
+    record {
+      tasks = wrote;
+      is_answer = IsAnswerOf.as_queued
+          (inr (ap (λ (p : Place). has_head p) (leads_to left wrote holds) ∙ has));
+      text = waits_of left wrote waiting holds
+          (sym (ap (λ (w : Writing). w.output) same) ∙ is_open);
+    }
+declined_queued false left new wrote waiting has holds queued is_open =
+    record {
+      tasks = wrote ++ lone_answer 502;
+      is_answer = IsAnswerOf.with_502
+          (ap (λ (p : Place). has_head p) (leads_to left wrote holds) ∙ has);
+      text = waits_of new (wrote ++ lone_answer 502) waiting (queued.goes_on wrote [] holds) is_open
+          ∙ ap (λ (r : Request). (wire r stands.NoHead (wrote ++ lone_answer 502)).text)
+          (ap (λ (w : Writing). w.request) queued.grows.grown);
+    }
+
+-- hooks that ended so answered the request
+abbrev AnswersAs : End → Type 0
+AnswersAs end.Attempts = ⊥
+AnswersAs end.Answered = Unit {0}
+AnswersAs end.Purge = ⊥
+AnswersAs end.Declined = Unit {0}
+AnswersAs (end.Unwritten why) = ⊥
+AnswersAs (end.Failed error) = ⊥
+
+-- what they queued is an answer of it
+hooks_queued : (how : End) (old new : Writing) (wrote : List HttpTask) (waiting : List ℕ)
+    → AnswersAs how → Holds old [] [] → QueuesAtEnd how old new wrote
+    → new.output ≡ outgoing.Open waiting → IsAnswerWaiting old.request wrote waiting
+hooks_queued end.Attempts old new wrote waiting ends holds queues is_open = absurd ends
+hooks_queued end.Answered old new wrote waiting ends holds queues is_open =
+    answer_queued old new wrote waiting holds queues is_open
+hooks_queued end.Purge old new wrote waiting ends holds queues is_open = absurd ends
+hooks_queued end.Declined old new wrote waiting ends holds queues is_open =
+    subst (λ (r : Request). IsAnswerWaiting r wrote waiting) queues.answers_to
+    (declined_queued (has_head queues.left.place) queues.left new wrote waiting refl
+    (queues.queued [] [] holds) queues.completed is_open)
+hooks_queued (end.Unwritten why) old new wrote waiting ends holds queues is_open = absurd ends
+hooks_queued (end.Failed error) old new wrote waiting ends holds queues is_open = absurd ends
+
+-- where they ended so, the log leads to that station
+pub ended_order : {K : Type 0} (allows : Standing → LogEntry → Type 0) (first now : Seen)
+    (mark behind : ℕ) (p : stage.Place K) (how : End) (log : List LogEntry) → p ≡ opening.Ended how
+    → first.log ≡ [] → now.log ≡ log → OpensSoFar allows first mark p now behind
+    → Accepts station.accepted log (end_station how)
+ended_order {K} allows first now mark behind p how log is none same opens =
+    let h : HasCalled allows first mark station.accepted (end_station how) (QueuesAtEnd how) now
+    behind =
+    subst (λ (q : stage.Place K). OpensSoFar allows first mark q now behind) is opens in
+    subst (λ (l : List LogEntry). Accepts station.accepted l (end_station how))
+    (sym (ap (λ (l : List LogEntry). l ++ h.entries) none) ∙ sym h.log ∙ same) h.order
+
+-- the hooks before the attempts answered the request, and what waits is what it is owed
+pub hooks_answer : {M K : Type 0} (allows : Standing → LogEntry → Type 0) (c d : Calls M K)
+    (client left : HttpSession) (mark behind : ℕ) (which : Hook) (from : Station) (how : End)
+    (s : Start) (p : Passed) (w : World) (tries : List AttemptRecord) (waiting : List ℕ)
+    → Turns allows which from (end_station how) (QueuesAtEnd how) (seen_with c client) mark
+    (seen_with d left) behind
+    → AnswersAs how → end_station how ≡ station.answered
+    → Accepts station.accepted (log_of d) (end_station how)
+    → left.writing.output ≡ outgoing.Open waiting
+    → IsConnecting (called_to s (log_of c)) p w client tries
+    → IsOwedAhead (called_to s (log_of d)) p None waiting
+hooks_answer allows c d client left mark behind which from how s p w tries waiting t ends at order
+    is_open k =
+    let begins = k.begins k.head false in
+    let answer = hooks_queued how client.writing left.writing t.e.wrote waiting ends begins.response
+    t.queued is_open in
+    let request : client.writing.request ≡ request_of k.head =
+    begins.answers ∙ ap (λ (h : RequestHead). request_of h) begins.own in
+    IsOwedAhead.by_answer k.head answer.tasks waiting
+    (called_accepted s (log_of c) (log_of d) p k.head k.accepted)
+    (subst (λ (at : Station). Accepts station.accepted (log_of d) at) at order)
+    (subst (λ (l : List HttpTask). IsAnswerOf (request_of k.head) l answer.tasks)
+    (sym (wrote_on allows c d client left mark behind which from (end_station how)
+    (QueuesAtEnd how) t k.quiet))
+    (subst (λ (r : Request). IsAnswerOf r t.e.wrote answer.tasks) request answer.is_answer))
+    (answer.text ∙ ap (λ (r : Request). (wire r stands.NoHead answer.tasks).text) request)
+
+-- how one ends that is owed nothing
+owed_nothing : (s : Start) (p : Passed) (w : World) (why : Option Error)
+    (tries : List AttemptRecord) → IsOwedAhead s p why [] → p.written ≡ [] → IsUnsent p
+    → tries ≡ [] → EndsUnlinked s p w (outcome.Served why false)
+    × AttemptsUnlinked s p w tries (outcome.Served why false)
+owed_nothing s p w None tries owes written unsent none = (
+  (
+    record {
+      why = None;
+      text = [];
+      owed = owes;
+      given = inl (refl, written);
+      unsent = unsent;
+    },
+    refl,
+  ),
+  none,
+)
+owed_nothing s p w (Some e) tries owes written unsent none =
+    let ends : EndsAhead s p w (Some e) = record {
+      why = Some e;
+      text = [];
+      owed = owes;
+      given = (refl, inl written);
+      unsent = unsent;
+    } in
+    ((inr ends, refl), inr (none, ends))
+
+module _ {L C : Type 0} (state : L → LinkState) (start_at : L → LinkStart) where
+  -- a request that goes on behind a call
+  pub opened_on : (these those : List LogEntry) (s : Start) (p : Passed) (w : World)
+      (context context' : C) (client left : Box HttpSession) (tries : List AttemptRecord)
+      → IsConnecting (called_to s those) p w left.value tries
+      → RunSoFar {C = C} state start_at (called_to s these) p w [] (Connect context client tries)
+      → Advances {C = C} state start_at (called_to s those) w (Connect context' left tries)
+  opened_on these those s p w context context' client left tries k run = record {
+    passed = p;
+    run = record {
+      tells = called_tells s these those p w run.tells;
+      order = IsInOrder.is_nothing k.written k.unsent.sent;
+      untouched = run.untouched;
+      going = tt;
+      calm = run.calm;
+      holds = k;
+    };
+  }
+
+  -- one that is owed that text by hooks
+  pub hooks_owe : (these those : List LogEntry) (s : Start) (p : Passed) (w : World) (context : C)
+      (client left : Box HttpSession) (tries : List AttemptRecord) (why : Option Error)
+      (text : List ℕ) → left.value.writing.output ≡ outgoing.Open text → 0 < length text
+      → IsOwedAhead (called_to s those) p why text → tries ≡ []
+      → RunSoFar {C = C} state start_at (called_to s these) p w [] (Connect context client tries)
+      → Advances {C = C} state start_at (called_to s those) w (Answer left (owed.Ahead why) tries)
+  hooks_owe these those s p w context client left tries why text waits some owes none run =
+      answer_on state start_at (called_to s those) p w [] left (owed.Ahead why) tries
+      (called_tells s these those p w run.tells) (record {
+        text = text;
+        owes = (owes, record { got = run.holds.unsent.got; sent = run.holds.unsent.sent });
+        waits = record {
+          left = text;
+          is_open = waits;
+          some = some;
+          joined = ap (λ (xs : List ℕ). xs ++ text) run.holds.written;
+        };
+        made = none;
+      })
+
+  -- one that is owed nothing has ended
+  pub hooks_end : (these those : List LogEntry) (s : Start) (p : Passed) (w : World) (context : C)
+      (client : Box HttpSession) (tries : List AttemptRecord) (why : Option Error)
+      → IsOwedAhead (called_to s those) p why [] → tries ≡ []
+      → RunSoFar {C = C} state start_at (called_to s these) p w [] (Connect context client tries)
+      → Advances {C = C} state start_at (called_to s those) w
+      (Ended (outcome.Served why false) tries)
+  hooks_end these those s p w context client tries why owes none run = record {
+    passed = p;
+    run = record {
+      tells = called_tells s these those p w run.tells;
+      order = IsInOrder.is_nothing run.holds.written run.holds.unsent.sent;
+      untouched = run.untouched;
+      going = λ limit. cc;
+      calm = tt;
+      holds = owed_nothing (called_to s those) p w why tries owes run.holds.written
+          (record { got = run.holds.unsent.got; sent = run.holds.unsent.sent }) none;
+    };
+  }
+
+  -- what waits for the client is what it is owed
+  pub hooks_leave : (these those : List LogEntry) (s : Start) (p : Passed) (w : World)
+      (context : C) (client left : Box HttpSession) (tries : List AttemptRecord)
+      (why : Option Error) (text : List ℕ) (next : Phase L C)
+      → left.value.writing.output ≡ outgoing.Open text
+      → (0 < length (pending left.value.writing.output) → next ≡ Answer left (owed.Ahead why) tries)
+      → (pending left.value.writing.output ≡ [] → next ≡ Ended (outcome.Served why false) tries)
+      → IsOwedAhead (called_to s those) p why text → tries ≡ []
+      → RunSoFar {C = C} state start_at (called_to s these) p w [] (Connect context client tries)
+      → Advances {C = C} state start_at (called_to s those) w next
+  hooks_leave these those s p w context client left tries why [] next is more none owes untried
+      run =
+      subst (λ (k : Phase L C). Advances {C = C} state start_at (called_to s those) w k)
+      (sym (none (ap pending is)))
+      (hooks_end these those s p w context client tries why owes untried run)
+  hooks_leave these those s p w context client left tries why (b ∷ bs) next is more none owes
+      untried run =
+      let long : 0 < length (pending left.value.writing.output) =
+      omega (arith, ap (λ (o : Outgoing). length (pending o)) is) in
+      subst (λ (k : Phase L C). Advances {C = C} state start_at (called_to s those) w k)
+      (sym (more long))
+      (hooks_owe these those s p w context client left tries why (b ∷ bs) is (omega arith) owes
+      untried run)
+
+  -- one that was out of memory
+  pub hooks_lost : (these those : List LogEntry) (s : Start) (p : Passed) (w : World) (context : C)
+      (client : Box HttpSession) (tries : List AttemptRecord)
+      → RunSoFar {C = C} state start_at (called_to s these) p w [] (Connect context client tries)
+      → Advances {C = C} state start_at (called_to s those) w (Ended outcome.OutOfMemory tries)
+  hooks_lost these those s p w context client tries run = record {
+    passed = p;
+    run = record {
+      tells = called_tells s these those p w run.tells;
+      order = IsInOrder.is_nothing run.holds.written run.holds.unsent.sent;
+      untouched = run.untouched;
+      going = λ limit. cc;
+      calm = tt;
+      holds = (
+        record { got = run.holds.unsent.got; sent = run.holds.unsent.sent },
+        inr (inl (called_tries s these those tries run.holds.are_tries, run.holds.written)),
+      );
+    };
+  }
+
+  -- the head was accepted and taken from what is ahead, and a session begins behind it, for which a
+  -- context was made
+  pub head_accepted : {M K : Type 0} (allows : Standing → LogEntry → Type 0) (c d : Calls M K)
+      (s : Start) (p : Passed) (w x : World) (head : RequestHead) (framing : Framing) (len : ℕ)
+      (context : C) (client : HttpSession) (left : Box HttpSession) (tries : List AttemptRecord)
+      (mark : ℕ) → x.client ≡ w.client → x.ahead ≡ drop len w.ahead
+      → x.connect_faults ≡ w.connect_faults → tries ≡ [] → log_of c ≡ []
+      → HasRequest w.ahead head framing len → IsRelayable head → StandsBehind head framing client
+      → HasCalled allows (seen_with c client) mark station.accepted station.made QueuesNothing
+      (seen_with d left.value) mark
+      → RunSoFar {C = C} state start_at (called_to s (log_of c)) p w [] ReadHead
+      → Advances {C = C} state start_at (called_to s (log_of d)) x (Connect context left tries)
+  head_accepted allows c d s p w x head framing len context client left tries mark same_client
+      ahead same none no_log has relayable behind called run =
+      record {
+        passed = p;
+        run = record {
+          tells = called_tells s (log_of c) (log_of d) p x tells;
+          order = IsInOrder.is_nothing run.holds.written run.holds.unsent.sent;
+          untouched = λ open_head.
+              absurd (HasRequest-IsOpen (asked s p) head framing len asks open_head);
+          going = tt;
+          calm = ap (λ (l : LinkState). l.faults) same_client ∙ run.calm;
+          holds = record {
+            head = head;
+            accepted = record { framing = framing; len = len; has = asks; relayable = relayable };
+            is_left = told.read head behind.is_head
+                ∙ ap (λ (l : List LogEntry). Some (head_behind head l)) (sym log);
+            quiet = ap (λ (l : List LogEntry). wrote_in l) log ∙ called.queued.wrote_none;
+            begins = λ sent reused. begins_on (origin_of s head sent reused) p.came x.client x.ahead
+                (seen_with c client) (seen_with d left.value) called.reads called.queued.same
+                (begins_behind (called_to s (log_of c)) p x head framing len client sent reused tells
+                run.holds.written asks
+                (ahead ∙ ap (λ (xs : List ℕ). drop len xs) run.holds.whole) behind);
+            written = run.holds.written;
+            unsent = run.holds.unsent;
+            are_tries = no_tries (called_to s (log_of d)) tries none;
+          };
+        };
+      }
+    where
+      tells : TellsClient (called_to s (log_of c)) p x
+      tells = client_still (called_to s (log_of c)) p w x (omega (arith, same))
+          (ap (λ (l : LinkState). l.given) same_client)
+          (ap (λ (l : LinkState). l.taken) same_client)
+          (omega (arith, ap (λ (l : LinkState). l.faults) same_client))
+          (grew_same w.client x.client same_client) run.tells
+
+      asks : HasRequest (asked s p) head framing len
+      asks = subst (λ (xs : List ℕ). HasRequest xs head framing len) run.holds.whole has
+
+      told : TellsHead (seen_with c client) (seen_with d left.value) called.entries
+      told = called_head allows (seen_with c client) mark station.accepted station.made
+          QueuesNothing (seen_with d left.value) mark called
+
+      log : log_of d ≡ called.entries
+      log = called.log ∙ ap (λ (l : List LogEntry). l ++ called.entries) no_log

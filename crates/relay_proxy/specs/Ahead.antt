@@ -1,0 +1,64 @@
+-- What a request comes to whose hooks ended it before its attempts: one of them answered it, or
+-- stopped it with an error (RFC 9110, sections 3.7 and 15).
+use Rattle.std.specs.Prelude.{◌≡◌, ◌⊎◌, ℕ, true, false, List, [], ◌∷◌, ◌++◌, Option, None, Some}
+use Rattle.relay_tasks.specs.Error.{new_error}
+use Rattle.relay_tasks.specs.Head.{RequestHead}
+use Rattle.relay_tasks.specs.declared.Error.{Error}
+use Rattle.relay_tasks.specs.declared.ErrorSource.{ErrorSource}
+use Rattle.relay_tasks.specs.declared.ErrorSource.TheVariants.{Internal}
+use Rattle.relay_tasks.specs.declared.ErrorType.TheVariants as kind
+use Rattle.relay_tasks.specs.declared.log.LogEntry.{LogEntry}
+use Rattle.relay_tasks.specs.declared.task.HttpTask.{HttpTask}
+use Rattle.relay_session.specs.Asked.{request_of}
+use Rattle.relay_session.specs.Response.{has_head}
+use Rattle.relay_session.specs.TaskWire.{wire}
+use Rattle.relay_session.specs.declared.task_text.Place.TheVariants as place
+use Rattle.relay_session.specs.declared.task_text.Request.{Request}
+use Rattle.relay_hooks.specs.Answer.{is_whole}
+use Rattle.relay_hooks.specs.DefaultLaw.{lone_answer}
+use Rattle.relay_phases.specs.Order.{Accepts, accepted, answered, failing, purging, trying}
+use Rattle.relay_phases.specs.Turns.{wrote_in}
+use Rattle.relay_attempt.specs.Passed.{Passed}
+use Rattle.relay_proxy.specs.Answer.{answer_for}
+use Rattle.relay_proxy.specs.Passed.{Start}
+use Rattle.relay_proxy.specs.Relayable.{IsAccepted}
+
+-- the error of a request that is not relayed
+abbrev pub unrelayed : ErrorSource → Error
+unrelayed side = new_error (kind.Custom 1) side
+
+-- the hooks before the attempts let the request go to an upstream, by their log
+abbrev pub LetsGo : List LogEntry → Type 0
+LetsGo called = Accepts accepted called trying
+
+-- what the client is given where hooks queued these tasks to answer a request: them; and the relay's
+-- own 502 behind them, where no final head is among them
+pub data IsAnswerOf (request : Request) (wrote : List HttpTask) : List HttpTask → Type 0 where
+  as_queued : (is_whole wrote ≡ true) ⊎ (has_head (wire request place.NoHead wrote).place ≡ true)
+      → IsAnswerOf request wrote wrote
+  with_502 : has_head (wire request place.NoHead wrote).place ≡ false
+      → IsAnswerOf request wrote (wrote ++ lone_answer 502)
+
+-- the last call answered that error
+pub record LastFails (called : List LogEntry) (e : Error) : Type 0 where
+  pub before : List LogEntry
+  pub last : LogEntry
+  pub is_last : called ≡ before ++ last ∷ []
+  pub error : last.error ≡ Some e
+
+-- why hooks stopped a request with that error: one of them answered it; or the request is a purge,
+-- which is not done so far
+pub data IsStoppedFor (called : List LogEntry) (e : Error) : Type 0 where
+  by_hook : Accepts accepted called failing → LastFails called e → IsStoppedFor called e
+  is_purge : Accepts accepted called purging → e ≡ unrelayed Internal → IsStoppedFor called e
+
+-- the client is owed that text by the hooks before the attempts, for an error or for none: the text
+-- of their answer, or of the one to the error with which they stopped the request
+pub data IsOwedAhead (s : Start) (p : Passed) : Option Error → List ℕ → Type 0 where
+  by_answer : (head : RequestHead) (tasks : List HttpTask) (text : List ℕ) → IsAccepted s p head
+      → Accepts accepted s.called answered
+      → IsAnswerOf (request_of head) (wrote_in s.called) tasks
+      → text ≡ (wire (request_of head) place.NoHead tasks).text → IsOwedAhead s p None text
+  by_error : (head : RequestHead) (e : Error) (text : List ℕ) → IsAccepted s p head
+      → IsStoppedFor s.called e → text ≡ answer_for (request_of head) place.NoHead e
+      → IsOwedAhead s p (Some e) text

@@ -1,0 +1,200 @@
+//! The hooks before the attempts: one is called a turn, until they let the request go to an
+//! upstream, answer it, or stop it (RFC 9110, section 3.7).
+ghost use Rattle.std.specs.Prelude.{◌≡◌, ◌⊎◌, ◌+◌, ◌≤◌, ◌<◌, [], ℕ, List, None, Some, length, true, false};
+ghost use Rattle.std.specs.Global.{Box};
+ghost use Rattle.relay_links.specs.Link.{LinkState};
+ghost use Rattle.relay_session.specs.Asked.{request_of};
+ghost use Rattle.relay_session.specs.Response.{pending};
+ghost use Rattle.relay_session.specs.declared.task_text.Place.{Place};
+ghost use Rattle.relay_session.specs.declared.writing.Outgoing.{Outgoing};
+ghost use Rattle.relay_tasks.specs.Head.{RequestHead};
+ghost use Rattle.relay_tasks.specs.declared.log.LogEntry.{LogEntry};
+ghost use Rattle.relay_attempt.specs.Passed.{Passed};
+ghost use Rattle.relay_proxy.specs.Ahead.{IsStoppedFor};
+ghost use Rattle.relay_proxy.specs.Bound.{CountsCall, CountsLink};
+ghost use Rattle.relay_proxy.specs.Calls.{CallsSoFar, CountsCalls, allowed_by, is_opening, log_of};
+ghost use Rattle.relay_proxy.specs.Passed.{World, Start, called_to};
+ghost use Rattle.relay_proxy.specs.Phases.{RunSoFar};
+ghost use Rattle.relay_proxy.specs.Stock.{items_held};
+ghost use Rattle.relay_proxy.specs.Relayable.{IsAccepted};
+ghost use Rattle.relay_proxy.specs.Refusals.{attempts_in, faults_before, faults_told};
+ghost use Rattle.relay_proxy.specs.Taken.{TakesAfter};
+ghost use Rattle.relay_proxy.specs.Turn.{world_with, DoesWork, is_over, is_end, links_held, Advances, HasCause};
+ghost use Rattle.relay_proxy.specs.Uses.{OwesAnswer, PhaseUses};
+ghost use Rattle.relay_proxy.specs.declared.outcome.Outcome.{Outcome};
+
+use crate::calls::{Calls, Opened, call_next};
+use crate::connecting::{connect, lacks_memory};
+use crate::machine::{Next, Phase, RunStep};
+use crate::owed::{Owed, queue_answer};
+use crate::record::AttemptList;
+use crate::work::Work;
+use relay_hooks::ProxyHttp;
+use relay_links::{ByteLink, Connector};
+use relay_opening::End;
+use relay_session::HttpSession;
+use relay_tasks::{Error, ErrorType};
+use std::alloc::Global;
+
+/// Calls the hook that comes next, while there is one before the attempts; and then asks the connector
+/// for a link.
+pub(crate) fn reach<SV: ProxyHttp, K: Connector>(
+    alloc: Global,
+    app: &SV,
+    connector: &mut K,
+    most: usize,
+    calls: &mut Calls<SV::Modules, SV::Kept>,
+    context: SV::CTX,
+    session: Box<HttpSession>,
+    tries: AttemptList,
+) -> Next<K::Byte, SV::CTX>
+    ensures run { (s : Start) (p : Passed) (client : LinkState) (ahead : List ℕ) → s.most ≡ most
+        → CallsSoFar {L = K.Byte} (allowed_by (SV.allows app.now) SV.Modules.allows)
+        (SV.mark_of app.now) calls.old (Phase.Connect context session tries)
+        → RunSoFar {C = SV.CTX} K.Byte.state K.Byte.start (called_to s (log_of calls.old)) p
+        (world_with client ahead (K.fault_count connector.old)) []
+        (Phase.Connect context session tries)
+        → Advances {C = SV.CTX} K.Byte.state K.Byte.start (called_to s (log_of calls.new))
+        (world_with client ahead (K.fault_count connector.new)) result.phase }
+    ensures calls { CallsSoFar {L = K.Byte} (allowed_by (SV.allows app.now) SV.Modules.allows)
+        (SV.mark_of app.now) calls.old (Phase.Connect context session tries)
+        → CallsSoFar {L = K.Byte} (allowed_by (SV.allows app.now) SV.Modules.allows)
+        (SV.mark_of app.now) calls.new result.phase }
+    ensures cause { (client : LinkState) (ahead : List ℕ) → HasCause K.Byte.state K.Byte.start
+        (world_with client ahead (K.fault_count connector.old))
+        (world_with client ahead (K.fault_count connector.new))
+        (Phase.Connect context session tries) result.phase result.step }
+    ensures work { DoesWork result.step result.work }
+    ensures counts { CountsCall tries result.phase result.work
+        ⊎ CountsLink tries result.phase result.work }
+    ensures called { CountsCalls calls.old calls.new result.work }
+    ensures unused { result.work.used ≡ 0 }
+    ensures step { (result.step ≡ RunStep.Moved) ⊎ (result.step ≡ RunStep.Ended) }
+    ensures over { is_over result.phase ≡ is_end result.step }
+    ensures out { K.out connector.new
+        ≡ K.out connector.old + links_held K.Byte.state K.Byte.start result.phase }
+    ensures returned { K.returned connector.new ≡ K.returned connector.old }
+    ensures fresh { PhaseUses K.Byte.state K.Byte.start 0 [] result.phase }
+    ensures asks { TakesAfter (faults_told tries) (faults_before [] result.phase)
+        (items_held K.Byte.start result.phase) (K.refusals connector.old)
+        (K.refusals connector.new) (K.stock connector.old) (K.stock connector.new) }
+    ensures faults { K.fault_count connector.old ≤ K.fault_count connector.new }
+{
+    if calls.is_opening() {
+        return open(app, calls, context, session, tries);
+    }
+    connect(alloc, connector, most, context, session, tries)
+}
+
+/// Calls the hook that comes next, and no other.
+fn open<SV: ProxyHttp, L: ByteLink>(
+    app: &SV,
+    calls: &mut Calls<SV::Modules, SV::Kept>,
+    context: SV::CTX,
+    session: Box<HttpSession>,
+    tries: AttemptList,
+) -> Next<L, SV::CTX>
+    requires { is_opening calls.old.at ≡ true }
+    ensures run { (s : Start) (p : Passed) (w : World)
+        → CallsSoFar {L = L} (allowed_by (SV.allows app.now) SV.Modules.allows)
+        (SV.mark_of app.now) calls.old (Phase.Connect context session tries)
+        → RunSoFar {C = SV.CTX} L.state L.start (called_to s (log_of calls.old)) p w []
+        (Phase.Connect context session tries)
+        → Advances L.state L.start (called_to s (log_of calls.new)) w result.phase }
+    ensures calls { CallsSoFar {L = L} (allowed_by (SV.allows app.now) SV.Modules.allows)
+        (SV.mark_of app.now) calls.old (Phase.Connect context session tries)
+        → CallsSoFar {L = L} (allowed_by (SV.allows app.now) SV.Modules.allows)
+        (SV.mark_of app.now) calls.new result.phase }
+    ensures cause { (w : World) → HasCause L.state L.start w w
+        (Phase.Connect context session tries) result.phase result.step }
+    ensures work { DoesWork result.step result.work }
+    ensures counts { CountsCall tries result.phase result.work }
+    ensures called { CountsCalls calls.old calls.new result.work }
+    ensures unused { result.work.used ≡ 0 }
+    ensures step { (result.step ≡ RunStep.Moved) ⊎ (result.step ≡ RunStep.Ended) }
+    ensures over { is_over result.phase ≡ is_end result.step }
+    ensures unlinked { links_held L.state L.start result.phase ≡ 0 }
+    ensures no_items { items_held L.start result.phase ≡ [] }
+    ensures attempts { attempts_in result.phase ≡ tries }
+{
+    let mut context = context;
+    let mut session = session;
+    match call_next(app, calls, &mut context, &mut session) {
+        Opened::More | Opened::Ended(End::Attempts) => Next {
+            phase: Phase::Connect(context, session, tries),
+            step: RunStep::Moved,
+            work: Work::CALLED,
+        },
+        Opened::Ended(End::Answered | End::Declined) => owe(session, tries, None),
+        Opened::Ended(End::Purge) => stop(session, tries, Error::new_in(ErrorType::Custom(1))),
+        Opened::Ended(End::Failed(error)) => stop(session, tries, error),
+        Opened::Ended(End::Unwritten(_)) | Opened::OutOfMemory => lacks_memory(tries),
+    }
+}
+
+/// A request that hooks stopped with that error: the client is owed the answer to it, where it has
+/// one.
+fn stop<L: ByteLink, C>(session: Box<HttpSession>, tries: AttemptList, error: Error) -> Next<L, C>
+    ensures run { (s : Start) (these those : List LogEntry) (p : Passed) (w : World) (context : C)
+        (client : Box HttpSession) (head : RequestHead)
+        → session.value.writing.output ≡ Outgoing.Open []
+        → session.value.writing.request ≡ request_of head
+        → session.value.writing.place ≡ Place.NoHead → IsAccepted (called_to s those) p head
+        → IsStoppedFor those error → tries ≡ []
+        → RunSoFar {C = C} L.state L.start (called_to s these) p w []
+        (Phase.Connect context client tries)
+        → Advances {C = C} L.state L.start (called_to s those) w result.phase }
+    ensures owes { result.step ≡ RunStep.Moved → OwesAnswer result.phase }
+    ensures step { (result.step ≡ RunStep.Moved) ⊎ (result.step ≡ RunStep.Ended) }
+    ensures work { DoesWork result.step result.work }
+    ensures counts { CountsCall tries result.phase result.work }
+    ensures called { result.work.called ≤ 1 }
+    ensures unused { result.work.used ≡ 0 }
+    ensures over { is_over result.phase ≡ is_end result.step }
+    ensures unlinked { links_held L.state L.start result.phase ≡ 0 }
+    ensures no_items { items_held L.start result.phase ≡ [] }
+    ensures attempts { attempts_in result.phase ≡ tries }
+{
+    let mut session = session;
+    let Ok(()) = queue_answer(&mut session, error) else {
+        return lacks_memory(tries);
+    };
+    owe(session, tries, Some(error))
+}
+
+/// A request that hooks ended, for that error or for none: what waits for the client is to be
+/// written.
+fn owe<L: ByteLink, C>(
+    session: Box<HttpSession>,
+    tries: AttemptList,
+    why: Option<Error>,
+) -> Next<L, C>
+    ensures some { 0 < length (pending session.value.writing.output)
+        → (result.phase ≡ Phase.Answer session (Owed.Ahead why) tries)
+        × (result.step ≡ RunStep.Moved) }
+    ensures none { pending session.value.writing.output ≡ []
+        → (result.phase ≡ Phase.Ended (Outcome.Served why false) tries)
+        × (result.step ≡ RunStep.Ended) }
+    ensures owes { result.step ≡ RunStep.Moved → OwesAnswer result.phase }
+    ensures step { (result.step ≡ RunStep.Moved) ⊎ (result.step ≡ RunStep.Ended) }
+    ensures counts { CountsCall tries result.phase result.work }
+    ensures over { is_over result.phase ≡ is_end result.step }
+    ensures unlinked { links_held L.state L.start result.phase ≡ 0 }
+    ensures no_items { items_held L.start result.phase ≡ [] }
+    ensures attempts { attempts_in result.phase ≡ tries }
+    ensures work { result.work ≡ Work.CALLED }
+{
+    let owed = Owed::Ahead(why);
+    if !session.has_pending() {
+        return Next {
+            phase: Phase::Ended(owed.outcome(), tries),
+            step: RunStep::Ended,
+            work: Work::CALLED,
+        };
+    }
+    Next {
+        phase: Phase::Answer(session, owed, tries),
+        step: RunStep::Moved,
+        work: Work::CALLED,
+    }
+}
