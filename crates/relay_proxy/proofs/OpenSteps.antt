@@ -34,7 +34,7 @@ use Rattle.relay_phases.specs.Order.{Station as station}
 use Rattle.relay_phases.specs.Turns.{HasCalled, QueuesNothing, ReadsNothing, Turns, wrote_in}
 use Rattle.relay_phases.proofs.TurnLemmas.{wrote_in-append}
 use Rattle.relay_opening.specs.Told.{TellsHead, head_behind}
-use Rattle.relay_opening.proofs.ToldLemmas.{called_head, head_or, reads_done, reads_so_far, walk_head}
+use Rattle.relay_opening.proofs.ToldLemmas.{called_head, reads_done, reads_so_far, walk_head}
 use Rattle.relay_opening.specs.Queued.{Completes, QueuesAnswer, QueuesAtEnd}
 use Rattle.relay_opening.specs.Opens.{OpensSoFar}
 use Rattle.relay_opening.specs.Place.{end_station}
@@ -124,6 +124,11 @@ begins_on o came link ahead first now reads same begins = record {
   tells = begins.tells;
 }
 
+-- what is some is what it unwraps to
+some_or : {A : Type 0} (o : Option A) (other : A) → IsSome o → o ≡ Some (unwrap_or o other)
+some_or None other none = absurd (true≢false (sym none))
+some_or (Some a) other some = refl
+
 -- a log with one entry more tells the head behind it
 head_behind_append : (head : RequestHead) (es : List LogEntry) (e : LogEntry)
     → head_behind head (es ++ e ∷ []) ≡ unwrap_or e.head (head_behind head es)
@@ -149,7 +154,7 @@ module _ {M K : Type 0} (allows : Standing → LogEntry → Type 0) (c d : Calls
         ≡ unwrap_or t.e.head (unwrap_or (head_of client.reading) other) =
         walk_head allows (t.e ∷ []) (standing None false (moment (seen_with c client) mark))
         (standing None false (moment (seen_with d left) behind)) t.calls.walk in
-        head_or left.reading other (t.calls.reads.head (ap is_some is))
+        some_or (head_of left.reading) other (t.calls.reads.head (ap is_some is))
         ∙ ap (λ (h : RequestHead). Some h)
         (walked
         ∙ ap (λ (h : Option RequestHead). unwrap_or t.e.head (unwrap_or h other)) is
