@@ -1,5 +1,5 @@
 //! One turn of the hooks before the attempts: the hook that comes next, called and entered.
-ghost use Rattle.std.specs.Prelude.{◌≡◌, true, false, is_some, IfOk, IsOkUnless, IsSome, IsTrue, OnErr, OnOk, Option};
+ghost use Rattle.std.specs.Prelude.{◌≡◌, ◌+◌, true, false, is_some, length, IfOk, IsOkUnless, IsSome, IsTrue, OnErr, OnOk, Option};
 ghost use Rattle.relay_session.specs.Reading.{head_of};
 ghost use Rattle.relay_modules.specs.Module.{AllowsMade};
 ghost use Rattle.relay_modules.specs.declared.seen.Seen.{Seen};
@@ -40,6 +40,8 @@ pub fn begin_opening<SV: ProxyHttp>(
     ensures ready { IfOk result (λ begun. IsTrue (may_go_on begun.1 session.new.seen)) }
     ensures memory { IsOkUnless result Fail.OutOfMemory }
     ensures lost { OnErr result (session.new.seen.log ≡ session.old.seen.log) }
+    ensures once { OnOk result (length session.new.seen.log
+        ≡ length session.old.seen.log + 1) }
 {
     let ctx = call_new_ctx(app, session)?;
     Ok((ctx, Place::Behind(Called::Made(kept))))

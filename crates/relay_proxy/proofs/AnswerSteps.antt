@@ -50,7 +50,7 @@ use Rattle.relay_proxy.specs.declared.owed.Owed.TheVariants.{Refused, Ahead, Ser
 use Rattle.relay_proxy.specs.declared.record.AttemptRecord.{AttemptRecord}
 use Rattle.relay_proxy.proofs.OpenHead.{turns_down_open, exchange_open}
 use Rattle.relay_proxy.proofs.Tells.{Rose-le, client_took, client_still, take_whole, take_rest}
-use Rattle.relay_proxy.proofs.UncutLemmas.{uncut}
+use Rattle.relay_proxy.proofs.CutLemmas.{cut_next}
 
 -- the client took some
 pub taken_of : (output : Outgoing) (before after : LinkState) (n : ℕ) (left : Outgoing)
@@ -314,9 +314,9 @@ module _ {L : Type 0} (state : L → LinkState) (start_at : L → LinkStart) whe
   owes_order s p w (r ∷ own) (Refused error) text owes front = absurd owes
   owes_order s p w (r ∷ own) (Ahead why) text owes front = absurd owes
   owes_order s p w (r ∷ own) (Served e) text (Misses.in_exchange f is kept) front =
-      let whole = uncut s (past_at p f.before) f.head f.sent _ f.sends w.client _ _ e f.why in
-      IsInOrder.is_failure f.head f.sent _ _ f.before e f.relayable f.sends whole.order
-      (subst (λ (t : List ℕ). IsFrontOf p.written t) (is ∙ sym whole.same) front)
+      IsInOrder.is_failure _ f.head f.sent _ _ f.before e f.relayable f.sends (order_of f.why)
+      (cut_next _ (past_at p f.before) w.client _ _ e f.why)
+      (subst (λ (t : List ℕ). IsFrontOf p.written t) is front)
   owes_order s p w (r ∷ own) (Served e) text (Misses.ahead_of_it f is kept) front =
       IsInOrder.is_unsent f.head e f.accepted f.refused
       (subst (λ (t : List ℕ). IsFrontOf p.written t) is front) f.unsent.sent
@@ -334,8 +334,7 @@ module _ {L : Type 0} (state : L → LinkState) (start_at : L → LinkStart) whe
   owes_open s p w (r ∷ own) (Refused error) text owes open_head = absurd owes
   owes_open s p w (r ∷ own) (Ahead why) text owes open_head = absurd owes
   owes_open s p w (r ∷ own) (Served e) text (Misses.in_exchange f is kept) open_head =
-      exchange_open s (past_at p f.before) f.head f.sent _ _
-      (uncut s (past_at p f.before) f.head f.sent _ f.sends w.client _ _ e f.why).order open_head
+      exchange_open _ s (past_at p f.before) f.head f.sent _ _ (order_of f.why) open_head
   owes_open s p w (r ∷ own) (Served e) text (Misses.ahead_of_it f is kept) open_head =
       HasRequest-IsOpen (asked s p) f.head f.accepted.framing f.accepted.len f.accepted.has
       open_head

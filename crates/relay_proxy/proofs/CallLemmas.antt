@@ -22,13 +22,15 @@ use Rattle.relay_phases.specs.Turns.{HasCalled, QueuesNothing}
 use Rattle.relay_opening.specs.Opens.{OpensSoFar}
 use Rattle.relay_opening.specs.Place.{TurnAllows, end_station, station_of}
 use Rattle.relay_opening.specs.Queued.{QueuesAtEnd}
+use Rattle.relay_opening.specs.declared.place.Called.{Called}
 use Rattle.relay_opening.specs.declared.place.Called.TheVariants as called
 use Rattle.relay_opening.specs.declared.place.Place.{Place}
 use Rattle.relay_opening.specs.declared.place.Place.TheVariants as place
-use Rattle.relay_proxy.specs.Bound.{CountsAnswer}
-use Rattle.relay_proxy.specs.Calls.{CallsSoFar, IsLogged, IsOpening, is_opening, log_of, place_of, seen_with}
+use Rattle.relay_proxy.specs.Bound.{CountsAnswer, CountsCall}
+use Rattle.relay_proxy.specs.Calls.{CallsSoFar, HasBegun, IsLogged, IsOpening, is_opening, log_of, place_of, seen_with}
 use Rattle.relay_proxy.specs.Closing.{Settles}
 use Rattle.relay_proxy.specs.Turn.{KeepsAsked, is_connecting, links_held}
+use Rattle.relay_proxy.specs.declared.calls.At.{At}
 use Rattle.relay_proxy.specs.declared.calls.Calls.{Calls}
 use Rattle.relay_proxy.specs.declared.machine.Phase.{Phase}
 use Rattle.relay_proxy.specs.declared.machine.Phase.TheVariants.{ReadHead, Connect, Relay, Fail, Close, Answer, Ended}
@@ -64,7 +66,7 @@ nowhere = record {
 }
 
 -- no call is a log in order
-none_logged : (allows : Standing → LogEntry → Type 0) (log : List LogEntry) → log ≡ []
+pub none_logged : (allows : Standing → LogEntry → Type 0) (log : List LogEntry) → log ≡ []
     → (at : Station) × IsLogged allows log at
 none_logged allows log none = (
   station.accepted,
@@ -121,6 +123,25 @@ module _ {C M K : Type 0} (allows : Standing → LogEntry → Type 0) (mark_of :
       opens_logged calls client o.first o.mark (mark_of context) (place_of calls.at) o.known o.none
       o.opens
 
+  -- the context was made, and the calls so far are that one
+  pub begun_calls : (c d : Calls M K) (client left : HttpSession) (context : C)
+      (tries : List AttemptRecord) → log_of c ≡ [] → tries ≡ [] → HasBegun d.at
+      → HasCalled allows (seen_with c client) (mark_of context) station.accepted station.made
+      QueuesNothing (seen_with d left) (mark_of context)
+      → IsOpening allows mark_of d context left tries
+  begun_calls c d client left context tries none untried begun called = record {
+    first = seen_with c client;
+    mark = mark_of context;
+    none = none;
+    opens = subst (λ (a : At K). OpensSoFar allows (seen_with c client) (mark_of context)
+        (place_of a) (seen_with d left) (mark_of context)) (sym begun.1) called;
+    known = λ lost. not_lost (sym (ap (λ (a : At K). place_of a) begun.1) ∙ lost);
+    untried = λ still. untried;
+  }
+    where
+      not_lost : {last : Called K} → place.Behind last ≡ place.Lost → ⊥
+      not_lost {last} same = cc
+
 module _ {L C M K : Type 0} (allows : Standing → LogEntry → Type 0) (mark_of : C → ℕ) where
   -- no call was made yet, and none is to be
   pub unopened_calls : (calls : Calls M K) (next : Phase L C) → log_of calls ≡ []
@@ -148,6 +169,21 @@ module _ {L C M K : Type 0} (allows : Standing → LogEntry → Type 0) (mark_of
   linked_calls state start_at calls (Close link lease keep outcome) one logged = logged
   linked_calls state start_at calls (Answer session owed attempts) one logged = cc
   linked_calls state start_at calls (Ended outcome attempts) one logged = cc
+
+  -- nor one that hooks ended
+  pub ended_calls : (calls : Calls M K) (before : List AttemptRecord) (next : Phase L C)
+      (work : Work) → CountsCall before next work → is_connecting next ≡ false
+      → (at : Station) × IsLogged allows (log_of calls) at → CallsSoFar allows mark_of calls next
+  ended_calls calls before ReadHead work counts shut logged = absurd counts
+  ended_calls calls before (Connect context session tries) work counts shut logged =
+      absurd (true≢false shut)
+  ended_calls calls before (Relay a) work counts shut logged = absurd counts
+  ended_calls calls before (Fail link lease keep session error) work counts shut logged =
+      absurd counts
+  ended_calls calls before (Close link lease keep outcome) work counts shut logged =
+      absurd counts
+  ended_calls calls before (Answer session owed attempts) work counts shut logged = logged
+  ended_calls calls before (Ended outcome attempts) work counts shut logged = logged
 
   -- nor does one that writes its answer
   pub answered_calls : (calls : Calls M K) (next : Phase L C) (work : Work)
@@ -202,10 +238,10 @@ module _ {L C M K : Type 0} (allows : Standing → LogEntry → Type 0) (mark_of
   settled_calls calls (Relay a) settled before after does so_far =
       subst (λ (k : Phase L C). CallsSoFar allows mark_of calls k) (sym does.0) so_far
   settled_calls calls (Fail link lease keep session error) settled before after does so_far =
-      subst (λ (k : Phase L C). CallsSoFar allows mark_of calls k) (sym does.1.0) so_far
+      subst (λ (k : Phase L C). CallsSoFar allows mark_of calls k) (sym does.1) so_far
   settled_calls calls (Answer session owed attempts) settled before after does so_far =
       subst (λ (k : Phase L C). CallsSoFar allows mark_of calls k) (sym does.0) so_far
   settled_calls calls (Close link lease keep outcome) settled before after does so_far =
-      subst (λ (k : Phase L C). CallsSoFar allows mark_of calls k) (sym does.1.0) so_far
+      subst (λ (k : Phase L C). CallsSoFar allows mark_of calls k) (sym does.1) so_far
   settled_calls calls (Ended outcome attempts) settled before after does so_far =
       subst (λ (k : Phase L C). CallsSoFar allows mark_of calls k) (sym does.0) so_far

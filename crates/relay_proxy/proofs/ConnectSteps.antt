@@ -106,13 +106,14 @@ made_asked s p w session tries k given answer is made =
     (subst (λ (c : Client). MakesFramed c given answer) (client_asked s p w session tries k) made)
 
 -- a refusal of what is made for a session is one
-pub refused_made : (session read : HttpSession) (given : RequestHead) (failure : Fail) (e : Error)
-    → read ≡ session → failure ≡ fail.Error e
+pub refused_made : (session read : HttpSession) (given : RequestHead) (failure : Fail)
+    (e own : Error) → own ≡ e → read ≡ session → failure ≡ fail.Error e
     → FailsToMake (MakesFramed (client_in read) given) failure
-    → MakesFramed (client_in session) given (Err e)
-refused_made session read given failure e same failed refuses =
-    subst (λ (h : HttpSession). MakesFramed (client_in h) given (Err e)) same
-    (subst (λ (f : Fail). FailsToMake (MakesFramed (client_in read) given) f) failed refuses)
+    → MakesFramed (client_in session) given (Err own)
+refused_made session read given failure e own is same failed refuses =
+    subst (λ (x : Error). MakesFramed (client_in session) given (Err x)) (sym is)
+    (subst (λ (h : HttpSession). MakesFramed (client_in h) given (Err e)) same
+    (subst (λ (f : Fail). FailsToMake (MakesFramed (client_in read) given) f) failed refuses))
 
 -- a framing that is there is not missing
 not_missing : (framing : Framing) (found : Option Framing) → found ≡ None → found ≡ Some framing → ⊥
@@ -149,8 +150,10 @@ part_relayed s p head sent reused link start relayable sends same order = record
   sent = sent;
   relayable = relayable;
   sends = sends;
+  cut = None;
   order = subst (λ (r : Bool). exchange.IsInOrder (origin_of s head sent r) p link.ended)
       (sym same) order;
+  next = tt;
 }
 
 module _ {L : Type 0} (state : L → LinkState) (start_at : L → LinkStart) where
@@ -218,7 +221,7 @@ module _ {L C : Type 0} (state : L → LinkState) (start_at : L → LinkStart) w
       tells = tells;
       order = order;
       untouched = λ open_head.
-          absurd (exchange_open s p relaying.head relaying.sent a.lease.reused _
+          absurd (exchange_open _ s p relaying.head relaying.sent a.lease.reused _
           relaying.under_way.order open_head);
       going = tt;
       calm = calm;
@@ -237,7 +240,7 @@ module _ {L C : Type 0} (state : L → LinkState) (start_at : L → LinkStart) w
       tells = tells;
       order = order;
       untouched = λ open_head.
-          absurd (exchange_open s p relaying.head relaying.sent a.lease.reused _
+          absurd (exchange_open _ s p relaying.head relaying.sent a.lease.reused _
           relaying.under_way.order open_head);
       going = no_limit;
       calm = tt;

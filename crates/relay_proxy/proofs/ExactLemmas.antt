@@ -15,7 +15,7 @@ use Rattle.relay_h1.proofs.VerdictLemmas.{HasRequest-IsOpen, IsRefusedRequest-Is
 use Rattle.relay_tasks.specs.declared.log.LogEntry.{LogEntry}
 use Rattle.relay_phases.specs.Order.{Accepts, Station}
 use Rattle.relay_phases.specs.Order.{Station as station}
-use Rattle.relay_attempt.specs.Agrees.{Agrees}
+use Rattle.relay_attempt.specs.Agrees.{Agrees, AsksAlike}
 use Rattle.relay_attempt.specs.Order.{FailsFor}
 use Rattle.relay_attempt.specs.Order as order
 use Rattle.relay_attempt.specs.Passed.{Passed}
@@ -303,7 +303,13 @@ linked_head : (s : Start) (p : Passed) (w : World) (link : LinkState) (start : L
     → IsUnfinished outcome ⊎ ((head : RequestHead) × IsAccepted s p head)
 linked_head s p w link start keep told NoRequest ends = absurd ends
 linked_head s p w link start keep told (Refused error) ends = absurd ends
-linked_head s p w link start keep told (Served None reuse) ends =
+linked_head s p w link start keep told (Served None reuse) (inr ends) =
+    let asks = ends.early.order.asks in
+    inr (
+      ends.head,
+      record { framing = asks.framing; len = asks.len; has = asks.has; relayable = ends.relayable },
+    )
+linked_head s p w link start keep told (Served None reuse) (inl ends) =
     let asks = ends.relayed.order.asks in
     inr (
       ends.head,
@@ -331,23 +337,32 @@ one_head {s} {p} {a} {b} x y =
 exact_unfit : (s : Start) (p : Passed) (w : World) (link : LinkState) (start : LinkStart)
     (keep : Bool) (told : Option Error) (outcome : Outcome)
     → EndsLinked s p w link start keep told outcome → (head : RequestHead) → IsAccepted s p head
+    → ((sent : RequestHead) → Sends s.called head sent → AsksAlike head sent)
     → ((sent : RequestHead) → Sends s.called head sent → IsUnfit sent.method false p.got link.ended)
     → IsUnfinished outcome ⊎ IsMissed outcome
-exact_unfit s p w link start keep told NoRequest ends head accepted unfit = absurd ends
-exact_unfit s p w link start keep told (Refused error) ends head accepted unfit = absurd ends
-exact_unfit s p w link start keep told (Served None reuse) ends head accepted unfit =
+exact_unfit s p w link start keep told NoRequest ends head accepted alike unfit = absurd ends
+exact_unfit s p w link start keep told (Refused error) ends head accepted alike unfit = absurd ends
+exact_unfit s p w link start keep told (Served None reuse) (inl ends) head accepted alike unfit =
     let asks = ends.relayed.order.asks in
     let own : IsAccepted s p ends.head =
     record { framing = asks.framing; len = asks.len; has = asks.has; relayable = ends.relayable } in
     absurd (relayed_fit (origin_of s ends.head ends.sent start.reused) p link start ends.relayed
-    (unfit ends.sent
-    (subst (λ (h : RequestHead). Sends s.called h ends.sent) (sym (one_head accepted own)) ends.sends)))
-exact_unfit s p w link start keep told (Served (Some e) reuse) (inl ends) head accepted unfit =
+    (unfit ends.sent (subst (λ (h : RequestHead). Sends s.called h ends.sent)
+    (sym (one_head accepted own)) ends.sends)))
+exact_unfit s p w link start keep told (Served None reuse) (inr ends) head accepted alike unfit =
+    let asks = ends.early.order.asks in
+    let own : IsAccepted s p ends.head =
+    record { framing = asks.framing; len = asks.len; has = asks.has; relayable = ends.relayable } in
+    let same = one_head accepted own in
+    absurd (ends.early.differs (subst (λ (h : RequestHead). AsksAlike h ends.sent) same
+    (alike ends.sent (subst (λ (h : RequestHead). Sends s.called h ends.sent) (sym same)
+    ends.sends))))
+exact_unfit s p w link start keep told (Served (Some e) reuse) (inl ends) head accepted alike unfit =
     inr (e, ap (λ (b : Bool). Served (Some e) b) ends.stays)
-exact_unfit s p w link start keep told (Served (Some e) reuse) (inr ends) head accepted unfit =
+exact_unfit s p w link start keep told (Served (Some e) reuse) (inr ends) head accepted alike unfit =
     inr (e, ap (λ (b : Bool). Served (Some e) b) ends.stays)
-exact_unfit s p w link start keep told TurnLimit ends head accepted unfit = inl (inl refl)
-exact_unfit s p w link start keep told OutOfMemory ends head accepted unfit = inl (inr refl)
+exact_unfit s p w link start keep told TurnLimit ends head accepted alike unfit = inl (inl refl)
+exact_unfit s p w link start keep told OutOfMemory ends head accepted alike unfit = inl (inr refl)
 
 -- ---- valid exchanges
 
@@ -495,7 +510,7 @@ module _ {L : Type 0} (state : L → LinkState) (start_at : L → LinkStart) whe
     no_request = λ none ended. exact_no_request s p w outcome ends none ended;
     refused = λ answer error down whole. exact_refused s p w outcome ends answer error down whole;
     not_relayed = λ e cause. exact_unrelayed s p w outcome ends e cause;
-    unfit = λ r head one accepted unfit. absurd (one_not_none one);
+    unfit = λ r head one accepted alike unfit. absurd (one_not_none one);
     whole = λ head relayable lets goes agree asks answers faultless.
         whole_unlinked s p w outcome ends head relayable lets asks faultless.client
         (faultless.connector refl);
@@ -522,9 +537,9 @@ module _ {L : Type 0} (state : L → LinkState) (start_at : L → LinkStart) whe
               | inl unfinished ↦ inl unfinished
               | inr one ↦ absurd (relayed_or_not one.0 one.1 cause)
             ];
-        unfit = λ q head one accepted unfit.
+        unfit = λ q head one accepted alike unfit.
             exact_unfit s p w (state r.link) (start_at r.link) r.keep told outcome ends head
-            accepted
+            accepted alike
             (λ sent sends. subst
             (λ (x : Returned L). IsUnfit sent.method false p.got (state x.link).ended)
             (sym (same_one one)) (unfit sent sends));

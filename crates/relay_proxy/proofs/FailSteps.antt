@@ -35,7 +35,7 @@ use Rattle.relay_proxy.specs.declared.outcome.Outcome.{Outcome}
 use Rattle.relay_proxy.specs.declared.outcome.Outcome.TheVariants as outcome
 use Rattle.relay_proxy.proofs.AnswerSteps.{failed_invalid}
 use Rattle.relay_proxy.proofs.OpenHead.{exchange_open}
-use Rattle.relay_proxy.proofs.UncutLemmas.{uncut}
+use Rattle.relay_proxy.proofs.CutLemmas.{cut_next}
 
 -- ---- what waits
 
@@ -102,7 +102,9 @@ leaves_part s p client link start session e l =
       sent = l.sent;
       relayable = l.relayable;
       sends = l.sends;
-      order = (uncut s p l.head l.sent start.reused l.sends client link start e l.why).order;
+      cut = _;
+      order = order_of l.why;
+      next = cut_next _ p client link start e l.why;
     }
 
 -- the exchange failed, and so much is owed to its client
@@ -167,8 +169,9 @@ module _ {L C : Type 0} (state : L → LinkState) (start_at : L → LinkStart)
       passed = p;
       run = record {
         tells = tells;
-        order = IsInOrder.is_exchange part.head part.sent _ _ part.relayable part.sends part.order;
-        untouched = λ open_head. absurd (exchange_open s p part.head part.sent _ _ part.order
+        order = IsInOrder.is_exchange part.cut part.head part.sent _ _ part.relayable part.sends part.order
+            part.next;
+        untouched = λ open_head. absurd (exchange_open part.cut s p part.head part.sent _ _ part.order
             open_head);
         going = going;
         calm = tt;
@@ -215,9 +218,9 @@ module _ {L C : Type 0} (state : L → LinkState) (start_at : L → LinkStart)
           passed = p;
           run = record {
             tells = tells;
-            order = IsInOrder.is_exchange part.head part.sent _ _ part.relayable part.sends
-                part.order;
-            untouched = λ open_head. absurd (exchange_open s p part.head part.sent _ _ part.order
+            order = IsInOrder.is_exchange part.cut part.head part.sent _ _ part.relayable part.sends
+                part.order part.next;
+            untouched = λ open_head. absurd (exchange_open part.cut s p part.head part.sent _ _ part.order
                 open_head);
             going = tt;
             calm = tt;

@@ -2,13 +2,14 @@ pub mod Tells
 pub mod TryLemmas
 pub mod OpenHead
 pub mod SentLemmas
-pub mod UncutLemmas
+pub mod CutLemmas
 pub mod AnswerSteps
 pub mod FailSteps
 pub mod HeadSteps
 pub mod ConnectSteps
 pub mod OpenSteps
 pub mod CallLemmas
+pub mod HookSteps
 pub mod RelaySteps
 pub mod BoundLemmas
 pub mod StepLemmas

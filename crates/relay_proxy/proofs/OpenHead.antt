@@ -4,7 +4,8 @@ use Rattle.relay_tasks.specs.Head.{RequestHead}
 use Rattle.relay_tasks.specs.declared.Error.{Error}
 use Rattle.relay_h1.specs.Verdict.{IsOpen}
 use Rattle.relay_h1.proofs.VerdictLemmas.{HasRequest-IsOpen, IsRefusedRequest-IsOpen}
-use Rattle.relay_attempt.specs.Order as exchange
+use Rattle.relay_tasks.specs.declared.task.HttpTask.{HttpTask}
+use Rattle.relay_attempt.specs.Order.{IsInOrderWith}
 use Rattle.relay_attempt.specs.Passed.{Passed}
 use Rattle.relay_proxy.specs.Passed.{Start, origin_of, asked}
 use Rattle.relay_proxy.specs.Endings as endings
@@ -23,7 +24,8 @@ turns_down_open {bytes}
     HasRequest-IsOpen bytes head framing len has open_head
 
 -- the head of an exchange is open no more
-pub exchange_open : (s : Start) (p : Passed) (head sent : RequestHead) (reused closed : Bool)
-    → exchange.IsInOrder (origin_of s head sent reused) p closed → IsOpen (asked s p) → ⊥
-exchange_open s p head sent reused closed order open_head =
+pub exchange_open : (cut : Option HttpTask) (s : Start) (p : Passed) (head sent : RequestHead)
+    (reused closed : Bool) → IsInOrderWith cut (origin_of s head sent reused) p closed
+    → IsOpen (asked s p) → ⊥
+exchange_open cut s p head sent reused closed order open_head =
     HasRequest-IsOpen (asked s p) head order.asks.framing order.asks.len order.asks.has open_head

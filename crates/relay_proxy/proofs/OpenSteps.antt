@@ -6,7 +6,7 @@
 --   stays_connecting               a call behind which the request goes on
 --   hooks_answer, hooks_stop       calls that end it
 use Rattle.std.specs.Global.{Box}
-use Rattle.std.proofs.Common.{◌≡◌, ℕ, ◌<◌, Bool, true, false, List, [], ◌∷◌, ◌++◌, length, drop, Option, Some, None, refl, sym, ap, subst, ◌∙◌, inl, inr, arith, append-nil, unwrap_or, is_some}
+use Rattle.std.proofs.Common.{◌≡◌, ℕ, ◌<◌, Bool, true, false, List, [], ◌∷◌, ◌++◌, length, drop, Option, Some, None, refl, sym, ap, subst, ◌∙◌, inl, inr, true≢false, arith, append-nil, unwrap_or, is_some}
 use Rattle.std.specs.Prelude.{IsSome}
 use Rattle.relay_tasks.specs.Head.{RequestHead, new_request}
 use Rattle.relay_tasks.specs.declared.Error.{Error}
@@ -264,7 +264,7 @@ declined_queued false left new wrote waiting has holds queued is_open =
     }
 
 -- hooks that ended so answered the request
-abbrev AnswersAs : End → Type 0
+abbrev pub AnswersAs : End → Type 0
 AnswersAs end.Attempts = ⊥
 AnswersAs end.Answered = Unit {0}
 AnswersAs end.Purge = ⊥

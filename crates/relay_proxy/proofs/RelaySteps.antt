@@ -1,5 +1,5 @@
 -- What a turn of an attempt's exchange makes of the run so far.
-use Rattle.std.proofs.Common.{◌≡◌, ◌≢◌, ◌↔◌, ◌⊎◌, ℕ, ◌+◌, Bool, true, false, not, ◌&&◌, List, [], length, None, Some, refl, sym, ap, subst, ◌∙◌, inl, inr}
+use Rattle.std.proofs.Common.{◌≡◌, ◌≢◌, ◌↔◌, ◌⊎◌, ℕ, ◌+◌, Bool, true, false, not, ◌&&◌, List, [], length, None, Some, refl, sym, ap, subst, ◌∙◌, inl, inr, true≢false}
 use Rattle.std.specs.Prelude.{IsTrue, ◌==◌, if◌then◌else◌}
 use Rattle.std.specs.Box.{with_value}
 use Rattle.std.specs.Global.{Box}
@@ -35,7 +35,7 @@ use Rattle.relay_attempt.specs.Order.{Leaves}
 use Rattle.relay_attempt.specs.Passed.{Passed}
 use Rattle.relay_attempt.specs.declared.h1_exchange.H1Exchange.{H1Exchange}
 use Rattle.relay_proxy.specs.Relayable.{IsRelayable}
-use Rattle.relay_proxy.specs.Endings.{IsClientReusable, IsRelayedWhole, IsInOrder, EndsLinked, error_of}
+use Rattle.relay_proxy.specs.Endings.{IsClientReusable, IsRelayedEarly, IsRelayedWhole, IsInOrder, EndsLinked, error_of}
 use Rattle.relay_proxy.specs.Leaving.{LeavesBy}
 use Rattle.relay_proxy.specs.Sent.{Sends}
 use Rattle.relay_proxy.specs.Passed.{World, Start, origin_of, asked, TellsClient}
@@ -54,7 +54,6 @@ use Rattle.relay_proxy.specs.declared.machine.Phase.{Phase}
 use Rattle.relay_proxy.specs.declared.machine.Phase.TheVariants.{Relay, Close}
 use Rattle.relay_proxy.specs.declared.outcome.Outcome.{Outcome}
 use Rattle.relay_proxy.specs.declared.outcome.Outcome.TheVariants.{Served, TurnLimit}
-use Rattle.relay_proxy.proofs.UncutLemmas.{sent_agrees}
 use Rattle.relay_valid.proofs.UnshortLemmas.{never_short}
 
 -- ---- whether the client may ask for more
@@ -190,9 +189,8 @@ module _ {L : Type 0} (state : L → LinkState) (start_at : L → LinkStart) whe
     relayable = relayable;
     sends = sends;
     relayed = finished.relayed;
-    unshort = never_short (origin_of s head sent (start_at (link_of x)).reused)
-        (sent_agrees s p head sent _ sends _ _ finished.relayed.order) p (state (link_of x)).ended
-        finished.relayed.order;
+    unshort = λ agrees. never_short (origin_of s head sent (start_at (link_of x)).reused) agrees p
+        (state (link_of x)).ended finished.relayed.order;
     calm = calm;
     kept = finished.leaves.serves;
     faultless = finished.faultless;
@@ -201,6 +199,30 @@ module _ {L : Type 0} (state : L → LinkState) (start_at : L → LinkStart) whe
         (state (link_of x)).ended finished.relayed.order w.ahead (may_keep x)
         finished.answers finished.leaves;
     behind = λ ended. finished.leaves.behind (finished.leaves.ended.1 ended);
+  }
+
+  -- one whose response was over early relayed it so far
+  relayed_early : (s : Start) (p : Passed) (w : World) (head sent : RequestHead)
+      (x : H1Exchange L) → IsRelayable head → Sends s.called head sent → w.client.faults ≡ s.faults
+      → IsOverEarly state start_at (origin_of s head sent (start_at (link_of x)).reused) p w.ahead x
+      → IsRelayedEarly s p w (state (link_of x)) (start_at (link_of x)) (may_keep x)
+      (client_reusable x w.ahead)
+  relayed_early s p w head sent x relayable sends calm over = record {
+    head = head;
+    sent = sent;
+    relayable = relayable;
+    sends = sends;
+    early = over.early;
+    calm = calm;
+    unkept = over.unkept;
+    goes_back = reusable x (origin_of s head sent (start_at (link_of x)).reused) p
+        (state (link_of x)).ended over.early.order w.ahead (may_keep x) over.answers (record {
+          ended = over.ended;
+          behind = over.behind;
+          closes = over.closes;
+          serves = λ keeps. absurd (true≢false (sym keeps ∙ over.unkept));
+        });
+    behind = λ ended. over.behind (over.ended.1 ended);
   }
 
 -- ---- a turn
@@ -219,10 +241,10 @@ module _ {L C : Type 0} (state : L → LinkState) (start_at : L → LinkStart) w
   going_on s p q v client ahead a x run told under calm = record {
     tells = tells_client state start_at s run.holds.head run.holds.sent a.value.lease.reused p q v
         client _ _ ahead run.tells told;
-    order = IsInOrder.is_exchange run.holds.head run.holds.sent a.value.lease.reused _
-        run.holds.relayable run.holds.sends under.order;
+    order = IsInOrder.is_exchange None run.holds.head run.holds.sent a.value.lease.reused _
+        run.holds.relayable run.holds.sends under.order tt;
     untouched = λ open_head.
-        absurd (exchange_open s q run.holds.head run.holds.sent a.value.lease.reused _ under.order
+        absurd (exchange_open _ s q run.holds.head run.holds.sent a.value.lease.reused _ under.order
         open_head);
     going = tt;
     calm = calm;
@@ -309,22 +331,31 @@ module _ {L C : Type 0} (state : L → LinkState) (start_at : L → LinkStart) w
       (λ (reused : Bool). IsFinished state start_at (origin_of s head sent reused) turns.passed
       ahead x ⊎ IsOverEarly state start_at (origin_of s head sent reused) turns.passed ahead x)
       (sym told.reused) turns.comes_to in
-      let finished : IsFinished state start_at (origin_of s head sent _) turns.passed ahead x =
-      elim both [
-        | inl whole ↦ whole
-        | inr early ↦ absurd (early.early.differs
-            (sent_agrees s turns.passed head sent _ run.holds.sends _ _ early.early.order).method)
-      ] in
-      record {
-        passed = turns.passed;
-        run = closing s p turns.passed v client ahead a x _ _ run told
-            (IsInOrder.is_exchange head sent _ _ relayable run.holds.sends finished.relayed.order)
-            (λ open_head.
-            exchange_open s turns.passed head sent _ _ finished.relayed.order open_head)
-            (λ same. cc)
-            (relayed_whole state start_at s turns.passed w head sent x relayable run.holds.sends
-            (calm ∙ run.calm) finished);
-      }
+      elim both as (λ _. Advances {C = C} state start_at s w
+      (Close (link_of x) a.value.lease (may_keep x) (Served None (client_reusable x ahead)))) [
+        | inl finished ↦ record {
+            passed = turns.passed;
+            run = closing s p turns.passed v client ahead a x _ _ run told
+                (IsInOrder.is_exchange None head sent _ _ relayable run.holds.sends
+                finished.relayed.order tt)
+                (λ open_head.
+                exchange_open _ s turns.passed head sent _ _ finished.relayed.order open_head)
+                (λ same. cc)
+                (inl (relayed_whole state start_at s turns.passed w head sent x relayable
+                run.holds.sends (calm ∙ run.calm) finished));
+          }
+        | inr over ↦ record {
+            passed = turns.passed;
+            run = closing s p turns.passed v client ahead a x _ _ run told
+                (IsInOrder.is_exchange None head sent _ _ relayable run.holds.sends
+                over.early.order tt)
+                (λ open_head.
+                exchange_open _ s turns.passed head sent _ _ over.early.order open_head)
+                (λ same. cc)
+                (inr (relayed_early state start_at s turns.passed w head sent x relayable
+                run.holds.sends (calm ∙ run.calm) over));
+          }
+      ]
 
   -- what a turn that failed left
   record LeavesOff (s : Start) (w : World) (a : Box (Attempt L C)) (x : H1Exchange L) (why : Fail)

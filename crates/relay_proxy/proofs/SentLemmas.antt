@@ -5,7 +5,7 @@
 --   client_is       whether the client's body has bytes, by the framing of its head
 use Rattle.std.proofs.Common.{◌≡◌, ◌≢◌, ◌⊎◌, Bool, true, false, not, List, [], ◌∷◌, Option, Some, None, refl, sym, ap, ◌∙◌, inl, inr, subst}
 use Rattle.std.proofs.lemmas.Bool.{cases_Bool}
-use Rattle.std.specs.Prelude.{IsSome, Result, Ok, Err}
+use Rattle.std.specs.Prelude.{IfErr, IfOk, IsSome, Result, Ok, Err}
 use Rattle.http.specs.declared.version.TheConstants.Version.{HTTP_11}
 use Rattle.http_header.specs.FieldValue.{FieldValue}
 use Rattle.http_header.specs.HeaderMap.{get_all}
@@ -18,7 +18,7 @@ use Rattle.relay_authority.specs.Framing.{content_length, transfer_encoding}
 use Rattle.relay_authority.specs.Kept.{KeepsFields, SaysFraming}
 use Rattle.relay_tasks.specs.declared.Fail.{Fail}
 use Rattle.relay_tasks.specs.declared.Fail.TheVariants as fail
-use Rattle.relay_authority.specs.Stage.{FailsToMake, blamed}
+use Rattle.relay_authority.specs.Stage.{FailsToMake, Makes, blamed}
 use Rattle.relay_authority.specs.Table.{Outcome}
 use Rattle.relay_authority.specs.declared.upstream.Client.{Client}
 use Rattle.relay_authority.specs.Upstream.{ReadyHead, SentHead}
@@ -219,6 +219,19 @@ unframed_of client copy ready asked sent e readies same made is none =
       },
       is,
     )
+
+-- what is made of a head that was made as it is sent, by its framing
+pub makes_framed : (client : Client) (copy ready asked sent : RequestHead)
+    (answer : Result RequestHead Fail) → ReadyHead over.H1 client.custom copy (Ok ready)
+    → asked ≡ copy → SentHead over.H1 client asked ready (Ok sent)
+    → IfOk answer (λ head. (head ≡ sent) × IsSome (request_framing sent))
+    → IfErr answer (λ why. (why ≡ fail.Error unframed) × (request_framing sent ≡ None))
+    → Makes (MakesFramed client copy) answer
+makes_framed client copy ready asked sent (Ok head) readies same made ok err =
+    framed_of client copy ready asked sent head readies same made ok
+makes_framed client copy ready asked sent (Err why) readies same made ok err =
+    subst (λ (f : Fail). FailsToMake (MakesFramed client copy) f) (sym err.0)
+    (unframed_of client copy ready asked sent unframed readies same made refl err.1)
 
 -- one that was not made ready is not sent, nor one that was not made as it is sent
 pub unready_of : (client : Client) (copy : RequestHead) (failure : Fail)

@@ -1,6 +1,7 @@
 -- The calls of an application for one request: what its hooks are shown, their log, and where they
 -- stand (RFC 9110, section 3.7).
 use Rattle.std.specs.Prelude.{◌≡◌, ℕ, ◌+◌, ◌≤◌, Bool, true, false, is_some, length, List, [], Option}
+use Rattle.relay_tasks.specs.declared.ErrorSource.TheVariants.{Internal}
 use Rattle.relay_tasks.specs.declared.log.LogEntry.{LogEntry}
 use Rattle.relay_links.specs.Link.{LinkState, LinkStart}
 use Rattle.relay_session.specs.declared.session.HttpSession.{HttpSession}
@@ -11,8 +12,10 @@ use Rattle.relay_calls.specs.Log.{IsAllowed, Walk}
 use Rattle.relay_phases.specs.Order.{Accepts, Station, accepted}
 use Rattle.relay_opening.specs.Opens.{OpensSoFar, TurnsOn}
 use Rattle.relay_opening.specs.declared.place.Called.TheVariants as called
+use Rattle.relay_opening.specs.declared.place.End.TheVariants as end
 use Rattle.relay_opening.specs.declared.place.Place.{Place}
 use Rattle.relay_opening.specs.declared.place.Place.TheVariants as place
+use Rattle.relay_proxy.specs.Ahead.{unrelayed}
 use Rattle.relay_proxy.specs.declared.calls.At.{At}
 use Rattle.relay_proxy.specs.declared.calls.At.TheVariants as at
 use Rattle.relay_proxy.specs.declared.calls.Calls.{Calls}
@@ -51,10 +54,15 @@ abbrev pub is_opening : {K : Type 0} → At K → Bool
 is_opening (at.Kept kept) = false
 is_opening (at.Opening there) = is_behind there
 
--- what a call led to, by where they stand behind it
+-- what a call led to, by where they stand behind it; a purge is not done so far
 abbrev pub leads_to : {K : Type 0} → Place K → Opened
-leads_to (place.Behind last) = led.More
-leads_to (place.Ended how) = led.Ended how
+leads_to (place.Behind last) = led.GoesOn
+leads_to (place.Ended end.Attempts) = led.GoesOn
+leads_to (place.Ended end.Answered) = led.Answered
+leads_to (place.Ended end.Purge) = led.Stopped (unrelayed Internal)
+leads_to (place.Ended end.Declined) = led.Answered
+leads_to (place.Ended (end.Unwritten why)) = led.OutOfMemory
+leads_to (place.Ended (end.Failed error)) = led.Stopped error
 leads_to place.Lost = led.OutOfMemory
 
 module _ (allows : Standing → LogEntry → Type 0) where

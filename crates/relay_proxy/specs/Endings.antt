@@ -13,6 +13,7 @@ use Rattle.relay_tasks.specs.declared.ErrorSource.TheVariants.{Upstream, Downstr
 use Rattle.relay_tasks.specs.declared.error.Fail.{Fail}
 use Rattle.relay_tasks.specs.declared.error.Fail.TheVariants as fail
 use Rattle.relay_tasks.specs.declared.Fault.{Fault}
+use Rattle.relay_tasks.specs.declared.task.HttpTask.{HttpTask}
 use Rattle.relay_links.specs.Count.{Rose}
 use Rattle.relay_links.specs.Connector.{IsConnectFault}
 use Rattle.relay_links.specs.Link.{LinkState, LinkStart, IsHandedOut, IsReadFault, IsWriteFault}
@@ -29,7 +30,8 @@ use Rattle.relay_peer.specs.Body.{IsFrontOf, body_of}
 use Rattle.relay_peer.specs.Faults.{IsAmong, IsLast}
 use Rattle.relay_sides.specs.Filtered.{asks_to_close}
 use Rattle.relay_attempt.specs.Order as exchange
-use Rattle.relay_attempt.specs.Order.{FailsFor, order_of, IsRelayed, HasEnded, MayServe, SendsShort}
+use Rattle.relay_attempt.specs.Order.{EndsEarly, FailsFor, order_of, IsInOrderWith, IsRelayed, HasEnded, MayServe, SendsShort}
+use Rattle.relay_attempt.specs.Agrees.{Agrees}
 use Rattle.relay_attempt.specs.Passed.{Passed}
 use Rattle.relay_valid.specs.Valid.{IsValid}
 use Rattle.relay_proxy.specs.Ahead.{IsOwedAhead, unrelayed}
@@ -57,6 +59,13 @@ pub data IsTurnedDown (bytes answer : List ℕ) (error : Option Error) : Type 0 
       → HasRequest bytes head framing len → Entered head None → IsConnect head
       → answer ≡ generated 405 → error ≡ None → IsTurnedDown bytes answer error
 
+-- a task that was cut is the next of the response, and no end was asked for before it
+abbrev pub IsNext : (cut : Option HttpTask) {o : Origin} {p : Passed} {closed : Bool}
+    → IsInOrderWith cut o p closed → Type 0
+IsNext None order = Unit {0}
+IsNext (Some at) order =
+    (order.closing ≡ []) × IsFrontOf (order.batched ++ at ∷ []) order.read
+
 -- what was sent and what was written, whatever the outcome: nothing; the front of a generated
 -- answer, or of what hooks answered, with nothing sent; those of one exchange, whose request is of a
 -- form that is relayed; or those of one that failed when a part had been written: the front of what
@@ -67,17 +76,18 @@ pub data IsInOrder (s : Start) (p : Passed) : Type 0 where
       → IsFrontOf p.written answer → p.sent ≡ [] → IsInOrder s p
   is_ahead : (why : Option Error) (text : List ℕ) → IsOwedAhead s p why text
       → IsFrontOf p.written text → p.sent ≡ [] → IsInOrder s p
-  is_exchange : (head sent : RequestHead) (reused closed : Bool) → IsRelayable head
-      → Sends s.called head sent → exchange.IsInOrder (origin_of s head sent reused) p closed
+  is_exchange : (cut : Option HttpTask) (head sent : RequestHead) (reused closed : Bool)
+      → IsRelayable head → Sends s.called head sent
+      → (order : IsInOrderWith cut (origin_of s head sent reused) p closed) → IsNext cut order
       → IsInOrder s p
   is_unlinked : (head : RequestHead) → IsAccepted s p head
       → IsFrontOf p.written (generated 502) → p.sent ≡ [] → IsInOrder s p
   is_unsent : (head : RequestHead) (e : Error) → IsAccepted s p head → RefusesToSend s.called head e
       → IsFrontOf p.written (generated 500) → p.sent ≡ [] → IsInOrder s p
-  is_failure : (head sent : RequestHead) (reused closed : Bool) (before : List ℕ) (e : Error)
-      → IsRelayable head → Sends s.called head sent
-      → (order : exchange.IsInOrder (origin_of s head sent reused) (past_at p before) closed)
-      → IsFrontOf p.written (owed_text order e) → IsInOrder s p
+  is_failure : (cut : Option HttpTask) (head sent : RequestHead) (reused closed : Bool)
+      (before : List ℕ) (e : Error) → IsRelayable head → Sends s.called head sent
+      → (order : IsInOrderWith cut (origin_of s head sent reused) (past_at p before) closed)
+      → IsNext cut order → IsFrontOf p.written (owed_text order e) → IsInOrder s p
 
 -- the error of a client that ended inside its head
 abbrev pub left_early : Error
@@ -247,8 +257,9 @@ pub record IsRelayedWhole
   pub relayable : IsRelayable head
   pub sends : Sends s.called head sent
   pub relayed : IsRelayed (origin_of s head sent start.reused) p link start
-  -- both heads agree, so the request does not end short
-  pub unshort : ¬ (SendsShort (origin_of s head sent start.reused) p link.ended relayed.order)
+  -- where both heads agree the request does not end short
+  pub unshort : Agrees head sent
+      → ¬ (SendsShort (origin_of s head sent start.reused) p link.ended relayed.order)
   -- no call of the client's link failed
   pub calm : w.client.faults ≡ s.faults
   -- the link is kept only where it may serve another request
@@ -265,6 +276,26 @@ pub record IsRelayedWhole
   -- a request that has ended is all that was taken from the client's bytes
   pub behind : HasEnded relayed.order
       → IsWhole (asked s p) (body_of relayed.order.pieces) w.ahead
+
+-- the response was over towards the client, and relayed so far, before its end was read: hooks made
+-- of the client's head one of which a response is framed otherwise. Its link is not kept
+pub record IsRelayedEarly
+    (s : Start) (p : Passed) (w : World) (link : LinkState) (start : LinkStart) (keep reuse : Bool)
+    : Type 0 where
+  pub head : RequestHead
+  pub sent : RequestHead
+  pub relayable : IsRelayable head
+  pub sends : Sends s.called head sent
+  pub early : EndsEarly (origin_of s head sent start.reused) p link start
+  -- no call of the client's link failed
+  pub calm : w.client.faults ≡ s.faults
+  pub unkept : keep ≡ false
+  -- the client goes back exactly where it may ask for more
+  pub goes_back : IsTrue reuse
+      ↔ IsClientReusable (origin_of s head sent start.reused) p link.ended early.order w.ahead
+  -- a request that has ended is all that was taken from the client's bytes
+  pub behind : HasEnded early.order
+      → IsWhole (asked s p) (body_of early.order.pieces) w.ahead
 
 -- an exchange failed with that error, when a part of what was queued had been written
 pub record HasFailed
@@ -333,7 +364,9 @@ pub record IsPartRelayed (s : Start) (p : Passed) (link : LinkState) (start : Li
   pub sent : RequestHead
   pub relayable : IsRelayable head
   pub sends : Sends s.called head sent
-  pub order : exchange.IsInOrder (origin_of s head sent start.reused) p link.ended
+  pub cut : Option HttpTask
+  pub order : IsInOrderWith cut (origin_of s head sent start.reused) p link.ended
+  pub next : IsNext cut order
 
 -- the same of an attempt that failed with that error: a part of what the client is owed
 pub record IsPartAnswered
@@ -363,7 +396,7 @@ abbrev pub EndsLinked : Start → Passed → World → LinkState → LinkStart �
 EndsLinked s p w link start keep told NoRequest = ⊥
 EndsLinked s p w link start keep told (Refused error) = ⊥
 EndsLinked s p w link start keep told (Served None reuse) =
-    IsRelayedWhole s p w link start keep reuse
+    IsRelayedWhole s p w link start keep reuse ⊎ IsRelayedEarly s p w link start keep reuse
 EndsLinked s p w link start keep told (Served (Some e) reuse) =
     IsFailedAttempt s p w link start keep reuse e ⊎ IsUnsentAttempt s p w link start keep reuse e
 EndsLinked s p w link start keep told TurnLimit = IsPart s p w link start keep told

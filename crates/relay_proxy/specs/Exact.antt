@@ -5,7 +5,7 @@ use Rattle.relay_tasks.specs.declared.Error.{Error}
 use Rattle.relay_links.specs.Count.{Rose}
 use Rattle.relay_links.specs.Link.{LinkState, LinkStart}
 use Rattle.relay_links.specs.declared.Returned.{Returned}
-use Rattle.relay_attempt.specs.Agrees.{Agrees}
+use Rattle.relay_attempt.specs.Agrees.{Agrees, AsksAlike}
 use Rattle.relay_attempt.specs.Passed.{Passed}
 use Rattle.relay_valid.specs.Unfit.{IsUnfit}
 use Rattle.relay_valid.specs.Valid.{AsksFor, AnswersWith}
@@ -61,8 +61,10 @@ module _ {L : Type 0} (state : L → LinkState) (start_at : L → LinkStart) whe
     -- the client ended inside its head, or the head names Upgrade
     pub not_relayed : (e : Error) → IsLeftAlone s p w e
         → IsUnfinished outcome ⊎ IsLeft s p w outcome
-    -- the response is broken, cut off, or switches protocols, whatever head is sent of the client's
+    -- the response is broken, cut off, or switches protocols, whatever head is sent of the client's,
+    -- which is a HEAD exactly where that is one
     pub unfit : (r : Returned L) (head : RequestHead) → own ≡ r ∷ [] → IsAccepted s p head
+        → ((sent : RequestHead) → Sends s.called head sent → AsksAlike head sent)
         → ((sent : RequestHead) → Sends s.called head sent
         → IsUnfit sent.method false p.got (state r.link).ended)
         → IsUnfinished outcome ⊎ IsMissed outcome

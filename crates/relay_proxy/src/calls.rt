@@ -1,6 +1,6 @@
 //! The calls of an application for one request: what its hooks are shown, the log of their calls,
 //! and which of them comes next (RFC 9110, section 3.7).
-ghost use Rattle.std.specs.Prelude.{◌≡◌, [], false, None, IfOk, IsOkUnless, IsSome, IsTrue, OnErr, OnOk};
+ghost use Rattle.std.specs.Prelude.{◌≡◌, ◌+◌, [], false, length, None, IfOk, IsOkUnless, IsSome, IsTrue, OnErr, OnOk};
 ghost use Rattle.relay_modules.specs.declared.seen.Seen.{Seen};
 ghost use Rattle.relay_session.specs.Reading.{head_of};
 ghost use Rattle.relay_session.specs.Response.{has_head};
@@ -12,7 +12,7 @@ ghost use Rattle.relay_proxy.specs.Calls.{CallsNext, HasBegun, allowed_by, is_op
 use relay_hooks::{HttpModule, ProxyHttp, Session};
 use relay_opening::{End, Place, begin_opening, take_turn};
 use relay_session::HttpSession;
-use relay_tasks::{Fail, PhaseLog, Result};
+use relay_tasks::{Error, ErrorType, Fail, PhaseLog, Result};
 use std::alloc::Global;
 use std::mem;
 
@@ -25,22 +25,28 @@ pub(crate) enum At<K> {
     Opening(Place<K>),
 }
 
-/// What a call of a hook before the attempts led to: there is more to call; they are over; or memory
-/// was wanted.
+/// What a call of a hook before the attempts led to: the request goes on, to another hook or to its
+/// attempts; it was answered; it was stopped with that error; or memory was wanted.
 #[derive(Clone, Copy)]
 pub(crate) enum Opened {
-    More,
-    Ended(End),
+    GoesOn,
+    Answered,
+    Stopped(Error),
     OutOfMemory,
 }
 
-/// The same, by where they stand.
+/// The same, by where the hooks stand. A purge is not done so far.
 fn leads_to<K>(place: &Place<K>) -> Opened
     ensures { result ≡ leads_to place.now }
 {
     match place {
-        Place::Behind(_) => Opened::More,
-        Place::Ended(end) => Opened::Ended(*end),
+        Place::Behind(_) => Opened::GoesOn,
+        Place::Ended(End::Attempts) => Opened::GoesOn,
+        Place::Ended(End::Answered) => Opened::Answered,
+        Place::Ended(End::Purge) => Opened::Stopped(Error::new_in(ErrorType::Custom(1))),
+        Place::Ended(End::Declined) => Opened::Answered,
+        Place::Ended(End::Unwritten(_)) => Opened::OutOfMemory,
+        Place::Ended(End::Failed(error)) => Opened::Stopped(*error),
         Place::Lost => Opened::OutOfMemory,
     }
 }
@@ -81,8 +87,9 @@ impl<M: HttpModule + Drop, K: Drop> Calls<M, K> {
     pub(crate) fn into_log(self) -> PhaseLog
         ensures { result ≡ log_of self }
     {
-        let Calls { session, at: _ } = self;
-        session.seen.log
+        let session = self.session;
+        let seen = session.seen;
+        seen.log
     }
 }
 
@@ -103,6 +110,7 @@ pub(crate) fn begin_calls<SV: ProxyHttp>(
     ensures at { IfOk result (λ context. HasBegun calls.new.at) }
     ensures memory { IsOkUnless result Fail.OutOfMemory }
     ensures log { OnErr result (log_of calls.new ≡ log_of calls.old) }
+    ensures once { OnOk result (length (log_of calls.new) ≡ length (log_of calls.old) + 1) }
 {
     let kept = match mem::replace(&mut calls.at, At::Kept(None)) {
         At::Kept(kept) => kept,

@@ -19,7 +19,7 @@ ghost use Rattle.relay_proxy.specs.Stock.{items_held};
 ghost use Rattle.relay_proxy.specs.Relayable.{IsAccepted};
 ghost use Rattle.relay_proxy.specs.Refusals.{attempts_in, faults_before, faults_told};
 ghost use Rattle.relay_proxy.specs.Taken.{TakesAfter};
-ghost use Rattle.relay_proxy.specs.Turn.{world_with, DoesWork, is_over, is_end, links_held, Advances, HasCause};
+ghost use Rattle.relay_proxy.specs.Turn.{world_with, DoesWork, is_connecting, is_over, is_end, links_held, Advances, HasCause};
 ghost use Rattle.relay_proxy.specs.Uses.{OwesAnswer, PhaseUses};
 ghost use Rattle.relay_proxy.specs.declared.outcome.Outcome.{Outcome};
 
@@ -31,9 +31,8 @@ use crate::record::AttemptList;
 use crate::work::Work;
 use relay_hooks::ProxyHttp;
 use relay_links::{ByteLink, Connector};
-use relay_opening::End;
 use relay_session::HttpSession;
-use relay_tasks::{Error, ErrorType};
+use relay_tasks::Error;
 use std::alloc::Global;
 
 /// Calls the hook that comes next, while there is one before the attempts; and then asks the connector
@@ -120,15 +119,14 @@ fn open<SV: ProxyHttp, L: ByteLink>(
     let mut context = context;
     let mut session = session;
     match call_next(app, calls, &mut context, &mut session) {
-        Opened::More | Opened::Ended(End::Attempts) => Next {
+        Opened::GoesOn => Next {
             phase: Phase::Connect(context, session, tries),
             step: RunStep::Moved,
             work: Work::CALLED,
         },
-        Opened::Ended(End::Answered | End::Declined) => owe(session, tries, None),
-        Opened::Ended(End::Purge) => stop(session, tries, Error::new_in(ErrorType::Custom(1))),
-        Opened::Ended(End::Failed(error)) => stop(session, tries, error),
-        Opened::Ended(End::Unwritten(_)) | Opened::OutOfMemory => lacks_memory(tries),
+        Opened::Answered => owe(session, tries, None),
+        Opened::Stopped(error) => stop(session, tries, error),
+        Opened::OutOfMemory => lacks_memory(tries),
     }
 }
 
@@ -149,6 +147,7 @@ fn stop<L: ByteLink, C>(session: Box<HttpSession>, tries: AttemptList, error: Er
     ensures work { DoesWork result.step result.work }
     ensures counts { CountsCall tries result.phase result.work }
     ensures called { result.work.called ≤ 1 }
+    ensures unopened { is_connecting result.phase ≡ false }
     ensures unused { result.work.used ≡ 0 }
     ensures over { is_over result.phase ≡ is_end result.step }
     ensures unlinked { links_held L.state L.start result.phase ≡ 0 }
@@ -182,6 +181,7 @@ fn owe<L: ByteLink, C>(
     ensures unlinked { links_held L.state L.start result.phase ≡ 0 }
     ensures no_items { items_held L.start result.phase ≡ [] }
     ensures attempts { attempts_in result.phase ≡ tries }
+    ensures unopened { is_connecting result.phase ≡ false }
     ensures work { result.work ≡ Work.CALLED }
 {
     let owed = Owed::Ahead(why);

@@ -1,32 +1,55 @@
--- The head names no Upgrade, and a session is made that stands behind it.
-use Rattle.std.proofs.Common.{ap, refl}
-use Rattle.relay_proxy.specs.Passed.{World}
+-- The head names no Upgrade, and a session is made that stands behind it, for which a context is
+-- made.
+use Rattle.std.proofs.Common.{ap, refl, ◌∙◌}
+use Rattle.relay_proxy.specs.Calls.{allowed_by, log_of}
+use Rattle.relay_proxy.specs.Passed.{World, called_to}
 use Rattle.relay_proxy.specs.Turn.{world_of}
-use Rattle.relay_proxy.proofs.HeadSteps.{head_accepted, head_upgrades}
+use Rattle.relay_proxy.proofs.CallLemmas.{begun_calls, called_logged, none_logged}
+use Rattle.relay_proxy.proofs.HeadSteps.{head_upgrades}
+use Rattle.relay_proxy.proofs.OpenSteps.{head_accepted}
 use Rattle.relay_proxy.proofs.client_head.accept_head.Goals as goal
 
 -- a head that names Upgrade is left alone
 pub returns-then-names_upgrade-clause-run : goal.returns-then-names_upgrade-clause-run
-returns-then-names_upgrade-clause-run g c = λ s p faults run has entered no_connect.
-    head_upgrades g.L.ByteLink.state g.L.ByteLink.start s p _ c.args.read.head c.args.read.framing
+returns-then-names_upgrade-clause-run g c = λ s p faults none run has entered no_connect.
+    head_upgrades g.L.ByteLink.state g.L.ByteLink.start (called_to s (log_of c.args.calls.now)) p
+    (world_of g.D.ByteLink.state c.args.client.now faults) c.args.read.head c.args.read.framing
     c.args.read.len _ _ has entered no_connect (c.if-names_upgrade.ensures.0 refl)
     c.new_down-error.ensures c.new.ensures run
 
+-- and no hook is called for it
+pub returns-then-names_upgrade-clause-calls : goal.returns-then-names_upgrade-clause-calls
+returns-then-names_upgrade-clause-calls g c = λ none. none_logged _ _ none
+
+-- nor was one called where memory was wanted for it
+pub returns-in_default-clause-calls : goal.returns-in_default-clause-calls
+returns-in_default-clause-calls g c = λ none.
+    rw c.out_of_memory.ensures.phase (none_logged _ _ (c.in_default.ensures.log ∙ none))
+
+-- where memory was wanted for the session one was
+pub returns-in_default-new-clause-calls : goal.returns-in_default-new-clause-calls
+returns-in_default-new-clause-calls g c = λ none.
+    rw c.out_of_memory-in_default-new.ensures.phase
+    (called_logged _ _ _ _ _ _ _ _ none refl c.in-Ok.ensures.begins)
+
 -- a head that passed the entry check, asks for no tunnel and names no Upgrade is accepted
 pub returns-clause-run : goal.returns-clause-run
-returns-clause-run g c = λ s p faults run has entered no_connect.
+returns-clause-run g c = λ s p faults none run has entered no_connect.
     let world = ap (λ k. world_of g.D.ByteLink.state k faults) c.consume.ensures in
-    let made = c.begun_http1.ensures in
-    head_accepted g.L.ByteLink.state g.L.ByteLink.start s p _ _ c.args.read.head
-    c.args.read.framing c.args.read.len _ _ _
+    let made = c.begun_http1-session.ensures in
+    head_accepted g.L.ByteLink.state g.L.ByteLink.start
+    (allowed_by (g.SV.ProxyHttp.allows c.args.hooks.now) g.SV.Modules.HttpModule.allows)
+    c.args.calls.now c.begin_calls.new.calls s p _ _ c.args.read.head c.args.read.framing
+    c.args.read.len _ c.begun_http1-session.result _ _
+    (g.SV.ProxyHttp.mark_of c.args.hooks.now c.in-Ok.context)
     (ap (λ (x : World). x.client) world) (ap (λ (x : World). x.ahead) world) refl
-    c.new-3.ensures has
+    c.new-3.ensures none has
     (record {
       entered = entered;
       method = no_connect;
       no_upgrade = λ named. let clash = c.if-names_upgrade.ensures.1 named in cc;
     })
-    (rw c.in-Ok.ensures.ok (record {
+    (record {
       is_head = made.head;
       done = made.done;
       starts = made.starts;
@@ -34,4 +57,11 @@ returns-clause-run g c = λ s p faults run has entered no_connect.
       answers = made.answers;
       response = made.response;
       output = made.output;
-    })) run
+    })
+    (rw c.in-Ok-new.ensures.ok c.in-Ok.ensures.begins) run
+
+-- its calls are the one that made its context
+pub returns-clause-calls : goal.returns-clause-calls
+returns-clause-calls g c = λ none.
+    begun_calls _ _ c.args.calls.now c.begin_calls.new.calls c.begun_http1-session.result _ _ _ none
+    c.new-3.ensures c.in-Ok.ensures.at (rw c.in-Ok-new.ensures.ok c.in-Ok.ensures.begins)

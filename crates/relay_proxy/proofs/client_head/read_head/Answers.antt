@@ -5,6 +5,7 @@ use Rattle.relay_proxy.specs.Endings as endings
 use Rattle.relay_proxy.specs.Calls.{log_of}
 use Rattle.relay_proxy.specs.Passed.{called_to}
 use Rattle.relay_proxy.specs.Turn.{world_of}
+use Rattle.relay_proxy.proofs.CallLemmas.{unopened_calls}
 use Rattle.relay_proxy.proofs.client_head.read_head.Goals as goal
 
 -- a head that was found lies within the client's bytes
@@ -12,6 +13,30 @@ pub take_head-requires : goal.take_head-requires
 take_head-requires g c =
     let verdict = rw c.in-Ok-Some.field-0-is at c.in-Ok-Some.ensures.verdict in
     rw c.judge_request.ensures.same (head_end-within _ _ verdict.starts.ends).1
+
+-- an open head is read on
+pub returns-in-Ok-None-clause-run : goal.returns-in-Ok-None-clause-run
+returns-in-Ok-None-clause-run g c = λ s p faults none run.
+    (rw c.judge_request.ensures.same at
+    (c.await_head.ensures.run (called_to s (log_of c.args.calls.now)) p faults)) run
+    (rw c.in-Ok-None.field-0-is at c.in-Ok-None.ensures.verdict)
+
+-- and no hook is called for it
+pub returns-in-Ok-None-clause-calls : goal.returns-in-Ok-None-clause-calls
+returns-in-Ok-None-clause-calls g c = λ none.
+    unopened_calls _ _ c.args.calls.now c.await_head.result.phase none c.await_head.ensures.unopened
+
+-- nor for a bad one
+pub returns-in-Err-Error-clause-calls : goal.returns-in-Err-Error-clause-calls
+returns-in-Err-Error-clause-calls g c = λ none.
+    unopened_calls _ _ c.args.calls.now c.give_answer.result.phase none
+    c.give_answer.ensures.unopened
+
+-- nor out of memory
+pub returns-in-Err-OutOfMemory-clause-calls : goal.returns-in-Err-OutOfMemory-clause-calls
+returns-in-Err-OutOfMemory-clause-calls g c = λ none.
+    unopened_calls _ _ c.args.calls.now c.out_of_memory.result.phase none
+    (rw c.out_of_memory.ensures.phase refl)
 
 -- a bad head is turned down
 pub returns-in-Err-Error-clause-run : goal.returns-in-Err-Error-clause-run

@@ -6,6 +6,7 @@ use Rattle.relay_proxy.specs.Endings as endings
 use Rattle.relay_proxy.specs.Calls.{log_of}
 use Rattle.relay_proxy.specs.Passed.{called_to}
 use Rattle.relay_proxy.specs.Turn.{world_of}
+use Rattle.relay_proxy.proofs.CallLemmas.{unopened_calls}
 use Rattle.relay_proxy.proofs.client_head.take_head.Goals as goal
 
 -- a head that the entry check refuses is turned down, for the first line that applies
@@ -42,3 +43,15 @@ pub returns-clause-run : goal.returns-clause-run
 returns-clause-run g c = λ s p faults none run has.
     c.accept_head.ensures.run s p faults none run has c.in_default.ensures
     (λ asks. let clash = c.if-is_connect.ensures.1 asks in cc)
+
+-- no hook is called for a head that is refused
+pub returns-in-Err-clause-calls : goal.returns-in-Err-clause-calls
+returns-in-Err-clause-calls g c = λ none.
+    unopened_calls _ _ c.args.calls.now c.give_answer.result.phase none
+    c.give_answer.ensures.unopened
+
+-- nor for a request for a tunnel
+pub returns-then-is_connect-clause-calls : goal.returns-then-is_connect-clause-calls
+returns-then-is_connect-clause-calls g c = λ none.
+    unopened_calls _ _ c.args.calls.now c.give_answer-then-is_connect.result.phase none
+    c.give_answer-then-is_connect.ensures.unopened

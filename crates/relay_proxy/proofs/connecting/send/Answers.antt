@@ -13,8 +13,8 @@ returns-in-Ok-clause-run g c = λ s p w run handed peer.
 pub returns-in-Err-Error-clause-run : goal.returns-in-Err-Error-clause-run
 returns-in-Err-Error-clause-run g c = λ s p w run handed peer.
     c.refused_head.ensures.run s p w c.args.context c.args.copy run c.requires
-    (refused_made c.args.session.value c.deref.result.now c.args.copy c.in-Err-Error.field-0
-    c.in-Err-Error.error c.deref.ensures c.in-Err-Error.field-0-is c.in-Err-Error.ensures)
+    (refused_made _ c.deref.result.now c.args.copy c.in-Err-Error.field-0 c.in-Err-Error.error _
+    (cc) c.deref.ensures c.in-Err-Error.field-0-is c.in-Err-Error.ensures)
     handed peer
 
 -- memory was wanted for it
