@@ -1,12 +1,16 @@
 -- What an idle connection is.
-use Rattle.std.proofs.Common.{◌≡◌, ◌==◌, Bool, true, false, ◌&&◌, true≢false, List, [], ◌∷◌, length, refl, sym, ◌∙◌, arith}
+use Rattle.std.proofs.Common.{◌≡◌, ◌==◌, ℕ, Bool, true, false, ◌&&◌, true≢false, List, [], ◌∷◌, length, refl, sym, ◌∙◌, arith}
 use Rattle.std.proofs.lemmas.Bool.Decides.{nat_tests}
 use Rattle.relay_links.specs.Link.{LinkState, LinkStart}
 use Rattle.relay_links.specs.declared.Returned.{Returned}
+use Rattle.relay_tasks.specs.declared.log.LogEntry.{LogEntry}
+use Rattle.relay_hooks.specs.Standing.{Standing}
 use Rattle.relay_attempt.specs.Passed.{Passed}
+use Rattle.relay_proxy.specs.Calls.{CallsSoFar, log_of}
 use Rattle.relay_proxy.specs.Passed.{World, Start}
 use Rattle.relay_proxy.specs.Phases.{RunSoFar}
 use Rattle.relay_proxy.specs.Turn.{is_reading_head, is_over}
+use Rattle.relay_proxy.specs.declared.calls.Calls.{Calls}
 use Rattle.relay_proxy.specs.declared.machine.Phase.{Phase}
 use Rattle.relay_proxy.specs.declared.machine.Phase.TheVariants.{ReadHead, Connect, Relay, Fail, Close, Answer, Ended}
 use Rattle.relay_server.specs.Idle.{is_idle, HasNotBegun}
@@ -24,9 +28,34 @@ reads_on (Answer session owed attempts) empty idle = absurd (true≢false (sym i
 reads_on (Ended outcome attempts) empty idle = absurd (true≢false (sym idle))
 
 -- the request of an idle connection has not ended
-pub idle_goes : {D U L C : Type 0} (visit : Visit D U L C) → is_idle visit ≡ true
+pub idle_goes : {D U L C M : Type 0} (visit : Visit D U L C M) → is_idle visit ≡ true
     → is_over visit.phase ≡ false
 idle_goes visit idle = reads_on visit.phase _ idle
+
+-- nor was a hook called for one whose head is read
+none_logged : {L C M K : Type 0} (allows : Standing → LogEntry → Type 0) (mark_of : C → ℕ)
+    (calls : Calls M K) (phase : Phase L C) (empty : Bool)
+    → (is_reading_head phase && empty) ≡ true → CallsSoFar allows mark_of calls phase
+    → log_of calls ≡ []
+none_logged allows mark_of calls ReadHead empty idle none = none
+none_logged allows mark_of calls (Connect context session tries) empty idle so_far =
+    absurd (true≢false (sym idle))
+none_logged allows mark_of calls (Relay a) empty idle so_far = absurd (true≢false (sym idle))
+none_logged allows mark_of calls (Fail l lease keep session error) empty idle so_far =
+    absurd (true≢false (sym idle))
+none_logged allows mark_of calls (Close l lease keep outcome) empty idle so_far =
+    absurd (true≢false (sym idle))
+none_logged allows mark_of calls (Answer session owed attempts) empty idle so_far =
+    absurd (true≢false (sym idle))
+none_logged allows mark_of calls (Ended outcome attempts) empty idle so_far =
+    absurd (true≢false (sym idle))
+
+-- no hook was called for the request of an idle connection
+pub none_called : {D U L C M : Type 0} (allows : Standing → LogEntry → Type 0) (mark_of : C → ℕ)
+    (visit : Visit D U L C M) → is_idle visit ≡ true
+    → CallsSoFar allows mark_of visit.calls visit.phase → log_of visit.calls ≡ []
+none_called allows mark_of visit idle so_far =
+    none_logged allows mark_of visit.calls visit.phase _ idle so_far
 
 -- a list of no length is empty
 none_ahead : {X : Type 0} (xs : List X) → (length xs == 0) ≡ true → xs ≡ []

@@ -6,17 +6,23 @@ use Rattle.std.proofs.lemmas.List.{append-nil, append_assoc}
 use Rattle.std.proofs.lemmas.List.Edits.{insert_end}
 use Rattle.std.proofs.lemmas.List.Sorted.{IsPermutation-refl, IsPermutation-sym, IsPermutation-trans, IsPermutation-append_comm, IsPermutation-append_left, IsPermutation-append_right}
 use Rattle.relay_tasks.specs.declared.Fault.{Fault}
+use Rattle.relay_tasks.specs.declared.log.LogEntry.{LogEntry}
 use Rattle.relay_links.specs.Connector.{Offer}
 use Rattle.relay_links.specs.Link.{LinkState, LinkStart}
 use Rattle.relay_links.specs.Told.{more}
 use Rattle.relay_links.specs.declared.Returned.{Returned}
+use Rattle.relay_modules.specs.Module.{ModuleCall}
+use Rattle.relay_hooks.specs.Standing.{Standing}
+use Rattle.relay_phases.specs.Order.{Station}
 use Rattle.relay_attempt.specs.Passed.{Passed}
 use Rattle.relay_session.specs.declared.writing.Outgoing.{Outgoing}
+use Rattle.relay_proxy.specs.Calls.{CallsSoFar, IsLogged, allowed_by, log_of}
 use Rattle.relay_proxy.specs.Owed.{Owes, IsAnswering}
-use Rattle.relay_proxy.specs.Passed.{World, Start}
+use Rattle.relay_proxy.specs.Passed.{World, Start, called_to}
 use Rattle.relay_proxy.specs.Phases.{RunSoFar, IsCalm, PhaseHolds, IsAt}
 use Rattle.relay_proxy.specs.Request.{StepsOn, ComesToEnd, ended_after}
 use Rattle.relay_proxy.specs.Turn.{world_with, world_of, is_over, links_held}
+use Rattle.relay_proxy.specs.declared.calls.Calls.{Calls}
 use Rattle.relay_proxy.specs.declared.machine.Phase.{Phase}
 use Rattle.relay_proxy.specs.declared.machine.Phase.TheVariants.{ReadHead, Connect, Relay, Fail, Close, Answer, Ended}
 use Rattle.relay_proxy.specs.declared.outcome.Outcome.{Outcome}
@@ -27,6 +33,7 @@ use Rattle.relay_proxy.specs.declared.owed.Owed.{Owed}
 use Rattle.relay_proxy.specs.declared.owed.Owed.TheVariants as due
 use Rattle.relay_proxy.specs.declared.proxy.HttpProxy.{HttpProxy}
 use Rattle.relay_proxy.specs.declared.record.AttemptRecord.{AttemptRecord}
+use Rattle.relay_proxy.proofs.CallLemmas.{opening_logged, unopened_calls}
 use Rattle.relay_server.specs.Serving.{Books, books, CountRises, Visit, HaveEnded, EndedRequest, all_held, AreUnderWay, Serves, EndsOne, ServesOn}
 use Rattle.relay_server.specs.Serving.AreEnded.{none, one_more}
 
@@ -80,6 +87,7 @@ module _ {L : Type 0} (state : L → LinkState) (start_at : L → LinkStart) whe
       → Owes state start_at s p (world_with link ahead f) own owed text
       → Owes state start_at s p (world_with link ahead g) own owed text
   owes_later s p link ahead f g [] (due.Refused error) text more_faults owes = owes
+  owes_later s p link ahead f g [] (due.Ahead why) text more_faults owes = owes
   owes_later s p link ahead f g [] (due.Served e) text more_faults owes = (
     record {
       fault = owes.0.fault;
@@ -93,6 +101,7 @@ module _ {L : Type 0} (state : L → LinkState) (start_at : L → LinkStart) whe
     owes.1,
   )
   owes_later s p link ahead f g (r ∷ own) (due.Refused error) text more_faults owes = owes
+  owes_later s p link ahead f g (r ∷ own) (due.Ahead why) text more_faults owes = owes
   owes_later s p link ahead f g (r ∷ own) (due.Served e) text more_faults owes = owes
 
   -- it is given the answer at a higher count too
@@ -118,7 +127,8 @@ module _ {L C : Type 0} (state : L → LinkState) (start_at : L → LinkStart) w
   at_later s p link ahead f g (Connect context session tries) going more_faults at = record {
     head = at.head;
     accepted = at.accepted;
-    is_head = at.is_head;
+    is_left = at.is_left;
+    quiet = at.quiet;
     begins = at.begins;
     written = at.written;
     unsent = at.unsent;
@@ -197,10 +207,25 @@ module _ {L C : Type 0} (state : L → LinkState) (start_at : L → LinkStart) w
     holds = holds_later s p link ahead f g own phase going more_faults run.holds;
   }
 
-module _ {L : Type 0} (state : L → LinkState) (start_at : L → LinkStart) where
+module _ {L C M K : Type 0} (allows : Standing → LogEntry → Type 0) (mark_of : C → ℕ) where
+  -- whatever the phase of a request, each call of a hook for it was allowed, and they came in order
+  pub calls_logged : (calls : Calls M K) (phase : Phase L C) → CallsSoFar allows mark_of calls phase
+      → (at : Station) × IsLogged allows (log_of calls) at
+  calls_logged calls ReadHead so_far =
+      unopened_calls {L = L} allows mark_of calls (Ended NoRequest []) so_far refl
+  calls_logged calls (Connect context session tries) so_far =
+      opening_logged allows mark_of calls context session.value tries so_far
+  calls_logged calls (Relay a) so_far = so_far
+  calls_logged calls (Fail link lease keep session error) so_far = so_far
+  calls_logged calls (Close link lease keep outcome) so_far = so_far
+  calls_logged calls (Answer session owed attempts) so_far = so_far
+  calls_logged calls (Ended outcome attempts) so_far = so_far
+
+module _ {L : Type 0} (state : L → LinkState) (start_at : L → LinkStart)
+    (allows : Standing → LogEntry → Type 0) where
   -- no request has ended
   pub none_ended : (before : Books L)
-      → HaveEnded state start_at before before.requests_ended before.returned []
+      → HaveEnded state start_at allows before before.requests_ended before.returned []
   none_ended before = record {
     links = [];
     gained = [];
@@ -212,8 +237,8 @@ module _ {L : Type 0} (state : L → LinkState) (start_at : L → LinkStart) whe
   -- requests that are under way hand links back
   pub ended_gains : (before : Books L) (count : ℕ) (old now : Option (List (Returned L)))
       (others handed : List (Returned L))
-      → HaveEnded state start_at before count old others → now ≡ more old handed
-      → HaveEnded state start_at before count now (others ++ handed)
+      → HaveEnded state start_at allows before count old others → now ≡ more old handed
+      → HaveEnded state start_at allows before count now (others ++ handed)
   ended_gains before count old now others handed ended gained = record {
     links = ended.links;
     gained = ended.gained ++ handed;
@@ -228,8 +253,8 @@ module _ {L : Type 0} (state : L → LinkState) (start_at : L → LinkStart) whe
   -- the order of the others says nothing
   pub ended_in_order : (before : Books L) (count : ℕ) (returned : Option (List (Returned L)))
       (others same : List (Returned L)) → IsPermutation others same
-      → HaveEnded state start_at before count returned others
-      → HaveEnded state start_at before count returned same
+      → HaveEnded state start_at allows before count returned others
+      → HaveEnded state start_at allows before count returned same
   ended_in_order before count returned others same moved ended = record {
     links = ended.links;
     gained = ended.gained;
@@ -243,9 +268,9 @@ module _ {L : Type 0} (state : L → LinkState) (start_at : L → LinkStart) whe
   -- one more request has ended
   pub one_ended : (before : Books L) (count : ℕ) (returned : Option (List (Returned L)))
       (own others : List (Returned L)) (outcome : Outcome)
-      → EndedRequest state start_at before.most own outcome
-      → HaveEnded state start_at before count returned (own ++ others)
-      → HaveEnded state start_at before (ended_after count outcome) returned others
+      → EndedRequest state start_at allows before.most own outcome
+      → HaveEnded state start_at allows before count returned (own ++ others)
+      → HaveEnded state start_at allows before (ended_after count outcome) returned others
   one_ended before count returned own others outcome request ended = record {
     links = ended.links ++ own;
     gained = ended.gained;
@@ -256,16 +281,16 @@ module _ {L : Type 0} (state : L → LinkState) (start_at : L → LinkStart) whe
   }
 
 -- the links that are held by the requests of two lists
-pub all_held-append : {L C D U : Type 0} (state : L → LinkState) (start_at : L → LinkStart)
-    (here there : List (Visit D U L C)) → all_held state start_at (here ++ there)
+pub all_held-append : {L C D U M : Type 0} (state : L → LinkState) (start_at : L → LinkStart)
+    (here there : List (Visit D U L C M)) → all_held state start_at (here ++ there)
     ≡ all_held state start_at here + all_held state start_at there
 all_held-append state start_at [] there = omega arith
 all_held-append state start_at (visit ∷ here) there =
     omega (arith, all_held-append state start_at here there)
 
 -- the links that are held where one more request is put at a place
-pub all_held-insert : {L C D U : Type 0} (state : L → LinkState) (start_at : L → LinkStart)
-    (place : ℕ) (visit : Visit D U L C) (rest : List (Visit D U L C))
+pub all_held-insert : {L C D U M : Type 0} (state : L → LinkState) (start_at : L → LinkStart)
+    (place : ℕ) (visit : Visit D U L C M) (rest : List (Visit D U L C M))
     → all_held state start_at (insert rest place visit)
     ≡ all_held state start_at (visit ∷ rest)
 all_held-insert state start_at zero visit rest = refl
@@ -274,20 +299,21 @@ all_held-insert state start_at (suc place) visit (next ∷ rest) =
     omega (arith, all_held-insert state start_at place visit rest)
 
 -- the links of one are among those of all
-pub held_by_one : {L C D U : Type 0} (state : L → LinkState) (start_at : L → LinkStart)
-    (place : ℕ) (visit : Visit D U L C) (rest visits : List (Visit D U L C)) (out : ℕ)
+pub held_by_one : {L C D U M : Type 0} (state : L → LinkState) (start_at : L → LinkStart)
+    (place : ℕ) (visit : Visit D U L C M) (rest visits : List (Visit D U L C M)) (out : ℕ)
     → visits ≡ insert rest place visit → all_held state start_at visits ≤ out
     → links_held state start_at visit.phase ≤ out
 held_by_one state start_at place visit rest visits out taken held =
     let all : all_held state start_at (insert rest place visit) ≤ out = rw taken at held in
     omega (arith, all, all_held-insert state start_at place visit rest)
 
-module _ {L C D U : Type 0}
-    (state : L → LinkState) (start_at : L → LinkStart) (client_state : D → LinkState) where
+module _ {L C D U M : Type 0}
+    (state : L → LinkState) (start_at : L → LinkStart) (client_state : D → LinkState)
+    (allows : Standing → LogEntry → Type 0) (mark_of : C → ℕ) where
   -- requests that are under way go on while calls of the connector fail for others
-  pub all_later : (most f g : ℕ) → f ≤ g → (visits : List (Visit D U L C))
-      (links : List (Returned L)) → AreUnderWay state start_at client_state most f visits links
-      → AreUnderWay state start_at client_state most g visits links
+  pub all_later : (most f g : ℕ) → f ≤ g → (visits : List (Visit D U L C M))
+      (links : List (Returned L)) → AreUnderWay state start_at client_state allows mark_of most f visits links
+      → AreUnderWay state start_at client_state allows mark_of most g visits links
   all_later most f g more_faults [] links under_way = under_way
   all_later most f g more_faults (visit ∷ rest) links under_way = record {
     own = under_way.own;
@@ -295,8 +321,10 @@ module _ {L C D U : Type 0}
     of_one = record {
       start = under_way.of_one.start;
       limit = under_way.of_one.limit;
+      calls = under_way.of_one.calls;
       passed = under_way.of_one.passed;
-      run = run_later state start_at under_way.of_one.start under_way.of_one.passed
+      run = run_later state start_at
+          (called_to under_way.of_one.start (log_of visit.calls)) under_way.of_one.passed
           (client_state visit.client.link) visit.client.ahead f g under_way.own visit.phase
           under_way.of_one.going more_faults under_way.of_one.run;
       going = under_way.of_one.going;
@@ -306,10 +334,10 @@ module _ {L C D U : Type 0}
   }
 
   -- one of the requests is taken out
-  pub take_out : (most f place : ℕ) (visit : Visit D U L C) (rest : List (Visit D U L C))
+  pub take_out : (most f place : ℕ) (visit : Visit D U L C M) (rest : List (Visit D U L C M))
       (links : List (Returned L))
-      → AreUnderWay state start_at client_state most f (insert rest place visit) links
-      → AreUnderWay state start_at client_state most f (visit ∷ rest) links
+      → AreUnderWay state start_at client_state allows mark_of most f (insert rest place visit) links
+      → AreUnderWay state start_at client_state allows mark_of most f (visit ∷ rest) links
   take_out most f zero visit rest links under_way = under_way
   take_out most f (suc place) visit [] links under_way = under_way
   take_out most f (suc place) visit (next ∷ rest) links under_way =
@@ -335,10 +363,10 @@ module _ {L C D U : Type 0}
       }
 
   -- one more request is put at a place
-  pub put_in : (most f place : ℕ) (visit : Visit D U L C) (rest : List (Visit D U L C))
+  pub put_in : (most f place : ℕ) (visit : Visit D U L C M) (rest : List (Visit D U L C M))
       (links : List (Returned L))
-      → AreUnderWay state start_at client_state most f (visit ∷ rest) links
-      → AreUnderWay state start_at client_state most f (insert rest place visit) links
+      → AreUnderWay state start_at client_state allows mark_of most f (visit ∷ rest) links
+      → AreUnderWay state start_at client_state allows mark_of most f (insert rest place visit) links
   put_in most f zero visit rest links under_way = under_way
   put_in most f (suc place) visit [] links under_way = under_way
   put_in most f (suc place) visit (next ∷ rest) links under_way =
@@ -364,44 +392,48 @@ module _ {L C D U : Type 0}
       }
 
   -- those that are under way beside a turn of another go on
-  others_later : (old now : Books L) (rest : List (Visit D U L C)) (links : List (Returned L))
+  others_later : (old now : Books L) (rest : List (Visit D U L C M)) (links : List (Returned L))
       → now.most ≡ old.most → old.faults ≤ now.faults
-      → AreUnderWay state start_at client_state old.most old.faults rest links
-      → AreUnderWay state start_at client_state now.most now.faults rest links
+      → AreUnderWay state start_at client_state allows mark_of old.most old.faults rest links
+      → AreUnderWay state start_at client_state allows mark_of now.most now.faults rest links
   others_later old now rest links same more_faults under_way =
-      subst (λ (n : ℕ). AreUnderWay state start_at client_state n now.faults rest links) (sym same)
+      subst (λ (n : ℕ). AreUnderWay state start_at client_state allows mark_of n now.faults rest links) (sym same)
       (all_later old.most old.faults now.faults more_faults rest links under_way)
 
   -- a turn of the first request: none is counted, and what passed goes on
-  pub record TakesTurn (old now : Books L) (visit next : Visit D U L C) (t u : Option (List Fault))
+  pub record TakesTurn (old now : Books L) (visit next : Visit D U L C M) (t u : Option (List Fault))
       (h k : Option (List Offer)) (i j : Work) : Type 0 where
     pub counted : now.requests_ended ≡ old.requests_ended
     pub faults : old.faults ≤ now.faults
     pub most : now.most ≡ old.most
+    pub calls : CallsSoFar allows mark_of visit.calls visit.phase
+        → CallsSoFar allows mark_of next.calls next.phase
     pub steps : (s : Start) (p : Passed) (own : List (Returned L)) → s.most ≡ old.most
-        → RunSoFar state start_at s p (world_of client_state visit.client old.faults) own
-        visit.phase
-        → StepsOn state start_at s p (world_of client_state next.client now.faults) own
+        → CallsSoFar allows mark_of visit.calls visit.phase
+        → RunSoFar state start_at (called_to s (log_of visit.calls)) p
+        (world_of client_state visit.client old.faults) own visit.phase
+        → StepsOn state start_at (called_to s (log_of visit.calls))
+        (called_to s (log_of next.calls)) p (world_of client_state next.client now.faults) own
         old.returned now.returned t u h k (client_state visit.client.link) visit.client.ahead i j
         visit.phase next.phase
 
   -- a turn behind which the request goes on
-  pub goes_on : (before old now : Books L) (visit next : Visit D U L C)
-      (rest : List (Visit D U L C)) (t u : Option (List Fault)) (h k : Option (List Offer))
+  pub goes_on : (before old now : Books L) (visit next : Visit D U L C M)
+      (rest : List (Visit D U L C M)) (t u : Option (List Fault)) (h k : Option (List Offer))
       (i j : Work)
-      → Serves state start_at client_state before old (visit ∷ rest)
+      → Serves state start_at client_state allows mark_of before old (visit ∷ rest)
       → TakesTurn old now visit next t u h k i j
       → is_over next.phase ≡ false
-      → Serves state start_at client_state before now (next ∷ rest)
+      → Serves state start_at client_state allows mark_of before now (next ∷ rest)
   goes_on before old now visit next rest t u h k i j serves turn going =
       let all = serves.under_way in
       let under = all.of_one in
-      let taken = turn.steps under.start under.passed all.own under.limit under.run in
+      let taken = turn.steps under.start under.passed all.own under.limit under.calls under.run in
       record {
         links = serves.links ++ taken.handed;
-        ended = subst (λ (n : ℕ). HaveEnded state start_at before n now.returned
+        ended = subst (λ (n : ℕ). HaveEnded state start_at allows before n now.returned
             (serves.links ++ taken.handed)) (sym turn.counted)
-            (ended_gains state start_at before old.requests_ended old.returned now.returned
+            (ended_gains state start_at allows before old.requests_ended old.returned now.returned
             serves.links taken.handed serves.ended taken.gained);
         under_way = record {
           own = all.own ++ taken.handed;
@@ -409,6 +441,7 @@ module _ {L C D U : Type 0}
           of_one = record {
             start = under.start;
             limit = under.limit ∙ sym turn.most;
+            calls = turn.calls under.calls;
             passed = taken.passed;
             run = taken.run;
             going = going;
@@ -420,30 +453,31 @@ module _ {L C D U : Type 0}
       }
 
   -- a turn behind which the request has ended
-  pub ends_now : (before old now : Books L) (visit next : Visit D U L C)
-      (rest : List (Visit D U L C)) (t u : Option (List Fault)) (h k : Option (List Offer))
+  pub ends_now : (before old now : Books L) (visit next : Visit D U L C M)
+      (rest : List (Visit D U L C M)) (t u : Option (List Fault)) (h k : Option (List Offer))
       (i j : Work)
-      → Serves state start_at client_state before old (visit ∷ rest)
+      → Serves state start_at client_state allows mark_of before old (visit ∷ rest)
       → TakesTurn old now visit next t u h k i j
       → is_over next.phase ≡ true
-      → EndsOne state start_at client_state before now next rest
+      → EndsOne state start_at client_state allows mark_of before now next rest
   ends_now before old now visit next rest t u h k i j serves turn over =
       let all = serves.under_way in
       let under = all.of_one in
-      let taken = turn.steps under.start under.passed all.own under.limit under.run in
+      let taken = turn.steps under.start under.passed all.own under.limit under.calls under.run in
       record {
         own = all.own ++ taken.handed;
         links = all.rest;
-        ended = subst (λ (n : ℕ). HaveEnded state start_at before n now.returned
+        ended = subst (λ (n : ℕ). HaveEnded state start_at allows before n now.returned
             ((all.own ++ taken.handed) ++ all.rest)) (sym turn.counted)
-            (ended_in_order state start_at before old.requests_ended now.returned
+            (ended_in_order state start_at allows before old.requests_ended now.returned
             (serves.links ++ taken.handed) ((all.own ++ taken.handed) ++ all.rest)
             (IsPermutation-sym ((all.own ++ taken.handed) ++ all.rest)
             (serves.links ++ taken.handed)
             (joins all.own all.rest serves.links taken.handed all.joined))
-            (ended_gains state start_at before old.requests_ended old.returned now.returned
+            (ended_gains state start_at allows before old.requests_ended old.returned now.returned
             serves.links taken.handed serves.ended taken.gained));
         start = under.start;
+        calls = turn.calls under.calls;
         passed = taken.passed;
         run = taken.run;
         limit = under.limit ∙ serves.same_most;
@@ -453,112 +487,120 @@ module _ {L C D U : Type 0}
       }
 
   -- one more request came to its end
-  pub comes_to_end : (before old now : Books L) (visit : Visit D U L C)
+  pub comes_to_end : (before old now : Books L) (visit : Visit D U L C M)
       (own links : List (Returned L)) (s : Start) (p : Passed) (x : World) (processed : Processed)
-      → s.most ≡ before.most
-      → HaveEnded state start_at before old.requests_ended old.returned (own ++ links)
-      → ComesToEnd state start_at s p x own old.returned now.returned visit.phase processed
+      → s.most ≡ before.most → CallsSoFar allows mark_of visit.calls visit.phase
+      → HaveEnded state start_at allows before old.requests_ended old.returned (own ++ links)
+      → ComesToEnd state start_at (called_to s (log_of visit.calls)) p x own old.returned
+      now.returned visit.phase processed
       → now.requests_ended ≡ ended_after old.requests_ended processed.outcome
-      → HaveEnded state start_at before now.requests_ended now.returned links
-  comes_to_end before old now visit own links s p x processed limit ended comes counted =
+      → HaveEnded state start_at allows before now.requests_ended now.returned links
+  comes_to_end before old now visit own links s p x processed limit calls ended comes counted =
       let all = own ++ comes.handed in
-      subst (λ (n : ℕ). HaveEnded state start_at before n now.returned links) (sym counted)
-      (one_ended state start_at before old.requests_ended now.returned all links processed.outcome
+      let logged = calls_logged allows mark_of visit.calls visit.phase calls in
+      subst (λ (n : ℕ). HaveEnded state start_at allows before n now.returned links) (sym counted)
+      (one_ended state start_at allows before old.requests_ended now.returned all links processed.outcome
       (record {
         start = s;
         limit = limit;
+        log = log_of visit.calls;
+        station = logged.0;
+        logged = logged.1;
         passed = p;
         world = x;
         attempts = processed.history.attempts;
         ended = comes.ended;
       })
-      (ended_in_order state start_at before old.requests_ended now.returned
+      (ended_in_order state start_at allows before old.requests_ended now.returned
       ((own ++ links) ++ comes.handed) (all ++ links) (add_last own comes.handed links)
-      (ended_gains state start_at before old.requests_ended old.returned now.returned
+      (ended_gains state start_at allows before old.requests_ended old.returned now.returned
       (own ++ links) comes.handed ended comes.gained)))
 
   -- a server that begins with nobody
-  pub first_serves : (before : Books L) (visits : List (Visit D U L C)) → visits ≡ []
-      → Serves state start_at client_state before before visits
+  pub first_serves : (before : Books L) (visits : List (Visit D U L C M)) → visits ≡ []
+      → Serves state start_at client_state allows mark_of before before visits
   first_serves before visits nobody = record {
     links = [];
-    ended = none_ended state start_at before;
-    under_way = subst (λ (all : List (Visit D U L C)).
-        AreUnderWay state start_at client_state before.most before.faults all []) (sym nobody) refl;
+    ended = none_ended state start_at allows before;
+    under_way = subst (λ (all : List (Visit D U L C M)).
+        AreUnderWay state start_at client_state allows mark_of before.most before.faults all []) (sym nobody) refl;
     same_most = refl;
   }
 
   -- a server at which nobody is left
-  pub last_serves : (before now : Books L) (visits : List (Visit D U L C)) → visits ≡ []
-      → Serves state start_at client_state before now visits
-      → HaveEnded state start_at before now.requests_ended now.returned []
+  pub last_serves : (before now : Books L) (visits : List (Visit D U L C M)) → visits ≡ []
+      → Serves state start_at client_state allows mark_of before now visits
+      → HaveEnded state start_at allows before now.requests_ended now.returned []
   last_serves before now visits nobody serves =
-      let none_left : serves.links ≡ [] = subst (λ (all : List (Visit D U L C)).
-      AreUnderWay state start_at client_state now.most now.faults all serves.links) nobody
+      let none_left : serves.links ≡ [] = subst (λ (all : List (Visit D U L C M)).
+      AreUnderWay state start_at client_state allows mark_of now.most now.faults all serves.links) nobody
       serves.under_way in
-      subst (λ (l : List (Returned L)). HaveEnded state start_at before now.requests_ended
+      subst (λ (l : List (Returned L)). HaveEnded state start_at allows before now.requests_ended
       now.returned l) none_left serves.ended
 
   -- those that are under way beside one that ends stay
-  others_same : (old now : Books L) (rest : List (Visit D U L C)) (links : List (Returned L))
+  others_same : (old now : Books L) (rest : List (Visit D U L C M)) (links : List (Returned L))
       → now.most ≡ old.most → now.faults ≡ old.faults
-      → AreUnderWay state start_at client_state old.most old.faults rest links
-      → AreUnderWay state start_at client_state now.most now.faults rest links
+      → AreUnderWay state start_at client_state allows mark_of old.most old.faults rest links
+      → AreUnderWay state start_at client_state allows mark_of now.most now.faults rest links
   others_same old now rest links limit same under_way =
-      subst (λ (n : ℕ). AreUnderWay state start_at client_state n now.faults rest links) (sym limit)
-      (subst (λ (f : ℕ). AreUnderWay state start_at client_state old.most f rest links) (sym same)
+      subst (λ (n : ℕ). AreUnderWay state start_at client_state allows mark_of n now.faults rest links) (sym limit)
+      (subst (λ (f : ℕ). AreUnderWay state start_at client_state allows mark_of old.most f rest links) (sym same)
       under_way)
 
   -- the request that has ended is ended
-  pub ends_one : (before old now : Books L) (visit : Visit D U L C) (rest : List (Visit D U L C))
+  pub ends_one : (before old now : Books L) (visit : Visit D U L C M) (rest : List (Visit D U L C M))
       (x : World) (processed : Processed)
-      → EndsOne state start_at client_state before old visit rest
+      → EndsOne state start_at client_state allows mark_of before old visit rest
       → ((s : Start) (p : Passed) (own : List (Returned L))
       → RunSoFar state start_at s p (world_of client_state visit.client old.faults) own visit.phase
       → ComesToEnd state start_at s p x own old.returned now.returned visit.phase processed)
       → now.requests_ended ≡ ended_after old.requests_ended processed.outcome
       → now.faults ≡ old.faults → now.most ≡ old.most
-      → Serves state start_at client_state before now rest
+      → Serves state start_at client_state allows mark_of before now rest
   ends_one before old now visit rest x processed one comes counted same limit = record {
     links = one.links;
     ended = comes_to_end before old now visit one.own one.links one.start one.passed x processed
-        one.limit one.ended (comes one.start one.passed one.own one.run) counted;
+        one.limit one.calls one.ended
+        (comes (called_to one.start (log_of visit.calls)) one.passed one.own one.run) counted;
     under_way = others_same old now rest one.links limit same one.under_way;
     same_most = limit ∙ one.same_most;
   }
 
   -- a request under way is given up
-  pub gives_up : (before old now : Books L) (visit : Visit D U L C) (rest : List (Visit D U L C))
+  pub gives_up : (before old now : Books L) (visit : Visit D U L C M) (rest : List (Visit D U L C M))
       (x : World) (processed : Processed)
-      → Serves state start_at client_state before old (visit ∷ rest)
+      → Serves state start_at client_state allows mark_of before old (visit ∷ rest)
       → ((s : Start) (p : Passed) (own : List (Returned L))
       → RunSoFar state start_at s p (world_of client_state visit.client old.faults) own visit.phase
       → ComesToEnd state start_at s p x own old.returned now.returned visit.phase processed)
       → now.requests_ended ≡ ended_after old.requests_ended processed.outcome
       → now.faults ≡ old.faults → now.most ≡ old.most
-      → Serves state start_at client_state before now rest
+      → Serves state start_at client_state allows mark_of before now rest
   gives_up before old now visit rest x processed serves comes counted same limit =
       let all = serves.under_way in
       let under = all.of_one in
       record {
         links = all.rest;
         ended = comes_to_end before old now visit all.own all.rest under.start under.passed x
-            processed (under.limit ∙ serves.same_most)
-            (ended_in_order state start_at before old.requests_ended old.returned serves.links
+            processed (under.limit ∙ serves.same_most) under.calls
+            (ended_in_order state start_at allows before old.requests_ended old.returned serves.links
             (all.own ++ all.rest)
             (IsPermutation-sym (all.own ++ all.rest) serves.links all.joined) serves.ended)
-            (comes under.start under.passed all.own under.run) counted;
+            (comes (called_to under.start (log_of visit.calls)) under.passed all.own under.run)
+            counted;
         under_way = others_same old now rest all.rest limit same all.of_others;
         same_most = limit ∙ serves.same_most;
       }
 
   -- a request begins
-  pub begins : (before now : Books L) (visit : Visit D U L C) (rest : List (Visit D U L C))
-      (s : Start) (p : Passed) → s.most ≡ now.most
+  pub begins : (before now : Books L) (visit : Visit D U L C M) (rest : List (Visit D U L C M))
+      (s : Start) (p : Passed) → s.most ≡ now.most → s.called ≡ log_of visit.calls
+      → CallsSoFar allows mark_of visit.calls visit.phase
       → RunSoFar state start_at s p (world_of client_state visit.client now.faults) [] visit.phase
-      → is_over visit.phase ≡ false → Serves state start_at client_state before now rest
-      → Serves state start_at client_state before now (visit ∷ rest)
-  begins before now visit rest s p limit run going serves = record {
+      → is_over visit.phase ≡ false → Serves state start_at client_state allows mark_of before now rest
+      → Serves state start_at client_state allows mark_of before now (visit ∷ rest)
+  begins before now visit rest s p limit called calls run going serves = record {
     links = serves.links;
     ended = serves.ended;
     under_way = record {
@@ -567,8 +609,10 @@ module _ {L C D U : Type 0}
       of_one = record {
         start = s;
         limit = limit;
+        calls = calls;
         passed = p;
-        run = run;
+        run = subst (λ (log : List LogEntry). RunSoFar state start_at (called_to s log) p
+            (world_of client_state visit.client now.faults) [] visit.phase) called run;
         going = going;
       };
       of_others = serves.under_way;
@@ -577,12 +621,14 @@ module _ {L C D U : Type 0}
     same_most = serves.same_most;
   }
 
-module _ {SV K P L C D U : Type 0}
+module _ {SV K P L C D U M : Type 0}
     (state : L → LinkState) (start_at : L → LinkStart) (client_state : D → LinkState)
+    (allows : SV → Standing → LogEntry → Type 0) (modules : M → ModuleCall → Type 0)
+    (mark_of : SV → C → ℕ)
     (returned : K → Option (List (Returned L))) (out faults : K → ℕ) where
   -- a server that did nothing
-  pub on_same : (p : HttpProxy SV K P) (visits : List (Visit D U L C))
-      → ServesOn state start_at client_state returned out faults p p visits visits
+  pub on_same : (p : HttpProxy SV K P) (visits : List (Visit D U L C M))
+      → ServesOn state start_at client_state allows modules mark_of returned out faults p p visits visits
   on_same p visits = record {
     serves = λ before serves. serves;
     held = refl;
@@ -591,10 +637,10 @@ module _ {SV K P L C D U : Type 0}
   }
 
   -- a server that went on, and on
-  pub on_then : (p q r : HttpProxy SV K P) (here there last : List (Visit D U L C))
-      → ServesOn state start_at client_state returned out faults p q here there
-      → ServesOn state start_at client_state returned out faults q r there last
-      → ServesOn state start_at client_state returned out faults p r here last
+  pub on_then : (p q r : HttpProxy SV K P) (here there last : List (Visit D U L C M))
+      → ServesOn state start_at client_state allows modules mark_of returned out faults p q here there
+      → ServesOn state start_at client_state allows modules mark_of returned out faults q r there last
+      → ServesOn state start_at client_state allows modules mark_of returned out faults p r here last
   on_then p q r here there last first second = record {
     serves = λ before serves. second.serves before (first.serves before serves);
     held = omega (arith, first.held, second.held);
@@ -607,15 +653,16 @@ module _ {SV K P L C D U : Type 0}
   }
 
   -- a server that took one of its requests out
-  pub on_taken : (p : HttpProxy SV K P) (place : ℕ) (visit : Visit D U L C)
-      (rest : List (Visit D U L C))
-      → ServesOn state start_at client_state returned out faults p p (insert rest place visit)
+  pub on_taken : (p : HttpProxy SV K P) (place : ℕ) (visit : Visit D U L C M)
+      (rest : List (Visit D U L C M))
+      → ServesOn state start_at client_state allows modules mark_of returned out faults p p (insert rest place visit)
       (visit ∷ rest)
   on_taken p place visit rest = record {
     serves = λ before serves. record {
       links = serves.links;
       ended = serves.ended;
-      under_way = take_out state start_at client_state p.conf.max_retries (faults p.connector) place
+      under_way = take_out state start_at client_state (allowed_by (allows p.inner) modules)
+          (mark_of p.inner) p.conf.max_retries (faults p.connector) place
           visit rest serves.links serves.under_way;
       same_most = serves.same_most;
     };
@@ -625,15 +672,16 @@ module _ {SV K P L C D U : Type 0}
   }
 
   -- a server that put its first request at a place
-  pub on_put : (p : HttpProxy SV K P) (place : ℕ) (visit : Visit D U L C)
-      (rest : List (Visit D U L C))
-      → ServesOn state start_at client_state returned out faults p p (visit ∷ rest)
+  pub on_put : (p : HttpProxy SV K P) (place : ℕ) (visit : Visit D U L C M)
+      (rest : List (Visit D U L C M))
+      → ServesOn state start_at client_state allows modules mark_of returned out faults p p (visit ∷ rest)
       (insert rest place visit)
   on_put p place visit rest = record {
     serves = λ before serves. record {
       links = serves.links;
       ended = serves.ended;
-      under_way = put_in state start_at client_state p.conf.max_retries (faults p.connector) place
+      under_way = put_in state start_at client_state (allowed_by (allows p.inner) modules)
+          (mark_of p.inner) p.conf.max_retries (faults p.connector) place
           visit rest serves.links serves.under_way;
       same_most = serves.same_most;
     };
@@ -643,23 +691,25 @@ module _ {SV K P L C D U : Type 0}
   }
 
   -- a server that put its first request last
-  pub on_put_last : (p : HttpProxy SV K P) (visit : Visit D U L C) (rest : List (Visit D U L C))
-      → ServesOn state start_at client_state returned out faults p p (visit ∷ rest)
+  pub on_put_last : (p : HttpProxy SV K P) (visit : Visit D U L C M) (rest : List (Visit D U L C M))
+      → ServesOn state start_at client_state allows modules mark_of returned out faults p p (visit ∷ rest)
       (rest ++ visit ∷ [])
-  on_put_last p visit rest = subst (λ (all : List (Visit D U L C)).
-      ServesOn state start_at client_state returned out faults p p (visit ∷ rest) all)
+  on_put_last p visit rest = subst (λ (all : List (Visit D U L C M)).
+      ServesOn state start_at client_state allows modules mark_of returned out faults p p (visit ∷ rest) all)
       (insert_end rest visit) (on_put p (length rest) visit rest)
 
   -- a server one of whose requests took a turn and goes on
-  pub on_turned : (p q : HttpProxy SV K P) (visit next : Visit D U L C)
-      (rest : List (Visit D U L C))
+  pub on_turned : (p q : HttpProxy SV K P) (visit next : Visit D U L C M)
+      (rest : List (Visit D U L C M))
       → ((before : Books L)
-      → Serves state start_at client_state before (books returned faults p) (visit ∷ rest)
-      → Serves state start_at client_state before (books returned faults q) (next ∷ rest))
+      → Serves state start_at client_state (allowed_by (allows p.inner) modules)
+      (mark_of p.inner) before (books returned faults p) (visit ∷ rest)
+      → Serves state start_at client_state (allowed_by (allows q.inner) modules)
+      (mark_of q.inner) before (books returned faults q) (next ∷ rest))
       → out q.connector + links_held state start_at visit.phase
       ≡ out p.connector + links_held state start_at next.phase
       → q ≡ record p { connector = q.connector }
-      → ServesOn state start_at client_state returned out faults p q (visit ∷ rest) (next ∷ rest)
+      → ServesOn state start_at client_state allows modules mark_of returned out faults p q (visit ∷ rest) (next ∷ rest)
   on_turned p q visit next rest serves held same = record {
     serves = serves;
     held = omega (arith, held);
@@ -673,22 +723,26 @@ module _ {SV K P L C D U : Type 0}
   }
 
   -- a server one of whose requests took a turn and was ended
-  pub on_ended : (p q r : HttpProxy SV K P) (visit next : Visit D U L C)
-      (rest last : List (Visit D U L C))
+  pub on_ended : (p q r : HttpProxy SV K P) (visit next : Visit D U L C M)
+      (rest last : List (Visit D U L C M))
       → ((before : Books L)
-      → Serves state start_at client_state before (books returned faults p) (visit ∷ rest)
-      → EndsOne state start_at client_state before (books returned faults q) next rest)
+      → Serves state start_at client_state (allowed_by (allows p.inner) modules)
+      (mark_of p.inner) before (books returned faults p) (visit ∷ rest)
+      → EndsOne state start_at client_state (allowed_by (allows q.inner) modules)
+      (mark_of q.inner) before (books returned faults q) next rest)
       → out q.connector + links_held state start_at visit.phase
       ≡ out p.connector + links_held state start_at next.phase
       → q ≡ record p { connector = q.connector }
       → ((before : Books L)
-      → EndsOne state start_at client_state before (books returned faults q) next rest
-      → Serves state start_at client_state before (books returned faults r) last)
+      → EndsOne state start_at client_state (allowed_by (allows q.inner) modules)
+      (mark_of q.inner) before (books returned faults q) next rest
+      → Serves state start_at client_state (allowed_by (allows r.inner) modules)
+      (mark_of r.inner) before (books returned faults r) last)
       → out r.connector + all_held state start_at (next ∷ rest)
       ≡ out q.connector + all_held state start_at last
       → CountRises q.requests_ended r.requests_ended
       → r ≡ record q { connector = r.connector; requests_ended = r.requests_ended }
-      → ServesOn state start_at client_state returned out faults p r (visit ∷ rest) last
+      → ServesOn state start_at client_state allows modules mark_of returned out faults p r (visit ∷ rest) last
   on_ended p q r visit next rest last ends held same serves held_on rises same_on = record {
     serves = λ before now. serves before (ends before now);
     held = omega (arith, held, held_on);
@@ -699,14 +753,16 @@ module _ {SV K P L C D U : Type 0}
   }
 
   -- a server that gave a request up
-  pub on_given_up : (p q : HttpProxy SV K P) (visit : Visit D U L C) (rest : List (Visit D U L C))
+  pub on_given_up : (p q : HttpProxy SV K P) (visit : Visit D U L C M) (rest : List (Visit D U L C M))
       → ((before : Books L)
-      → Serves state start_at client_state before (books returned faults p) (visit ∷ rest)
-      → Serves state start_at client_state before (books returned faults q) rest)
+      → Serves state start_at client_state (allowed_by (allows p.inner) modules)
+      (mark_of p.inner) before (books returned faults p) (visit ∷ rest)
+      → Serves state start_at client_state (allowed_by (allows q.inner) modules)
+      (mark_of q.inner) before (books returned faults q) rest)
       → out q.connector + links_held state start_at visit.phase ≡ out p.connector
       → CountRises p.requests_ended q.requests_ended
       → q ≡ record p { connector = q.connector; requests_ended = q.requests_ended }
-      → ServesOn state start_at client_state returned out faults p q (visit ∷ rest) rest
+      → ServesOn state start_at client_state allows modules mark_of returned out faults p q (visit ∷ rest) rest
   on_given_up p q visit rest serves held rises same = record {
     serves = serves;
     held = omega (arith, held);
@@ -715,12 +771,14 @@ module _ {SV K P L C D U : Type 0}
   }
 
   -- a server at which a request began
-  pub on_begun : (p : HttpProxy SV K P) (visit : Visit D U L C) (rest : List (Visit D U L C))
+  pub on_begun : (p : HttpProxy SV K P) (visit : Visit D U L C M) (rest : List (Visit D U L C M))
       → ((before : Books L)
-      → Serves state start_at client_state before (books returned faults p) rest
-      → Serves state start_at client_state before (books returned faults p) (visit ∷ rest))
+      → Serves state start_at client_state (allowed_by (allows p.inner) modules)
+      (mark_of p.inner) before (books returned faults p) rest
+      → Serves state start_at client_state (allowed_by (allows p.inner) modules)
+      (mark_of p.inner) before (books returned faults p) (visit ∷ rest))
       → links_held state start_at visit.phase ≡ 0
-      → ServesOn state start_at client_state returned out faults p p rest (visit ∷ rest)
+      → ServesOn state start_at client_state allows modules mark_of returned out faults p p rest (visit ∷ rest)
   on_begun p visit rest serves no_link = record {
     serves = serves;
     held = omega (arith, no_link);
@@ -729,10 +787,10 @@ module _ {SV K P L C D U : Type 0}
   }
 
   -- a server one of whose requests took a turn, and stays at its place
-  pub on_waits : (p q : HttpProxy SV K P) (place : ℕ) (visit next : Visit D U L C)
-      (rest : List (Visit D U L C))
-      → ServesOn state start_at client_state returned out faults p q (visit ∷ rest) (next ∷ rest)
-      → ServesOn state start_at client_state returned out faults p q (insert rest place visit)
+  pub on_waits : (p q : HttpProxy SV K P) (place : ℕ) (visit next : Visit D U L C M)
+      (rest : List (Visit D U L C M))
+      → ServesOn state start_at client_state allows modules mark_of returned out faults p q (visit ∷ rest) (next ∷ rest)
+      → ServesOn state start_at client_state allows modules mark_of returned out faults p q (insert rest place visit)
       (insert rest place next)
   on_waits p q place visit next rest turned =
       on_then p p q (insert rest place visit) (visit ∷ rest) (insert rest place next)
@@ -741,10 +799,10 @@ module _ {SV K P L C D U : Type 0}
       (on_put q place next rest))
 
   -- a server one of whose requests took a turn, and is last
-  pub on_moves : (p q : HttpProxy SV K P) (place : ℕ) (visit next : Visit D U L C)
-      (rest : List (Visit D U L C))
-      → ServesOn state start_at client_state returned out faults p q (visit ∷ rest) (next ∷ rest)
-      → ServesOn state start_at client_state returned out faults p q (insert rest place visit)
+  pub on_moves : (p q : HttpProxy SV K P) (place : ℕ) (visit next : Visit D U L C M)
+      (rest : List (Visit D U L C M))
+      → ServesOn state start_at client_state allows modules mark_of returned out faults p q (visit ∷ rest) (next ∷ rest)
+      → ServesOn state start_at client_state allows modules mark_of returned out faults p q (insert rest place visit)
       (rest ++ next ∷ [])
   on_moves p q place visit next rest turned =
       on_then p p q (insert rest place visit) (visit ∷ rest) (rest ++ next ∷ [])
@@ -753,10 +811,10 @@ module _ {SV K P L C D U : Type 0}
       (on_put_last q next rest))
 
   -- a server one of whose requests was taken out, whatever followed
-  pub on_leaves : (p q : HttpProxy SV K P) (place : ℕ) (visit : Visit D U L C)
-      (rest last : List (Visit D U L C))
-      → ServesOn state start_at client_state returned out faults p q (visit ∷ rest) last
-      → ServesOn state start_at client_state returned out faults p q (insert rest place visit) last
+  pub on_leaves : (p q : HttpProxy SV K P) (place : ℕ) (visit : Visit D U L C M)
+      (rest last : List (Visit D U L C M))
+      → ServesOn state start_at client_state allows modules mark_of returned out faults p q (visit ∷ rest) last
+      → ServesOn state start_at client_state allows modules mark_of returned out faults p q (insert rest place visit) last
   on_leaves p q place visit rest last left =
       on_then p p q (insert rest place visit) (visit ∷ rest) last
       (on_taken p place visit rest) left

@@ -1,17 +1,23 @@
 -- Many requests over one proxy: those under way, and those that came to an end.
 use Rattle.std.specs.Prelude.{◌≡◌, ℕ, ◌+◌, ◌≤◌, Bool, true, false, List, [], ◌∷◌, ◌++◌, Option}
 use Rattle.std.specs.List.Sorted.{IsPermutation}
+use Rattle.relay_tasks.specs.declared.log.LogEntry.{LogEntry}
 use Rattle.relay_h1.specs.declared.Connection.{Connection}
 use Rattle.relay_links.specs.Count.{last_count}
 use Rattle.relay_links.specs.Link.{LinkState, LinkStart}
 use Rattle.relay_links.specs.Told.{more}
 use Rattle.relay_links.specs.declared.Returned.{Returned}
+use Rattle.relay_modules.specs.Module.{ModuleCall}
+use Rattle.relay_hooks.specs.Standing.{Standing}
+use Rattle.relay_phases.specs.Order.{Station}
 use Rattle.relay_attempt.specs.Passed.{Passed}
+use Rattle.relay_proxy.specs.Calls.{CallsSoFar, IsLogged, allowed_by, log_of}
 use Rattle.relay_proxy.specs.Endings.{IsEnded}
-use Rattle.relay_proxy.specs.Passed.{World, Start}
+use Rattle.relay_proxy.specs.Passed.{World, Start, called_to}
 use Rattle.relay_proxy.specs.Phases.{RunSoFar}
 use Rattle.relay_proxy.specs.Request.{ended_after}
 use Rattle.relay_proxy.specs.Turn.{world_of, links_held, is_over}
+use Rattle.relay_proxy.specs.declared.calls.Calls.{Calls}
 use Rattle.relay_proxy.specs.declared.machine.Phase.{Phase}
 use Rattle.relay_proxy.specs.declared.outcome.Outcome.{Outcome}
 use Rattle.relay_proxy.specs.declared.outcome.Outcome.TheVariants.{NoRequest, Refused, Served, TurnLimit, OutOfMemory}
@@ -42,10 +48,11 @@ books returned faults proxy = record {
 abbrev pub CountRises : ℕ → ℕ → Type 0
 CountRises before after = before ≤ last_count → (before ≤ after) × (after ≤ last_count)
 
--- a client's connection, and where the request on it stands
-pub record Visit (D U L C : Type 0) : Type 0 where
+-- a client's connection, where the request on it stands, and the calls of hooks for it
+pub record Visit (D U L C M : Type 0) : Type 0 where
   pub client : Connection D U
   pub phase : Phase L C
+  pub calls : Calls M U
 
 -- the client's connection is kept for another request
 abbrev pub is_reused : Outcome → Bool
@@ -55,16 +62,21 @@ is_reused (Served error reuse) = reuse
 is_reused TurnLimit = false
 is_reused OutOfMemory = false
 
-module _ {L : Type 0} (state : L → LinkState) (start_at : L → LinkStart) where
-  -- a request that came to its end, and that might make so many attempts: what passed is told by
-  -- the links, in order, and the outcome has its cause
+module _ {L : Type 0} (state : L → LinkState) (start_at : L → LinkStart)
+    (allows : Standing → LogEntry → Type 0) where
+  -- a request that came to its end, and that might make so many attempts: each call of a hook for
+  -- it was allowed where it stood, and they came in order; what passed is told by the links, in
+  -- order, and the outcome has its cause, by those calls
   pub record EndedRequest (most : ℕ) (own : List (Returned L)) (outcome : Outcome) : Type 0 where
     pub start : Start
     pub limit : start.most ≡ most
+    pub log : List LogEntry
+    pub station : Station
+    pub logged : IsLogged allows log station
     pub passed : Passed
     pub world : World
     pub attempts : List AttemptRecord
-    pub ended : IsEnded state start_at start passed world own attempts outcome
+    pub ended : IsEnded state start_at (called_to start log) passed world own attempts outcome
 
   -- requests came to their ends, one after the other: each that was served or refused is counted
   -- once, and these are the links that they handed back
@@ -84,8 +96,9 @@ module _ {L : Type 0} (state : L → LinkState) (start_at : L → LinkStart) whe
     pub joined : IsPermutation (links ++ others) gained
     pub told : returned ≡ more before.returned gained
 
+module _ {L : Type 0} (state : L → LinkState) (start_at : L → LinkStart) where
   -- how many links the requests hold
-  abbrev pub all_held : {D U C : Type 0} → List (Visit D U L C) → ℕ
+  abbrev pub all_held : {D U C M : Type 0} → List (Visit D U L C M) → ℕ
   all_held [] = 0
   all_held (visit ∷ rest) = links_held state start_at visit.phase + all_held rest
 
@@ -98,62 +111,70 @@ pub record Divides {L : Type 0} (one others : List (Returned L) → Type 0)
   pub of_others : others rest
   pub joined : IsPermutation (own ++ rest) links
 
-module _ {L C D U : Type 0}
-    (state : L → LinkState) (start_at : L → LinkStart) (client_state : D → LinkState) where
-  -- the request is under way since some start, and handed these links back
-  pub record IsUnderWay (most faults : ℕ) (visit : Visit D U L C) (own : List (Returned L))
+module _ {L C D U M : Type 0}
+    (state : L → LinkState) (start_at : L → LinkStart) (client_state : D → LinkState)
+    (allows : Standing → LogEntry → Type 0) (mark_of : C → ℕ) where
+  -- the request is under way since some start, by the calls of hooks so far, and handed these links
+  -- back
+  pub record IsUnderWay (most faults : ℕ) (visit : Visit D U L C M) (own : List (Returned L))
       : Type 0 where
     pub start : Start
     pub limit : start.most ≡ most
+    pub calls : CallsSoFar allows mark_of visit.calls visit.phase
     pub passed : Passed
-    pub run : RunSoFar state start_at start passed (world_of client_state visit.client faults) own
-        visit.phase
+    pub run : RunSoFar state start_at (called_to start (log_of visit.calls)) passed
+        (world_of client_state visit.client faults) own visit.phase
     pub going : is_over visit.phase ≡ false
 
   -- all requests are under way, and handed these links back
-  abbrev pub AreUnderWay : ℕ → ℕ → List (Visit D U L C) → List (Returned L) → Type 0
+  abbrev pub AreUnderWay : ℕ → ℕ → List (Visit D U L C M) → List (Returned L) → Type 0
   AreUnderWay most faults [] links = links ≡ []
   AreUnderWay most faults (visit ∷ rest) links =
       Divides (IsUnderWay most faults visit) (AreUnderWay most faults rest) links
 
   -- a server that began with the books `before`: requests have ended, and others are under way
-  pub record Serves (before now : Books L) (visits : List (Visit D U L C)) : Type 0 where
+  pub record Serves (before now : Books L) (visits : List (Visit D U L C M)) : Type 0 where
     pub links : List (Returned L)
-    pub ended : HaveEnded state start_at before now.requests_ended now.returned links
+    pub ended : HaveEnded state start_at allows before now.requests_ended now.returned links
     pub under_way : AreUnderWay now.most now.faults visits links
     -- the proxy is the one with which it began
     pub same_most : now.most ≡ before.most
 
   -- the same, where one request has come to its end and was not counted yet
-  pub record EndsOne (before now : Books L) (visit : Visit D U L C) (rest : List (Visit D U L C))
+  pub record EndsOne (before now : Books L) (visit : Visit D U L C M) (rest : List (Visit D U L C M))
       : Type 0 where
     pub own : List (Returned L)
     pub links : List (Returned L)
-    pub ended : HaveEnded state start_at before now.requests_ended now.returned (own ++ links)
+    pub ended : HaveEnded state start_at allows before now.requests_ended now.returned (own ++ links)
     pub start : Start
+    pub calls : CallsSoFar allows mark_of visit.calls visit.phase
     pub passed : Passed
-    pub run : RunSoFar state start_at start passed
+    pub run : RunSoFar state start_at (called_to start (log_of visit.calls)) passed
         (world_of client_state visit.client now.faults) own visit.phase
     pub limit : start.most ≡ before.most
     pub over : is_over visit.phase ≡ true
     pub under_way : AreUnderWay now.most now.faults rest links
     pub same_most : now.most ≡ before.most
 
-  -- the requests that are open behind one that was ended: its connection's next one, or none
-  abbrev pub with_next : AfterRequest (Visit D U L C) D → List (Visit D U L C) → List
-      (Visit D U L C)
-  with_next (Goes visit) rest = visit ∷ rest
-  with_next (Ends link) rest = rest
+-- the requests that are open behind one that was ended: its connection's next one, or none
+abbrev pub with_next : {D U L C M : Type 0} → AfterRequest (Visit D U L C M) D
+    → List (Visit D U L C M) → List (Visit D U L C M)
+with_next (Goes visit) rest = visit ∷ rest
+with_next (Ends link) rest = rest
 
 -- a server goes on: whatever it began with, it serves on, no count falls, and the links that are
--- out are those that its requests hold
-pub record ServesOn {SV K P L C D U : Type 0}
+-- out are those that its requests hold; its application allows what it allowed
+pub record ServesOn {SV K P L C D U M : Type 0}
     (state : L → LinkState) (start_at : L → LinkStart) (client_state : D → LinkState)
+    (allows : SV → Standing → LogEntry → Type 0) (modules : M → ModuleCall → Type 0)
+    (mark_of : SV → C → ℕ)
     (returned : K → Option (List (Returned L))) (out faults : K → ℕ)
-    (p q : HttpProxy SV K P) (here there : List (Visit D U L C)) : Type 0 where
+    (p q : HttpProxy SV K P) (here there : List (Visit D U L C M)) : Type 0 where
   pub serves : (before : Books L)
-      → Serves state start_at client_state before (books returned faults p) here
-      → Serves state start_at client_state before (books returned faults q) there
+      → Serves state start_at client_state (allowed_by (allows p.inner) modules) (mark_of p.inner)
+      before (books returned faults p) here
+      → Serves state start_at client_state (allowed_by (allows q.inner) modules) (mark_of q.inner)
+      before (books returned faults q) there
   pub held : out q.connector + all_held state start_at here
       ≡ out p.connector + all_held state start_at there
   pub counted : CountRises p.requests_ended q.requests_ended

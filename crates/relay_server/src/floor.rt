@@ -25,7 +25,7 @@ impl<SV: ProxyHttp, K: Connector, D> Model for Floor<SV, K, D> {
     ghost use Rattle.std.specs.VecDeque.{deque_capacity};
     ghost use Rattle.relay_server.specs.Serving.{Visit};
 
-    ghost Value = { List (Visit D SV.Kept K.Byte SV.CTX) };
+    ghost Value = { List (Visit D SV.Kept K.Byte SV.CTX SV.Modules) };
 
     ghost view = { λ f. map (λ b. b.value) f.connections.items };
 

@@ -1,6 +1,7 @@
 //! A client's connection that is open, with the request under way on it (RFC 9112, section 9.3).
 ghost use Rattle.std.specs.Prelude.{◌≡◌, ◌≤◌, ◌+◌, ℕ, List, [], ◌∷◌, true, false};
 ghost use Rattle.relay_attempt.specs.Passed.{Passed};
+ghost use Rattle.relay_proxy.specs.Calls.{CallsSoFar, allowed_by, log_of};
 ghost use Rattle.relay_proxy.specs.Passed.{Start};
 ghost use Rattle.relay_proxy.specs.Phases.{RunSoFar};
 ghost use Rattle.relay_proxy.specs.Turn.{links_held, is_over, is_end, world_of};
@@ -17,7 +18,7 @@ use std::marker::Model;
 
 /// A client's connection, the request under way on it, and what that asks beside its links: the
 /// branches of the duplex by `ServingSchedule`, no shutdown, and no delay. It means the connection,
-/// and where the request stands.
+/// where the request stands, and the calls of hooks for it.
 pub(crate) struct OpenConnection<SV: ProxyHttp, K: Connector, D> {
     client: Connection<D, SV::Kept>,
     machine: RequestMachine<SV, K>,
@@ -28,9 +29,13 @@ pub(crate) struct OpenConnection<SV: ProxyHttp, K: Connector, D> {
 impl<SV: ProxyHttp, K: Connector, D> Model for OpenConnection<SV, K, D> {
     ghost use Rattle.relay_server.specs.Serving.{Visit};
 
-    ghost Value = { Visit D SV.Kept K.Byte SV.CTX };
+    ghost Value = { Visit D SV.Kept K.Byte SV.CTX SV.Modules };
 
-    ghost view = { λ o. record { client = o.client; phase = o.machine.machine.phase } };
+    ghost view = { λ o. record {
+      client = o.client;
+      phase = o.machine.machine.phase;
+      calls = o.machine.calls;
+    } };
 }
 
 impl<SV: ProxyHttp, K: Connector, D: ByteLink> OpenConnection<SV, K, D> {
@@ -40,10 +45,14 @@ impl<SV: ProxyHttp, K: Connector, D: ByteLink> OpenConnection<SV, K, D> {
         proxy: &HttpProxy<SV, K, P>,
         link: D,
     ) -> OpenConnection<SV, K, D>
-        ensures serves { (before : Books _) (rest : List (Visit _ _ _ _))
-            → Serves K.Byte.state K.Byte.start D.state before
+        ensures serves { (before : Books _) (rest : List (Visit _ _ _ _ _))
+            → Serves K.Byte.state K.Byte.start D.state
+            (allowed_by (SV.allows proxy.now.inner) SV.Modules.allows)
+            (SV.mark_of proxy.now.inner) before
             (books K.returned K.fault_count proxy.now) rest
-            → Serves K.Byte.state K.Byte.start D.state before
+            → Serves K.Byte.state K.Byte.start D.state
+            (allowed_by (SV.allows proxy.now.inner) SV.Modules.allows)
+            (SV.mark_of proxy.now.inner) before
             (books K.returned K.fault_count proxy.now) (result ∷ rest) }
         ensures no_link { links_held K.Byte.state K.Byte.start result.phase ≡ 0 }
     {
@@ -82,6 +91,10 @@ impl<SV: ProxyHttp, K: Connector, D: ByteLink> OpenConnection<SV, K, D> {
         ensures unbegun { (faults : ℕ) (s : Start) (p : Passed) (own : List _)
             → is_idle self.now ≡ true → RunSoFar K.Byte.state K.Byte.start s p
             (world_of D.state self.now.client faults) own self.now.phase → HasNotBegun s p own }
+        // Nor was a hook called, whatever the application.
+        ensures uncalled { (app : SV) → is_idle self.now ≡ true
+            → CallsSoFar (allowed_by (SV.allows app) SV.Modules.allows) (SV.mark_of app)
+            self.now.calls self.now.phase → log_of self.now.calls ≡ [] }
     {
         self.machine.is_reading_head() && self.client.ahead().is_empty()
     }
@@ -89,15 +102,23 @@ impl<SV: ProxyHttp, K: Connector, D: ByteLink> OpenConnection<SV, K, D> {
     /// Takes one turn of the request, and tells what it did.
     pub(crate) fn step<P: Purger>(&mut self, proxy: &mut HttpProxy<SV, K, P>) -> RunStep
         requires { links_held K.Byte.state K.Byte.start self.old.phase ≤ K.out proxy.old.connector }
-        ensures goes { (before : Books _) (rest : List (Visit _ _ _ _)) → is_end result ≡ false
-            → Serves K.Byte.state K.Byte.start D.state before
+        ensures goes { (before : Books _) (rest : List (Visit _ _ _ _ _)) → is_end result ≡ false
+            → Serves K.Byte.state K.Byte.start D.state
+            (allowed_by (SV.allows proxy.old.inner) SV.Modules.allows)
+            (SV.mark_of proxy.old.inner) before
             (books K.returned K.fault_count proxy.old) (self.old ∷ rest)
-            → Serves K.Byte.state K.Byte.start D.state before
+            → Serves K.Byte.state K.Byte.start D.state
+            (allowed_by (SV.allows proxy.new.inner) SV.Modules.allows)
+            (SV.mark_of proxy.new.inner) before
             (books K.returned K.fault_count proxy.new) (self.new ∷ rest) }
-        ensures ends { (before : Books _) (rest : List (Visit _ _ _ _)) → is_end result ≡ true
-            → Serves K.Byte.state K.Byte.start D.state before
+        ensures ends { (before : Books _) (rest : List (Visit _ _ _ _ _)) → is_end result ≡ true
+            → Serves K.Byte.state K.Byte.start D.state
+            (allowed_by (SV.allows proxy.old.inner) SV.Modules.allows)
+            (SV.mark_of proxy.old.inner) before
             (books K.returned K.fault_count proxy.old) (self.old ∷ rest)
-            → EndsOne K.Byte.state K.Byte.start D.state before
+            → EndsOne K.Byte.state K.Byte.start D.state
+            (allowed_by (SV.allows proxy.new.inner) SV.Modules.allows)
+            (SV.mark_of proxy.new.inner) before
             (books K.returned K.fault_count proxy.new) self.new rest }
         ensures held { K.out proxy.new.connector
             + links_held K.Byte.state K.Byte.start self.old.phase
@@ -116,16 +137,20 @@ impl<SV: ProxyHttp, K: Connector, D: ByteLink> OpenConnection<SV, K, D> {
         proxy: &mut HttpProxy<SV, K, P>,
     ) -> AfterRequest<OpenConnection<SV, K, D>, D>
         requires { links_held K.Byte.state K.Byte.start self.phase ≤ K.out proxy.old.connector }
-        ensures serves { (before : Books _) (rest : List (Visit _ _ _ _))
-            → EndsOne K.Byte.state K.Byte.start D.state before
+        ensures serves { (before : Books _) (rest : List (Visit _ _ _ _ _))
+            → EndsOne K.Byte.state K.Byte.start D.state
+            (allowed_by (SV.allows proxy.old.inner) SV.Modules.allows)
+            (SV.mark_of proxy.old.inner) before
             (books K.returned K.fault_count proxy.old) self rest
-            → Serves K.Byte.state K.Byte.start D.state before
+            → Serves K.Byte.state K.Byte.start D.state
+            (allowed_by (SV.allows proxy.new.inner) SV.Modules.allows)
+            (SV.mark_of proxy.new.inner) before
             (books K.returned K.fault_count proxy.new)
-            (with_next K.Byte.state K.Byte.start D.state result rest) }
+            (with_next result rest) }
         ensures held { K.out proxy.new.connector + links_held K.Byte.state K.Byte.start self.phase
             ≡ K.out proxy.old.connector }
         ensures no_link { all_held K.Byte.state K.Byte.start
-            (with_next K.Byte.state K.Byte.start D.state result []) ≡ 0 }
+            (with_next result []) ≡ 0 }
         ensures counted { CountRises proxy.old.requests_ended proxy.new.requests_ended }
         ensures same { proxy.new ≡ record proxy.old {
           connector = proxy.new.connector;
@@ -157,10 +182,14 @@ impl<SV: ProxyHttp, K: Connector, D: ByteLink> OpenConnection<SV, K, D> {
     /// Gives the connection up while its request is under way, and answers its link.
     pub(crate) fn give_up<P: Purger>(self, proxy: &mut HttpProxy<SV, K, P>) -> D
         requires { links_held K.Byte.state K.Byte.start self.phase ≤ K.out proxy.old.connector }
-        ensures serves { (before : Books _) (rest : List (Visit _ _ _ _))
-            → Serves K.Byte.state K.Byte.start D.state before
+        ensures serves { (before : Books _) (rest : List (Visit _ _ _ _ _))
+            → Serves K.Byte.state K.Byte.start D.state
+            (allowed_by (SV.allows proxy.old.inner) SV.Modules.allows)
+            (SV.mark_of proxy.old.inner) before
             (books K.returned K.fault_count proxy.old) (self ∷ rest)
-            → Serves K.Byte.state K.Byte.start D.state before
+            → Serves K.Byte.state K.Byte.start D.state
+            (allowed_by (SV.allows proxy.new.inner) SV.Modules.allows)
+            (SV.mark_of proxy.new.inner) before
             (books K.returned K.fault_count proxy.new) rest }
         ensures held { K.out proxy.new.connector + links_held K.Byte.state K.Byte.start self.phase
             ≡ K.out proxy.old.connector }

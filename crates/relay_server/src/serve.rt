@@ -5,6 +5,7 @@ ghost use Rattle.std.specs.Prelude.{◌≡◌, ◌≢◌, ◌⊎◌, ◌↔◌, 
 ghost use Rattle.std.specs.List.{position};
 ghost use Rattle.relay_links.specs.Count.{Rose, last_count};
 ghost use Rattle.relay_links.specs.Told.{more};
+ghost use Rattle.relay_proxy.specs.Calls.{allowed_by};
 ghost use Rattle.relay_proxy.specs.Turn.{links_held};
 ghost use Rattle.relay_server.specs.Idle.{is_idle, GivesWay, IsPutLast, KeepsOrder, IsReplaced};
 ghost use Rattle.relay_server.specs.Listening.{ListensAt};
@@ -61,8 +62,10 @@ pub fn serve_with<R: Wait, SV: ProxyHttp, K: Connector, P: Purger, O: Poller>(
     ensures listens { ListensAt (O.ports poller.old) (O.ports poller.new) port result.served }
     // The number is what the proxy counted.
     ensures served { proxy.old.requests_ended + result.served ≡ proxy.new.requests_ended }
-    // Each request that was counted came to its end as the proxy promises, and gave its link back.
+    // Each request that was counted came to its end as the proxy promises, by calls of hooks that
+    // the application allows, and gave its link back.
     ensures requests { HaveEnded K.Byte.state K.Byte.start
+        (allowed_by (SV.allows proxy.old.inner) SV.Modules.allows)
         (books K.returned K.fault_count proxy.old) proxy.new.requests_ended
         (K.returned proxy.new.connector) [] }
     ensures out { K.out proxy.new.connector ≡ K.out proxy.old.connector }
@@ -120,7 +123,8 @@ fn serve_floor<R: Wait, SV: ProxyHttp, K: Connector, P: Purger, O: Poller>(
     requests: u64,
 ) -> Stop
     requires { floor.old ≡ [] }
-    ensures goes { ServesOn K.Byte.state K.Byte.start O.Stream.state K.returned K.out K.fault_count
+    ensures goes { ServesOn K.Byte.state K.Byte.start O.Stream.state SV.allows
+        SV.Modules.allows SV.mark_of K.returned K.out K.fault_count
         proxy.old proxy.new floor.old floor.new }
     ensures done { result ≡ Stop.Done
         → proxy.old.requests_ended + requests ≡ proxy.new.requests_ended }
@@ -171,7 +175,8 @@ fn accept_all<SV: ProxyHttp, K: Connector, P: Purger, O: Poller>(
     floor: &mut Floor<SV, K, O::Stream>,
 )
     requires few { length floor.old ≤ 64 }
-    ensures goes { ServesOn K.Byte.state K.Byte.start O.Stream.state K.returned K.out K.fault_count
+    ensures goes { ServesOn K.Byte.state K.Byte.start O.Stream.state SV.allows
+        SV.Modules.allows SV.mark_of K.returned K.out K.fault_count
         proxy.old proxy.new floor.old floor.new }
     ensures few { length floor.new ≤ 64 }
     ensures polled { O.fault_count poller.old ≤ O.fault_count poller.new }
@@ -196,7 +201,8 @@ fn replace_idle<SV: ProxyHttp, K: Connector, P: Purger, O: Poller>(
 ) -> bool
     requires few { length floor.old ≤ 64 }
     requires held { all_held K.Byte.state K.Byte.start floor.old ≤ K.out proxy.old.connector }
-    ensures goes { ServesOn K.Byte.state K.Byte.start O.Stream.state K.returned K.out K.fault_count
+    ensures goes { ServesOn K.Byte.state K.Byte.start O.Stream.state SV.allows
+        SV.Modules.allows SV.mark_of K.returned K.out K.fault_count
         proxy.old proxy.new floor.old floor.new }
     ensures stays { result ≡ false → floor.new ≡ floor.old }
     // Who gives way was idle, the first one that was.
@@ -229,7 +235,8 @@ fn give_way<SV: ProxyHttp, K: Connector, P: Purger, O: Poller>(
 )
     requires idle { position is_idle floor.old ≡ Some place }
     requires held { all_held K.Byte.state K.Byte.start floor.old ≤ K.out proxy.old.connector }
-    ensures goes { ServesOn K.Byte.state K.Byte.start O.Stream.state K.returned K.out K.fault_count
+    ensures goes { ServesOn K.Byte.state K.Byte.start O.Stream.state SV.allows
+        SV.Modules.allows SV.mark_of K.returned K.out K.fault_count
         proxy.old proxy.new floor.old floor.new }
     ensures gives_way { GivesWay floor.old floor.new }
     ensures fewer { length floor.new + 1 ≡ length floor.old }
@@ -254,7 +261,8 @@ fn keep<SV: ProxyHttp, K: Connector, P: Purger, O: Poller>(
     requires room { length floor.old < 64 }
     requires held { links_held K.Byte.state K.Byte.start connection.phase
         ≤ K.out proxy.old.connector }
-    ensures goes { ServesOn K.Byte.state K.Byte.start O.Stream.state K.returned K.out K.fault_count
+    ensures goes { ServesOn K.Byte.state K.Byte.start O.Stream.state SV.allows
+        SV.Modules.allows SV.mark_of K.returned K.out K.fault_count
         proxy.old proxy.new (connection ∷ floor.old) floor.new }
     ensures last { IsPutLast floor.old floor.new }
     ensures few { length floor.new ≤ length floor.old + 1 }
@@ -282,7 +290,8 @@ fn go_round<SV: ProxyHttp, K: Connector, P: Purger, O: Poller>(
     requires held { all_held K.Byte.state K.Byte.start floor.old ≤ K.out proxy.old.connector }
     requires counted { (before ≤ proxy.old.requests_ended)
         × (proxy.old.requests_ended ≤ last_count) }
-    ensures goes { ServesOn K.Byte.state K.Byte.start O.Stream.state K.returned K.out K.fault_count
+    ensures goes { ServesOn K.Byte.state K.Byte.start O.Stream.state SV.allows
+        SV.Modules.allows SV.mark_of K.returned K.out K.fault_count
         proxy.old proxy.new floor.old floor.new }
     ensures few { length floor.new ≤ 64 }
     ensures polled { O.fault_count poller.old ≤ O.fault_count poller.new }
@@ -328,7 +337,8 @@ fn take_turn<SV: ProxyHttp, K: Connector, P: Purger, O: Poller>(
 ) -> Turn
     requires few { length floor.old ≤ 64 }
     requires held { all_held K.Byte.state K.Byte.start floor.old ≤ K.out proxy.old.connector }
-    ensures goes { ServesOn K.Byte.state K.Byte.start O.Stream.state K.returned K.out K.fault_count
+    ensures goes { ServesOn K.Byte.state K.Byte.start O.Stream.state SV.allows
+        SV.Modules.allows SV.mark_of K.returned K.out K.fault_count
         proxy.old proxy.new floor.old floor.new }
     ensures order { KeepsOrder result place floor.old floor.new }
     ensures few { length floor.new ≤ 64 }
@@ -372,9 +382,13 @@ fn end_taken<SV: ProxyHttp, K: Connector, P: Purger, O: Poller>(
     requires held { links_held K.Byte.state K.Byte.start connection.phase
         ≤ K.out proxy.old.connector }
     ensures serves { (before : Books _)
-        → EndsOne K.Byte.state K.Byte.start O.Stream.state before
+        → EndsOne K.Byte.state K.Byte.start O.Stream.state
+        (allowed_by (SV.allows proxy.old.inner) SV.Modules.allows)
+        (SV.mark_of proxy.old.inner) before
         (books K.returned K.fault_count proxy.old) connection floor.old
-        → Serves K.Byte.state K.Byte.start O.Stream.state before
+        → Serves K.Byte.state K.Byte.start O.Stream.state
+        (allowed_by (SV.allows proxy.new.inner) SV.Modules.allows)
+        (SV.mark_of proxy.new.inner) before
         (books K.returned K.fault_count proxy.new) floor.new }
     ensures held { K.out proxy.new.connector
         + all_held K.Byte.state K.Byte.start (connection ∷ floor.old)
@@ -402,11 +416,14 @@ fn give_all_up<SV: ProxyHttp, K: Connector, P: Purger, O: Poller>(
     floor: &mut Floor<SV, K, O::Stream>,
 )
     requires held { all_held K.Byte.state K.Byte.start floor.old ≤ K.out proxy.old.connector }
-    ensures goes { ServesOn K.Byte.state K.Byte.start O.Stream.state K.returned K.out K.fault_count
+    ensures goes { ServesOn K.Byte.state K.Byte.start O.Stream.state SV.allows
+        SV.Modules.allows SV.mark_of K.returned K.out K.fault_count
         proxy.old proxy.new floor.old floor.new }
     ensures empty { floor.new ≡ [] }
     // None of them is counted.
-    ensures uncounted { (before : Books _) → Serves K.Byte.state K.Byte.start O.Stream.state before
+    ensures uncounted { (before : Books _) → Serves K.Byte.state K.Byte.start O.Stream.state
+        (allowed_by (SV.allows proxy.old.inner) SV.Modules.allows)
+        (SV.mark_of proxy.old.inner) before
         (books K.returned K.fault_count proxy.old) floor.old
         → proxy.new.requests_ended ≡ proxy.old.requests_ended }
     ensures polled { O.fault_count poller.old ≤ O.fault_count poller.new }

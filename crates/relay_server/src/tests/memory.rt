@@ -3,14 +3,14 @@ use super::support::{ANSWER, MemoryPoller, REQUEST, SENT, WRITTEN};
 use crate::{ServeEnd, serve_with};
 use bytes::Bytes;
 use relay_links::{MemoryPurger, PeerScript, Poller, ReadItem, ScriptConnector, ScriptLink};
-use relay_proxy::{HttpProxy, NoHooks, ServerConf};
-use relay_tasks::Purged;
+use relay_proxy::{Defaults, HttpProxy, ServerConf};
+use relay_tasks::{Peer, Purged};
 use std::alloc::Global;
 use std::collections::VecDeque;
 use std::str;
 use std::test::Fail;
 
-type Proxy = HttpProxy<NoHooks, ScriptConnector, MemoryPurger>;
+type Proxy = HttpProxy<Defaults, ScriptConnector, MemoryPurger>;
 
 /// A link that gives these texts, and is then silent.
 fn link(alloc: Global, texts: &[&'static str]) -> Result<ScriptLink, Fail> {
@@ -35,8 +35,13 @@ fn proxy(alloc: Global, answers: usize) -> Result<Proxy, Fail> {
         .ok()
         .ok_or("no memory")?;
     let purger = MemoryPurger::new(alloc, Purged::NotFound);
+    let application = Defaults::new(Peer {
+        address: Bytes::from_static(b"a"),
+        tls: false,
+        allows_h1: true,
+    });
     let conf = ServerConf { max_retries: 2 };
-    Ok(HttpProxy::new(alloc, NoHooks, conf, connector, purger))
+    Ok(HttpProxy::new(alloc, application, conf, connector, purger))
 }
 
 /// So many clients, each of which gives these texts.

@@ -1,5 +1,6 @@
 -- One more connection is given up.
 use Rattle.std.proofs.Common.{◌∙◌, List, arith, subst}
+use Rattle.relay_proxy.specs.Calls.{allowed_by}
 use Rattle.relay_server.specs.Serving.{Visit, books, Serves}
 use Rattle.relay_server.proofs.ServingLemmas.{on_given_up, on_then}
 use Rattle.relay_server.proofs.serve.give_all_up.Goals as goal
@@ -11,11 +12,13 @@ loop-connection-preserved g c =
     let proxy = c.loop-connection.proxy in
     let rest = c.take_first.new.self in (
       on_then g.K.Byte.ByteLink.state g.K.Byte.ByteLink.start g.O.Stream.ByteLink.state
+          g.SV.ProxyHttp.allows g.SV.Modules.HttpModule.allows g.SV.ProxyHttp.mark_of
           g.K.Connector.returned g.K.Connector.out g.K.Connector.fault_count
           c.args.proxy.now proxy c.give_up.new.proxy c.args.floor.now c.loop-connection.floor rest
           goes
           (rw c.in-Some.ensures
           (on_given_up g.K.Byte.ByteLink.state g.K.Byte.ByteLink.start g.O.Stream.ByteLink.state
+          g.SV.ProxyHttp.allows g.SV.Modules.HttpModule.allows g.SV.ProxyHttp.mark_of
           g.K.Connector.returned g.K.Connector.out g.K.Connector.fault_count
           proxy c.give_up.new.proxy c.in-Some.connection.value rest
           (λ before. (rw c.into_inner.ensures at c.give_up.ensures.serves before rest))
@@ -23,8 +26,10 @@ loop-connection-preserved g c =
           c.give_up.ensures.same)),
       λ before serves.
           let now = subst (λ (visits : List (Visit g.row.O-Stream.Denot g.row.SV-Kept.Denot
-          g.row.K-Byte.Denot g.row.SV-CTX.Denot)).
-          Serves g.K.Byte.ByteLink.state g.K.Byte.ByteLink.start g.O.Stream.ByteLink.state before
+          g.row.K-Byte.Denot g.row.SV-CTX.Denot g.row.SV-Modules.Denot)).
+          Serves g.K.Byte.ByteLink.state g.K.Byte.ByteLink.start g.O.Stream.ByteLink.state
+          (allowed_by (g.SV.ProxyHttp.allows proxy.inner) g.SV.Modules.HttpModule.allows)
+          (g.SV.ProxyHttp.mark_of proxy.inner) before
           (books g.K.Connector.returned g.K.Connector.fault_count proxy) visits)
           c.in-Some.ensures (goes.serves before serves) in
           c.give_up.ensures.uncounted (rw c.into_inner.ensures (now.under_way.of_one.going))

@@ -23,10 +23,12 @@ give_up-requires g c = rw c.into_inner.ensures
 pub returns-clause-goes : goal.returns-clause-goes
 returns-clause-goes g c = rw c.in-Some.ensures.taken
     (on_leaves g.K.Byte.ByteLink.state g.K.Byte.ByteLink.start g.O.Stream.ByteLink.state
+    g.SV.ProxyHttp.allows g.SV.Modules.HttpModule.allows g.SV.ProxyHttp.mark_of
     g.K.Connector.returned g.K.Connector.out g.K.Connector.fault_count
     c.args.proxy.now c.give_up.new.proxy c.args.place c.in-Some.connection.value c.take.new.self
     c.take.new.self
     (on_given_up g.K.Byte.ByteLink.state g.K.Byte.ByteLink.start g.O.Stream.ByteLink.state
+    g.SV.ProxyHttp.allows g.SV.Modules.HttpModule.allows g.SV.ProxyHttp.mark_of
     g.K.Connector.returned g.K.Connector.out g.K.Connector.fault_count
     c.args.proxy.now c.give_up.new.proxy c.in-Some.connection.value c.take.new.self
     (λ before. (rw c.into_inner.ensures at c.give_up.ensures.serves before c.take.new.self))

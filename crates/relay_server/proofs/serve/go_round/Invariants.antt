@@ -8,6 +8,7 @@ use Rattle.relay_server.proofs.serve.go_round.Given as goal
 abbrev pub invariant-loop-turn : goal.invariant-loop-turn
 invariant-loop-turn g l =
     ServesOn g.K.Byte.ByteLink.state g.K.Byte.ByteLink.start g.O.Stream.ByteLink.state
+    g.SV.ProxyHttp.allows g.SV.Modules.HttpModule.allows g.SV.ProxyHttp.mark_of
     g.K.Connector.returned g.K.Connector.out g.K.Connector.fault_count
     l.fn.proxy l.proxy l.fn.floor l.floor
     × (length l.floor ≤ 64)

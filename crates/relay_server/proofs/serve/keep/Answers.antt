@@ -7,6 +7,7 @@ use Rattle.relay_server.proofs.serve.keep.Goals as goal
 pub returns-in-Ok-clause-goes : goal.returns-in-Ok-clause-goes
 returns-in-Ok-clause-goes g c = rw (c.put_last.ensures, c.in-Ok.ensures.ok)
     (on_put_last g.K.Byte.ByteLink.state g.K.Byte.ByteLink.start g.O.Stream.ByteLink.state
+    g.SV.ProxyHttp.allows g.SV.Modules.HttpModule.allows g.SV.ProxyHttp.mark_of
     g.K.Connector.returned g.K.Connector.out g.K.Connector.fault_count
     c.args.proxy.now c.args.connection c.args.floor.now)
 
@@ -14,6 +15,7 @@ returns-in-Ok-clause-goes g c = rw (c.put_last.ensures, c.in-Ok.ensures.ok)
 pub returns-in-Err-clause-goes : goal.returns-in-Err-clause-goes
 returns-in-Err-clause-goes g c = rw c.in-Err.ensures.value_returned at
     (on_given_up g.K.Byte.ByteLink.state g.K.Byte.ByteLink.start g.O.Stream.ByteLink.state
+    g.SV.ProxyHttp.allows g.SV.Modules.HttpModule.allows g.SV.ProxyHttp.mark_of
     g.K.Connector.returned g.K.Connector.out g.K.Connector.fault_count
     c.args.proxy.now c.give_up.new.proxy c.in-Err.failed.value c.args.floor.now
     (λ before. c.give_up.ensures.serves before c.args.floor.now)

@@ -26,10 +26,12 @@ returns-in-Ended-clause-goes g c =
     let rest = c.take.new.self in
     rw (c.in-Some.ensures.taken)
     (on_leaves g.K.Byte.ByteLink.state g.K.Byte.ByteLink.start g.O.Stream.ByteLink.state
+    g.SV.ProxyHttp.allows g.SV.Modules.HttpModule.allows g.SV.ProxyHttp.mark_of
     g.K.Connector.returned g.K.Connector.out g.K.Connector.fault_count
     c.args.proxy.now c.end_taken.new.proxy c.args.place c.in-Some.connection.value rest
     c.end_taken.new.floor
     (on_ended g.K.Byte.ByteLink.state g.K.Byte.ByteLink.start g.O.Stream.ByteLink.state
+    g.SV.ProxyHttp.allows g.SV.Modules.HttpModule.allows g.SV.ProxyHttp.mark_of
     g.K.Connector.returned g.K.Connector.out g.K.Connector.fault_count
     c.args.proxy.now c.step.new.proxy c.end_taken.new.proxy c.in-Some.connection.value
     c.step.new.self rest c.end_taken.new.floor
@@ -48,9 +50,11 @@ returns-in-Moved-clause-goes g c =
     let rest = c.take.new.self in
     rw (c.in-Some.ensures.taken, c.put_last.ensures)
     (on_moves g.K.Byte.ByteLink.state g.K.Byte.ByteLink.start g.O.Stream.ByteLink.state
+    g.SV.ProxyHttp.allows g.SV.Modules.HttpModule.allows g.SV.ProxyHttp.mark_of
     g.K.Connector.returned g.K.Connector.out g.K.Connector.fault_count
     c.args.proxy.now c.step.new.proxy c.args.place c.in-Some.connection.value c.step.new.self rest
     (on_turned g.K.Byte.ByteLink.state g.K.Byte.ByteLink.start g.O.Stream.ByteLink.state
+    g.SV.ProxyHttp.allows g.SV.Modules.HttpModule.allows g.SV.ProxyHttp.mark_of
     g.K.Connector.returned g.K.Connector.out g.K.Connector.fault_count
     c.args.proxy.now c.step.new.proxy c.in-Some.connection.value c.step.new.self rest
     (λ before serves. c.step.ensures.goes before rest (rw c.in-Moved.is refl)
@@ -74,9 +78,11 @@ returns-then-still-clause-goes g c =
     let rest = c.take.new.self in
     rw (c.in-Some.ensures.taken, c.put.ensures.put)
     (on_waits g.K.Byte.ByteLink.state g.K.Byte.ByteLink.start g.O.Stream.ByteLink.state
+    g.SV.ProxyHttp.allows g.SV.Modules.HttpModule.allows g.SV.ProxyHttp.mark_of
     g.K.Connector.returned g.K.Connector.out g.K.Connector.fault_count
     c.args.proxy.now c.step.new.proxy c.args.place c.in-Some.connection.value c.step.new.self rest
     (on_turned g.K.Byte.ByteLink.state g.K.Byte.ByteLink.start g.O.Stream.ByteLink.state
+    g.SV.ProxyHttp.allows g.SV.Modules.HttpModule.allows g.SV.ProxyHttp.mark_of
     g.K.Connector.returned g.K.Connector.out g.K.Connector.fault_count
     c.args.proxy.now c.step.new.proxy c.in-Some.connection.value c.step.new.self rest
     (λ before serves. c.step.ensures.goes before rest (rw c.in-Waited.is refl)
@@ -101,9 +107,11 @@ returns-else-still-clause-goes g c =
     let rest = c.take.new.self in
     rw (c.in-Some.ensures.taken, c.put.ensures.put)
     (on_waits g.K.Byte.ByteLink.state g.K.Byte.ByteLink.start g.O.Stream.ByteLink.state
+    g.SV.ProxyHttp.allows g.SV.Modules.HttpModule.allows g.SV.ProxyHttp.mark_of
     g.K.Connector.returned g.K.Connector.out g.K.Connector.fault_count
     c.args.proxy.now c.step.new.proxy c.args.place c.in-Some.connection.value c.step.new.self rest
     (on_turned g.K.Byte.ByteLink.state g.K.Byte.ByteLink.start g.O.Stream.ByteLink.state
+    g.SV.ProxyHttp.allows g.SV.Modules.HttpModule.allows g.SV.ProxyHttp.mark_of
     g.K.Connector.returned g.K.Connector.out g.K.Connector.fault_count
     c.args.proxy.now c.step.new.proxy c.in-Some.connection.value c.step.new.self rest
     (λ before serves. c.step.ensures.goes before rest (rw c.in-Waited.is refl)

@@ -1,5 +1,6 @@
 -- The request is ended, and the next one begins where the connection is reused.
-use Rattle.std.proofs.Common.{ap, refl}
+use Rattle.std.proofs.Common.{ap, refl, sym}
+use Rattle.relay_proxy.specs.Calls.{allowed_by}
 use Rattle.relay_proxy.specs.declared.proxy.HttpProxy.{HttpProxy}
 use Rattle.relay_server.specs.Serving.{books}
 use Rattle.relay_server.proofs.ServingLemmas.{ends_one, begins}
@@ -10,15 +11,23 @@ pub returns-then-not-is_reused-clause-serves : goal.returns-then-not-is_reused-c
 returns-then-not-is_reused-clause-serves g c = λ before rest ends.
     let returned = g.K.Connector.returned in
     let faults = g.K.Connector.fault_count in
-    ends_one g.K.Byte.ByteLink.state g.K.Byte.ByteLink.start g.D.ByteLink.state before
+    rw (ap (λ (p : HttpProxy g.row.SV.Denot g.row.K.Denot g.row.P.Denot). p.inner)
+    c.end-processed.ensures.same)
+    (ends_one g.K.Byte.ByteLink.state g.K.Byte.ByteLink.start g.D.ByteLink.state
+    (allowed_by (g.SV.ProxyHttp.allows c.args.proxy.now.inner)
+    g.SV.Modules.HttpModule.allows) (g.SV.ProxyHttp.mark_of c.args.proxy.now.inner) before
     (books returned faults c.args.proxy.now) (books returned faults c.end-processed.new.self)
-    (record { client = c.self.inside.client; phase = c.self.inside.machine.machine.phase }) rest
+    (record {
+      client = c.self.inside.client;
+      phase = c.self.inside.machine.machine.phase;
+      calls = c.self.inside.machine.calls;
+    }) rest
     _ c.end-processed.result.0 (rw c.self.view_is ends) c.end-processed.ensures.ends
     (ap (λ (p : HttpProxy g.row.SV.Denot g.row.K.Denot g.row.P.Denot). p.requests_ended)
     c.end-processed.ensures.same)
     c.end-processed.ensures.faults
     (ap (λ (p : HttpProxy g.row.SV.Denot g.row.K.Denot g.row.P.Denot). p.conf.max_retries)
-    c.end-processed.ensures.same)
+    c.end-processed.ensures.same))
 
 -- the next request begins
 pub returns-clause-serves : goal.returns-clause-serves
@@ -26,17 +35,29 @@ returns-clause-serves g c = λ before rest ends.
     let returned = g.K.Connector.returned in
     let faults = g.K.Connector.fault_count in
     let now = books returned faults c.end-processed.new.self in
-    begins g.K.Byte.ByteLink.state g.K.Byte.ByteLink.start g.D.ByteLink.state before now
+    begins g.K.Byte.ByteLink.state g.K.Byte.ByteLink.start g.D.ByteLink.state
+    (allowed_by (g.SV.ProxyHttp.allows c.end-processed.new.self.inner)
+    g.SV.Modules.HttpModule.allows) (g.SV.ProxyHttp.mark_of c.end-processed.new.self.inner) before now
     (record {
       client = c.begin-machine.new.client;
       phase = c.begin-machine.result.machine.phase;
-    }) rest _ _ refl c.begin-machine.ensures.run c.begin-machine.ensures.going
-    (ends_one g.K.Byte.ByteLink.state g.K.Byte.ByteLink.start g.D.ByteLink.state before
+      calls = c.begin-machine.result.calls;
+    }) rest _ _ refl (sym c.begin-machine.ensures.no_log) c.begin-machine.ensures.calls
+    c.begin-machine.ensures.run c.begin-machine.ensures.going
+    (rw (ap (λ (p : HttpProxy g.row.SV.Denot g.row.K.Denot g.row.P.Denot). p.inner)
+    c.end-processed.ensures.same)
+    (ends_one g.K.Byte.ByteLink.state g.K.Byte.ByteLink.start g.D.ByteLink.state
+    (allowed_by (g.SV.ProxyHttp.allows c.args.proxy.now.inner)
+    g.SV.Modules.HttpModule.allows) (g.SV.ProxyHttp.mark_of c.args.proxy.now.inner) before
     (books returned faults c.args.proxy.now) now
-    (record { client = c.self.inside.client; phase = c.self.inside.machine.machine.phase }) rest
+    (record {
+      client = c.self.inside.client;
+      phase = c.self.inside.machine.machine.phase;
+      calls = c.self.inside.machine.calls;
+    }) rest
     _ c.end-processed.result.0 (rw c.self.view_is ends) c.end-processed.ensures.ends
     (ap (λ (p : HttpProxy g.row.SV.Denot g.row.K.Denot g.row.P.Denot). p.requests_ended)
     c.end-processed.ensures.same)
     c.end-processed.ensures.faults
     (ap (λ (p : HttpProxy g.row.SV.Denot g.row.K.Denot g.row.P.Denot). p.conf.max_retries)
-    c.end-processed.ensures.same))
+    c.end-processed.ensures.same)))

@@ -1,6 +1,7 @@
 -- Of a connection that is idle nothing was asked, and nothing was done.
+use Rattle.relay_proxy.specs.Calls.{allowed_by}
 use Rattle.relay_proxy.specs.Turn.{world_of}
-use Rattle.relay_server.proofs.IdleLemmas.{not_begun}
+use Rattle.relay_server.proofs.IdleLemmas.{not_begun, none_called}
 use Rattle.relay_server.proofs.open_connection.OpenConnection.is_idle.Goals as goal
 
 -- its head is read, and no byte is ahead
@@ -8,3 +9,10 @@ pub returns-then-is_reading_head-clause-unbegun : goal.returns-then-is_reading_h
 returns-then-is_reading_head-clause-unbegun g c = λ faults s p own idle run.
     not_begun g.K.Byte.ByteLink.state g.K.Byte.ByteLink.start s p
     (world_of g.D.ByteLink.state c.args.self.now.client faults) own c.args.self.now.phase idle run
+
+-- nor was a hook called
+pub returns-then-is_reading_head-clause-uncalled :
+    goal.returns-then-is_reading_head-clause-uncalled
+returns-then-is_reading_head-clause-uncalled g c = λ app idle calls.
+    none_called (allowed_by (g.SV.ProxyHttp.allows app) g.SV.Modules.HttpModule.allows)
+    (g.SV.ProxyHttp.mark_of app) c.args.self.now idle calls

@@ -1,5 +1,6 @@
 -- The proxy's step is a turn of the first request.
 use Rattle.std.proofs.Common.{◌∙◌, ap}
+use Rattle.relay_proxy.specs.Calls.{allowed_by}
 use Rattle.relay_proxy.specs.declared.proxy.HttpProxy.{HttpProxy}
 use Rattle.relay_server.specs.Serving.{books}
 use Rattle.relay_server.proofs.ServingLemmas.{goes_on, ends_now}
@@ -8,31 +9,49 @@ use Rattle.relay_server.proofs.open_connection.OpenConnection.step.Goals as goal
 -- a step that does not end the request leaves it under way
 pub returns-clause-goes : goal.returns-clause-goes
 returns-clause-goes g c = λ before rest goes serves.
-    goes_on g.K.Byte.ByteLink.state g.K.Byte.ByteLink.start g.D.ByteLink.state before
+    rw (ap (λ (p : HttpProxy g.row.SV.Denot g.row.K.Denot g.row.P.Denot). p.inner)
+    c.step-step.ensures.same)
+    (goes_on g.K.Byte.ByteLink.state g.K.Byte.ByteLink.start g.D.ByteLink.state
+    (allowed_by (g.SV.ProxyHttp.allows c.args.proxy.now.inner)
+    g.SV.Modules.HttpModule.allows) (g.SV.ProxyHttp.mark_of c.args.proxy.now.inner) before
     (books g.K.Connector.returned g.K.Connector.fault_count c.args.proxy.now) _
-    (record { client = c.self.inside.client; phase = c.self.inside.machine.machine.phase })
+    (record {
+      client = c.self.inside.client;
+      phase = c.self.inside.machine.machine.phase;
+      calls = c.self.inside.machine.calls;
+    })
     _ rest _ _ _ _ _ _ (rw c.self.view_is serves) (record {
       counted = ap (λ (p : HttpProxy g.row.SV.Denot g.row.K.Denot g.row.P.Denot).
           p.requests_ended) c.step-step.ensures.same;
       faults = c.step-step.ensures.faults;
       most = ap (λ (p : HttpProxy g.row.SV.Denot g.row.K.Denot g.row.P.Denot).
           p.conf.max_retries) c.step-step.ensures.same;
+      calls = c.step-step.ensures.calls;
       steps = c.step-step.ensures.steps;
     })
-    (c.step-step.ensures.ended ∙ goes)
+    (c.step-step.ensures.ended ∙ goes))
 
 -- one that ends it leaves it at its end
 pub returns-clause-ends : goal.returns-clause-ends
 returns-clause-ends g c = λ before rest ends serves.
-    ends_now g.K.Byte.ByteLink.state g.K.Byte.ByteLink.start g.D.ByteLink.state before
+    rw (ap (λ (p : HttpProxy g.row.SV.Denot g.row.K.Denot g.row.P.Denot). p.inner)
+    c.step-step.ensures.same)
+    (ends_now g.K.Byte.ByteLink.state g.K.Byte.ByteLink.start g.D.ByteLink.state
+    (allowed_by (g.SV.ProxyHttp.allows c.args.proxy.now.inner)
+    g.SV.Modules.HttpModule.allows) (g.SV.ProxyHttp.mark_of c.args.proxy.now.inner) before
     (books g.K.Connector.returned g.K.Connector.fault_count c.args.proxy.now) _
-    (record { client = c.self.inside.client; phase = c.self.inside.machine.machine.phase })
+    (record {
+      client = c.self.inside.client;
+      phase = c.self.inside.machine.machine.phase;
+      calls = c.self.inside.machine.calls;
+    })
     _ rest _ _ _ _ _ _ (rw c.self.view_is serves) (record {
       counted = ap (λ (p : HttpProxy g.row.SV.Denot g.row.K.Denot g.row.P.Denot).
           p.requests_ended) c.step-step.ensures.same;
       faults = c.step-step.ensures.faults;
       most = ap (λ (p : HttpProxy g.row.SV.Denot g.row.K.Denot g.row.P.Denot).
           p.conf.max_retries) c.step-step.ensures.same;
+      calls = c.step-step.ensures.calls;
       steps = c.step-step.ensures.steps;
     })
-    (c.step-step.ensures.ended ∙ ends)
+    (c.step-step.ensures.ended ∙ ends))

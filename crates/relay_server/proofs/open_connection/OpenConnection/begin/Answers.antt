@@ -1,0 +1,20 @@
+-- The first request begins, for which no hook was called.
+use Rattle.std.proofs.Common.{refl, sym}
+use Rattle.relay_proxy.specs.Calls.{allowed_by}
+use Rattle.relay_server.specs.Serving.{books}
+use Rattle.relay_server.proofs.ServingLemmas.{begins}
+use Rattle.relay_server.proofs.open_connection.OpenConnection.begin.Goals as goal
+
+-- the first request begins
+pub returns-clause-serves : goal.returns-clause-serves
+returns-clause-serves g c = λ before rest serves.
+    begins g.K.Byte.ByteLink.state g.K.Byte.ByteLink.start g.D.ByteLink.state
+    (allowed_by (g.SV.ProxyHttp.allows c.args.proxy.now.inner) g.SV.Modules.HttpModule.allows)
+    (g.SV.ProxyHttp.mark_of c.args.proxy.now.inner) before
+    (books g.K.Connector.returned g.K.Connector.fault_count c.args.proxy.now)
+    (record {
+      client = c.begin-machine.new.client;
+      phase = c.begin-machine.result.machine.phase;
+      calls = c.begin-machine.result.calls;
+    }) rest _ _ refl (sym c.begin-machine.ensures.no_log) c.begin-machine.ensures.calls
+    c.begin-machine.ensures.run c.begin-machine.ensures.going serves
