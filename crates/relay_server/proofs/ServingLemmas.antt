@@ -312,7 +312,8 @@ module _ {L C D U M : Type 0}
     (allows : Standing → LogEntry → Type 0) (mark_of : C → ℕ) where
   -- requests that are under way go on while calls of the connector fail for others
   pub all_later : (most f g : ℕ) → f ≤ g → (visits : List (Visit D U L C M))
-      (links : List (Returned L)) → AreUnderWay state start_at client_state allows mark_of most f visits links
+      (links : List (Returned L)) → AreUnderWay state start_at client_state allows mark_of most f
+      visits links
       → AreUnderWay state start_at client_state allows mark_of most g visits links
   all_later most f g more_faults [] links under_way = under_way
   all_later most f g more_faults (visit ∷ rest) links under_way = record {
@@ -336,7 +337,8 @@ module _ {L C D U M : Type 0}
   -- one of the requests is taken out
   pub take_out : (most f place : ℕ) (visit : Visit D U L C M) (rest : List (Visit D U L C M))
       (links : List (Returned L))
-      → AreUnderWay state start_at client_state allows mark_of most f (insert rest place visit) links
+      → AreUnderWay state start_at client_state allows mark_of most f (insert rest place visit)
+      links
       → AreUnderWay state start_at client_state allows mark_of most f (visit ∷ rest) links
   take_out most f zero visit rest links under_way = under_way
   take_out most f (suc place) visit [] links under_way = under_way
@@ -366,7 +368,8 @@ module _ {L C D U M : Type 0}
   pub put_in : (most f place : ℕ) (visit : Visit D U L C M) (rest : List (Visit D U L C M))
       (links : List (Returned L))
       → AreUnderWay state start_at client_state allows mark_of most f (visit ∷ rest) links
-      → AreUnderWay state start_at client_state allows mark_of most f (insert rest place visit) links
+      → AreUnderWay state start_at client_state allows mark_of most f (insert rest place visit)
+      links
   put_in most f zero visit rest links under_way = under_way
   put_in most f (suc place) visit [] links under_way = under_way
   put_in most f (suc place) visit (next ∷ rest) links under_way =
@@ -397,11 +400,13 @@ module _ {L C D U M : Type 0}
       → AreUnderWay state start_at client_state allows mark_of old.most old.faults rest links
       → AreUnderWay state start_at client_state allows mark_of now.most now.faults rest links
   others_later old now rest links same more_faults under_way =
-      subst (λ (n : ℕ). AreUnderWay state start_at client_state allows mark_of n now.faults rest links) (sym same)
+      subst (λ (n : ℕ). AreUnderWay state start_at client_state allows mark_of n now.faults rest
+      links) (sym same)
       (all_later old.most old.faults now.faults more_faults rest links under_way)
 
   -- a turn of the first request: none is counted, and what passed goes on
-  pub record TakesTurn (old now : Books L) (visit next : Visit D U L C M) (t u : Option (List Fault))
+  pub record TakesTurn (old now : Books L) (visit next : Visit D U L C M)
+      (t u : Option (List Fault))
       (h k : Option (List Offer)) (i j : Work) : Type 0 where
     pub counted : now.requests_ended ≡ old.requests_ended
     pub faults : old.faults ≤ now.faults
@@ -499,7 +504,8 @@ module _ {L C D U M : Type 0}
       let all = own ++ comes.handed in
       let logged = calls_logged allows mark_of visit.calls visit.phase calls in
       subst (λ (n : ℕ). HaveEnded state start_at allows before n now.returned links) (sym counted)
-      (one_ended state start_at allows before old.requests_ended now.returned all links processed.outcome
+      (one_ended state start_at allows before old.requests_ended now.returned all links
+      processed.outcome
       (record {
         start = s;
         limit = limit;
@@ -523,7 +529,8 @@ module _ {L C D U M : Type 0}
     links = [];
     ended = none_ended state start_at allows before;
     under_way = subst (λ (all : List (Visit D U L C M)).
-        AreUnderWay state start_at client_state allows mark_of before.most before.faults all []) (sym nobody) refl;
+        AreUnderWay state start_at client_state allows mark_of before.most before.faults all [])
+        (sym nobody) refl;
     same_most = refl;
   }
 
@@ -533,7 +540,8 @@ module _ {L C D U M : Type 0}
       → HaveEnded state start_at allows before now.requests_ended now.returned []
   last_serves before now visits nobody serves =
       let none_left : serves.links ≡ [] = subst (λ (all : List (Visit D U L C M)).
-      AreUnderWay state start_at client_state allows mark_of now.most now.faults all serves.links) nobody
+      AreUnderWay state start_at client_state allows mark_of now.most now.faults all serves.links)
+      nobody
       serves.under_way in
       subst (λ (l : List (Returned L)). HaveEnded state start_at allows before now.requests_ended
       now.returned l) none_left serves.ended
@@ -544,12 +552,15 @@ module _ {L C D U M : Type 0}
       → AreUnderWay state start_at client_state allows mark_of old.most old.faults rest links
       → AreUnderWay state start_at client_state allows mark_of now.most now.faults rest links
   others_same old now rest links limit same under_way =
-      subst (λ (n : ℕ). AreUnderWay state start_at client_state allows mark_of n now.faults rest links) (sym limit)
-      (subst (λ (f : ℕ). AreUnderWay state start_at client_state allows mark_of old.most f rest links) (sym same)
+      subst (λ (n : ℕ). AreUnderWay state start_at client_state allows mark_of n now.faults rest
+      links) (sym limit)
+      (subst (λ (f : ℕ). AreUnderWay state start_at client_state allows mark_of old.most f rest
+      links) (sym same)
       under_way)
 
   -- the request that has ended is ended
-  pub ends_one : (before old now : Books L) (visit : Visit D U L C M) (rest : List (Visit D U L C M))
+  pub ends_one : (before old now : Books L) (visit : Visit D U L C M)
+      (rest : List (Visit D U L C M))
       (x : World) (processed : Processed)
       → EndsOne state start_at client_state allows mark_of before old visit rest
       → ((s : Start) (p : Passed) (own : List (Returned L))
@@ -568,7 +579,8 @@ module _ {L C D U M : Type 0}
   }
 
   -- a request under way is given up
-  pub gives_up : (before old now : Books L) (visit : Visit D U L C M) (rest : List (Visit D U L C M))
+  pub gives_up : (before old now : Books L) (visit : Visit D U L C M)
+      (rest : List (Visit D U L C M))
       (x : World) (processed : Processed)
       → Serves state start_at client_state allows mark_of before old (visit ∷ rest)
       → ((s : Start) (p : Passed) (own : List (Returned L))
@@ -584,7 +596,8 @@ module _ {L C D U M : Type 0}
         links = all.rest;
         ended = comes_to_end before old now visit all.own all.rest under.start under.passed x
             processed (under.limit ∙ serves.same_most) under.calls
-            (ended_in_order state start_at allows before old.requests_ended old.returned serves.links
+            (ended_in_order state start_at allows before old.requests_ended old.returned
+            serves.links
             (all.own ++ all.rest)
             (IsPermutation-sym (all.own ++ all.rest) serves.links all.joined) serves.ended)
             (comes (called_to under.start (log_of visit.calls)) under.passed all.own under.run)
@@ -598,7 +611,8 @@ module _ {L C D U M : Type 0}
       (s : Start) (p : Passed) → s.most ≡ now.most → s.called ≡ log_of visit.calls
       → CallsSoFar allows mark_of visit.calls visit.phase
       → RunSoFar state start_at s p (world_of client_state visit.client now.faults) [] visit.phase
-      → is_over visit.phase ≡ false → Serves state start_at client_state allows mark_of before now rest
+      → is_over visit.phase ≡ false → Serves state start_at client_state allows mark_of before now
+      rest
       → Serves state start_at client_state allows mark_of before now (visit ∷ rest)
   begins before now visit rest s p limit called calls run going serves = record {
     links = serves.links;
@@ -628,7 +642,8 @@ module _ {SV K P L C D U M : Type 0}
     (returned : K → Option (List (Returned L))) (out faults : K → ℕ) where
   -- a server that did nothing
   pub on_same : (p : HttpProxy SV K P) (visits : List (Visit D U L C M))
-      → ServesOn state start_at client_state allows modules mark_of returned out faults p p visits visits
+      → ServesOn state start_at client_state allows modules mark_of returned out faults p p visits
+      visits
   on_same p visits = record {
     serves = λ before serves. serves;
     held = refl;
@@ -638,9 +653,12 @@ module _ {SV K P L C D U M : Type 0}
 
   -- a server that went on, and on
   pub on_then : (p q r : HttpProxy SV K P) (here there last : List (Visit D U L C M))
-      → ServesOn state start_at client_state allows modules mark_of returned out faults p q here there
-      → ServesOn state start_at client_state allows modules mark_of returned out faults q r there last
-      → ServesOn state start_at client_state allows modules mark_of returned out faults p r here last
+      → ServesOn state start_at client_state allows modules mark_of returned out faults p q here
+      there
+      → ServesOn state start_at client_state allows modules mark_of returned out faults q r there
+      last
+      → ServesOn state start_at client_state allows modules mark_of returned out faults p r here
+      last
   on_then p q r here there last first second = record {
     serves = λ before serves. second.serves before (first.serves before serves);
     held = omega (arith, first.held, second.held);
@@ -655,7 +673,8 @@ module _ {SV K P L C D U M : Type 0}
   -- a server that took one of its requests out
   pub on_taken : (p : HttpProxy SV K P) (place : ℕ) (visit : Visit D U L C M)
       (rest : List (Visit D U L C M))
-      → ServesOn state start_at client_state allows modules mark_of returned out faults p p (insert rest place visit)
+      → ServesOn state start_at client_state allows modules mark_of returned out faults p p
+      (insert rest place visit)
       (visit ∷ rest)
   on_taken p place visit rest = record {
     serves = λ before serves. record {
@@ -674,7 +693,8 @@ module _ {SV K P L C D U M : Type 0}
   -- a server that put its first request at a place
   pub on_put : (p : HttpProxy SV K P) (place : ℕ) (visit : Visit D U L C M)
       (rest : List (Visit D U L C M))
-      → ServesOn state start_at client_state allows modules mark_of returned out faults p p (visit ∷ rest)
+      → ServesOn state start_at client_state allows modules mark_of returned out faults p p
+      (visit ∷ rest)
       (insert rest place visit)
   on_put p place visit rest = record {
     serves = λ before serves. record {
@@ -692,10 +712,12 @@ module _ {SV K P L C D U M : Type 0}
 
   -- a server that put its first request last
   pub on_put_last : (p : HttpProxy SV K P) (visit : Visit D U L C M) (rest : List (Visit D U L C M))
-      → ServesOn state start_at client_state allows modules mark_of returned out faults p p (visit ∷ rest)
+      → ServesOn state start_at client_state allows modules mark_of returned out faults p p
+      (visit ∷ rest)
       (rest ++ visit ∷ [])
   on_put_last p visit rest = subst (λ (all : List (Visit D U L C M)).
-      ServesOn state start_at client_state allows modules mark_of returned out faults p p (visit ∷ rest) all)
+      ServesOn state start_at client_state allows modules mark_of returned out faults p p
+      (visit ∷ rest) all)
       (insert_end rest visit) (on_put p (length rest) visit rest)
 
   -- a server one of whose requests took a turn and goes on
@@ -709,7 +731,8 @@ module _ {SV K P L C D U M : Type 0}
       → out q.connector + links_held state start_at visit.phase
       ≡ out p.connector + links_held state start_at next.phase
       → q ≡ record p { connector = q.connector }
-      → ServesOn state start_at client_state allows modules mark_of returned out faults p q (visit ∷ rest) (next ∷ rest)
+      → ServesOn state start_at client_state allows modules mark_of returned out faults p q
+      (visit ∷ rest) (next ∷ rest)
   on_turned p q visit next rest serves held same = record {
     serves = serves;
     held = omega (arith, held);
@@ -742,7 +765,8 @@ module _ {SV K P L C D U M : Type 0}
       ≡ out q.connector + all_held state start_at last
       → CountRises q.requests_ended r.requests_ended
       → r ≡ record q { connector = r.connector; requests_ended = r.requests_ended }
-      → ServesOn state start_at client_state allows modules mark_of returned out faults p r (visit ∷ rest) last
+      → ServesOn state start_at client_state allows modules mark_of returned out faults p r
+      (visit ∷ rest) last
   on_ended p q r visit next rest last ends held same serves held_on rises same_on = record {
     serves = λ before now. serves before (ends before now);
     held = omega (arith, held, held_on);
@@ -753,7 +777,8 @@ module _ {SV K P L C D U M : Type 0}
   }
 
   -- a server that gave a request up
-  pub on_given_up : (p q : HttpProxy SV K P) (visit : Visit D U L C M) (rest : List (Visit D U L C M))
+  pub on_given_up : (p q : HttpProxy SV K P) (visit : Visit D U L C M)
+      (rest : List (Visit D U L C M))
       → ((before : Books L)
       → Serves state start_at client_state (allowed_by (allows p.inner) modules)
       (mark_of p.inner) before (books returned faults p) (visit ∷ rest)
@@ -762,7 +787,8 @@ module _ {SV K P L C D U M : Type 0}
       → out q.connector + links_held state start_at visit.phase ≡ out p.connector
       → CountRises p.requests_ended q.requests_ended
       → q ≡ record p { connector = q.connector; requests_ended = q.requests_ended }
-      → ServesOn state start_at client_state allows modules mark_of returned out faults p q (visit ∷ rest) rest
+      → ServesOn state start_at client_state allows modules mark_of returned out faults p q
+      (visit ∷ rest) rest
   on_given_up p q visit rest serves held rises same = record {
     serves = serves;
     held = omega (arith, held);
@@ -778,7 +804,8 @@ module _ {SV K P L C D U M : Type 0}
       → Serves state start_at client_state (allowed_by (allows p.inner) modules)
       (mark_of p.inner) before (books returned faults p) (visit ∷ rest))
       → links_held state start_at visit.phase ≡ 0
-      → ServesOn state start_at client_state allows modules mark_of returned out faults p p rest (visit ∷ rest)
+      → ServesOn state start_at client_state allows modules mark_of returned out faults p p rest
+      (visit ∷ rest)
   on_begun p visit rest serves no_link = record {
     serves = serves;
     held = omega (arith, no_link);
@@ -789,8 +816,10 @@ module _ {SV K P L C D U M : Type 0}
   -- a server one of whose requests took a turn, and stays at its place
   pub on_waits : (p q : HttpProxy SV K P) (place : ℕ) (visit next : Visit D U L C M)
       (rest : List (Visit D U L C M))
-      → ServesOn state start_at client_state allows modules mark_of returned out faults p q (visit ∷ rest) (next ∷ rest)
-      → ServesOn state start_at client_state allows modules mark_of returned out faults p q (insert rest place visit)
+      → ServesOn state start_at client_state allows modules mark_of returned out faults p q
+      (visit ∷ rest) (next ∷ rest)
+      → ServesOn state start_at client_state allows modules mark_of returned out faults p q
+      (insert rest place visit)
       (insert rest place next)
   on_waits p q place visit next rest turned =
       on_then p p q (insert rest place visit) (visit ∷ rest) (insert rest place next)
@@ -801,8 +830,10 @@ module _ {SV K P L C D U M : Type 0}
   -- a server one of whose requests took a turn, and is last
   pub on_moves : (p q : HttpProxy SV K P) (place : ℕ) (visit next : Visit D U L C M)
       (rest : List (Visit D U L C M))
-      → ServesOn state start_at client_state allows modules mark_of returned out faults p q (visit ∷ rest) (next ∷ rest)
-      → ServesOn state start_at client_state allows modules mark_of returned out faults p q (insert rest place visit)
+      → ServesOn state start_at client_state allows modules mark_of returned out faults p q
+      (visit ∷ rest) (next ∷ rest)
+      → ServesOn state start_at client_state allows modules mark_of returned out faults p q
+      (insert rest place visit)
       (rest ++ next ∷ [])
   on_moves p q place visit next rest turned =
       on_then p p q (insert rest place visit) (visit ∷ rest) (rest ++ next ∷ [])
@@ -813,8 +844,10 @@ module _ {SV K P L C D U M : Type 0}
   -- a server one of whose requests was taken out, whatever followed
   pub on_leaves : (p q : HttpProxy SV K P) (place : ℕ) (visit : Visit D U L C M)
       (rest last : List (Visit D U L C M))
-      → ServesOn state start_at client_state allows modules mark_of returned out faults p q (visit ∷ rest) last
-      → ServesOn state start_at client_state allows modules mark_of returned out faults p q (insert rest place visit) last
+      → ServesOn state start_at client_state allows modules mark_of returned out faults p q
+      (visit ∷ rest) last
+      → ServesOn state start_at client_state allows modules mark_of returned out faults p q
+      (insert rest place visit) last
   on_leaves p q place visit rest last left =
       on_then p p q (insert rest place visit) (visit ∷ rest) last
       (on_taken p place visit rest) left

@@ -141,11 +141,13 @@ module _ {L C D U M : Type 0}
     pub same_most : now.most ≡ before.most
 
   -- the same, where one request has come to its end and was not counted yet
-  pub record EndsOne (before now : Books L) (visit : Visit D U L C M) (rest : List (Visit D U L C M))
+  pub record EndsOne (before now : Books L) (visit : Visit D U L C M)
+      (rest : List (Visit D U L C M))
       : Type 0 where
     pub own : List (Returned L)
     pub links : List (Returned L)
-    pub ended : HaveEnded state start_at allows before now.requests_ended now.returned (own ++ links)
+    pub ended : HaveEnded state start_at allows before now.requests_ended now.returned
+        (own ++ links)
     pub start : Start
     pub calls : CallsSoFar allows mark_of visit.calls visit.phase
     pub passed : Passed

@@ -37,7 +37,8 @@ returns-clause-serves g c = λ before rest ends.
     let now = books returned faults c.end-processed.new.self in
     begins g.K.Byte.ByteLink.state g.K.Byte.ByteLink.start g.D.ByteLink.state
     (allowed_by (g.SV.ProxyHttp.allows c.end-processed.new.self.inner)
-    g.SV.Modules.HttpModule.allows) (g.SV.ProxyHttp.mark_of c.end-processed.new.self.inner) before now
+    g.SV.Modules.HttpModule.allows) (g.SV.ProxyHttp.mark_of c.end-processed.new.self.inner) before
+    now
     (record {
       client = c.begin-machine.new.client;
       phase = c.begin-machine.result.machine.phase;
