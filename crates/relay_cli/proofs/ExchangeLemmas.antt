@@ -1,12 +1,12 @@
 -- The requests of a run: what each leaves of the script's peers, and what is reported of it.
-use Rattle.std.proofs.Common.{◌≡◌, ◌≢◌, ◌<◌, ◌==◌, if◌then◌else◌, inl, inr, ◌⊎◌, Option, None, Ok, Err, subst, ℕ, zero, suc, ◌+◌, List, [], ◌∷◌, ◌++◌, map, drop, take, length, Bool, true, false, Some, refl, sym, ap, ◌∙◌, add-one, append_assoc, append-nil, drop-cons, true≢false, arith}
+use Rattle.std.proofs.Common.{◌≡◌, ◌≢◌, ◌<◌, ◌==◌, if◌then◌else◌, inl, inr, ◌⊎◌, Option, None, Ok, Err, subst, ℕ, zero, suc, ◌+◌, List, [], ◌∷◌, ◌++◌, map, drop, take, length, Bool, true, false, Some, refl, sym, ap, ◌∙◌, append_assoc, append-nil, true≢false, arith}
 use Rattle.std.specs.List.{slice_get, slice_range}
 use Rattle.std.proofs.Math.Seq.{drop-append_seam, drop-nil, take-length}
 use Rattle.std.specs.List.{All}
 use Rattle.std.proofs.lemmas.Bool.Decides.{nat_tests}
 use Rattle.std.proofs.lemmas.List.{drop-drop, length-drop, length-append}
 use Rattle.std.proofs.lemmas.List.Elements.{All-append, All-cons, All-head, All-nil, All-tail}
-use Rattle.std.proofs.lemmas.Option.{slice_get_within, get_or_from_slice_get, same_Some}
+use Rattle.std.proofs.lemmas.Option.{same_Some}
 use Rattle.relay_tasks.specs.declared.error.Error.{Error}
 use Rattle.relay_tasks.specs.declared.ErrorSource.TheVariants.{Upstream}
 use Rattle.relay_tasks.specs.declared.error.RetryType.{RetryType}
@@ -31,18 +31,12 @@ use Rattle.relay_proxy.specs.declared.outcome.Outcome.{Outcome}
 use Rattle.relay_proxy.specs.declared.outcome.Outcome.TheVariants as ended
 use Rattle.relay_proxy.specs.declared.outcome.Processed.{Processed}
 use Rattle.relay_proxy.specs.declared.record.AttemptRecord.{AttemptRecord}
+use Rattle.relay_cli.proofs.ListLemmas.{drop_at}
 use Rattle.relay_cli.specs.Exchange.{attempt_report, attempt_reports, peers_behind, sent_before, taken_of, sent_of, FirstStartsWithin, names_of, first_name, peer_offer, offers_of, IsEntryOf, AreEntriesOf, AreLinksOf, Place, world_at, first_place, reported, IsRequest, Follows, AreRun, place_of, IsAt, Begins, Runs, IsRun}
 use Rattle.relay_cli.specs.Report.{RequestSpec, outcome_reuse}
 use Rattle.relay_cli.specs.Script.{PeerSpec, ScriptSpec}
 use Rattle.relay_cli.specs.declared.exchange.Run.{Run}
 use Rattle.relay_cli.specs.declared.report.AttemptReport.{AttemptReport}
-
--- the list from a place on begins with the item there
-drop_at : {A : Type 0} (xs : List A) (n : ℕ) (x : A) → slice_get xs n ≡ Some x
-    → drop n xs ≡ x ∷ drop (n + 1) xs
-drop_at xs n x is =
-    rw add-one (drop-cons xs n x (slice_get_within xs n x is)
-    ∙ ap (λ y. y ∷ drop (suc n) xs) (get_or_from_slice_get xs n x x is))
 
 -- numbers that are the same are tested so, and others are not
 nat_same : (a b : ℕ) → a ≡ b → (a == b) ≡ true
@@ -372,6 +366,7 @@ is_request script from to written own processed run asked client clear printable
           (ap sent_of is_own
           ∙ sent_is _ run.passed (world_at to) run.own processed.history.attempts
           processed.outcome run.ended.ends);
+      log = refl;
     }
 
 -- what a run made of the next request, by the values that the code has

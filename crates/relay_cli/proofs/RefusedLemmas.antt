@@ -234,6 +234,7 @@ request_free script branches from to request one = record {
   outcome = one.outcome;
   written = one.written;
   attempts = one.attempts;
+  log = one.log;
 }
 
 -- what follows a request stands where each run that follows does

@@ -8,7 +8,8 @@ use Rattle.serde_json.specs.Events.{items_len}
 use Rattle.serde_json.specs.Read.{read}
 use Rattle.serde_json.specs.View.{view, items_view}
 use Rattle.serde_json.specs.declared.value.Value.{Value}
-use Rattle.relay_cli.specs.Script.{each_of, list_limit, peer_of, peers_in, reads_value}
+use Rattle.relay_cli.specs.Script.{list_limit, peer_of, peers_in, reads_value}
+use Rattle.relay_cli.specs.Values.{each_of}
 
 -- what was read before, and then what is read
 abbrev pub with_front : {X : Type 0} → List X → Option (List X) → Option (List X)

@@ -17,6 +17,7 @@ use Rattle.relay_proxy.specs.Tries.{tries_of}
 use Rattle.relay_proxy.specs.declared.outcome.Processed.{Processed}
 use Rattle.relay_proxy.specs.declared.outcome.Outcome.TheVariants.{OutOfMemory}
 use Rattle.relay_proxy.specs.declared.record.AttemptRecord.{AttemptRecord}
+use Rattle.relay_cli.specs.Log.{log_lines}
 use Rattle.relay_cli.specs.Report.{RequestSpec, outcome_reuse}
 use Rattle.relay_cli.specs.Script.{PeerSpec, ScriptSpec}
 use Rattle.relay_cli.specs.declared.exchange.Run.{Run}
@@ -118,6 +119,7 @@ reported names processed written own = record {
   outcome = processed.outcome;
   written = written;
   attempts = attempt_reports names (sent_of own) processed.history.attempts;
+  log = log_lines processed.history.log;
 }
 
 -- ---- a run
@@ -168,12 +170,13 @@ pub record IsRequest (script : ScriptSpec) (from to : Place) (request : RequestS
   -- the client's link is the script's, and nothing was read ahead from it before
   pub is_client : AnswersBy to.client script.client script.client_write
   pub clear : from.ahead ≡ []
-  -- what is reported is the outcome and what passed
+  -- what is reported is the outcome, what passed, and the calls of the hooks
   pub printable : request.outcome ≢ OutOfMemory
   pub outcome : request.outcome ≡ processed.outcome
   pub written : request.written ≡ run.passed.written
   pub attempts : request.attempts
       ≡ attempt_reports (names_of from.peers) run.passed.sent processed.history.attempts
+  pub log : request.log ≡ log_lines processed.history.log
 
 -- what follows a request: the next ones where the client goes back, and else none
 abbrev pub Follows : Bool → Type 0 → List RequestSpec → Type 0

@@ -1,6 +1,10 @@
 pub mod Exchange
+pub mod Log
+pub mod Names
 pub mod Report
+pub mod Rules
 pub mod Run
 pub mod Script
 pub mod Transfer
+pub mod Values
 pub mod Words

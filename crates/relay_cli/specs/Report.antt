@@ -3,24 +3,32 @@ use Rattle.std.specs.Prelude.{◌≡◌, ℕ, ◌+◌, ◌<◌, ◌/◌, ◌%◌
 use Rattle.relay_tasks.specs.declared.error.Error.{Error}
 use Rattle.relay_tasks.specs.declared.error.ErrorSource.{ErrorSource}
 use Rattle.relay_tasks.specs.declared.error.ErrorSource.TheVariants as source
-use Rattle.relay_tasks.specs.declared.error.ErrorType.{ErrorType}
-use Rattle.relay_tasks.specs.declared.error.ErrorType.TheVariants as etype
 use Rattle.relay_tasks.specs.declared.error.RetryType.{RetryType}
 use Rattle.relay_tasks.specs.declared.error.RetryType.TheVariants as retry
 use Rattle.relay_proxy.specs.declared.outcome.Outcome.{Outcome}
 use Rattle.relay_proxy.specs.declared.outcome.Outcome.TheVariants as outcome
+use Rattle.relay_cli.specs.Names.{hook_name, type_text}
+use Rattle.relay_cli.specs.declared.log.HookAnswer.{HookAnswer}
+use Rattle.relay_cli.specs.declared.log.HookAnswer.TheVariants.{Failed, Said, Done}
+use Rattle.relay_cli.specs.declared.log.LogLine.{LogLine}
 use Rattle.relay_cli.specs.declared.report.AttemptReport.{AttemptReport}
 use Rattle.relay_cli.specs.declared.report.RequestReport.{RequestReport}
 
 -- a request without where it lies in memory: its outcome, the bytes that the client's link took,
--- and its attempts
+-- its attempts, and the calls of its hooks
 pub record RequestSpec : Type 0 where
   pub outcome : Outcome
   pub written : List ℕ
   pub attempts : List AttemptReport
+  pub log : List LogLine
 
 abbrev pub request_spec : RequestReport → RequestSpec
-request_spec r = record { outcome = r.outcome; written = r.written; attempts = r.attempts.items }
+request_spec r = record {
+  outcome = r.outcome;
+  written = r.written;
+  attempts = r.attempts.items;
+  log = r.log.items;
+}
 
 abbrev pub request_specs : List RequestReport → List RequestSpec
 request_specs requests = map request_spec requests
@@ -45,33 +53,6 @@ abbrev pub yes_no : Bool → List ℕ
 yes_no true = codes "yes"
 yes_no false = codes "no"
 
-abbrev pub type_name : ErrorType → List ℕ
-type_name etype.InvalidHTTPHeader = codes "InvalidHTTPHeader"
-type_name etype.ReadError = codes "ReadError"
-type_name etype.ReadTimedout = codes "ReadTimedout"
-type_name etype.WriteError = codes "WriteError"
-type_name etype.WriteTimedout = codes "WriteTimedout"
-type_name etype.ConnectionClosed = codes "ConnectionClosed"
-type_name etype.ConnectError = codes "ConnectError"
-type_name etype.PrematureBodyEnd = codes "PrematureBodyEnd"
-type_name etype.H2Error = codes "H2Error"
-type_name etype.H2Downgrade = codes "H2Downgrade"
-type_name etype.InvalidH2 = codes "InvalidH2"
-type_name etype.InternalError = codes "InternalError"
-type_name etype.FileReadError = codes "FileReadError"
-type_name (etype.HTTPStatus code) = codes "HTTPStatus"
-type_name (etype.Custom code) = codes "Custom"
-
--- the number of a type that has one
-abbrev pub type_number : ErrorType → Option ℕ
-type_number (etype.HTTPStatus code) = Some code
-type_number (etype.Custom code) = Some code
-type_number _ = None
-
-abbrev pub number_text : Option ℕ → List ℕ
-number_text None = []
-number_text (Some n) = codes "(" ++ decimal n ++ codes ")"
-
 abbrev pub source_name : ErrorSource → List ℕ
 source_name source.Upstream = codes "Upstream"
 source_name source.Downstream = codes "Downstream"
@@ -87,7 +68,7 @@ retry_name retry.ReusedOnly = codes "reused"
 abbrev pub error_text : Option Error → List ℕ
 error_text None = codes "-"
 error_text (Some e) =
-    type_name e.etype ++ number_text (type_number e.etype) ++ codes " " ++ source_name e.esource
+    type_text e.etype ++ codes " " ++ source_name e.esource
     ++ codes " " ++ retry_name e.retry
 
 abbrev pub outcome_name : Outcome → List ℕ
@@ -126,6 +107,22 @@ abbrev pub attempts_text : ℕ → List AttemptReport → List ℕ
 attempts_text j [] = []
 attempts_text j (a ∷ rest) = attempt_text j a ++ attempts_text (j + 1) rest
 
+-- what a hook answered: the type of its error, yes or no, or that it was called
+abbrev pub answer_text : HookAnswer → List ℕ
+answer_text (Failed etype) = codes "err " ++ type_text etype
+answer_text (Said true) = codes "true"
+answer_text (Said false) = codes "false"
+answer_text Done = codes "ok"
+
+-- a call of a hook, on a line
+abbrev pub line_text : LogLine → List ℕ
+line_text line =
+    codes "log " ++ hook_name line.hook ++ codes " " ++ answer_text line.answer ++ codes "\n"
+
+-- the calls of hooks, in order
+abbrev pub log_text : List LogLine → List ℕ
+log_text log = flat_map line_text log
+
 -- how request k ended
 abbrev pub outcome_text : ℕ → Outcome → List ℕ
 outcome_text k ended =
@@ -139,7 +136,8 @@ client_text r =
     ++ codes "\n"
 
 abbrev pub request_text : ℕ → RequestSpec → List ℕ
-request_text k r = outcome_text k r.outcome ++ client_text r ++ attempts_text 1 r.attempts
+request_text k r =
+    outcome_text k r.outcome ++ client_text r ++ attempts_text 1 r.attempts ++ log_text r.log
 
 -- requests, counted from k
 abbrev pub requests_text : ℕ → List RequestSpec → List ℕ

@@ -36,6 +36,7 @@ pub record IsReportOf (bytes text : List ℕ) : Type 0 where
 abbrev pub Answers : {X : Type 0} → (X → List ℕ) → List ℕ → Result X ScriptError → Type 0
 Answers view bytes (Ok text) = IsReportOf bytes (view text)
 Answers view bytes (Err error.Refused) = reads_script bytes ≡ None
+Answers view bytes (Err error.HookNotCalled) = reads_script bytes ≡ None
 Answers view bytes (Err error.OutOfMemory) = Unit {0}
 
 -- the sink took the report of a run of the script that the bytes spell

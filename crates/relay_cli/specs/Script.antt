@@ -1,14 +1,14 @@
 -- Scripts: the JSON object that says what the client and the peers of a run give.
-use Rattle.std.specs.Prelude.{◌≡◌, ℕ, ◌+◌, ◌^◌, ◌==◌, nat_lt, nat_le, ◌&&◌, List, [], ◌∷◌, true, false, if◌then◌else◌, map, Option, Some, None, option_map, is_some, unwrap_or, Result, Ok, Err, codes}
+use Rattle.std.specs.Prelude.{ℕ, ◌+◌, ◌==◌, nat_le, ◌&&◌, List, [], ◌∷◌, true, false, if◌then◌else◌, map, Option, Some, None, option_map, Result, Ok, Err, codes}
 use Rattle.std.specs.Str.{bytes_eq, is_utf8}
 use Rattle.hex.specs.Hex.{decode_of}
 use Rattle.hex.specs.declared.error.FromHexError.{FromHexError}
-use Rattle.serde_json.specs.Data.{Data, number, string, boolean, array, unsigned, Items, no_items, item}
-use Rattle.serde_json.specs.Events.{members_len, items_len}
-use Rattle.serde_json.specs.Find.{get, as_object}
+use Rattle.serde_json.specs.Data.{Data, string, boolean, array, Items}
+use Rattle.serde_json.specs.Events.{items_len}
+use Rattle.serde_json.specs.Find.{get}
 use Rattle.serde_json.specs.Read.{read as read_text}
 use Rattle.relay_tasks.specs.declared.error.RetryType.{RetryType}
-use Rattle.relay_tasks.specs.declared.error.RetryType.TheVariants.{Decided, ReusedOnly}
+use Rattle.relay_tasks.specs.declared.error.RetryType.TheVariants.{Decided}
 use Rattle.relay_tasks.specs.declared.fault.Fault.{Fault}
 use Rattle.relay_tasks.specs.declared.fault.FaultKind.{FaultKind}
 use Rattle.relay_tasks.specs.declared.fault.FaultKind.TheVariants as kind
@@ -20,8 +20,9 @@ use Rattle.relay_links.specs.declared.read_script.ReadItem.TheVariants as give
 use Rattle.relay_links.specs.declared.write_script.WriteItem.{WriteItem}
 use Rattle.relay_links.specs.declared.write_script.WriteItem.TheVariants as take
 use Rattle.relay_cli.specs.declared.script.Script.{Script}
-use Rattle.relay_cli.specs.declared.script.ScriptError.{ScriptError}
-use Rattle.relay_cli.specs.declared.script.ScriptError.TheVariants as error
+use Rattle.relay_cli.specs.Rules.{rules_of}
+use Rattle.relay_cli.specs.Values.{◌>>=◌, key_count, has, where_there, text_of, count_of, retry_of, each_of, list_of}
+use Rattle.relay_script.specs.declared.rule.Rule.{Rule}
 
 -- a peer without where it lies in memory: its name, what its link gives and takes, and the mark of
 -- the fault that is answered in place of the link, where there is one
@@ -33,7 +34,7 @@ pub record PeerSpec : Type 0 where
 
 -- a script without where it lies in memory: what the client's link gives and takes, the peers in
 -- the order in which they are asked, how many requests are run at most, how many attempts and how
--- many turns each may take, and the schedule over all of them
+-- many turns each may take, the schedule over all of them, and the rules on their hooks
 pub record ScriptSpec : Type 0 where
   pub client : List ReadItem
   pub client_write : List WriteItem
@@ -42,6 +43,7 @@ pub record ScriptSpec : Type 0 where
   pub retries : ℕ
   pub turns : ℕ
   pub schedule : List Branch
+  pub rules : List Rule
 
 abbrev pub peer_spec : PeerEntry → PeerSpec
 peer_spec p =
@@ -59,26 +61,8 @@ script_spec s = record {
   retries = s.retries.most;
   turns = s.turns;
   schedule = s.schedule.items;
+  rules = s.rules;
 }
-
--- what is read, and then what is read of it
-infixl 10 ◌>>=◌
-abbrev pub ◌>>=◌ : {A B : Type 0} → Option A → (A → Option B) → Option B
-None >>= f = None
-(Some x) >>= f = f x
-
--- how many keys an object has, each counted once
-abbrev pub key_count : Data → ℕ
-key_count value = unwrap_or (option_map members_len (as_object value)) 0
-
--- 1 where the object has the key, and else 0
-abbrev pub has : List ℕ → Data → ℕ
-has key value = if is_some (get key value) then 1 else 0
-
--- what is at a key decides, where there is such a key
-abbrev pub where_there : {X : Type 0} → Option Data → (Data → Option X) → Option X → Option X
-where_there None read other = other
-where_there (Some value) read other = read value
 
 -- bytes that the link gives, at least one
 abbrev pub bytes_item : List ℕ → Option ReadItem
@@ -100,11 +84,6 @@ abbrev pub hex_item : Data → Option ReadItem
 hex_item (string digits) = spelt (decode_of digits) >>= bytes_item
 hex_item _ = None
 
--- a number: whole and below 2^32
-abbrev pub count_of : Data → Option ℕ
-count_of (number (unsigned n)) = if nat_lt n (2 ^ 32) then Some n else None
-count_of _ = None
-
 -- `{"wait": n}`: n answers that nothing came yet
 abbrev pub wait_item : Data → Option ReadItem
 wait_item value = option_map give.Wait (count_of value)
@@ -125,12 +104,6 @@ read_kind (string name) =
     else if bytes_eq name (codes "ReadTimedout") then Some kind.ReadTimedout
     else None
 read_kind _ = None
-
--- a retry mark: decided, or only where the link had been used before
-abbrev pub retry_of : Data → Option RetryType
-retry_of (boolean on) = Some (Decided on)
-retry_of (string word) = if bytes_eq word (codes "reused") then Some ReusedOnly else None
-retry_of _ = None
 
 -- the mark at `retry`; not to be retried where there is none
 abbrev pub mark_of : Data → Option RetryType
@@ -198,17 +171,6 @@ write_item_of value =
     where_there (get (codes "fault") value) (write_fault_item value)
     (if key_count value == 1 then write_item_at_key value else None)
 
--- what each of a list is, where each is something
-abbrev pub each_of : {X : Type 0} → (Data → Option X) → Items → Option (List X)
-each_of read no_items = Some []
-each_of read (item value values) =
-    read value >>= (λ first. option_map (λ rest. first ∷ rest) (each_of read values))
-
--- a list of items
-abbrev pub list_of : {X : Type 0} → (Data → Option X) → Data → Option (List X)
-list_of read (array values) = each_of read values
-list_of read _ = None
-
 -- a list of read items
 abbrev pub items_of : Data → Option (List ReadItem)
 items_of value = list_of item_of value
@@ -216,11 +178,6 @@ items_of value = list_of item_of value
 -- a list of write items
 abbrev pub write_items_of : Data → Option (List WriteItem)
 write_items_of value = list_of write_item_of value
-
--- a name: any text
-abbrev pub name_of : Data → Option (List ℕ)
-name_of (string name) = Some name
-name_of _ = None
 
 -- the write items at a key; none where there is no such key
 abbrev pub writes_at : List ℕ → Data → Option (List WriteItem)
@@ -254,7 +211,7 @@ peer_keys value =
 abbrev pub peer_of : Data → Option PeerSpec
 peer_of value =
     if key_count value == peer_keys value
-    then where_there (get (codes "name") value) name_of None >>= named_peer value
+    then where_there (get (codes "name") value) text_of None >>= named_peer value
     else None
 
 -- how many peers a script has at most, how many requests, and how many attempts each
@@ -326,7 +283,7 @@ abbrev pub schedule_of : Data → Option (List Branch)
 schedule_of value = where_there (get (codes "schedule") value) branches_of (Some [])
 
 -- a script with those items of the client: its `client_write`, empty where it is not there, its
--- `peers`, its requests, its attempts, its turns and its schedule
+-- `peers`, its requests, its attempts, its turns, its schedule and its rules
 abbrev pub client_script : Data → List ReadItem → Option ScriptSpec
 client_script value items =
     writes_at (codes "client_write") value >>= (λ writes.
@@ -334,7 +291,8 @@ client_script value items =
     requests_of value >>= (λ requests.
     retries_of value >>= (λ retries.
     turns_of value >>= (λ turns.
-    option_map (λ schedule. record {
+    schedule_of value >>= (λ schedule.
+    option_map (λ rules. record {
       client = items;
       client_write = writes;
       peers = peers;
@@ -342,17 +300,18 @@ client_script value items =
       retries = retries;
       turns = turns;
       schedule = schedule;
-    }) (schedule_of value))))))
+      rules = rules;
+    }) (rules_of value)))))))
 
 -- how many keys of a script an object has
 abbrev pub script_keys : Data → ℕ
 script_keys value =
     has (codes "client") value + has (codes "client_write") value + has (codes "peers") value
     + has (codes "requests") value + has (codes "retries") value + has (codes "turns") value
-    + has (codes "schedule") value
+    + has (codes "schedule") value + has (codes "hooks") value
 
 -- a script: an object with `client` and `peers`, and each of `client_write`, `requests`, `retries`,
--- `turns` and `schedule` or not
+-- `turns`, `schedule` and `hooks` or not
 abbrev pub script_of : Data → Option ScriptSpec
 script_of value =
     if key_count value == script_keys value
@@ -366,9 +325,3 @@ reads_value bytes = if is_utf8 bytes then read_text bytes else None
 -- the script that the bytes spell
 abbrev pub reads_script : List ℕ → Option ScriptSpec
 reads_script bytes = reads_value bytes >>= script_of
-
--- what a reader returned, seen by a view, is what the grammar reads, unless memory ran out
-abbrev pub Reads : {X Y : Type 0} → (X → Y) → Result X ScriptError → Option Y → Type 0
-Reads view (Ok x) read = read ≡ Some (view x)
-Reads view (Err error.Refused) read = read ≡ None
-Reads view (Err error.OutOfMemory) read = Unit {0}

@@ -3,6 +3,15 @@ use Rattle.std.specs.Prelude.{◌≡◌, ◌≤◌, ◌<◌, ◌^◌, ℕ, List,
 use Rattle.relay_cli.specs.declared.words.Command.{Command}
 use Rattle.relay_cli.specs.declared.words.Command.TheVariants.{Run, Serve}
 
+-- the word spells a number below 2^16: plain decimal digits without a leading zero
+pub record SpellsNumber (word : List ℕ) (number : ℕ) : Type 0 where
+  pub spelled : word ≡ decimal number
+  pub fits : number < 2 ^ 16
+
+-- the word spells no such number
+abbrev pub SpellsNoNumber : List ℕ → Type 0
+SpellsNoNumber word = (number : ℕ) → ¬ (SpellsNumber word number)
+
 -- the word spells a port: plain decimal digits without a leading zero, from 1 to 65,535
 pub record SpellsPort (word : List ℕ) (port : ℕ) : Type 0 where
   pub spelled : word ≡ decimal port

@@ -6,6 +6,7 @@ ghost use Rattle.relay_cli.specs.Exchange.{attempt_report, attempt_reports, take
 ghost use Rattle.relay_cli.specs.Report.{request_spec, request_specs};
 ghost use Rattle.relay_cli.specs.Script.{PeerSpec, ScriptSpec, peer_spec, peer_specs, script_spec};
 
+use crate::log::log_lines;
 use crate::report::{AttemptReport, RequestReport, outcome_reuse};
 use crate::script::{PeerEntry, Script};
 use bytes::Bytes;
@@ -17,6 +18,7 @@ use relay_links::{
 use relay_proxy::{
     AttemptList, AttemptRecord, HttpProxy, NoHooks, Outcome, Outside, Processed, ServerConf,
 };
+use relay_script::CheckedRules;
 use relay_tasks::Purged;
 use std::alloc::{AllocError, Global};
 use std::collections::VecDeque;
@@ -68,6 +70,7 @@ impl Run {
             retries,
             turns: _,
             schedule,
+            rules,
         } = script;
         let names = peer_names(alloc, &peers)?;
         let connector = connector_of(alloc, peers)?;
@@ -77,7 +80,7 @@ impl Run {
             max_retries: retries.most(),
         };
         Ok(Run {
-            proxy: HttpProxy::new(alloc, NoHooks, conf, connector, purger),
+            proxy: HttpProxy::new(alloc, application(rules), conf, connector, purger),
             client: Connection::new(alloc, link),
             outside: outside_of(schedule),
             names,
@@ -106,6 +109,11 @@ impl Run {
             &self.proxy.connector().returned()[back..],
         )
     }
+}
+
+/// The application of a script. It becomes that of the rules once the proxy calls hooks.
+fn application(_rules: CheckedRules) -> NoHooks {
+    NoHooks
 }
 
 /// Takes the name of the next peer, and a dash where none is left.
@@ -196,11 +204,13 @@ fn request_report(
 {
     let written = Bytes::copy_from_slice(alloc, written)?;
     let sent = sent_bytes(alloc, own)?;
+    let log = log_lines(alloc, &processed.history.log)?;
     let attempts = attempt_reports(alloc, names, &sent, &processed.history.attempts)?;
     Ok(RequestReport {
         outcome: processed.outcome,
         written,
         attempts,
+        log,
     })
 }
 

@@ -4,14 +4,18 @@
 
 mod announcer;
 mod exchange;
+mod log;
+mod names;
 mod report;
 mod retries;
+mod rules;
 mod run;
 mod script;
 mod serve;
 #[cfg(test)]
 mod tests;
 mod transfer;
+mod values;
 mod words;
 
 use crate::run::{Status, run_command};

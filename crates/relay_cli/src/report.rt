@@ -1,8 +1,11 @@
 //! Reports: what the requests of a run came to, as text. A printer for each kind of thing; each
 //! writes its text at the end of a buffer.
 ghost use Rattle.std.specs.Prelude.{◌≡◌, ℕ, List, ◌+◌, ◌<◌, ◌^◌, ◌++◌, length, decimal, map, OnOk, IfOk};
-ghost use Rattle.relay_cli.specs.Report.{request_spec, hex_digit, shown_byte, shown, yes_no, type_name, type_number, number_text, source_name, retry_name, error_text, outcome_name, outcome_error, outcome_reuse, attempt_text, attempts_text, outcome_text, client_text, request_text, request_specs, report_of, IsShownAlone};
+ghost use Rattle.relay_cli.specs.Names.{type_text};
+ghost use Rattle.relay_cli.specs.Report.{request_spec, hex_digit, shown_byte, shown, yes_no, source_name, retry_name, error_text, outcome_name, outcome_error, outcome_reuse, attempt_text, attempts_text, outcome_text, client_text, answer_text, line_text, log_text, request_text, request_specs, report_of, IsShownAlone};
 
+use crate::log::{HookAnswer, LogLine};
+use crate::names::{hook_name, type_name, type_number};
 use bytes::Bytes;
 use itoa::Buffer;
 use relay_proxy::Outcome;
@@ -20,12 +23,14 @@ pub struct AttemptReport {
     pub sent: Bytes,
 }
 
-/// What a request came to: its outcome, the bytes that the client's link took, and its attempts.
+/// What a request came to: its outcome, the bytes that the client's link took, its attempts, and the
+/// calls of its hooks.
 #[derive(Drop)]
 pub struct RequestReport {
     pub outcome: Outcome,
     pub written: Bytes,
     pub attempts: Vec<AttemptReport>,
+    pub log: Vec<LogLine>,
 }
 
 /// The report of requests, counted from 1.
@@ -47,6 +52,7 @@ fn push_request(out: &mut Vec<u8>, k: u64, request: &RequestReport) -> Result<()
     push_outcome(out, k, request.outcome)?;
     push_client(out, request)?;
     push_attempts(out, &request.attempts)?;
+    push_log(out, &request.log)?;
     Ok(())
 }
 
@@ -115,8 +121,7 @@ fn push_error(out: &mut Vec<u8>, error: Option<Error>) -> Result<(), AllocError>
         push(out, b"-")?;
         return Ok(());
     };
-    push(out, type_name(error.etype))?;
-    push_type_number(out, error.etype)?;
+    push_type(out, error.etype)?;
     push(out, b" ")?;
     push(out, source_name(error.esource))?;
     push(out, b" ")?;
@@ -124,10 +129,49 @@ fn push_error(out: &mut Vec<u8>, error: Option<Error>) -> Result<(), AllocError>
     Ok(())
 }
 
-/// Writes the number of a type that has one.
-fn push_type_number(out: &mut Vec<u8>, etype: ErrorType) -> Result<(), AllocError>
-    ensures { OnOk result (out.new.items ≡ out.old.items ++ number_text (type_number etype)) }
+/// Writes the calls of hooks, each on a line.
+fn push_log(out: &mut Vec<u8>, log: &[LogLine]) -> Result<(), AllocError>
+    ensures { OnOk result (out.new.items ≡ out.old.items ++ log_text log.now) }
 {
+    for line in log {
+        push_line(out, *line)?;
+    }
+    Ok(())
+}
+
+/// Writes a call of a hook: which, and what it answered.
+fn push_line(out: &mut Vec<u8>, line: LogLine) -> Result<(), AllocError>
+    ensures { OnOk result (out.new.items ≡ out.old.items ++ line_text line) }
+{
+    push(out, b"log ")?;
+    push(out, hook_name(line.hook))?;
+    push(out, b" ")?;
+    push_answer(out, line.answer)?;
+    push(out, b"\n")?;
+    Ok(())
+}
+
+/// Writes what a hook answered.
+fn push_answer(out: &mut Vec<u8>, answer: HookAnswer) -> Result<(), AllocError>
+    ensures { OnOk result (out.new.items ≡ out.old.items ++ answer_text answer) }
+{
+    match answer {
+        HookAnswer::Failed(etype) => {
+            push(out, b"err ")?;
+            push_type(out, etype)?;
+        }
+        HookAnswer::Said(true) => push(out, b"true")?,
+        HookAnswer::Said(false) => push(out, b"false")?,
+        HookAnswer::Done => push(out, b"ok")?,
+    }
+    Ok(())
+}
+
+/// Writes the type of an error, with its number where it has one.
+fn push_type(out: &mut Vec<u8>, etype: ErrorType) -> Result<(), AllocError>
+    ensures { OnOk result (out.new.items ≡ out.old.items ++ type_text etype) }
+{
+    push(out, type_name(etype))?;
     if let Some(number) = type_number(etype) {
         push(out, b"(")?;
         push_number(out, u64::from(number))?;
@@ -230,50 +274,6 @@ pub(crate) fn outcome_reuse(outcome: Outcome) -> bool
         Outcome::Served { reuse, .. } => reuse,
         Outcome::NoRequest | Outcome::Refused { .. } | Outcome::TurnLimit | Outcome::OutOfMemory =>
             false,
-    }
-}
-
-fn type_name(etype: ErrorType) -> &'static [u8]
-    ensures { result.now ≡ type_name etype }
-{
-    match etype {
-        ErrorType::InvalidHTTPHeader => b"InvalidHTTPHeader",
-        ErrorType::ReadError => b"ReadError",
-        ErrorType::ReadTimedout => b"ReadTimedout",
-        ErrorType::WriteError => b"WriteError",
-        ErrorType::WriteTimedout => b"WriteTimedout",
-        ErrorType::ConnectionClosed => b"ConnectionClosed",
-        ErrorType::ConnectError => b"ConnectError",
-        ErrorType::PrematureBodyEnd => b"PrematureBodyEnd",
-        ErrorType::H2Error => b"H2Error",
-        ErrorType::H2Downgrade => b"H2Downgrade",
-        ErrorType::InvalidH2 => b"InvalidH2",
-        ErrorType::InternalError => b"InternalError",
-        ErrorType::FileReadError => b"FileReadError",
-        ErrorType::HTTPStatus(_) => b"HTTPStatus",
-        ErrorType::Custom(_) => b"Custom",
-    }
-}
-
-/// The number of a type that has one.
-fn type_number(etype: ErrorType) -> Option<u16>
-    ensures { result ≡ type_number etype }
-{
-    match etype {
-        ErrorType::HTTPStatus(code) | ErrorType::Custom(code) => Some(code),
-        ErrorType::InvalidHTTPHeader
-        | ErrorType::ReadError
-        | ErrorType::ReadTimedout
-        | ErrorType::WriteError
-        | ErrorType::WriteTimedout
-        | ErrorType::ConnectionClosed
-        | ErrorType::ConnectError
-        | ErrorType::PrematureBodyEnd
-        | ErrorType::H2Error
-        | ErrorType::H2Downgrade
-        | ErrorType::InvalidH2
-        | ErrorType::InternalError
-        | ErrorType::FileReadError => None,
     }
 }
 

@@ -116,6 +116,7 @@ fn answer_bytes<T: Sink>(alloc: Global, bytes: &[u8], sink: &mut T) -> Status
     match report_bytes(alloc, bytes) {
         Ok(text) => write_text(sink, &text, Status::Reported),
         Err(ScriptError::Refused) => write_text(sink, SCRIPT_REFUSED, Status::ScriptRefused),
+        Err(ScriptError::HookNotCalled) => write_text(sink, SCRIPT_REFUSED, Status::ScriptRefused),
         Err(ScriptError::OutOfMemory) => Status::OutOfMemory,
     }
 }

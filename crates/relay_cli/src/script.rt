@@ -4,12 +4,16 @@ ghost use Rattle.std.specs.Prelude.{◌≡◌, ◌≤◌, IfOk, is_some, codes, 
 ghost use Rattle.hex.specs.Hex.{decode_of};
 ghost use Rattle.serde_json.specs.Find.{get};
 ghost use Rattle.serde_json.specs.View.{view, items_view};
-ghost use Rattle.relay_cli.specs.Script.{Reads, script_spec, reads_script, reads_value, script_of, peer_spec, peer_specs, peer_keys, peer_of, peers_in, peers_of, named_peer, connect_of, limit_of, requests_of, retries_of, name_of, items_of, write_items_of, writes_at, each_of, item_of, write_item_of, item_at_key, write_item_at_key, client_script, script_keys, turns_of, branch_of, branches_of, schedule_of, take_item, text_item, spelt, hex_item, count_of, wait_item, after_item, end_item, read_kind, write_kind, retry_of, mark_of, fault_of, key_count, has};
+ghost use Rattle.relay_cli.specs.Script.{script_spec, reads_script, reads_value, script_of, peer_spec, peer_specs, peer_keys, peer_of, peers_in, peers_of, named_peer, connect_of, limit_of, requests_of, retries_of, items_of, write_items_of, writes_at, item_of, write_item_of, item_at_key, write_item_at_key, client_script, script_keys, turns_of, branch_of, branches_of, schedule_of, take_item, text_item, spelt, hex_item, wait_item, after_item, end_item, read_kind, write_kind, mark_of, fault_of};
+ghost use Rattle.relay_cli.specs.Values.{Reads, each_of};
 
 use crate::retries::Retries;
+use crate::rules::rules;
+use crate::values::{count, has, key_count, required, retry, text};
 use bytes::Bytes;
 use hex::FromHexError;
 use relay_links::{Branch, ReadItem, WriteItem};
+use relay_script::CheckedRules;
 use relay_tasks::{Fault, FaultKind, RetryType};
 use serde_json::Value;
 use std::alloc::{AllocError, AllocFailed, Global};
@@ -35,7 +39,7 @@ pub struct PeerEntry {
 
 /// A script: what the client's link gives and takes, the peers in the order in which they are
 /// asked, how many requests are run at most, how many attempts and how many turns each may take,
-/// and the schedule over all of them.
+/// the schedule over all of them, and the rules on their hooks.
 #[derive(Drop)]
 pub struct Script {
     pub client: Vec<ReadItem>,
@@ -45,12 +49,16 @@ pub struct Script {
     pub retries: Retries,
     pub turns: u64,
     pub schedule: Vec<Branch>,
+    pub rules: CheckedRules,
 }
 
-/// Why no script was read: the bytes spell none, or out of memory.
+/// Why no script was read.
 #[derive(Clone, Copy, Debug, PartialEq, Eq)]
 pub enum ScriptError {
+    /// The bytes spell none.
     Refused,
+    /// A rule stands on a hook that the proxy does not call yet. It is taken once the proxy does.
+    HookNotCalled,
     OutOfMemory,
 }
 
@@ -121,6 +129,7 @@ fn script_keys(value: &Value) -> usize
         + has(value, "retries")
         + has(value, "turns")
         + has(value, "schedule")
+        + has(value, "hooks")
 }
 
 /// The script that a value is, with those items of the client.
@@ -133,6 +142,7 @@ fn client_script(alloc: Global, value: &Value, client: Vec<ReadItem>) -> Result<
     let retries = retries(value)?;
     let turns = turns(value)?;
     let schedule = schedule(alloc, value)?;
+    let rules = rules(alloc, value)?;
     Ok(Script {
         client,
         client_write,
@@ -141,6 +151,7 @@ fn client_script(alloc: Global, value: &Value, client: Vec<ReadItem>) -> Result<
         retries,
         turns,
         schedule,
+        rules,
     })
 }
 
@@ -290,7 +301,7 @@ fn peer(alloc: Global, value: &Value) -> Result<PeerEntry, ScriptError>
     if key_count(value) != peer_keys(value) {
         return Err(ScriptError::Refused);
     }
-    let name = name(alloc, required(value, "name")?)?;
+    let name = text(alloc, required(value, "name")?)?;
     named_peer(alloc, value, name)
 }
 
@@ -327,16 +338,6 @@ fn connect(value: &Value) -> Result<Option<RetryType>, ScriptError>
         Some(mark) => Ok(Some(retry(mark)?)),
         None => Ok(None),
     }
-}
-
-/// The name that a value is.
-fn name(alloc: Global, value: &Value) -> Result<Bytes, ScriptError>
-    ensures { Reads (λ name. name) result (name_of (view value.now)) }
-{
-    let Value::String(text) = value else {
-        return Err(ScriptError::Refused);
-    };
-    Ok(Bytes::copy_from_slice(alloc, text.as_bytes())?)
 }
 
 /// The read items of a list.
@@ -500,16 +501,6 @@ fn spelt(alloc: Global, digits: &str) -> Result<Vec<u8>, ScriptError>
     }
 }
 
-/// The number that a value is.
-fn count(value: &Value) -> Result<u32, ScriptError>
-    ensures { Reads (λ count. count) result (count_of (view value.now)) }
-{
-    match value.as_u64() {
-        Some(count) if count <= u32::MAX as u64 => Ok(count as u32),
-        Some(_) | None => Err(ScriptError::Refused),
-    }
-}
-
 /// The end.
 fn end(value: &Value) -> Result<ReadItem, ScriptError>
     ensures { Reads (λ item. item) result (end_item (view value.now)) }
@@ -560,45 +551,5 @@ fn mark(value: &Value) -> Result<RetryType, ScriptError>
     match value.get("retry") {
         Some(mark) => retry(mark),
         None => Ok(RetryType::Decided(false)),
-    }
-}
-
-/// The mark that a value is.
-fn retry(value: &Value) -> Result<RetryType, ScriptError>
-    ensures { Reads (λ mark. mark) result (retry_of (view value.now)) }
-{
-    if let Some(on) = value.as_bool() {
-        return Ok(RetryType::Decided(on));
-    }
-    match value.as_str() {
-        Some("reused") => Ok(RetryType::ReusedOnly),
-        Some(_) | None => Err(ScriptError::Refused),
-    }
-}
-
-/// How many keys an object has.
-fn key_count(value: &Value) -> usize
-    ensures { result ≡ key_count (view value.now) }
-{
-    match value.as_object() {
-        Some(members) => members.len(),
-        None => 0,
-    }
-}
-
-/// 1 where the object has the key, and else 0.
-fn has(value: &Value, key: &str) -> usize
-    ensures { result ≡ has key.now (view value.now) }
-{
-    if value.get(key).is_some() { 1 } else { 0 }
-}
-
-/// What is at a key that has to be there.
-fn required<'v>(value: &'v Value, key: &str) -> Result<&'v Value, ScriptError>
-    ensures { Reads (λ found. view found.now) result (get key.now (view value.now)) }
-{
-    match value.get(key) {
-        Some(found) => Ok(found),
-        None => Err(ScriptError::Refused),
     }
 }

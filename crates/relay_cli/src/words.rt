@@ -1,6 +1,6 @@
 //! Words: what the words behind the program's name ask for.
 ghost use Rattle.std.specs.Prelude.{[], ◌∷◌, map, MatchOption};
-ghost use Rattle.relay_cli.specs.Words.{Asks, IsRefused, SpellsPort, SpellsNoPort};
+ghost use Rattle.relay_cli.specs.Words.{Asks, IsRefused, SpellsPort, SpellsNoPort, SpellsNumber, SpellsNoNumber};
 
 use itoa::Buffer;
 use std::str;
@@ -60,18 +60,26 @@ fn parse_serve(word: &[u8], port: &[u8], peer: &[u8]) -> Option<Command>
 fn parse_port(word: &[u8]) -> Option<u16>
     ensures { MatchOption result (SpellsNoPort word.now) (SpellsPort word.now) }
 {
-    let Ok(text) = str::from_utf8(word) else {
-        return None;
-    };
-    let Ok(port) = text.parse::<u16>() else {
-        return None;
-    };
+    let port = parse_number(word)?;
     if port == 0 {
         return None;
     }
+    Some(port)
+}
+
+/// The number below 2^16 that a word spells in plain decimal digits without a leading zero.
+pub(crate) fn parse_number(word: &[u8]) -> Option<u16>
+    ensures { MatchOption result (SpellsNoNumber word.now) (SpellsNumber word.now) }
+{
+    let Ok(text) = str::from_utf8(word) else {
+        return None;
+    };
+    let Ok(number) = text.parse::<u16>() else {
+        return None;
+    };
     let mut buffer = Buffer::new();
-    if buffer.format(port).as_bytes() != word {
+    if buffer.format(number).as_bytes() != word {
         return None;
     }
-    Some(port)
+    Some(number)
 }

@@ -48,3 +48,12 @@ returns-in-Err-Refused g c =
     let ends = c.write_text-in-Err-Refused.ensures in
     subst (λ s. EndsBytes c.args.bytes.now before after s) (sym ends.2)
     (refused c.args.bytes.now before after ends.0 none ends.1)
+
+pub returns-in-Err-HookNotCalled : goal.returns-in-Err-HookNotCalled
+returns-in-Err-HookNotCalled g c =
+    let before = g.T.Sink.state c.args.sink.now in
+    let after = g.T.Sink.state c.write_text-in-Err-HookNotCalled.new.sink in
+    let none = rw c.in-Err-HookNotCalled.field-0-is at c.in-Err-HookNotCalled.ensures in
+    let ends = c.write_text-in-Err-HookNotCalled.ensures in
+    subst (λ s. EndsBytes c.args.bytes.now before after s) (sym ends.2)
+    (refused c.args.bytes.now before after ends.0 none ends.1)

@@ -1,7 +1,8 @@
 -- What was read, and then what the values that are left are, is what all are.
 use Rattle.std.proofs.Common.{◌≡◌, drop}
 use Rattle.serde_json.specs.View.{items_view}
-use Rattle.relay_cli.specs.Script.{each_of, peer_of, peer_specs}
+use Rattle.relay_cli.specs.Values.{each_of}
+use Rattle.relay_cli.specs.Script.{peer_of, peer_specs}
 use Rattle.relay_cli.proofs.ScriptLemmas.{with_front}
 use Rattle.relay_cli.proofs.script.each_peer.Given as goal
 

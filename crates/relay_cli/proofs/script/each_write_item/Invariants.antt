@@ -1,7 +1,8 @@
 -- What was read, and then what the values that are left are, is what all are.
 use Rattle.std.proofs.Common.{◌≡◌, drop}
 use Rattle.serde_json.specs.View.{items_view}
-use Rattle.relay_cli.specs.Script.{each_of, write_item_of}
+use Rattle.relay_cli.specs.Values.{each_of}
+use Rattle.relay_cli.specs.Script.{write_item_of}
 use Rattle.relay_cli.proofs.ScriptLemmas.{with_front}
 use Rattle.relay_cli.proofs.script.each_write_item.Given as goal
 

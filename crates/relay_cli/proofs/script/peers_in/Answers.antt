@@ -1,6 +1,7 @@
 -- A list of too many values has no peers, and any other has those that its values are.
 use Rattle.std.proofs.Common.{Option, List, Vec, Global, subst, sym, arith}
-use Rattle.relay_cli.specs.Script.{PeerSpec, Reads, peer_specs}
+use Rattle.relay_cli.specs.Script.{PeerSpec, peer_specs}
+use Rattle.relay_cli.specs.Values.{Reads}
 use Rattle.relay_cli.specs.declared.script.PeerEntry.{PeerEntry}
 use Rattle.relay_cli.proofs.ScriptLemmas.{peers_many, peers_few}
 use Rattle.relay_cli.proofs.script.peers_in.Goals as goal

@@ -1,36 +1,11 @@
--- A word that spells a port is the decimal text that the port has.
-use Rattle.std.proofs.Common.{rules, ◌≡◌, ℕ, List, sym, subst, ap, ◌∙◌, arith, Result, Ok, true≢false}
-use Rattle.std.specs.Prelude.{decimal, is_ok}
-use Rattle.std.specs.Str.{IsUtf8}
-use Rattle.std.specs.Str.Parse.{ParsesUnsigned}
-use Rattle.std.proofs.lemmas.Str.{IsUtf8-from_ascii}
-use Rattle.std.proofs.lemmas.Fmt.{IsAscii-decimal, parse-decimal}
-use Rattle.relay_cli.specs.Words.{SpellsPort}
+-- A port is a number, and not 0.
+use Rattle.std.proofs.Common.{◌∙◌, arith, sym}
+use Rattle.std.proofs.lemmas.Fmt.{decimal_injective}
 use Rattle.relay_cli.proofs.words.parse_port.Goals as goal
-
--- the number that is read is the port that the word spells
-reads : {E : Type 0} {word text : List ℕ} {port : ℕ} (r : Result ℕ E) → text ≡ word
-    → ParsesUnsigned 16 10 text r → SpellsPort word port → r ≡ Ok port
-reads {port = port} r same parses spells =
-    parse-decimal 16 port _ r spells.fits (omega (arith, spells.fits)) (same ∙ spells.spelled)
-    parses
-
-pub returns-in_default : goal.returns-in_default
-returns-in_default c = λ port spells. c.in_default.ensures.cases.0
-    (subst IsUtf8 (sym spells.spelled)
-    (IsUtf8-from_ascii (decimal port) (IsAscii-decimal port (omega (arith, spells.fits)))))
-
-pub returns-in_default-parse : goal.returns-in_default-parse
-returns-in_default-parse c = λ port spells.
-    let found = reads c.parse.result c.in-Ok.ensures.cases.0 c.parse.ensures.value.0 spells in
-    true≢false (sym (ap is_ok (sym c.in_default-parse.is ∙ found)))
 
 pub returns-then-port-eq0 : goal.returns-then-port-eq0
 returns-then-port-eq0 c = λ port spells.
-    let found = reads c.parse.result c.in-Ok.ensures.cases.0 c.parse.ensures.value.0 spells in
-    search (rules, found, spells)
-
-pub returns-then-ne : goal.returns-then-ne
-returns-then-ne c = λ port spells.
-    let found = reads c.parse.result c.in-Ok.ensures.cases.0 c.parse.ensures.value.0 spells in
-    search (rules, found, spells)
+    let read = c.in_ok-port.ensures in
+    let same = decimal_injective port c.in_ok-port.port (omega (arith, spells.fits))
+    (omega (arith, read.fits)) (sym spells.spelled ∙ read.spelled) in
+    omega (arith, same, spells.some, c.if-port-eq0.true)
