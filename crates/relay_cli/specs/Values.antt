@@ -1,4 +1,4 @@
--- Values: what the kinds of JSON value that a script is made of are read as, and what is at the keys
+-- Values: what each kind of JSON value that a script is made of is read as, and what is at the keys
 -- of an object.
 use Rattle.std.specs.Prelude.{◌≡◌, ℕ, ◌^◌, nat_lt, List, [], ◌∷◌, Bool, if◌then◌else◌, Option, Some, None, option_map, is_some, unwrap_or, Result, Ok, Err, codes}
 use Rattle.std.specs.Str.{bytes_eq}

@@ -23,8 +23,8 @@ pub struct AttemptReport {
     pub sent: Bytes,
 }
 
-/// What a request came to: its outcome, the bytes that the client's link took, its attempts, and the
-/// calls of its hooks.
+/// What a request came to: its outcome, the bytes that the client's link took, its attempts, and
+/// the calls of its hooks.
 #[derive(Drop)]
 pub struct RequestReport {
     pub outcome: Outcome,

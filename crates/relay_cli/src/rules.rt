@@ -1,6 +1,6 @@
 //! Rules: what a script says of the hooks of its requests. A reader for each action; the rules are
 //! taken together, where they keep all conditions of relay_script and their hooks are called.
-ghost use Rattle.std.specs.Prelude.{◌≡◌, true, IsErrOf};
+ghost use Rattle.std.specs.Prelude.{◌≡◌, true, false, IsErrOf};
 ghost use Rattle.serde_json.specs.View.{view, items_view};
 ghost use Rattle.relay_script.specs.Lawful.{are_lawful};
 ghost use Rattle.relay_cli.specs.Rules.{field_name, field_name_of, field_value, field_value_of, code_of, type_of, messages_of, set_of, remove_of, status_of, text_rule_of, answer_of, error_of, retry_rule_of, say_of, keep_of, inject_of, action_of, keys_of, hook_of, rule_of, listed_of, is_called, are_called, taken, rules_of};
@@ -26,9 +26,11 @@ pub(crate) fn rules(alloc: Global, value: &Value) -> Result<CheckedRules, Script
     taken(rules)
 }
 
-/// The rules where they are taken. `HookNotCalled` comes only where they break no condition.
+/// The rules where they are taken. `Refused` says that they break a condition, `HookNotCalled`
+/// that they break none.
 fn taken(rules: Vec<Rule>) -> Result<CheckedRules, ScriptError>
     ensures reads { Reads (λ checked. checked) result (taken rules.items) }
+    ensures unlawful { IsErrOf result ScriptError.Refused → are_lawful rules.items ≡ false }
     ensures lawful { IsErrOf result ScriptError.HookNotCalled → are_lawful rules.items ≡ true }
 {
     let Ok(checked) = CheckedRules::new(rules) else {

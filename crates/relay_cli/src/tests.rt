@@ -8,6 +8,7 @@ use std::alloc::{AllocError, Global};
 mod duplex;
 mod exchange;
 mod keys;
+mod rules;
 mod serving;
 mod support;
 

@@ -1,4 +1,4 @@
-//! Values: what the kinds of JSON value that a script is made of are read as, and what is at the keys
+//! Values: what each kind of JSON value that a script is made of is read as, and what is at the keys
 //! of an object.
 ghost use Rattle.std.specs.Prelude.{◌≡◌};
 ghost use Rattle.serde_json.specs.Find.{get};

@@ -8,7 +8,7 @@ use std::alloc::{AllocError, Global};
 fn spells(alloc: Global, text: &str, turns: u64, schedule: &[Branch]) -> bool {
     match read_script(alloc, text.as_bytes()) {
         Ok(script) => script.turns == turns && script.schedule.as_slice() == schedule,
-        Err(ScriptError::Refused | ScriptError::OutOfMemory) => false,
+        Err(ScriptError::Refused | ScriptError::HookNotCalled | ScriptError::OutOfMemory) => false,
     }
 }
 
@@ -55,7 +55,7 @@ fn counted(
     text.push_str("}")?;
     match read_script(alloc, text.as_bytes()) {
         Ok(script) => Ok(Some((script.peers.len(), script.requests, script.retries.most()))),
-        Err(ScriptError::Refused) => Ok(None),
+        Err(ScriptError::Refused | ScriptError::HookNotCalled) => Ok(None),
         Err(ScriptError::OutOfMemory) => Err(AllocError),
     }
 }
