@@ -377,14 +377,13 @@ module _ {L : Type 0} (state : L → LinkState) (start_at : L → LinkStart) whe
       → Owes state start_at s p w own (Ahead why) text → IsGivenAhead s p w why text told
       → HasAttempts state start_at s p own (Ahead why) attempts
       → EndsWith state start_at s p w own attempts (outcome.Served told false)
-  ends_ahead s p w [] why None text attempts owes given made =
-      (
-        (
-          record { why = why; text = text; owed = owes.0; given = given; unsent = owes.1 },
-          refl,
-        ),
-        made,
-      )
+  ends_ahead s p w [] why None text attempts owes given made = (
+    (
+      record { why = why; text = text; owed = owes.0; given = given; unsent = owes.1 },
+      refl,
+    ),
+    made,
+  )
   ends_ahead s p w [] why (Some e) text attempts owes given made =
       let ends : EndsAhead s p w (Some e) = record {
         why = why;

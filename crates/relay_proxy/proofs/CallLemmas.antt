@@ -4,7 +4,7 @@
 --   unopened_calls .. asked_calls  a turn that makes no call leaves the calls so far
 --   settled_calls                  and so does the settling of a phase
 use Rattle.std.specs.Global.{Box}
-use Rattle.std.proofs.Common.{◌≡◌, ℕ, Bool, true, false, List, [], ◌++◌, Option, None, Some, refl, sym, ap, subst, ◌∙◌, true≢false}
+use Rattle.std.proofs.Common.{◌≡◌, ℕ, false, List, [], ◌++◌, Option, None, Some, refl, sym, ap, subst, ◌∙◌, true≢false}
 use Rattle.relay_tasks.specs.Head.{new_request}
 use Rattle.relay_tasks.specs.declared.log.LogEntry.{LogEntry}
 use Rattle.relay_tasks.specs.declared.task.HttpTask.{HttpTask}
@@ -157,6 +157,18 @@ module _ {L C M K : Type 0} (allows : Standing → LogEntry → Type 0) (mark_of
       none_logged allows (log_of calls) none
   unopened_calls calls (Ended outcome attempts) none shut =
       none_logged allows (log_of calls) none
+
+  -- wherever the request stands its log is in order
+  pub calls_logged : (calls : Calls M K) (phase : Phase L C) → CallsSoFar allows mark_of calls phase
+      → (at : Station) × IsLogged allows (log_of calls) at
+  calls_logged calls ReadHead so_far = none_logged allows (log_of calls) so_far
+  calls_logged calls (Connect context session tries) so_far =
+      opening_logged allows mark_of calls context session.value tries so_far
+  calls_logged calls (Relay a) so_far = so_far
+  calls_logged calls (Fail link lease keep session error) so_far = so_far
+  calls_logged calls (Close link lease keep outcome) so_far = so_far
+  calls_logged calls (Answer session owed attempts) so_far = so_far
+  calls_logged calls (Ended outcome attempts) so_far = so_far
 
   -- a request that has a link calls none of the hooks before it any more
   pub linked_calls : (state : L → LinkState) (start_at : L → LinkStart) (calls : Calls M K)

@@ -1,5 +1,5 @@
 -- Turns of the connector: the attempt's exchange begins over the link that it gave, or does not.
-use Rattle.std.proofs.Common.{◌≡◌, ◌≢◌, ℕ, ◌≤◌, Bool, false, true, not, List, [], ◌++◌, Option, Some, None, refl, sym, ap, subst, ◌∙◌, inl, inr, arith}
+use Rattle.std.proofs.Common.{◌≡◌, ◌≢◌, ℕ, ◌≤◌, Bool, false, true, List, [], ◌++◌, Option, Some, None, refl, sym, ap, subst, ◌∙◌, inl, inr, arith}
 use Rattle.std.specs.Global.{Box}
 use Rattle.std.specs.Prelude.{Result, Ok, Err}
 use Rattle.relay_tasks.specs.declared.error.Error.{Error}

@@ -9,7 +9,6 @@ use Rattle.relay_tasks.specs.declared.Context.{Context}
 use Rattle.relay_authority.specs.Entry.{Entered}
 use Rattle.relay_authority.proofs.OneAnswer.{Entered-unique}
 use Rattle.relay_h1.specs.Verdict.{IsOpen, HasRequest, IsRefusedRequest}
-use Rattle.relay_h1.specs.Framing.{request_framing}
 use Rattle.relay_h1.specs.declared.framing.Framing.{Framing}
 use Rattle.relay_h1.proofs.VerdictLemmas.{HasRequest-IsOpen, IsRefusedRequest-IsOpen, HasRequest-IsRefusedRequest, HasRequest-unique}
 use Rattle.relay_tasks.specs.declared.log.LogEntry.{LogEntry}
@@ -460,7 +459,6 @@ whole_linked : (s : Start) (p : Passed) (w : World) (link : LinkState) (start : 
     → ¬ (Rose start.faults link.faults)
     → IsUnfinished outcome ⊎ ((reuse : Bool) × (outcome ≡ Served None reuse))
 whole_linked s p w link start keep told NoRequest ends head goes agree asks answers client faults =
-
     absurd ends
 whole_linked s p w link start keep told (Refused error) ends head goes agree asks answers client
     faults =

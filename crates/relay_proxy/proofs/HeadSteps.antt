@@ -33,22 +33,20 @@ use Rattle.relay_session.specs.declared.writing.Outgoing.TheVariants.{Open}
 use Rattle.relay_sides.specs.Client.{BeginsBehind}
 use Rattle.relay_attempt.specs.Passed.{Passed}
 use Rattle.relay_authority.specs.Entry.{Entered}
-use Rattle.relay_proxy.specs.Relayable.{IsConnect, IsRelayable, NamesUpgrade}
+use Rattle.relay_proxy.specs.Relayable.{IsConnect, NamesUpgrade}
 use Rattle.relay_proxy.specs.Passed.{World, Start, start_of, origin_of, nothing, asked, TellsClient, IsUnsent}
 use Rattle.relay_proxy.specs.Endings.{IsInOrder, IsLeftAlone, IsTurnedDown, EndsUnlinked, AttemptsUnlinked, ended_outcome, left_early}
 use Rattle.relay_proxy.specs.Ahead.{unrelayed}
 use Rattle.relay_proxy.specs.Tries.{fault_error}
 use Rattle.relay_proxy.specs.Phases.{RunSoFar}
 use Rattle.relay_proxy.specs.Turn.{Advances}
-use Rattle.relay_proxy.specs.declared.machine.Phase.TheVariants.{ReadHead, Connect, Answer, Ended}
+use Rattle.relay_proxy.specs.declared.machine.Phase.TheVariants.{ReadHead, Answer, Ended}
 use Rattle.relay_proxy.specs.declared.outcome.Outcome.{Outcome}
 use Rattle.relay_proxy.specs.declared.outcome.Outcome.TheVariants as outcome
 use Rattle.relay_proxy.specs.declared.owed.Owed.TheVariants as owed
 use Rattle.relay_proxy.specs.declared.record.AttemptRecord.{AttemptRecord}
-use Rattle.relay_proxy.proofs.TryLemmas.{no_tries}
 use Rattle.relay_proxy.proofs.AnswerSteps.{answer_on}
-use Rattle.relay_h1.proofs.VerdictLemmas.{HasRequest-IsOpen}
-use Rattle.relay_peer.proofs.FaultLemmas.{Grew, grew_same, grew_none, more_none, added_last, since_none}
+use Rattle.relay_peer.proofs.FaultLemmas.{Grew, grew_none, more_none, added_last, since_none}
 use Rattle.relay_proxy.proofs.Tells.{Rose-le, came_more, client_gave, client_still}
 
 -- a request whose body ends with its head is one whose body is done from the first on

@@ -7,7 +7,7 @@
 --   stopped                    hooks stopped it with an error
 --   counts_called ..           what is counted of the call
 --   stop_text                  what answers such an error
-use Rattle.std.proofs.Common.{◌≡◌, ℕ, ◌≤◌, true, false, List, [], ◌∷◌, ◌++◌, Option, Some, None, refl, sym, ap, subst, ◌∙◌, arith, is_some, length, length-append, true≢false}
+use Rattle.std.proofs.Common.{◌≡◌, ℕ, ◌≤◌, true, false, List, [], ◌∷◌, ◌++◌, Some, None, refl, sym, ap, subst, ◌∙◌, arith, is_some, length, length-append, true≢false}
 use Rattle.relay_tasks.specs.Head.{RequestHead}
 use Rattle.relay_tasks.specs.declared.Error.{Error}
 use Rattle.relay_tasks.specs.declared.ErrorSource.TheVariants.{Internal}
@@ -49,7 +49,7 @@ use Rattle.relay_proxy.specs.declared.calls.Opened.TheVariants as led
 use Rattle.relay_proxy.specs.declared.record.AttemptRecord.{AttemptRecord}
 use Rattle.relay_proxy.specs.declared.work.Work.{Work}
 use Rattle.relay_proxy.proofs.CallLemmas.{opening_logged}
-use Rattle.relay_proxy.proofs.OpenSteps.{AnswersAs, called_accepted, ended_order, hooks_answer, log_on, stands_first, stays_connecting}
+use Rattle.relay_proxy.proofs.OpenSteps.{AnswersAs, called_accepted, ended_order, hooks_answer, stands_first, stays_connecting}
 
 -- where a hook comes next, one was called before
 due_behind : {K : Type 0} (a : At K) → is_opening a ≡ true

@@ -14,10 +14,9 @@ use Rattle.relay_tasks.specs.declared.hook.Hook.{Hook}
 use Rattle.relay_tasks.specs.declared.log.LogEntry.{LogEntry}
 use Rattle.relay_tasks.specs.declared.task.HttpTask.{HttpTask}
 use Rattle.relay_links.specs.Link.{LinkState, LinkStart}
-use Rattle.relay_session.specs.Reading.{RequestSoFar, IsWhole, head_of, is_body_done}
+use Rattle.relay_session.specs.Reading.{head_of}
 use Rattle.relay_session.specs.Response.{Holds, HoldsOn, has_head, pending}
 use Rattle.relay_session.specs.TaskWire.{Sent, wire}
-use Rattle.relay_session.specs.declared.reading.Reading.{Reading}
 use Rattle.relay_session.specs.declared.session.HttpSession.{HttpSession}
 use Rattle.relay_session.specs.Asked.{request_of}
 use Rattle.relay_session.specs.declared.task_text.Place.{Place}
@@ -27,7 +26,7 @@ use Rattle.relay_session.specs.declared.writing.Outgoing.{Outgoing}
 use Rattle.relay_session.specs.declared.writing.Outgoing.TheVariants as outgoing
 use Rattle.relay_session.specs.declared.writing.Writing.{Writing}
 use Rattle.relay_modules.specs.declared.seen.Seen.{Seen}
-use Rattle.relay_hooks.specs.Session.{moment, request_head}
+use Rattle.relay_hooks.specs.Session.{moment}
 use Rattle.relay_hooks.specs.Standing.{Standing, standing}
 use Rattle.relay_phases.specs.Order.{Accepts, Station}
 use Rattle.relay_phases.specs.Order.{Station as station}

@@ -334,27 +334,27 @@ module _ {L C : Type 0} (state : L → LinkState) (start_at : L → LinkStart) w
       elim both as (λ _. Advances {C = C} state start_at s w
       (Close (link_of x) a.value.lease (may_keep x) (Served None (client_reusable x ahead)))) [
         | inl finished ↦ record {
-            passed = turns.passed;
-            run = closing s p turns.passed v client ahead a x _ _ run told
-                (IsInOrder.is_exchange None head sent _ _ relayable run.holds.sends
-                finished.relayed.order tt)
-                (λ open_head.
-                exchange_open _ s turns.passed head sent _ _ finished.relayed.order open_head)
-                (λ same. cc)
-                (inl (relayed_whole state start_at s turns.passed w head sent x relayable
-                run.holds.sends (calm ∙ run.calm) finished));
-          }
+          passed = turns.passed;
+          run = closing s p turns.passed v client ahead a x _ _ run told
+              (IsInOrder.is_exchange None head sent _ _ relayable run.holds.sends
+              finished.relayed.order tt)
+              (λ open_head.
+              exchange_open _ s turns.passed head sent _ _ finished.relayed.order open_head)
+              (λ same. cc)
+              (inl (relayed_whole state start_at s turns.passed w head sent x relayable
+              run.holds.sends (calm ∙ run.calm) finished));
+        }
         | inr over ↦ record {
-            passed = turns.passed;
-            run = closing s p turns.passed v client ahead a x _ _ run told
-                (IsInOrder.is_exchange None head sent _ _ relayable run.holds.sends
-                over.early.order tt)
-                (λ open_head.
-                exchange_open _ s turns.passed head sent _ _ over.early.order open_head)
-                (λ same. cc)
-                (inr (relayed_early state start_at s turns.passed w head sent x relayable
-                run.holds.sends (calm ∙ run.calm) over));
-          }
+          passed = turns.passed;
+          run = closing s p turns.passed v client ahead a x _ _ run told
+              (IsInOrder.is_exchange None head sent _ _ relayable run.holds.sends
+              over.early.order tt)
+              (λ open_head.
+              exchange_open _ s turns.passed head sent _ _ over.early.order open_head)
+              (λ same. cc)
+              (inr (relayed_early state start_at s turns.passed w head sent x relayable
+              run.holds.sends (calm ∙ run.calm) over));
+        }
       ]
 
   -- what a turn that failed left

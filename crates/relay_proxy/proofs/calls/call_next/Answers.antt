@@ -3,7 +3,6 @@ use Rattle.std.proofs.Common.{◌≡◌, sym, ◌∙◌}
 use Rattle.relay_modules.specs.Module.{ModuleCall}
 use Rattle.relay_opening.proofs.WiderLemmas.{IsAllowed-wider, TurnsOn-wider, opens_turn}
 use Rattle.relay_proxy.specs.Calls.{CallsNext}
-use Rattle.relay_proxy.specs.declared.calls.At.{At}
 use Rattle.relay_proxy.specs.declared.calls.At.TheVariants as at
 use Rattle.relay_proxy.proofs.CallLemmas.{turn_allowed}
 use Rattle.relay_proxy.proofs.calls.call_next.Goals as goal

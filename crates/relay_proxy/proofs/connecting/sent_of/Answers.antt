@@ -1,7 +1,5 @@
 -- The copy is made ready, and then as it is sent, beside the session's own head; and it is refused
 -- where its body has no framing.
-use Rattle.std.proofs.Common.{subst, sym, ◌∙◌}
-use Rattle.std.specs.Prelude.{Result, Ok, Err}
 use Rattle.std.proofs.lemmas.Result.{err_from_is_err_and}
 use Rattle.relay_proxy.proofs.ConnectSteps.{same_head}
 use Rattle.relay_proxy.proofs.SentLemmas.{makes_framed, unsent_of}

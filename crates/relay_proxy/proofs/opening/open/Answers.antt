@@ -1,8 +1,8 @@
 -- The hook that comes next is called, and the request goes on, or ends.
-use Rattle.std.proofs.Common.{arith, refl, sym, subst}
-use Rattle.relay_proxy.specs.Calls.{allowed_by, log_of}
-use Rattle.relay_proxy.proofs.CallLemmas.{ended_calls, opening_logged}
-use Rattle.relay_proxy.proofs.HookSteps.{answered, counts_called, goes_connecting, known_of, memory_called, memory_logged, opening_on, stopped}
+use Rattle.std.proofs.Common.{arith, refl, sym}
+use Rattle.relay_proxy.specs.Calls.{log_of}
+use Rattle.relay_proxy.proofs.CallLemmas.{ended_calls}
+use Rattle.relay_proxy.proofs.HookSteps.{answered, counts_called, goes_connecting, known_of, memory_called, memory_logged, stopped}
 use Rattle.relay_proxy.proofs.OpenSteps.{hooks_leave, opened_on}
 use Rattle.relay_proxy.proofs.opening.open.Goals as goal
 

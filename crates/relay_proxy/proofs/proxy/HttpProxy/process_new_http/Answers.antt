@@ -1,11 +1,15 @@
 -- The steps add up to the whole request.
-use Rattle.std.proofs.Common.{◌≡◌, [], ◌∙◌, ◌+◌, ◌≤◌, arith, refl, ap, sym}
+use Rattle.std.proofs.Common.{◌≡◌, List, [], ◌∙◌, ◌+◌, ◌≤◌, arith, refl, ap, subst, sym}
+use Rattle.relay_tasks.specs.declared.log.LogEntry.{LogEntry}
 use Rattle.relay_links.specs.Count.{last_count}
-use Rattle.relay_proxy.specs.Calls.{log_of}
+use Rattle.relay_phases.specs.Order.{Station}
+use Rattle.relay_proxy.specs.Calls.{IsLogged, allowed_by, log_of}
 use Rattle.relay_proxy.specs.Passed.{called_to, start_of}
+use Rattle.relay_proxy.specs.Request.{Processes}
 use Rattle.relay_proxy.specs.Turn.{world_of}
 use Rattle.relay_proxy.specs.declared.proxy.HttpProxy.{HttpProxy}
 use Rattle.relay_proxy.specs.declared.proxy.Outside.{Outside}
+use Rattle.relay_proxy.proofs.CallLemmas.{calls_logged}
 use Rattle.relay_proxy.proofs.UnderWay.{begun, goes_on, all_taken, stopped, one_more, no_end, stops_at}
 use Rattle.relay_proxy.proofs.proxy.HttpProxy.process_new_http.Goals as goal
 
@@ -13,7 +17,7 @@ use Rattle.relay_proxy.proofs.proxy.HttpProxy.process_new_http.Goals as goal
 pub loop-turn-init : goal.loop-turn-init
 loop-turn-init g c =
     let faults = g.K.Connector.fault_count c.args.self.now.connector in (
-      begun g.K.Byte.ByteLink.state g.K.Byte.ByteLink.start
+      rw c.begin-machine.ensures.no_log (begun g.K.Byte.ByteLink.state g.K.Byte.ByteLink.start
           c.args.self.now.conf.max_retries
           (world_of g.D.ByteLink.state c.args.client.now faults)
           (world_of g.D.ByteLink.state c.begin-machine.new.client faults) _ _ _ _ _ _ _
@@ -23,7 +27,7 @@ loop-turn-init g c =
           c.begin-machine.ensures.no_turns
           (rw (c.begin-machine.ensures.client, c.take_kept-kept.ensures.after) refl)
           c.begin-machine.ensures.unused c.begin-machine.ensures.unmoved
-          c.begin-machine.ensures.unended (c.begin-machine.ensures.uncounted _ _ _ []),
+          c.begin-machine.ensures.unended (c.begin-machine.ensures.uncounted _ _ _ [])),
       rw (c.begin-machine.ensures.client, c.take_kept-kept.ensures.after) refl,
       rw c.begin-machine.ensures.no_items refl,
       omega (arith, c.begin-machine.ensures.no_link),
@@ -50,7 +54,17 @@ returns-then-is_stop-clause-processes g c =
     (sym c.loop-turn.invariant.6)) c.loop-turn.invariant.9 under.run in
     let now = called_to s (log_of c.step-step.new.machine.calls) in
     let ends = c.close.ensures.ends now steps.passed _ steps.run in
-    rw c.close.ensures.log
+    subst (λ (l : List LogEntry). Processes state start (called_to s l)
+    (world_of g.D.ByteLink.state c.close.new.client
+    (g.K.Connector.fault_count c.close.new.self.connector))
+    (g.K.Connector.returned c.args.self.now.connector)
+    (g.K.Connector.returned c.close.new.self.connector)
+    (g.K.Connector.refusals c.args.self.now.connector)
+    (g.K.Connector.refusals c.close.new.self.connector)
+    (g.K.Connector.stock c.args.self.now.connector)
+    (g.K.Connector.stock c.close.new.self.connector)
+    (g.D.ByteLink.state c.args.client.now.link) c.args.turns c.close.result)
+    (sym c.close.ensures.log)
     (stopped state start (called_to s (log_of c.loop-turn.machine.calls)) now _ _ _ _ _ _ _ _ _ _ _ _ _ _ _ _ c.loop-turn.machine.machine
     c.step-step.new.machine.machine _ _ c.close.result under steps ends c.close.ensures.refusals
     c.close.ensures.offers
@@ -117,10 +131,43 @@ returns-clause-processes g c =
     let ends = c.close-2.ensures.ends now under.passed under.own under.run in
     let all : c.args.turns ≡ c.loop-turn._turn =
     omega (arith, c.loop-turn-test.false, c.loop-turn.auto._turn-end) in
-    rw c.close-2.ensures.log
+    subst (λ (l : List LogEntry). Processes state start (called_to s l)
+    (world_of g.D.ByteLink.state c.close-2.new.client
+    (g.K.Connector.fault_count c.close-2.new.self.connector))
+    (g.K.Connector.returned c.args.self.now.connector)
+    (g.K.Connector.returned c.close-2.new.self.connector)
+    (g.K.Connector.refusals c.args.self.now.connector)
+    (g.K.Connector.refusals c.close-2.new.self.connector)
+    (g.K.Connector.stock c.args.self.now.connector)
+    (g.K.Connector.stock c.close-2.new.self.connector)
+    (g.D.ByteLink.state c.args.client.now.link) c.args.turns c.close-2.result)
+    (sym c.close-2.ensures.log)
     (all_taken state start now _ _ _ _ _ _ _ _ _ _ _ _ c.loop-turn.machine.machine _ _ c.close-2.result
     under all ends c.close-2.ensures.refusals c.close-2.ensures.offers
     c.close-2.ensures.turns
     (rw c.close-2.ensures.client refl) (rw c.close-2.ensures.client refl) c.close-2.ensures.used
     c.close-2.ensures.moved c.close-2.ensures.sides c.loop-turn.invariant.7
     (rw c.close-2.ensures.log c.loop-turn.invariant.10))
+
+-- the log is in order where a step stopped
+pub returns-then-is_stop-clause-logged : goal.returns-then-is_stop-clause-logged
+returns-then-is_stop-clause-logged g c =
+    subst (λ (app : g.row.SV.Denot). (at : Station)
+    × IsLogged (allowed_by (g.SV.ProxyHttp.allows app) g.SV.Modules.HttpModule.allows)
+    c.close.result.history.log at)
+    (ap (λ (k : HttpProxy g.row.SV.Denot g.row.K.Denot g.row.P.Denot). k.inner)
+    c.loop-turn.invariant.6)
+    (rw c.close.ensures.log
+    (calls_logged _ _ c.step-step.new.machine.calls c.step-step.new.machine.machine.phase
+    (c.step-step.ensures.calls c.loop-turn.invariant.9)))
+
+-- and where all turns were taken
+pub returns-clause-logged : goal.returns-clause-logged
+returns-clause-logged g c =
+    subst (λ (app : g.row.SV.Denot). (at : Station)
+    × IsLogged (allowed_by (g.SV.ProxyHttp.allows app) g.SV.Modules.HttpModule.allows)
+    c.close-2.result.history.log at)
+    (ap (λ (k : HttpProxy g.row.SV.Denot g.row.K.Denot g.row.P.Denot). k.inner)
+    c.loop-turn.invariant.6)
+    (rw c.close-2.ensures.log
+    (calls_logged _ _ c.loop-turn.machine.calls c.loop-turn.machine.machine.phase c.loop-turn.invariant.9))
