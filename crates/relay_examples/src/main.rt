@@ -7,7 +7,9 @@ mod serving;
 
 use crate::memory::relay_one;
 use crate::serving::serve_port;
-use relay_proxy::ServerConf;
+use bytes::Bytes;
+use relay_proxy::{Defaults, ServerConf};
+use relay_tasks::Peer;
 use std::io::ErrorKind;
 use std::net::Net;
 use std::process::ExitCode;
@@ -17,6 +19,15 @@ use std::{env, io};
 
 /// How the proxy of each use is set up: one attempt for a request.
 const CONF: ServerConf = ServerConf { max_retries: 1 };
+
+/// The application of each use: what each hook does by default, and one peer.
+fn application() -> Defaults {
+    Defaults::new(Peer {
+        address: Bytes::new(),
+        tls: false,
+        allows_h1: true,
+    })
+}
 
 fn main(rt: HostRuntime) -> ExitCode {
     match run(&rt) {

@@ -1,13 +1,13 @@
 //! One request between a client and a peer in memory.
 
-use crate::CONF;
+use crate::{CONF, application};
 use bytes::Bytes;
 use relay_h1::Connection;
 use relay_links::{
     CountDelay, MemoryPurger, PeerScript, ReadItem, RoundRobin, ScriptConnector, ScriptLink,
     ShutdownAt,
 };
-use relay_proxy::{HttpProxy, NoHooks, Outside};
+use relay_proxy::{HttpProxy, Outside};
 use relay_tasks::Purged;
 use std::alloc::{AllocError, Global};
 use std::{io, str};
@@ -26,7 +26,7 @@ const TURNS: u64 = 1_000;
 pub fn relay_one<R: Print>(rt: &R, alloc: Global) -> io::Result<()> {
     let connector = connector_to(alloc, link_of(alloc, RESPONSE)?)?;
     let purger = MemoryPurger::new(alloc, Purged::NotFound);
-    let mut proxy = HttpProxy::new(alloc, NoHooks, CONF, connector, purger);
+    let mut proxy = HttpProxy::new(alloc, application(), CONF, connector, purger);
     let mut client = Connection::new(alloc, link_of(alloc, REQUEST)?);
     let mut outside = Outside {
         schedule: RoundRobin::new(),

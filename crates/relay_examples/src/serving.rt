@@ -1,8 +1,8 @@
 //! A port of this host that is served for a peer at another one.
 
-use crate::CONF;
+use crate::{CONF, application};
 use relay_links::MemoryPurger;
-use relay_proxy::{HttpProxy, NoHooks};
+use relay_proxy::HttpProxy;
 use relay_server::serve_with;
 use relay_tasks::Purged;
 use relay_tcp::{TcpConnector, TcpPoller};
@@ -25,7 +25,7 @@ pub fn serve_port<R: Net + Wait + Clone + Drop>(
         .ok()
         .ok_or(AllocError)?;
     let purger = MemoryPurger::new(alloc, Purged::NotFound);
-    let mut proxy = HttpProxy::new(alloc, NoHooks, CONF, connector, purger);
+    let mut proxy = HttpProxy::new(alloc, application(), CONF, connector, purger);
     let end = serve_with(rt, alloc, &mut proxy, &mut poller, port, u64::MAX);
     Ok(end.status)
 }
