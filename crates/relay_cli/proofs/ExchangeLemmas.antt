@@ -19,20 +19,21 @@ use Rattle.relay_links.specs.Told.{more}
 use Rattle.relay_links.specs.declared.connector.Returned.{Returned}
 use Rattle.relay_links.specs.declared.script_connector.PeerScript.{PeerScript}
 use Rattle.relay_links.specs.declared.script_link.ScriptLink.{ScriptLink}
-use Rattle.relay_proxy.specs.Endings.{EndsReturned, EndsUnlinked, EndsWith, AttemptsUnfinished, AttemptsUnlinked, IsFailedAttempt, IsUnsentAttempt}
+use Rattle.relay_proxy.specs.Endings.{EndsAhead, EndsReturned, EndsUnlinked, EndsWith, AttemptsUnfinished, AttemptsUnlinked, FailsToConnect, IsFailedAttempt, IsUnsentAttempt}
 use Rattle.relay_proxy.specs.Refusals.{fault_told, faults_told}
 use Rattle.relay_proxy.specs.Tries.{EndsTrying, IsTry, fault_error, tries_of}
 use Rattle.relay_proxy.proofs.TryLemmas.{tries_before}
 use Rattle.relay_attempt.specs.Passed.{Passed}
-use Rattle.relay_proxy.specs.Passed.{World, Start, start_of}
+use Rattle.relay_proxy.specs.Passed.{World, Start, called_to, start_of}
 use Rattle.relay_proxy.specs.Request.{Processes}
 use Rattle.relay_proxy.specs.Taken.{AreNext, offers_for}
 use Rattle.relay_proxy.specs.declared.outcome.Outcome.{Outcome}
 use Rattle.relay_proxy.specs.declared.outcome.Outcome.TheVariants as ended
 use Rattle.relay_proxy.specs.declared.outcome.Processed.{Processed}
 use Rattle.relay_proxy.specs.declared.record.AttemptRecord.{AttemptRecord}
+use Rattle.relay_scripted.specs.declared.proxy.ScriptProxy.{ScriptProxy}
 use Rattle.relay_cli.proofs.ListLemmas.{drop_at}
-use Rattle.relay_cli.specs.Exchange.{attempt_report, attempt_reports, peers_behind, sent_before, taken_of, sent_of, FirstStartsWithin, names_of, first_name, peer_offer, offers_of, IsEntryOf, AreEntriesOf, AreLinksOf, Place, world_at, first_place, reported, IsRequest, Follows, AreRun, place_of, IsAt, Begins, Runs, IsRun}
+use Rattle.relay_cli.specs.Exchange.{attempt_report, attempt_reports, peers_behind, sent_before, taken_of, sent_of, FirstStartsWithin, names_of, first_name, peer_offer, offers_of, IsEntryOf, AreEntriesOf, AreLinksOf, IsLogOf, Place, application_of, world_at, first_place, reported, start_at, IsRequest, Follows, AreRun, place_of, IsAt, Begins, Runs, IsRun}
 use Rattle.relay_cli.specs.Report.{RequestSpec, outcome_reuse}
 use Rattle.relay_cli.specs.Script.{PeerSpec, ScriptSpec}
 use Rattle.relay_cli.specs.declared.exchange.Run.{Run}
@@ -171,22 +172,27 @@ ends_failed s attempts e ends =
     (tries_failed ends.tries ends.are_tries.each)
     (All-cons HasFailed ends.last [] (e, ends.is_record.error) (All-nil HasFailed)))
 
+-- and where there are none
+none_failed : (attempts : List AttemptRecord) → attempts ≡ [] → All HasFailed attempts
+none_failed attempts none =
+    subst (λ (xs : List AttemptRecord). All HasFailed xs) (sym none) (All-nil HasFailed)
+
 -- a request without a link has attempts with errors alone
 unfinished_failed : (s : Start) (p : Passed) (w : World) (attempts : List AttemptRecord)
     → AttemptsUnfinished s p w attempts → All HasFailed attempts
-unfinished_failed s p w attempts (inl none) =
-    subst (λ (xs : List AttemptRecord). All HasFailed xs) (sym none.0) (All-nil HasFailed)
+unfinished_failed s p w attempts (inl none) = none_failed attempts none.0
 unfinished_failed s p w attempts (inr (inl between)) = tries_failed attempts between.0.each
 unfinished_failed s p w attempts (inr (inr half)) = ends_failed s attempts half.e half.made
 
 unlinked_failed : (s : Start) (p : Passed) (w : World) (attempts : List AttemptRecord)
     (outcome : Outcome) → AttemptsUnlinked s p w attempts outcome → All HasFailed attempts
-unlinked_failed s p w attempts ended.NoRequest none =
-    subst (λ (xs : List AttemptRecord). All HasFailed xs) (sym none) (All-nil HasFailed)
-unlinked_failed s p w attempts (ended.Refused error) none =
-    subst (λ (xs : List AttemptRecord). All HasFailed xs) (sym none) (All-nil HasFailed)
-unlinked_failed s p w attempts (ended.Served None reuse) made = absurd made
-unlinked_failed s p w attempts (ended.Served (Some e) reuse) made = ends_failed s attempts e made
+unlinked_failed s p w attempts ended.NoRequest none = none_failed attempts none
+unlinked_failed s p w attempts (ended.Refused error) none = none_failed attempts none
+unlinked_failed s p w attempts (ended.Served None reuse) none = none_failed attempts none
+unlinked_failed s p w attempts (ended.Served (Some e) reuse) (inl made) =
+    ends_failed s attempts e made
+unlinked_failed s p w attempts (ended.Served (Some e) reuse) (inr none) =
+    none_failed attempts none.0
 unlinked_failed s p w attempts ended.TurnLimit made = unfinished_failed s p w attempts made
 unlinked_failed s p w attempts ended.OutOfMemory made = unfinished_failed s p w attempts made
 
@@ -267,15 +273,21 @@ names_left (suc n) (peer ∷ peers) = names_left n peers
 
 -- ---- what is reported
 
--- a request that had no link sent nothing
+-- a request that was given no link sent nothing, nor did one that hooks ended before
+ahead_sent : (s : Start) (p : Passed) (w : World) (e : Error)
+    → FailsToConnect s p w e ⊎ EndsAhead s p w (Some e) → [] ≡ p.sent
+ahead_sent s p w e (inl fails) = sym fails.unconnected.unsent.sent
+ahead_sent s p w e (inr ends) = sym ends.unsent.sent
+
+-- so a request that had no link sent nothing
 unlinked_sent : (s : Start) (p : Passed) (w : World) (outcome : Outcome)
     → EndsUnlinked s p w outcome → [] ≡ p.sent
 unlinked_sent s p w ended.NoRequest ends = sym ends.unsent.sent
 unlinked_sent s p w (ended.Refused error) (inl answered) = sym answered.unsent.sent
 unlinked_sent s p w (ended.Refused error) (inr (inl alone)) = sym alone.unsent.sent
 unlinked_sent s p w (ended.Refused error) (inr (inr fault)) = sym fault.unsent.sent
-unlinked_sent s p w (ended.Served None reuse) ends = absurd ends
-unlinked_sent s p w (ended.Served (Some e) reuse) ends = sym ends.0.unconnected.unsent.sent
+unlinked_sent s p w (ended.Served None reuse) ends = sym ends.0.unsent.sent
+unlinked_sent s p w (ended.Served (Some e) reuse) ends = ahead_sent s p w e ends.0
 unlinked_sent s p w ended.TurnLimit ends = sym ends.sent
 unlinked_sent s p w ended.OutOfMemory ends = sym ends.sent
 
@@ -319,7 +331,8 @@ pub clear_again : (s : Start) (p : Passed) (w : World) (own : List (Returned Scr
     → outcome_reuse outcome ≡ true → w.ahead ≡ []
 clear_again s p w own records ended.NoRequest ends back = cc
 clear_again s p w own records (ended.Refused error) ends back = cc
-clear_again s p w [] records (ended.Served None reuse) ends back = absurd ends.0
+clear_again s p w [] records (ended.Served None reuse) ends back =
+    absurd (true≢false (sym back ∙ ends.0.1))
 clear_again s p w [] records (ended.Served (Some e) reuse) ends back =
     absurd (true≢false (sym back ∙ ends.0.1))
 clear_again s p w (r ∷ []) records (ended.Served None reuse) ends back =
@@ -340,16 +353,18 @@ clear_again s p w own records ended.OutOfMemory ends back = cc
 -- what is reported of a request that the proxy made over the links of a script
 pub is_request : (script : ScriptSpec) (from to : Place) (written : List ℕ)
     (own : List (Returned ScriptLink)) (processed : Processed)
-    (run : Processes script_state script_start (start_of script.retries (world_at from))
+    (run : Processes script_state script_start (start_at script from processed.history.log)
     (world_at to) (Some from.returned) (Some to.returned) from.refusals to.refusals
     (Some (offers_of from.peers)) (Some (offers_of to.peers))
     (script_state from.client) script.turns processed)
     → to.peers ≡ drop (length processed.history.attempts) from.peers
+    → IsLogOf (application_of script.rules) processed.history.log
     → AnswersBy to.client script.client script.client_write → from.ahead ≡ []
     → processed.outcome ≢ ended.OutOfMemory → written ≡ run.passed.written → own ≡ run.own
     → IsRequest script from to
     (reported (names_of from.peers) processed written own)
-is_request script from to written own processed run asked client clear printable is_written is_own =
+is_request script from to written own processed run asked logged client clear printable is_written
+    is_own =
     record {
       processed = processed;
       run = run;
@@ -357,6 +372,7 @@ is_request script from to written own processed run asked client clear printable
       are_links = links_are _ run.passed (world_at to) run.own from.peers
           processed.history.attempts processed.outcome (offers_of to.peers) run.ended.ends
           run.offered;
+      logged = logged;
       is_client = client;
       clear = clear;
       printable = printable;
@@ -374,7 +390,8 @@ pub run_next : (script : ScriptSpec) (peers : List PeerSpec) (old new : Run) (pr
     (turns : ℕ) (written : List ℕ) (own : List (Returned ScriptLink)) (request : RequestSpec)
     → script.turns ≡ turns → IsAt script old peers
     → Processes script_state script_start
-    (start_of old.proxy.conf.max_retries (world_at (place_of old peers)))
+    (called_to (start_of old.proxy.conf.max_retries (world_at (place_of old peers)))
+    processed.history.log)
     (world_at (place_of new peers))
     (Some (links_returned old.proxy.connector)) (Some (links_returned new.proxy.connector))
     (faults_answered old.proxy.connector) (faults_answered new.proxy.connector)
@@ -383,13 +400,14 @@ pub run_next : (script : ScriptSpec) (peers : List PeerSpec) (old new : Run) (pr
     → script_start new.client.link ≡ script_start old.client.link
     → new.names.items ≡ drop (length processed.history.attempts) old.names.items
     → new.proxy.conf.max_retries ≡ old.proxy.conf.max_retries
+    → new.proxy.inner ≡ old.proxy.inner → IsLogOf old.proxy.inner processed.history.log
     → processed.outcome ≢ ended.OutOfMemory
     → written ≡ drop (length (taken_of old.client.link)) (taken_of new.client.link)
     → own ≡ drop (length (links_returned old.proxy.connector)) (links_returned new.proxy.connector)
     → request ≡ reported old.names.items processed written own
     → Runs script peers old new request
 run_next script peers old new processed turns written own request many at ran started left set_up
-    printable wrote back found =
+    same logged printable wrote back found =
     record {
       left = rest;
       is_request = subst (λ (r : RequestSpec).
@@ -397,7 +415,7 @@ run_next script peers old new processed turns written own request many at ran st
           (subst (λ (ns : List (List ℕ)). IsRequest script (place_of old peers) (place_of new rest)
           (reported ns processed written own)) (sym at.names)
           (is_request script (place_of old peers) (place_of new rest) written own processed run refl
-          client at.clear printable (wrote ∙ run.ended.tells.written.1)
+          by_rules client at.clear printable (wrote ∙ run.ended.tells.written.1)
           (back ∙ own_behind (links_returned old.proxy.connector)
           (links_returned new.proxy.connector) run.own run.gained)));
       stands = λ again. record {
@@ -409,6 +427,7 @@ run_next script peers old new processed turns written own request many at ran st
         clear = clear_again _ run.passed (world_at (place_of new rest)) run.own
             processed.history.attempts processed.outcome run.ended.ends
             (ap (λ (r : RequestSpec). outcome_reuse r.outcome) (sym found) ∙ again);
+        app = same ∙ at.app;
       };
     }
   where
@@ -417,26 +436,27 @@ run_next script peers old new processed turns written own request many at ran st
 
     -- with what the peers offer
     offered : Processes script_state script_start
-        (start_of script.retries (world_at (place_of old peers))) (world_at (place_of new rest))
+        (start_at script (place_of old peers) processed.history.log) (world_at (place_of new rest))
         (Some (links_returned old.proxy.connector)) (Some (links_returned new.proxy.connector))
         (faults_answered old.proxy.connector) (faults_answered new.proxy.connector)
         (Some (offers_of peers)) (Some (offers_left new.proxy.connector))
         (script_state old.client.link) script.turns processed
     offered =
         subst (λ (n : ℕ). Processes script_state script_start
-        (start_of script.retries (world_at (place_of old peers))) (world_at (place_of new rest))
+        (start_at script (place_of old peers) processed.history.log) (world_at (place_of new rest))
         (Some (links_returned old.proxy.connector)) (Some (links_returned new.proxy.connector))
         (faults_answered old.proxy.connector) (faults_answered new.proxy.connector)
         (Some (offers_of peers)) (Some (offers_left new.proxy.connector))
         (script_state old.client.link) n processed) (sym many)
         (subst (λ (os : List Offer). Processes script_state script_start
-        (start_of script.retries (world_at (place_of old peers))) (world_at (place_of new rest))
+        (start_at script (place_of old peers) processed.history.log) (world_at (place_of new rest))
         (Some (links_returned old.proxy.connector)) (Some (links_returned new.proxy.connector))
         (faults_answered old.proxy.connector) (faults_answered new.proxy.connector)
         (Some os) (Some (offers_left new.proxy.connector))
         (script_state old.client.link) turns processed) at.offers
         (subst (λ (n : ℕ). Processes script_state script_start
-        (start_of n (world_at (place_of old peers))) (world_at (place_of new peers))
+        (called_to (start_of n (world_at (place_of old peers))) processed.history.log)
+        (world_at (place_of new peers))
         (Some (links_returned old.proxy.connector)) (Some (links_returned new.proxy.connector))
         (faults_answered old.proxy.connector) (faults_answered new.proxy.connector)
         (Some (offers_left old.proxy.connector)) (Some (offers_left new.proxy.connector))
@@ -449,13 +469,13 @@ run_next script peers old new processed turns written own request many at ran st
         offered.ended.ends offered.offered
 
     run : Processes script_state script_start
-        (start_of script.retries (world_at (place_of old peers))) (world_at (place_of new rest))
+        (start_at script (place_of old peers) processed.history.log) (world_at (place_of new rest))
         (Some (links_returned old.proxy.connector)) (Some (links_returned new.proxy.connector))
         (faults_answered old.proxy.connector) (faults_answered new.proxy.connector)
         (Some (offers_of peers)) (Some (offers_of rest))
         (script_state old.client.link) script.turns processed
     run = subst (λ (os : List Offer). Processes script_state script_start
-        (start_of script.retries (world_at (place_of old peers))) (world_at (place_of new rest))
+        (start_at script (place_of old peers) processed.history.log) (world_at (place_of new rest))
         (Some (links_returned old.proxy.connector)) (Some (links_returned new.proxy.connector))
         (faults_answered old.proxy.connector) (faults_answered new.proxy.connector)
         (Some (offers_of peers)) (Some os)
@@ -463,6 +483,9 @@ run_next script peers old new processed turns written own request many at ran st
 
     client : AnswersBy new.client.link script.client script.client_write
     client = ap (λ (s : LinkStart). s.items) started ∙ at.client
+
+    by_rules : IsLogOf (application_of script.rules) processed.history.log
+    by_rules = subst (λ (app : ScriptProxy). IsLogOf app processed.history.log) at.app logged
 
 -- ---- one request behind the other
 
@@ -527,6 +550,7 @@ first_at script run begins = record {
   retries = begins.retries;
   client = begins.fresh.items;
   clear = begins.clear;
+  app = begins.app;
 }
 
 -- the requests so far, and then any run of those that are left, are a run of the script

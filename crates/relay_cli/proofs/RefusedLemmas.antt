@@ -20,7 +20,7 @@ use Rattle.relay_proxy.specs.Endings.{EndsWith, IsNoRequest}
 use Rattle.relay_proxy.specs.Bound.{OwnGave, most_sides}
 use Rattle.relay_proxy.specs.Closing.{IsQuiet}
 use Rattle.relay_proxy.proofs.BoundLemmas.{turns_bounded}
-use Rattle.relay_proxy.specs.Passed.{World, Start, start_of}
+use Rattle.relay_proxy.specs.Passed.{World, Start}
 use Rattle.relay_links.specs.declared.branch.Branch.{Branch}
 use Rattle.relay_proxy.specs.Refusals.{faults_for}
 use Rattle.relay_proxy.specs.Stock.{items_back}
@@ -29,7 +29,7 @@ use Rattle.relay_links.specs.ListSchedule.{branches_left}
 use Rattle.relay_links.specs.declared.list_schedule.ListSchedule.{ListSchedule}
 use Rattle.relay_proxy.specs.declared.outcome.Outcome.TheVariants as ended
 use Rattle.relay_proxy.specs.declared.record.AttemptRecord.{AttemptRecord}
-use Rattle.relay_cli.specs.Exchange.{peer_offer, peers_behind, offers_of, AreLinksOf, Place, world_at, first_place, IsRequest, Follows, AreRun, IsRun}
+use Rattle.relay_cli.specs.Exchange.{peer_offer, peers_behind, offers_of, AreLinksOf, Place, world_at, first_place, start_at, IsRequest, Follows, AreRun, IsRun}
 use Rattle.relay_cli.specs.Report.{RequestSpec, outcome_reuse}
 use Rattle.relay_cli.specs.Script.{PeerSpec, ScriptSpec}
 
@@ -75,7 +75,7 @@ never_none script request rest b bytes items begins run none =
     let from = first_place run.client script.peers in
     let first = first_of script script.requests from request rest run.runs in
     let one = first.is in
-    let s = start_of script.retries (world_at from) in
+    let s = start_at script from one.processed.history.log in
     let w = world_at first.to in
     let last = first.to.client in
     let outcome : one.processed.outcome ≡ ended.NoRequest = sym one.outcome ∙ none in
@@ -184,12 +184,12 @@ bytes_in script from attempts =
     length (reads.all_bytes script.client) + next_bytes (peers_behind from.peers attempts)
 
 -- a request of a run takes at most as many turns as its links answered, twice the bytes that they
--- have, and six and its attempts
+-- have, six and its attempts, and the calls of its hooks
 pub turns_within : (script : ScriptSpec) (from to : Place) (request : RequestSpec)
     (one : IsRequest script from to request)
     → one.processed.history.turns_taken
     ≤ one.processed.history.items_used + 2 * bytes_in script from one.processed.history.attempts
-    + most_sides (length one.processed.history.attempts)
+    + most_sides (length one.processed.history.attempts) + length one.processed.history.log
 turns_within script from to request one =
     let bound = one.run.bounded in
     let w = bound.within in
@@ -198,8 +198,9 @@ turns_within script from to request one =
     let got = own_fits (peers_behind from.peers one.processed.history.attempts) one.run.own w.got
     one.are_links w.own_gave in
     let none = ap (λ (xs : List ℕ). length xs) one.clear in
-    let turns = turns_bounded script_state script_start (start_of script.retries (world_at from))
-    (script_state to.client) one.run.own one.processed.history bound in
+    let turns = turns_bounded script_state script_start
+    (start_at script from one.processed.history.log) (script_state to.client) one.run.own
+    one.processed.history bound in
     omega (arith, turns, came, got, none)
 
 -- so one that was given more turns is reported as out of turns only where all that it asks is
@@ -207,10 +208,11 @@ turns_within script from to request one =
 pub limited : (script : ScriptSpec) (from to : Place) (request : RequestSpec)
     (one : IsRequest script from to request)
     → one.processed.history.items_used + 2 * bytes_in script from one.processed.history.attempts
-    + most_sides (length one.processed.history.attempts) < script.turns
+    + most_sides (length one.processed.history.attempts) + length one.processed.history.log
+    < script.turns
     → request.outcome ≡ ended.TurnLimit
-    → IsQuiet script_state script_start (start_of script.retries (world_at from)) one.run.passed
-    (world_at to) one.run.own
+    → IsQuiet script_state script_start (start_at script from one.processed.history.log)
+    one.run.passed (world_at to) one.run.own
 limited script from to request one many is =
     elim (one.run.limit (sym one.outcome ∙ is)) [
       | inl all ↦ absurd (omega (arith, all, many, turns_within script from to request one))
@@ -228,6 +230,7 @@ request_free script branches from to request one = record {
   run = one.run;
   asked = one.asked;
   are_links = one.are_links;
+  logged = one.logged;
   is_client = one.is_client;
   clear = one.clear;
   printable = one.printable;

@@ -2,6 +2,8 @@
 use Rattle.std.specs.Prelude.{◌≡◌, ◌≢◌, ℕ, zero, suc, ◌≤◌, List, [], ◌∷◌, length, drop, map, Bool, true, false, Option, Some, None, Ok, Err, unwrap_or, codes}
 use Rattle.relay_tasks.specs.declared.error.RetryType.{RetryType}
 use Rattle.relay_tasks.specs.declared.fault.Fault.{Fault}
+use Rattle.relay_tasks.specs.declared.log.LogEntry.{LogEntry}
+use Rattle.relay_tasks.specs.declared.peer.Peer.{Peer}
 use Rattle.relay_links.specs.Connector.{Offer, connect_fault}
 use Rattle.relay_links.specs.ScriptLink.{script_state, script_start, IsFresh, AnswersBy}
 use Rattle.relay_links.specs.declared.connector.Returned.{Returned}
@@ -11,7 +13,16 @@ use Rattle.relay_links.specs.declared.script_connector.ScriptConnector.{ScriptCo
 use Rattle.relay_links.specs.declared.script_link.ScriptLink.{ScriptLink}
 use Rattle.relay_links.specs.declared.list_schedule.ListSchedule.{ListSchedule}
 use Rattle.relay_links.specs.ListSchedule.{branches_left}
-use Rattle.relay_proxy.specs.Passed.{World, start_of}
+use Rattle.relay_modules.specs.Module.{ModuleCall}
+use Rattle.relay_hooks.specs.Standing.{Standing}
+use Rattle.relay_script.specs.declared.rule.Rule.{Rule}
+use Rattle.relay_scripted.specs.Modules.{DoesCall}
+use Rattle.relay_scripted.specs.Scripted.{IsScripted}
+use Rattle.relay_scripted.specs.declared.modules.ScriptModules.{ScriptModules}
+use Rattle.relay_scripted.specs.declared.proxy.ScriptProxy.{ScriptProxy}
+use Rattle.relay_phases.specs.Order.{Station}
+use Rattle.relay_proxy.specs.Calls.{IsLogged, allowed_by}
+use Rattle.relay_proxy.specs.Passed.{World, Start, called_to, start_of}
 use Rattle.relay_proxy.specs.Request.{Processes}
 use Rattle.relay_proxy.specs.Tries.{tries_of}
 use Rattle.relay_proxy.specs.declared.outcome.Processed.{Processed}
@@ -70,6 +81,26 @@ abbrev pub AreLinksOf : List PeerSpec → List (Returned ScriptLink) → Type 0
 AreLinksOf peers [] = Unit {0}
 AreLinksOf [] (r ∷ own) = ⊥
 AreLinksOf (peer ∷ peers) (r ∷ own) = AnswersBy r.link peer.read peer.write × AreLinksOf peers own
+
+-- ---- the application of a script
+
+-- the peer for which it asks
+abbrev pub script_peer : Peer
+script_peer = record { address = []; tls = false; allows_h1 = true }
+
+-- that of these rules
+abbrev pub application_of : List Rule → ScriptProxy
+application_of rules = record { rules = rules; peer = script_peer }
+
+-- a call of a hook, where it stood, is one that an application allows, or its modules
+abbrev pub allowed_in : ScriptProxy → Standing → LogEntry → Type 0
+allowed_in app =
+    allowed_by (λ st e. IsScripted app.rules app.peer st e)
+    (λ (modules : ScriptModules) (call : ModuleCall). DoesCall modules.rules call)
+
+-- the calls of a log are allowed where they stood, each behind the one before, and come in order
+abbrev pub IsLogOf : ScriptProxy → List LogEntry → Type 0
+IsLogOf app log = (at : Station) × IsLogged (allowed_in app) log at
 
 -- ---- what is reported
 
@@ -155,18 +186,24 @@ first_place client peers = record {
 abbrev pub peers_behind : List PeerSpec → List AttemptRecord → List PeerSpec
 peers_behind peers attempts = drop (length (tries_of attempts)) peers
 
+-- where a request begins at a place, once these calls of hooks were made
+abbrev pub start_at : ScriptSpec → Place → List LogEntry → Start
+start_at script from log = called_to (start_of script.retries (world_at from)) log
+
 -- one request of a run, from one such place to the next, and what is reported of it
 pub record IsRequest (script : ScriptSpec) (from to : Place) (request : RequestSpec) : Type 0 where
   pub processed : Processed
   -- it ran over the links of the script, from its begin to its end, and asked for its next peers,
   -- one for each attempt
-  pub run : Processes script_state script_start (start_of script.retries (world_at from))
+  pub run : Processes script_state script_start (start_at script from processed.history.log)
       (world_at to)
       (Some from.returned) (Some to.returned) from.refusals to.refusals
       (Some (offers_of from.peers)) (Some (offers_of to.peers))
       (script_state from.client) script.turns processed
   pub asked : to.peers ≡ drop (length processed.history.attempts) from.peers
   pub are_links : AreLinksOf (peers_behind from.peers processed.history.attempts) run.own
+  -- each call of a hook did what the script's rules say
+  pub logged : IsLogOf (application_of script.rules) processed.history.log
   -- the client's link is the script's, and nothing was read ahead from it before
   pub is_client : AnswersBy to.client script.client script.client_write
   pub clear : from.ahead ≡ []
@@ -212,6 +249,7 @@ pub record IsAt (script : ScriptSpec) (run : Run) (peers : List PeerSpec) : Type
   pub retries : run.proxy.conf.max_retries ≡ script.retries
   pub client : AnswersBy run.client.link script.client script.client_write
   pub clear : run.client.ahead ≡ []
+  pub app : run.proxy.inner ≡ application_of script.rules
 
 -- the run was made of a script, and no request was begun
 pub record Begins (script : ScriptSpec) (run : Run) : Type 0 where
@@ -221,6 +259,7 @@ pub record Begins (script : ScriptSpec) (run : Run) : Type 0 where
   pub names : run.names.items ≡ names_of script.peers
   pub retries : run.proxy.conf.max_retries ≡ script.retries
   pub named : branches_left run.outside.schedule ≡ script.schedule
+  pub app : run.proxy.inner ≡ application_of script.rules
 
 -- a request was run; where its client goes back, a next one may begin
 pub record Runs (script : ScriptSpec) (peers : List PeerSpec) (old new : Run)

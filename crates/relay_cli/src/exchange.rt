@@ -2,7 +2,7 @@
 //! script, one request behind the other while the client goes back (RFC 9112, section 9.3).
 ghost use Rattle.std.specs.Prelude.{◌≡◌, ◌↔◌, ◌≤◌, ◌+◌, [], List, drop, length, if◌then◌else◌, IsTrue, IfOk, OnOk};
 ghost use Rattle.relay_links.specs.ListSchedule.{branches_left};
-ghost use Rattle.relay_cli.specs.Exchange.{attempt_report, attempt_reports, taken_since, StartsWithin, sent_of, FirstStartsWithin, first_name, names_of, AreEntriesOf, IsConnectorOf, IsAt, Begins, Runs, IsRun, reported};
+ghost use Rattle.relay_cli.specs.Exchange.{attempt_report, attempt_reports, taken_since, StartsWithin, sent_of, FirstStartsWithin, first_name, names_of, AreEntriesOf, IsConnectorOf, IsAt, Begins, Runs, IsRun, application_of, reported};
 ghost use Rattle.relay_cli.specs.Report.{request_spec, request_specs};
 ghost use Rattle.relay_cli.specs.Script.{PeerSpec, ScriptSpec, peer_spec, peer_specs, script_spec};
 
@@ -16,10 +16,11 @@ use relay_links::{
     ScriptLink, ShutdownAt,
 };
 use relay_proxy::{
-    AttemptList, AttemptRecord, HttpProxy, NoHooks, Outcome, Outside, Processed, ServerConf,
+    AttemptList, AttemptRecord, HttpProxy, Outcome, Outside, Processed, ServerConf,
 };
 use relay_script::CheckedRules;
-use relay_tasks::Purged;
+use relay_scripted::ScriptProxy;
+use relay_tasks::{Peer, Purged};
 use std::alloc::{AllocError, Global};
 use std::collections::VecDeque;
 
@@ -30,8 +31,8 @@ const NO_NAME: &[u8] = b"-";
 /// its links, and the names of the peers that were not asked yet.
 #[derive(Drop)]
 struct Run {
-    proxy: HttpProxy<NoHooks, ScriptConnector, MemoryPurger>,
-    client: Connection<ScriptLink, ()>,
+    proxy: HttpProxy<ScriptProxy, ScriptConnector, MemoryPurger>,
+    client: Connection<ScriptLink, u64>,
     outside: Outside<ListSchedule, ShutdownAt, CountDelay>,
     names: VecDeque<Bytes>,
 }
@@ -111,9 +112,17 @@ impl Run {
     }
 }
 
-/// The application of a script. It becomes that of the rules once the proxy calls hooks.
-fn application(_rules: CheckedRules) -> NoHooks {
-    NoHooks
+/// The application of a script: its hooks do what the rules say. Which peer an attempt has is up to
+/// the connector, so the one for which the application asks has no address.
+fn application(rules: CheckedRules) -> ScriptProxy
+    ensures { result ≡ application_of rules }
+{
+    let peer = Peer {
+        address: Bytes::new(),
+        tls: false,
+        allows_h1: true,
+    };
+    ScriptProxy::new(rules, peer)
 }
 
 /// Takes the name of the next peer, and a dash where none is left.

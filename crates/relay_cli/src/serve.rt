@@ -2,10 +2,11 @@
 ghost use Rattle.std.specs.Prelude.{◌≡◌, ◌⊎◌};
 
 use crate::announcer::Announcer;
+use bytes::Bytes;
 use relay_links::MemoryPurger;
-use relay_proxy::{HttpProxy, NoHooks, ServerConf};
+use relay_proxy::{Defaults, HttpProxy, ServerConf};
 use relay_server::serve_with;
-use relay_tasks::Purged;
+use relay_tasks::{Peer, Purged};
 use relay_tcp::{TcpConnector, TcpPoller};
 use std::alloc::Global;
 use std::io;
@@ -78,7 +79,12 @@ fn serve_peer<R: Net + Wait + Eprint + Clone + Drop>(
         return Err(Stop::OutOfMemory);
     };
     let purger = MemoryPurger::new(alloc, Purged::NotFound);
-    let mut proxy = HttpProxy::new(alloc, NoHooks, CONF, connector, purger);
+    let application = Defaults::new(Peer {
+        address: Bytes::new(),
+        tls: false,
+        allows_h1: true,
+    });
+    let mut proxy = HttpProxy::new(alloc, application, CONF, connector, purger);
     let mut announcer = Announcer { rt, poller, peer };
     match serve_with(rt, alloc, &mut proxy, &mut announcer, port, requests).status {
         0 => Ok(()),

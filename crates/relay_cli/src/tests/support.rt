@@ -5,8 +5,8 @@ use relay_links::{
     Branch, ByteLink, CountDelay, ListSchedule, MemoryPurger, PeerScript, ReadItem,
     ScriptConnector, ScriptLink, ShutdownAt, WriteItem,
 };
-use relay_proxy::{HttpProxy, NoHooks, Outcome, Outside, ServerConf};
-use relay_tasks::{ErrorSource, ErrorType, Fault, FaultKind, Purged, RetryType};
+use relay_proxy::{Defaults, HttpProxy, Outcome, Outside, ServerConf};
+use relay_tasks::{ErrorSource, ErrorType, Fault, FaultKind, Peer, Purged, RetryType};
 use std::alloc::{AllocError, Global};
 use std::test::Fail;
 
@@ -67,7 +67,12 @@ pub(super) fn run(
     let connector = connector_to(alloc, peer)?;
     let purger = MemoryPurger::new(alloc, Purged::NotFound);
     let conf = ServerConf { max_retries: 1 };
-    let mut proxy = HttpProxy::new(alloc, NoHooks, conf, connector, purger);
+    let application = Defaults::new(Peer {
+        address: Bytes::from_static(b"a"),
+        tls: false,
+        allows_h1: true,
+    });
+    let mut proxy = HttpProxy::new(alloc, application, conf, connector, purger);
     let mut outside = Outside {
         schedule,
         shutdown: ShutdownAt::new(None),

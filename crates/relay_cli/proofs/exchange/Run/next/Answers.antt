@@ -6,9 +6,9 @@ use Rattle.std.proofs.lemmas.Result.{IfOk-weaker}
 use Rattle.relay_links.specs.ScriptEntries.{links_returned}
 use Rattle.relay_links.specs.declared.script_connector.ScriptConnector.{ScriptConnector}
 use Rattle.relay_links.specs.declared.memory_purger.MemoryPurger.{MemoryPurger}
-use Rattle.relay_proxy.specs.declared.hooks.NoHooks.{NoHooks}
 use Rattle.relay_proxy.specs.declared.outcome.Outcome.TheVariants.{OutOfMemory}
 use Rattle.relay_proxy.specs.declared.proxy.HttpProxy.{HttpProxy}
+use Rattle.relay_scripted.specs.declared.proxy.ScriptProxy.{ScriptProxy}
 use Rattle.relay_cli.specs.Exchange.{reported, taken_of}
 use Rattle.relay_cli.specs.Report.{request_spec}
 use Rattle.relay_cli.specs.declared.report.RequestReport.{RequestReport}
@@ -54,7 +54,10 @@ returns c = λ script peers many at.
     (request_spec request) many at c.process_new_http-processed.ensures.processes
     c.process_new_http-processed.ensures.client_start
     found.1
-    (ap (λ (p : HttpProxy NoHooks ScriptConnector MemoryPurger). p.conf.max_retries)
+    (ap (λ (p : HttpProxy ScriptProxy ScriptConnector MemoryPurger). p.conf.max_retries)
     c.process_new_http-processed.ensures.same)
+    (ap (λ (p : HttpProxy ScriptProxy ScriptConnector MemoryPurger). p.inner)
+    c.process_new_http-processed.ensures.same)
+    c.process_new_http-processed.ensures.logged
     printable wrote back found.0)
     c.request_report.ensures
