@@ -19,7 +19,7 @@ use Rattle.relay_links.specs.Told.{more}
 use Rattle.relay_links.specs.declared.connector.Returned.{Returned}
 use Rattle.relay_links.specs.declared.script_connector.PeerScript.{PeerScript}
 use Rattle.relay_links.specs.declared.script_link.ScriptLink.{ScriptLink}
-use Rattle.relay_proxy.specs.Endings.{EndsAhead, EndsReturned, EndsUnlinked, EndsWith, AttemptsUnfinished, AttemptsUnlinked, FailsToConnect, IsFailedAttempt, IsUnsentAttempt}
+use Rattle.relay_proxy.specs.Endings.{EndsAhead, EndsReturned, EndsUnlinked, EndsWith, AttemptsUnfinished, AttemptsUnlinked, FailsToConnect, IsFailedAttempt, IsRelayedEarly, IsRelayedWhole, IsUnsentAttempt}
 use Rattle.relay_proxy.specs.Refusals.{fault_told, faults_told}
 use Rattle.relay_proxy.specs.Tries.{EndsTrying, IsTry, fault_error, tries_of}
 use Rattle.relay_proxy.proofs.TryLemmas.{tries_before}
@@ -335,8 +335,13 @@ clear_again s p w [] records (ended.Served None reuse) ends back =
     absurd (true≢false (sym back ∙ ends.0.1))
 clear_again s p w [] records (ended.Served (Some e) reuse) ends back =
     absurd (true≢false (sym back ∙ ends.0.1))
-clear_again s p w (r ∷ []) records (ended.Served None reuse) ends back =
-    (ends.ends.goes_back.0 back).nothing_ahead
+clear_again s p w (r ∷ []) records (ended.Served None reuse) ends back = clear ends.ends back
+  where
+    clear : IsRelayedWhole s p w (script_state r.link) (script_start r.link) r.keep reuse
+        ⊎ IsRelayedEarly s p w (script_state r.link) (script_start r.link) r.keep reuse
+        → reuse ≡ true → w.ahead ≡ []
+    clear (inl whole) back = (whole.goes_back.0 back).nothing_ahead
+    clear (inr early) back = (early.goes_back.0 back).nothing_ahead
 clear_again s p w (r ∷ []) records (ended.Served (Some e) reuse) ends back =
     stays e ends.ends back
   where

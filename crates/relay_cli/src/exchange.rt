@@ -15,9 +15,7 @@ use relay_links::{
     Branch, CountDelay, ListSchedule, MemoryPurger, PeerScript, Returned, ScriptConnector,
     ScriptLink, ShutdownAt,
 };
-use relay_proxy::{
-    AttemptList, AttemptRecord, HttpProxy, Outcome, Outside, Processed, ServerConf,
-};
+use relay_proxy::{AttemptList, AttemptRecord, HttpProxy, Outcome, Outside, Processed, ServerConf};
 use relay_script::CheckedRules;
 use relay_scripted::ScriptProxy;
 use relay_tasks::{Peer, Purged};
