@@ -32,7 +32,7 @@ use Rattle.relay_valid.specs.Valid.{IsValid}
 use Rattle.relay_valid.proofs.ValidLemmas.{never_fails}
 use Rattle.relay_proxy.specs.Ahead.{IsOwedAhead}
 use Rattle.relay_proxy.specs.Answer.{owed_text, past_at, WaitsOf}
-use Rattle.relay_proxy.specs.Endings.{IsInOrder, IsGiven, IsGivenAhead, EndsAhead, IsPartRefused, FailsToWrite, IsFailedAttempt, IsUnsentAttempt, IsHalfRefused, IsPart, IsPartOrNone, HasFailed, Misses, owed_by, EndsWith}
+use Rattle.relay_proxy.specs.Endings.{IsInOrder, IsGiven, IsGivenAhead, EndsAhead, IsPartRefused, FailsToWrite, IsFailedAttempt, IsUnsentAttempt, IsHalfRefused, IsPart, HasFailed, Misses, owed_by, EndsWith}
 use Rattle.relay_proxy.specs.Owed.{Owes, HasAttempts, IsAnswering, outcome_owed, outcome_failed}
 use Rattle.relay_proxy.specs.Passed.{World, Start, origin_of, asked, TellsClient}
 use Rattle.relay_proxy.specs.Phases.{PhaseHolds, RunSoFar}
@@ -127,7 +127,7 @@ misses_on : (s : Start) (p : Passed) (written : List ℕ) (before after link : L
 misses_on s p written before after link start keep e text to (Misses.in_exchange failed is kept) =
     let on = failed_on s p written before after link start e failed to in
     Misses.in_exchange on.again (is ∙ sym on.same) kept
-misses_on s p written before after link start keep e text to (Misses.ahead_of_it r is kept) =
+misses_on s p written before after link start keep e text to (Misses.ahead_of_it r is) =
     Misses.ahead_of_it (record {
       head = r.head;
       accepted = record {
@@ -137,10 +137,9 @@ misses_on s p written before after link start keep e text to (Misses.ahead_of_it
         relayable = r.accepted.relayable;
       };
       refused = r.refused;
-      status = r.status;
       fresh = r.fresh;
       unsent = record { got = r.unsent.got; sent = r.unsent.sent };
-    }) is kept
+    }) is
 
 -- no valid exchange fails
 pub failed_invalid : (s : Start) (p : Passed) (client link : LinkState) (start : LinkStart)
@@ -179,11 +178,10 @@ ends_missed s p w link start keep e text (Misses.in_exchange failed is kept) giv
       not_kept = kept;
       stays = refl;
     })
-ends_missed s p w link start keep e text (Misses.ahead_of_it refused is kept) given =
+ends_missed s p w link start keep e text (Misses.ahead_of_it refused is) given =
     inr (record {
       refused = refused;
       answered = subst (λ (t : List ℕ). IsGiven s p w t) is given;
-      kept = kept;
       stays = refl;
     })
 
@@ -317,8 +315,8 @@ module _ {L : Type 0} (state : L → LinkState) (start_at : L → LinkStart) whe
       IsInOrder.is_failure _ f.head f.sent _ _ f.before e f.relayable f.sends (order_of f.why)
       (cut_next _ (past_at p f.before) w.client _ _ e f.why)
       (subst (λ (t : List ℕ). IsFrontOf p.written t) is front)
-  owes_order s p w (r ∷ own) (Served e) text (Misses.ahead_of_it f is kept) front =
-      IsInOrder.is_unsent f.head e f.accepted f.refused
+  owes_order s p w (r ∷ own) (Served e) text (Misses.ahead_of_it f is) front =
+      IsInOrder.is_unsent f.head r.keep e f.accepted f.refused
       (subst (λ (t : List ℕ). IsFrontOf p.written t) is front) f.unsent.sent
 
   -- the client's head is open no more
@@ -335,7 +333,7 @@ module _ {L : Type 0} (state : L → LinkState) (start_at : L → LinkStart) whe
   owes_open s p w (r ∷ own) (Ahead why) text owes open_head = absurd owes
   owes_open s p w (r ∷ own) (Served e) text (Misses.in_exchange f is kept) open_head =
       exchange_open _ s (past_at p f.before) f.head f.sent _ _ (order_of f.why) open_head
-  owes_open s p w (r ∷ own) (Served e) text (Misses.ahead_of_it f is kept) open_head =
+  owes_open s p w (r ∷ own) (Served e) text (Misses.ahead_of_it f is) open_head =
       HasRequest-IsOpen (asked s p) f.head f.accepted.framing f.accepted.len f.accepted.has
       open_head
 
@@ -442,7 +440,7 @@ module _ {L : Type 0} (state : L → LinkState) (start_at : L → LinkStart) whe
       is_record = made.is_record;
       error = tt;
       ends = subst
-          (λ (t : Option Error). IsPartOrNone s p w (state r.link) (start_at r.link) r.keep t)
+          (λ (t : Option Error). IsPart s p w (state r.link) (start_at r.link) r.keep t)
           (sym made.error) (record { text = text; misses = owes; part = part });
     },
   )

@@ -29,7 +29,7 @@ use Rattle.relay_attempt.specs.Bound as attempt
 use Rattle.relay_attempt.specs.Head.{link_of}
 use Rattle.relay_attempt.specs.Passed.{Passed}
 use Rattle.relay_attempt.proofs.BoundLemmas.{first_counted, counted_within}
-use Rattle.relay_proxy.specs.Bound.{AttemptCounts, CountsAnswer, CountsCall, CountsHead, CountsLink, IsBounded, IsWithin, LeavesLink, LinkGave, OwnGave, PhaseCounts, TurnedCounts, most_sides, sides_before}
+use Rattle.relay_proxy.specs.Bound.{AttemptCounts, CountsAnswer, CountsCall, CountsHead, CountsLink, CountsSend, IsBounded, IsWithin, LeavesLink, LinkGave, OwnGave, PhaseCounts, TurnedCounts, most_sides, sides_before}
 use Rattle.relay_proxy.specs.Passed.{World, Start, origin_of}
 use Rattle.relay_proxy.specs.Phases.{RunSoFar}
 use Rattle.relay_proxy.specs.Refusals.{attempts_in}
@@ -40,7 +40,7 @@ use Rattle.relay_proxy.specs.Uses.{Measured, work_by}
 use Rattle.relay_proxy.specs.declared.machine.Attempt.{Attempt}
 use Rattle.relay_proxy.specs.declared.machine.Lease.{Lease}
 use Rattle.relay_proxy.specs.declared.machine.Phase.{Phase}
-use Rattle.relay_proxy.specs.declared.machine.Phase.TheVariants.{ReadHead, Connect, Relay, Fail, Close, Answer, Ended}
+use Rattle.relay_proxy.specs.declared.machine.Phase.TheVariants.{ReadHead, Connect, Prepare, Relay, Fail, Close, Answer, Ended}
 use Rattle.relay_proxy.specs.declared.record.AttemptRecord.{AttemptRecord}
 use Rattle.relay_proxy.specs.declared.record.RunRecord.{RunRecord}
 use Rattle.relay_proxy.specs.declared.work.Work.{Work}
@@ -144,6 +144,7 @@ module _ {L C : Type 0} (state : L → LinkState) (start_at : L → LinkStart) w
       → PhaseCounts state start_at tasks ends s client ahead own next
   open_counts tasks ends s client ahead own ReadHead shut counts = counts
   open_counts tasks ends s client ahead own (Connect context session tries) shut counts = counts
+  open_counts tasks ends s client ahead own (Prepare context session link lease) shut counts = counts
   open_counts tasks ends s client ahead own (Relay a) shut counts = counts
   open_counts tasks ends s client ahead own (Fail link lease keep session e) shut counts =
       absurd (true≢false shut)
@@ -182,6 +183,8 @@ module _ {L C : Type 0} (state : L → LinkState) (start_at : L → LinkStart) w
   head_bounds s p w (Connect context session tries) work tasks ends run counts had = (
     omega (arith, counts.0, had.0),
     omega (arith, counts.1, had.1, as_many counts.2),
+  head_bounds s p w (Prepare context session link lease) work tasks ends run counts had =
+      absurd counts
   )
   head_bounds s p w (Relay a) work tasks ends run counts had = absurd counts
   head_bounds s p w (Fail link lease keep session e) work tasks ends run counts had = absurd counts
@@ -213,17 +216,12 @@ module _ {L C : Type 0} (state : L → LinkState) (start_at : L → LinkStart) w
   link_bounds s p w (Connect context session tries) work before tasks ends run counts had = (
     omega (arith, counts.0, had.0),
     omega (arith, counts.1, counts.2, had.1),
+  link_bounds s p w (Prepare context session link lease) work before tasks ends run counts had = (
+    omega (arith, counts.0, had.0),
+    omega (arith, counts.1, as_many counts.2, had.1),
   )
-  link_bounds s p w (Relay a) work before tasks ends run counts had = record {
-    head = run.holds.head;
-    sent = run.holds.sent;
-    of_tasks = 0;
-    of_ends = 0;
-    counted = first_counted state start_at (origin_of s run.holds.head run.holds.sent
-        a.value.lease.reused) p w.client w.ahead a.value.exchange run.holds.under_way;
-    tasks_are = omega (arith, counts.0, had.0);
-    ends_are = omega (arith, counts.1, had.1, as_many counts.2);
-  }
+  )
+  link_bounds s p w (Relay a) work before tasks ends run counts had = absurd counts
   link_bounds s p w (Fail link lease keep session e) work before tasks ends run counts
       had = record {
         came = p.came;
@@ -258,6 +256,48 @@ module _ {L C : Type 0} (state : L → LinkState) (start_at : L → LinkStart) w
     ends_within = omega (arith, counts.1, counts.2, had.1);
   }
 
+  -- a turn that makes the head of an attempt
+  pub send_bounds : (s : Start) (p : Passed) (w : World) (next : Phase L C) (work : Work)
+      (before : List AttemptRecord) (tasks ends : ℕ) → RunSoFar state start_at s p w [] next
+      → CountsSend before next work → (tasks ≡ 0) × (ends ≡ 1 + length before)
+      → TurnedCounts state start_at (work.moved + tasks) (work.ended + ends) s w.client w.ahead []
+      next
+  send_bounds s p w ReadHead work before tasks ends run counts had = absurd counts
+  send_bounds s p w (Connect context session tries) work before tasks ends run counts had =
+      absurd counts
+  send_bounds s p w (Prepare context session link lease) work before tasks ends run counts had =
+      absurd counts
+  send_bounds s p w (Relay a) work before tasks ends run counts had = record {
+    head = run.holds.head;
+    sent = run.holds.sent;
+    of_tasks = 0;
+    of_ends = 0;
+    counted = first_counted state start_at (origin_of s run.holds.head run.holds.sent
+        a.value.lease.reused) p w.client w.ahead a.value.exchange run.holds.under_way;
+    tasks_are = omega (arith, counts.0, had.0);
+    ends_are = omega (arith, counts.1, had.1, as_many counts.2);
+  }
+  send_bounds s p w (Fail link lease keep session e) work before tasks ends run counts
+      had = record {
+        came = p.came;
+        got = p.got;
+        client_gave = run.tells.came;
+        own_gave = run.holds.0.tells.got;
+        tasks_within = omega (arith, counts.0, had.0);
+        ends_within = omega (arith, counts.1, had.1, as_many counts.2);
+      }
+  send_bounds s p w (Close link lease keep outcome) work before tasks ends run counts had = record {
+    came = p.came;
+    got = p.got;
+    client_gave = run.tells.came;
+    own_gave = run.holds.0.tells.got;
+    tasks_within = omega (arith, counts.0, had.0);
+    ends_within = omega (arith, counts.1, had.1, as_many counts.2);
+  }
+  send_bounds s p w (Answer session owed attempts) work before tasks ends run counts had =
+      absurd counts
+  send_bounds s p w (Ended outcome attempts) work before tasks ends run counts had = absurd counts
+
   -- a turn that calls a hook
   pub call_bounds : (s : Start) (p : Passed) (w : World) (next : Phase L C) (work : Work)
       (before : List AttemptRecord) (tasks ends : ℕ) → RunSoFar state start_at s p w [] next
@@ -268,6 +308,8 @@ module _ {L C : Type 0} (state : L → LinkState) (start_at : L → LinkStart) w
   call_bounds s p w (Connect context session tries) work before tasks ends run counts had = (
     omega (arith, counts.0, had.0),
     omega (arith, counts.1, as_many counts.2, had.1),
+  call_bounds s p w (Prepare context session link lease) work before tasks ends run counts had =
+      absurd counts
   )
   call_bounds s p w (Relay a) work before tasks ends run counts had = absurd counts
   call_bounds s p w (Fail link lease keep session e) work before tasks ends run counts had =
@@ -304,6 +346,8 @@ module _ {L C : Type 0} (state : L → LinkState) (start_at : L → LinkStart) w
   answer_bounds s client client' ahead own ReadHead work tasks ends same counts attempts is had =
       absurd counts
   answer_bounds s client client' ahead own (Connect context session tries) work tasks ends same
+      counts attempts is had = absurd counts
+  answer_bounds s client client' ahead own (Prepare context session link lease) work tasks ends same
       counts attempts is had = absurd counts
   answer_bounds s client client' ahead own (Relay a) work tasks ends same counts attempts is had =
       absurd counts
@@ -417,6 +461,7 @@ module _ {L C : Type 0} (state : L → LinkState) (start_at : L → LinkStart) w
           → TurnedCounts state start_at (0 + tasks) (1 + ends) s client' left [] settled
       over_by w ReadHead leaves = absurd leaves
       over_by w (Connect context session tries) leaves = absurd leaves
+      over_by w (Prepare context session link lease) leaves = absurd leaves
       over_by w (Relay a) leaves = absurd leaves
       over_by w (Fail link lease keep session e) leaves = record {
         came = w.came;
@@ -493,6 +538,25 @@ module _ {L C : Type 0} (state : L → LinkState) (start_at : L → LinkStart) w
       had =
       absurd run.holds
 
+  -- one that makes the head of an attempt
+  pub send_turn_bounds : (s s' : Start) (p : Passed) (w x : World) (own : List (Returned L))
+      (context : C) (session : Box HttpSession) (link : L) (lease : Lease) (next : Phase L C)
+      (work : Work) (tasks ends : ℕ)
+      → RunSoFar state start_at s p w own (Prepare context session link lease)
+      → (RunSoFar state start_at s p w [] (Prepare context session link lease)
+      → Advances state start_at s' x next)
+      → CountsSend (tries_in lease) next work
+      → PhaseCounts state start_at tasks ends s w.client w.ahead own
+      (Prepare context session link lease)
+      → TurnedCounts state start_at (work.moved + tasks) (work.ended + ends) s' x.client x.ahead own
+      next
+  send_turn_bounds s s' p w x [] context session link lease next work tasks ends run turn counts
+      had =
+      let on = turn run in
+      send_bounds s' on.passed x next work (tries_in lease) tasks ends on.run counts had
+  send_turn_bounds s s' p w x (r ∷ own) context session link lease next work tasks ends run turn
+      counts had = absurd run.holds
+
   -- one of a phase that relays
   pub relay_turn_bounds : (s : Start) (p : Passed) (w x : World) (own : List (Returned L))
       (phase next : Phase L C) (tasks ends more_tasks more_ends : ℕ) → is_relaying phase ≡ true
@@ -504,6 +568,8 @@ module _ {L C : Type 0} (state : L → LinkState) (start_at : L → LinkStart) w
   relay_turn_bounds s p w x own ReadHead next tasks ends a b is run turn had =
       absurd (true≢false (sym is))
   relay_turn_bounds s p w x own (Connect context session tries) next tasks ends a b is run turn
+      had = absurd (true≢false (sym is))
+  relay_turn_bounds s p w x own (Prepare context session link lease) next tasks ends a b is run turn
       had = absurd (true≢false (sym is))
   relay_turn_bounds s p w x [] (Relay k) next tasks ends a b is run turn had = turn had
   relay_turn_bounds s p w x (r ∷ own) (Relay k) next tasks ends a b is run turn had =

@@ -2,10 +2,12 @@
 --
 --   turn_allowed                   what the modules allow in a turn is allowed by modules
 --   unopened_calls .. asked_calls  a turn that makes no call leaves the calls so far
+--   begun_logged, left_calls       and so does one over a link
 --   settled_calls                  and so does the settling of a phase
 use Rattle.std.specs.Global.{Box}
-use Rattle.std.proofs.Common.{◌≡◌, ℕ, false, List, [], ◌++◌, Option, None, Some, refl, sym, ap, subst, ◌∙◌, true≢false}
+use Rattle.std.proofs.Common.{◌≡◌, ℕ, ◌≤◌, true, false, List, [], ◌∷◌, ◌++◌, length, length-append, arith, Option, None, Some, refl, sym, ap, subst, ◌∙◌, true≢false}
 use Rattle.relay_tasks.specs.Head.{new_request}
+use Rattle.relay_tasks.specs.declared.hook.Hook.{Hook}
 use Rattle.relay_tasks.specs.declared.log.LogEntry.{LogEntry}
 use Rattle.relay_tasks.specs.declared.task.HttpTask.{HttpTask}
 use Rattle.relay_links.specs.Link.{LinkState, LinkStart}
@@ -18,22 +20,23 @@ use Rattle.relay_hooks.specs.Session.{moment}
 use Rattle.relay_hooks.specs.Standing.{Standing, standing}
 use Rattle.relay_phases.specs.Order.{Station}
 use Rattle.relay_phases.specs.Order.{Station as station}
-use Rattle.relay_phases.specs.Turns.{HasCalled, QueuesNothing}
-use Rattle.relay_opening.specs.Opens.{OpensSoFar}
-use Rattle.relay_opening.specs.Place.{TurnAllows, end_station, station_of}
-use Rattle.relay_opening.specs.Queued.{QueuesAtEnd}
-use Rattle.relay_opening.specs.declared.place.Called.{Called}
+use Rattle.relay_phases.specs.Turns.{HasCalled, QueuesNothing, Turns}
+use Rattle.relay_phases.proofs.TurnLemmas.{HasCalled-more}
+use Rattle.relay_opening.specs.Place.{TurnAllows}
 use Rattle.relay_opening.specs.declared.place.Called.TheVariants as called
 use Rattle.relay_opening.specs.declared.place.Place.{Place}
 use Rattle.relay_opening.specs.declared.place.Place.TheVariants as place
-use Rattle.relay_proxy.specs.Bound.{CountsAnswer, CountsCall}
-use Rattle.relay_proxy.specs.Calls.{CallsSoFar, HasBegun, IsLogged, IsOpening, is_opening, log_of, place_of, seen_with}
+use Rattle.relay_proxy.specs.Bound.{CountsAnswer, CountsCall, CountsHead, LeavesLink}
+use Rattle.relay_proxy.specs.Calls.{CallsSoFar, CountsCalls, GoesOn, HasBegun, IsLogged, IsOpening, TellsPeer, is_calling, log_of, seen_with, station_at}
 use Rattle.relay_proxy.specs.Closing.{Settles}
-use Rattle.relay_proxy.specs.Turn.{KeepsAsked, is_connecting, links_held}
+use Rattle.relay_proxy.specs.Relaying.{is_relaying}
+use Rattle.relay_proxy.specs.Tries.{tries_in}
+use Rattle.relay_proxy.specs.Turn.{IsBegun, KeepsAsked, is_connecting, links_held}
 use Rattle.relay_proxy.specs.declared.calls.At.{At}
 use Rattle.relay_proxy.specs.declared.calls.Calls.{Calls}
+use Rattle.relay_proxy.specs.declared.machine.Lease.{Lease}
 use Rattle.relay_proxy.specs.declared.machine.Phase.{Phase}
-use Rattle.relay_proxy.specs.declared.machine.Phase.TheVariants.{ReadHead, Connect, Relay, Fail, Close, Answer, Ended}
+use Rattle.relay_proxy.specs.declared.machine.Phase.TheVariants.{ReadHead, Connect, Prepare, Relay, Fail, Close, Answer, Ended}
 use Rattle.relay_proxy.specs.declared.record.AttemptRecord.{AttemptRecord}
 use Rattle.relay_proxy.specs.declared.work.Work.{Work}
 
@@ -102,26 +105,68 @@ called_logged allows first now mark behind to queues log none same h = (
       }),
 )
 
+-- ---- what is counted
+
+-- the log has one entry more
+pub one_called : {M K : Type 0} (old new : Calls M K) (work : Work) → work.called ≤ 1
+    → (e : LogEntry) → log_of new ≡ log_of old ++ e ∷ [] → CountsCalls old new work
+one_called old new work once e is =
+    let more = ap (λ (l : List LogEntry). length l) is ∙ length-append (log_of old) (e ∷ []) in
+    record {
+      counted = omega (arith, once, more);
+      once = omega (arith, more);
+    }
+
+-- or it is the same
+pub none_called : {M K : Type 0} (old new : Calls M K) (work : Work) → work.called ≡ 0
+    → log_of new ≡ log_of old → CountsCalls old new work
+none_called old new work none is =
+    let same = ap (λ (l : List LogEntry). length l) is in
+    record {
+      counted = omega (arith, none, same);
+      once = omega (arith, same);
+    }
+
+-- ---- up to the exchange
+
 module _ {C M K : Type 0} (allows : Standing → LogEntry → Type 0) (mark_of : C → ℕ) where
-  -- where the hooks before the attempts stand somewhere, the log is in order
-  opens_logged : (calls : Calls M K) (client : HttpSession) (first : Seen) (mark behind : ℕ)
-      (p : Place K) → (p ≡ place.Lost → ⊥) → first.log ≡ []
-      → OpensSoFar allows first mark p (seen_with calls client) behind
-      → (at : Station) × IsLogged allows (log_of calls) at
-  opens_logged calls client first mark behind (place.Behind last) known none o =
-      called_logged allows first (seen_with calls client) mark behind (station_of last)
-      QueuesNothing (log_of calls) none refl o
-  opens_logged calls client first mark behind (place.Ended how) known none o =
-      called_logged allows first (seen_with calls client) mark behind (end_station how)
-      (QueuesAtEnd how) (log_of calls) none refl o
-  opens_logged calls client first mark behind place.Lost known none o = absurd (known refl)
+  -- up to the exchange the log is in order, up to where the hooks stand
+  pub opening_stands : (calls : Calls M K) (context : C) (client : HttpSession)
+      (tries : List AttemptRecord) → IsOpening allows mark_of calls context client tries
+      → IsLogged allows (log_of calls) (station_at calls.at)
+  opening_stands calls context client tries o =
+      (called_logged allows o.first (seen_with calls client) o.mark (mark_of context)
+      (station_at calls.at) QueuesNothing (log_of calls) o.none refl o.so_far).1
 
   pub opening_logged : (calls : Calls M K) (context : C) (client : HttpSession)
       (tries : List AttemptRecord) → IsOpening allows mark_of calls context client tries
       → (at : Station) × IsLogged allows (log_of calls) at
   opening_logged calls context client tries o =
-      opens_logged calls client o.first o.mark (mark_of context) (place_of calls.at) o.known o.none
-      o.opens
+      (station_at calls.at, opening_stands calls context client tries o)
+
+  -- behind one call more it is in order up to where that leads
+  pub logged_more : (c d : Calls M K) (context context' : C) (client left : HttpSession)
+      (tries : List AttemptRecord) (which : Hook) (to : Station)
+      (queues : Writing → Writing → List HttpTask → Type 0)
+      → Turns allows which (station_at c.at) to queues (seen_with c client) (mark_of context)
+      (seen_with d left) (mark_of context')
+      → IsOpening allows mark_of c context client tries → IsLogged allows (log_of d) to
+  logged_more c d context context' client left tries which to queues turn o =
+      (called_logged allows o.first (seen_with d left) o.mark (mark_of context') to
+      (λ a b wrote. Unit {0}) (log_of d) o.none refl
+      (HasCalled-more allows QueuesNothing queues (λ a b wrote. Unit {0})
+      (λ a b c v w first then. tt) o.first o.mark which station.accepted (station_at c.at) to
+      (seen_with c client) (mark_of context) (seen_with d left) (mark_of context')
+      o.so_far turn)).1
+
+  -- and behind none it is as it was
+  pub logged_same : (c d : Calls M K) (context : C) (client : HttpSession)
+      (tries : List AttemptRecord) → log_of d ≡ log_of c
+      → IsOpening allows mark_of c context client tries
+      → (at : Station) × IsLogged allows (log_of d) at
+  logged_same c d context client tries same o =
+      subst (λ (l : List LogEntry). (at : Station) × IsLogged allows l at) (sym same)
+      (opening_logged c context client tries o)
 
   -- the context was made, and the calls so far are that one
   pub begun_calls : (c d : Calls M K) (client left : HttpSession) (context : C)
@@ -133,29 +178,28 @@ module _ {C M K : Type 0} (allows : Standing → LogEntry → Type 0) (mark_of :
     first = seen_with c client;
     mark = mark_of context;
     none = none;
-    opens = subst (λ (a : At K). OpensSoFar allows (seen_with c client) (mark_of context)
-        (place_of a) (seen_with d left) (mark_of context)) (sym begun.1) called;
-    known = λ lost. not_lost (sym (ap (λ (a : At K). place_of a) begun.1) ∙ lost);
+    so_far = subst (λ (a : At K). HasCalled allows (seen_with c client) (mark_of context)
+        station.accepted (station_at a) QueuesNothing (seen_with d left) (mark_of context))
+        (sym begun.1) called;
+    goes = subst (λ (a : At K). GoesOn a) (sym begun.1) tt;
+    named = subst (λ (a : At K). TellsPeer a (log_of d)) (sym begun.1) tt;
     untried = λ still. untried;
   }
-    where
-      not_lost : {last : Called K} → place.Behind last ≡ place.Lost → ⊥
-      not_lost {last} same = cc
 
 module _ {L C M K : Type 0} (allows : Standing → LogEntry → Type 0) (mark_of : C → ℕ) where
   -- no call was made yet, and none is to be
-  pub unopened_calls : (calls : Calls M K) (next : Phase L C) → log_of calls ≡ []
-      → is_connecting next ≡ false → CallsSoFar allows mark_of calls next
-  unopened_calls calls ReadHead none shut = none
-  unopened_calls calls (Connect context session tries) none shut = absurd (true≢false shut)
-  unopened_calls calls (Relay a) none shut = none_logged allows (log_of calls) none
-  unopened_calls calls (Fail link lease keep session error) none shut =
+  pub unopened_calls : (calls : Calls M K) (next : Phase L C) (work : Work) → log_of calls ≡ []
+      → is_connecting next ≡ false → CountsHead next work → CallsSoFar allows mark_of calls next
+  unopened_calls calls ReadHead work none shut counts = none
+  unopened_calls calls (Connect context session tries) work none shut counts =
+      absurd (true≢false shut)
+  unopened_calls calls (Prepare context session link lease) work none shut counts = absurd counts
+  unopened_calls calls (Relay a) work none shut counts = absurd counts
+  unopened_calls calls (Fail link lease keep session error) work none shut counts = absurd counts
+  unopened_calls calls (Close link lease keep outcome) work none shut counts = absurd counts
+  unopened_calls calls (Answer session owed attempts) work none shut counts =
       none_logged allows (log_of calls) none
-  unopened_calls calls (Close link lease keep outcome) none shut =
-      none_logged allows (log_of calls) none
-  unopened_calls calls (Answer session owed attempts) none shut =
-      none_logged allows (log_of calls) none
-  unopened_calls calls (Ended outcome attempts) none shut =
+  unopened_calls calls (Ended outcome attempts) work none shut counts =
       none_logged allows (log_of calls) none
 
   -- wherever the request stands its log is in order
@@ -164,23 +208,52 @@ module _ {L C M K : Type 0} (allows : Standing → LogEntry → Type 0) (mark_of
   calls_logged calls ReadHead so_far = none_logged allows (log_of calls) so_far
   calls_logged calls (Connect context session tries) so_far =
       opening_logged allows mark_of calls context session.value tries so_far
-  calls_logged calls (Relay a) so_far = so_far
+  calls_logged calls (Prepare context session link lease) so_far =
+      opening_logged allows mark_of calls context session.value (tries_in lease) so_far.0
+  calls_logged calls (Relay a) so_far = (station.sent, so_far)
   calls_logged calls (Fail link lease keep session error) so_far = so_far
   calls_logged calls (Close link lease keep outcome) so_far = so_far
   calls_logged calls (Answer session owed attempts) so_far = so_far
   calls_logged calls (Ended outcome attempts) so_far = so_far
 
-  -- a request that has a link calls none of the hooks before it any more
-  pub linked_calls : (state : L → LinkState) (start_at : L → LinkStart) (calls : Calls M K)
-      (next : Phase L C) → links_held state start_at next ≡ 1
-      → (at : Station) × IsLogged allows (log_of calls) at → CallsSoFar allows mark_of calls next
-  linked_calls state start_at calls ReadHead one logged = cc
-  linked_calls state start_at calls (Connect context session tries) one logged = cc
-  linked_calls state start_at calls (Relay a) one logged = logged
-  linked_calls state start_at calls (Fail link lease keep session error) one logged = logged
-  linked_calls state start_at calls (Close link lease keep outcome) one logged = logged
-  linked_calls state start_at calls (Answer session owed attempts) one logged = cc
-  linked_calls state start_at calls (Ended outcome attempts) one logged = cc
+  -- once the exchange has begun none of the hooks before it is called any more
+  pub begun_logged : (calls : Calls M K) (next : Phase L C) → IsBegun next
+      → IsLogged allows (log_of calls) station.sent → CallsSoFar allows mark_of calls next
+  begun_logged calls ReadHead begun logged = absurd begun
+  begun_logged calls (Connect context session tries) begun logged = absurd begun
+  begun_logged calls (Prepare context session link lease) begun logged = absurd begun
+  begun_logged calls (Relay a) begun logged = logged
+  begun_logged calls (Fail link lease keep session error) begun logged = (station.sent, logged)
+  begun_logged calls (Close link lease keep outcome) begun logged = (station.sent, logged)
+  begun_logged calls (Answer session owed attempts) begun logged = absurd begun
+  begun_logged calls (Ended outcome attempts) begun logged = absurd begun
+
+  -- while it goes on the log stands where it began
+  pub relaying_logged : (calls : Calls M K) (phase : Phase L C) → is_relaying phase ≡ true
+      → CallsSoFar allows mark_of calls phase → IsLogged allows (log_of calls) station.sent
+  relaying_logged calls ReadHead is so_far = absurd (true≢false (sym is))
+  relaying_logged calls (Connect context session tries) is so_far = absurd (true≢false (sym is))
+  relaying_logged calls (Prepare context session link lease) is so_far =
+      absurd (true≢false (sym is))
+  relaying_logged calls (Relay a) is so_far = so_far
+  relaying_logged calls (Fail link lease keep session error) is so_far =
+      absurd (true≢false (sym is))
+  relaying_logged calls (Close link lease keep outcome) is so_far = absurd (true≢false (sym is))
+  relaying_logged calls (Answer session owed attempts) is so_far = absurd (true≢false (sym is))
+  relaying_logged calls (Ended outcome attempts) is so_far = absurd (true≢false (sym is))
+
+  -- nor in an attempt that left its link before
+  pub left_calls : (calls : Calls M K) (link : L) (lease : Lease) (next : Phase L C)
+      → LeavesLink link lease next → (at : Station) × IsLogged allows (log_of calls) at
+      → CallsSoFar allows mark_of calls next
+  left_calls calls link lease ReadHead left logged = absurd left
+  left_calls calls link lease (Connect context session tries) left logged = absurd left
+  left_calls calls link lease (Prepare context session other by) left logged = absurd left
+  left_calls calls link lease (Relay a) left logged = absurd left
+  left_calls calls link lease (Fail other by keep session error) left logged = logged
+  left_calls calls link lease (Close other by keep outcome) left logged = logged
+  left_calls calls link lease (Answer session owed attempts) left logged = absurd left
+  left_calls calls link lease (Ended outcome attempts) left logged = absurd left
 
   -- nor one that hooks ended
   pub ended_calls : (calls : Calls M K) (before : List AttemptRecord) (next : Phase L C)
@@ -189,6 +262,7 @@ module _ {L C M K : Type 0} (allows : Standing → LogEntry → Type 0) (mark_of
   ended_calls calls before ReadHead work counts shut logged = absurd counts
   ended_calls calls before (Connect context session tries) work counts shut logged =
       absurd (true≢false shut)
+  ended_calls calls before (Prepare context session link lease) work counts shut logged = absurd counts
   ended_calls calls before (Relay a) work counts shut logged = absurd counts
   ended_calls calls before (Fail link lease keep session error) work counts shut logged =
       absurd counts
@@ -203,41 +277,48 @@ module _ {L C M K : Type 0} (allows : Standing → LogEntry → Type 0) (mark_of
       → CallsSoFar allows mark_of calls next
   answered_calls calls ReadHead work counts logged = absurd counts
   answered_calls calls (Connect context session tries) work counts logged = absurd counts
+  answered_calls calls (Prepare context session link lease) work counts logged = absurd counts
   answered_calls calls (Relay a) work counts logged = absurd counts
   answered_calls calls (Fail link lease keep session error) work counts logged = absurd counts
   answered_calls calls (Close link lease keep outcome) work counts logged = absurd counts
   answered_calls calls (Answer session owed attempts) work counts logged = logged
   answered_calls calls (Ended outcome attempts) work counts logged = logged
 
-  -- the connector was asked, and the calls are those that they were
+  -- the connector gave no link, and the calls are those that they were
   pub asked_calls : (calls : Calls M K) (context : C) (session : Box HttpSession)
-      (tries : List AttemptRecord) (next : Phase L C) → is_opening calls.at ≡ false
-      → KeepsAsked context session next
+      (tries : List AttemptRecord) (next : Phase L C) (state : L → LinkState)
+      (start_at : L → LinkStart) → is_calling calls.at ≡ false
+      → KeepsAsked context session next → links_held state start_at next ≡ 0
       → IsOpening allows mark_of calls context session.value tries
       → CallsSoFar allows mark_of calls next
-  asked_calls calls context session tries ReadHead over keeps o = absurd keeps
-  asked_calls calls context session tries (Connect other stays more) over keeps o =
+  asked_calls calls context session tries ReadHead state start_at over keeps none o = absurd keeps
+  asked_calls calls context session tries (Connect other stays more) state start_at over keeps none
+      o =
       record {
         first = o.first;
         mark = o.mark;
         none = o.none;
-        opens = subst (λ (c : C). OpensSoFar allows o.first o.mark (place_of calls.at)
-            (seen_with calls stays.value) (mark_of c)) (sym keeps.0)
-            (subst (λ (b : Box HttpSession). OpensSoFar allows o.first o.mark (place_of calls.at)
-            (seen_with calls b.value) (mark_of context)) (sym keeps.1) o.opens);
-        known = o.known;
+        so_far = subst (λ (c : C). HasCalled allows o.first o.mark station.accepted
+            (station_at calls.at) QueuesNothing (seen_with calls stays.value) (mark_of c))
+            (sym keeps.0)
+            (subst (λ (b : Box HttpSession). HasCalled allows o.first o.mark station.accepted
+            (station_at calls.at) QueuesNothing (seen_with calls b.value) (mark_of context))
+            (sym keeps.1) o.so_far);
+        goes = o.goes;
+        named = o.named;
         untried = λ is. absurd (true≢false (sym is ∙ over));
       }
-  asked_calls calls context session tries (Relay a) over keeps o =
-      opening_logged allows mark_of calls context session.value tries o
-  asked_calls calls context session tries (Fail link lease keep stays error) over keeps o =
-      opening_logged allows mark_of calls context session.value tries o
-  asked_calls calls context session tries (Close link lease keep outcome) over keeps o =
-      opening_logged allows mark_of calls context session.value tries o
-  asked_calls calls context session tries (Answer stays owed attempts) over keeps o =
-      opening_logged allows mark_of calls context session.value tries o
-  asked_calls calls context session tries (Ended outcome attempts) over keeps o =
-      opening_logged allows mark_of calls context session.value tries o
+  asked_calls calls context session tries (Prepare other stays link lease) state start_at over keeps
+      none o = cc
+  asked_calls calls context session tries (Relay a) state start_at over keeps none o = cc
+  asked_calls calls context session tries (Fail link lease keep stays error) state start_at over
+      keeps none o = cc
+  asked_calls calls context session tries (Close link lease keep outcome) state start_at over keeps
+      none o = cc
+  asked_calls calls context session tries (Answer stays owed attempts) state start_at over keeps
+      none o = opening_logged allows mark_of calls context session.value tries o
+  asked_calls calls context session tries (Ended outcome attempts) state start_at over keeps none
+      o = opening_logged allows mark_of calls context session.value tries o
 
   -- the settling of a phase calls no hook
   pub settled_calls : (calls : Calls M K) (next settled : Phase L C)
@@ -246,6 +327,8 @@ module _ {L C M K : Type 0} (allows : Standing → LogEntry → Type 0) (mark_of
   settled_calls calls ReadHead settled before after does so_far =
       subst (λ (k : Phase L C). CallsSoFar allows mark_of calls k) (sym does.0) so_far
   settled_calls calls (Connect context session tries) settled before after does so_far =
+      subst (λ (k : Phase L C). CallsSoFar allows mark_of calls k) (sym does.0) so_far
+  settled_calls calls (Prepare context session link lease) settled before after does so_far =
       subst (λ (k : Phase L C). CallsSoFar allows mark_of calls k) (sym does.0) so_far
   settled_calls calls (Relay a) settled before after does so_far =
       subst (λ (k : Phase L C). CallsSoFar allows mark_of calls k) (sym does.0) so_far

@@ -22,7 +22,7 @@ use Rattle.relay_valid.specs.Unfit.{IsUnfit}
 use Rattle.relay_valid.specs.Valid.{AsksFor, AnswersWith, IsValid}
 use Rattle.relay_valid.proofs.AskedLemmas.{asks_head, asks_unrefused, valid_over}
 use Rattle.relay_valid.proofs.UnfitLemmas.{relayed_fit}
-use Rattle.relay_proxy.specs.Ahead.{IsOwedAhead, IsStoppedFor, LetsGo}
+use Rattle.relay_proxy.specs.Ahead.{IsOwedAhead, IsStoppedFor, LetsGo, goes_on}
 use Rattle.relay_proxy.specs.Answer.{past_at}
 use Rattle.relay_proxy.specs.Relayable.{IsAccepted, IsConnect, IsRelayable, NamesUpgrade}
 use Rattle.relay_proxy.specs.Sent.{Sends, RefusesToSend}
@@ -397,18 +397,26 @@ one_station : (called : List LogEntry) (a b : Station) → Accepts station.accep
 one_station called a b at_a at_b other =
     let same : Some a ≡ Some b = sym at_a ∙ at_b in other (cc)
 
+-- where the request goes on it does not stand where it ends
+not_there : (a b : Station) → goes_on a ≡ false → goes_on b ≡ true → a ≢ b
+not_there a b stops goes same =
+    true≢false (sym goes ∙ ap (λ (x : Station). goes_on x) (sym same) ∙ stops)
+
 -- hooks that let the request go did not end it
 ahead_or_goes : (s : Start) (p : Passed) (why : Option Error) (text : List ℕ)
     → IsOwedAhead s p why text → LetsGo s.called → ⊥
 ahead_or_goes s p why text
     (IsOwedAhead.by_answer head tasks t has order is_answer is) lets =
-    one_station s.called station.answered station.trying order lets (λ same. cc)
+    one_station s.called station.answered lets.0 order lets.1
+    (not_there station.answered lets.0 refl lets.2)
 ahead_or_goes s p why text
     (IsOwedAhead.by_error head e t has (IsStoppedFor.by_hook order last) is) lets =
-    one_station s.called station.failing station.trying order lets (λ same. cc)
+    one_station s.called station.failing lets.0 order lets.1
+    (not_there station.failing lets.0 refl lets.2)
 ahead_or_goes s p why text
     (IsOwedAhead.by_error head e t has (IsStoppedFor.is_purge order same) is) lets =
-    one_station s.called station.purging station.trying order lets (λ same. cc)
+    one_station s.called station.purging lets.0 order lets.1
+    (not_there station.purging lets.0 refl lets.2)
 
 -- a valid request that had no link is served, where it is finished and no fault was met
 whole_unlinked : (s : Start) (p : Passed) (w : World) (outcome : Outcome)
@@ -451,7 +459,7 @@ asks_still s p w head sent asks = record {
 whole_linked : (s : Start) (p : Passed) (w : World) (link : LinkState) (start : LinkStart)
     (keep : Bool) (told : Option Error) (outcome : Outcome)
     → EndsLinked s p w link start keep told outcome → (head : RequestHead)
-    → ((e : Error) → ¬ (RefusesToSend s.called head e))
+    → ((keep : Bool) (e : Error) → ¬ (RefusesToSend s.called head keep e))
     → ((sent : RequestHead) → Sends s.called head sent → Agrees head sent)
     → AsksFor (origin_of s head head false) p w.client
     → ((sent : RequestHead) → Sends s.called head sent → AnswersWith sent.method false p link)
@@ -483,7 +491,7 @@ whole_linked s p w link start keep told (Served (Some e) reuse) (inl ends) head 
 whole_linked s p w link start keep told (Served (Some e) reuse) (inr ends) head goes agree asks
     answers client faults =
     let r = ends.refused in
-    absurd (goes e (subst (λ (h : RequestHead). RefusesToSend s.called h e)
+    absurd (goes keep e (subst (λ (h : RequestHead). RefusesToSend s.called h keep e)
     (asks_head (origin_of s head head false) p w.client r.head r.accepted.framing r.accepted.len
     asks
     r.accepted.has) r.refused))

@@ -1,18 +1,20 @@
--- What a call of a hook before the attempts makes of a request that wants a link.
+-- What a call of a hook makes of a request that wants a link.
 --
---   turned, lost_log           the call, by the place that it leads to
---   opening_on, lost_logged    the calls so far, behind it
+--   turned, named              the call, by where it leads
+--   opening_on                 the calls so far, behind it
 --   goes_connecting            the request goes on
 --   answered                   hooks answered it
 --   stopped                    hooks stopped it with an error
 --   counts_called ..           what is counted of the call
 --   stop_text                  what answers such an error
-use Rattle.std.proofs.Common.{◌≡◌, ℕ, ◌≤◌, true, false, List, [], ◌∷◌, ◌++◌, Some, None, refl, sym, ap, subst, ◌∙◌, arith, is_some, length, length-append, true≢false}
+use Rattle.std.proofs.Common.{◌≡◌, ℕ, ◌≤◌, true, false, List, [], ◌∷◌, ◌++◌, Ok, Some, None, refl, sym, ap, subst, ◌∙◌, inl, inr, arith, length, length-append}
 use Rattle.relay_tasks.specs.Head.{RequestHead}
 use Rattle.relay_tasks.specs.declared.Error.{Error}
 use Rattle.relay_tasks.specs.declared.ErrorSource.TheVariants.{Internal}
+use Rattle.relay_tasks.specs.declared.Peer.{Peer}
 use Rattle.relay_tasks.specs.declared.hook.Hook.{Hook}
 use Rattle.relay_tasks.specs.declared.log.LogEntry.{LogEntry}
+use Rattle.relay_tasks.specs.declared.task.HttpTask.{HttpTask}
 use Rattle.relay_session.specs.Asked.{request_of}
 use Rattle.relay_session.specs.Response.{IsOpen}
 use Rattle.relay_session.specs.declared.session.HttpSession.{HttpSession}
@@ -24,20 +26,24 @@ use Rattle.relay_session.specs.declared.writing.Outgoing.TheVariants as outgoing
 use Rattle.relay_session.specs.declared.writing.Writing.{Writing}
 use Rattle.relay_modules.specs.declared.seen.Seen.{Seen}
 use Rattle.relay_hooks.specs.Standing.{Standing}
-use Rattle.relay_phases.specs.Order.{Accepts, Station}
+use Rattle.relay_phases.specs.Order.{Accepts, Station, next}
 use Rattle.relay_phases.specs.Order.{Station as station}
-use Rattle.relay_opening.specs.Opens.{OpensSoFar, TurnsOn, TurnsTo}
-use Rattle.relay_opening.specs.Place.{end_station, next_hook, station_of}
-use Rattle.relay_opening.specs.declared.place.Called.{Called}
+use Rattle.relay_phases.specs.Turns.{HasCalled, QueuesNothing, Turns}
+use Rattle.relay_phases.proofs.OrderLemmas.{Accepts-one}
+use Rattle.relay_phases.proofs.TurnLemmas.{HasCalled-more}
+use Rattle.relay_opening.specs.Opens.{TurnsTo}
+use Rattle.relay_opening.specs.Place.{end_station, station_of}
 use Rattle.relay_opening.specs.declared.place.Place.{Place}
 use Rattle.relay_opening.specs.declared.place.Place.TheVariants as place
 use Rattle.relay_opening.specs.declared.place.End.{End}
 use Rattle.relay_opening.specs.declared.place.End.TheVariants as end
 use Rattle.relay_opening.proofs.QueuedLemmas.{end_open}
+use Rattle.relay_trying.specs.Trying.{NamesPeer}
 use Rattle.relay_attempt.specs.Passed.{Passed}
 use Rattle.relay_proxy.specs.Ahead.{IsOwedAhead, IsStoppedFor, unrelayed}
 use Rattle.relay_proxy.specs.Answer.{QueuesAnswer, answer_for}
-use Rattle.relay_proxy.specs.Calls.{CallsNext, CountsCalls, IsLogged, IsOpening, is_opening, leads_to, log_of, place_of, seen_with}
+use Rattle.relay_proxy.specs.Calls.{CallsNext, CountsCalls, GoesOn, IsLogged, IsOpening, TakesNext, TellsPeer, is_calling, leads_at, leads_to, log_of, seen_with, station_at}
+use Rattle.relay_proxy.specs.Named.{IsNamed, peer_in}
 use Rattle.relay_proxy.specs.Passed.{Start, World, called_to}
 use Rattle.relay_proxy.specs.Phases.{IsConnecting}
 use Rattle.relay_proxy.specs.Relayable.{IsAccepted}
@@ -48,27 +54,9 @@ use Rattle.relay_proxy.specs.declared.calls.Opened.{Opened}
 use Rattle.relay_proxy.specs.declared.calls.Opened.TheVariants as led
 use Rattle.relay_proxy.specs.declared.record.AttemptRecord.{AttemptRecord}
 use Rattle.relay_proxy.specs.declared.work.Work.{Work}
-use Rattle.relay_proxy.proofs.CallLemmas.{opening_logged}
-use Rattle.relay_proxy.proofs.OpenSteps.{AnswersAs, called_accepted, ended_order, hooks_answer, stands_first, stays_connecting}
-
--- where a hook comes next, one was called before
-due_behind : {K : Type 0} (a : At K) → is_opening a ≡ true
-    → (last : Called K) × (place_of a ≡ place.Behind last)
-due_behind (at.Kept kept) due = absurd (true≢false (sym due))
-due_behind (at.Opening (place.Behind last)) due = (last, refl)
-due_behind (at.Opening (place.Ended how)) due = absurd (true≢false (sym due))
-due_behind (at.Opening place.Lost) due = absurd (true≢false (sym due))
-
--- behind it the request goes on: another hook comes next, or the attempts do
-abbrev pub GoesOn : {K : Type 0} → Place K → Type 0
-GoesOn (place.Behind last) = Unit {0}
-GoesOn (place.Ended end.Attempts) = Unit {0}
-GoesOn (place.Ended end.Answered) = ⊥
-GoesOn (place.Ended end.Purge) = ⊥
-GoesOn (place.Ended end.Declined) = ⊥
-GoesOn (place.Ended (end.Unwritten why)) = ⊥
-GoesOn (place.Ended (end.Failed error)) = ⊥
-GoesOn place.Lost = ⊥
+use Rattle.relay_proxy.proofs.CallLemmas.{logged_more, logged_same, none_called, one_called, opening_stands}
+use Rattle.relay_proxy.proofs.NamedLemmas.{names_one, peer_last}
+use Rattle.relay_proxy.proofs.OpenSteps.{AnswersAs, called_accepted, hooks_answer, stands_first, stays_connecting}
 
 -- one error stops a request
 same_stop : (a b : Error) → led.Stopped a ≡ led.Stopped b → a ≡ b
@@ -82,17 +70,6 @@ StopsFor end.Purge e = e ≡ unrelayed Internal
 StopsFor end.Declined e = ⊥
 StopsFor (end.Unwritten why) e = ⊥
 StopsFor (end.Failed error) e = e ≡ error
-
--- what it led to says which, or that the place is known
-goes_of : {K : Type 0} (p : Place K) → leads_to p ≡ led.GoesOn → GoesOn p
-goes_of (place.Behind last) is = tt
-goes_of (place.Ended end.Attempts) is = tt
-goes_of (place.Ended end.Answered) is = cc
-goes_of (place.Ended end.Purge) is = cc
-goes_of (place.Ended end.Declined) is = cc
-goes_of (place.Ended (end.Unwritten why)) is = cc
-goes_of (place.Ended (end.Failed error)) is = cc
-goes_of place.Lost is = cc
 
 -- the hooks are over so, where they answered the request
 record IsDone {K : Type 0} (p : Place K) : Type 0 where
@@ -132,110 +109,167 @@ stop_of (place.Ended (end.Failed error)) e is =
 stop_of place.Lost e is = cc
 
 -- where a call led anywhere but out of memory its place is known
-pub known_of : {K : Type 0} (p : Place K) (to : Opened) → to ≡ leads_to p
-    → (to ≡ led.OutOfMemory → ⊥) → p ≡ place.Lost → ⊥
-known_of p to is known lost = known (is ∙ ap (λ (q : Place _). leads_to q) lost)
+pub known_at : {K : Type 0} (a : At K) (to : Opened) → to ≡ leads_at a
+    → (to ≡ led.OutOfMemory → ⊥) → a ≡ at.Opening place.Lost → ⊥
+known_at a to is known lost = known (is ∙ ap (λ (b : At _). leads_at b) lost)
+
+-- the place of the hooks before the attempts, or the peer, of a place where the hooks stand
+place_in : {K : Type 0} → At K → Place K
+place_in (at.Kept kept) = place.Lost
+place_in (at.Opening there) = there
+place_in (at.Named peer) = place.Lost
+place_in at.Linked = place.Lost
+
+same_place : {K : Type 0} (p q : Place K) → at.Opening p ≡ at.Opening q → p ≡ q
+same_place p q same = ap (λ (a : At _). place_in a) same
+
+pub same_peer : {K : Type 0} (p q : Peer) → at.Named {K = K} p ≡ at.Named q → p ≡ q
+same_peer p q same = cc
+
+-- nothing was queued twice
+pub quiet_twice : (a b c : Writing) (v w : List HttpTask) → QueuesNothing a b v
+    → QueuesNothing b c w → QueuesNothing a c (v ++ w)
+quiet_twice a b c v w first then = record {
+  same = then.same ∙ first.same;
+  wrote_none = ap (λ (l : List HttpTask). l ++ w) first.wrote_none ∙ then.wrote_none;
+}
 
 module _ {C M K : Type 0} (allows : Standing → LogEntry → Type 0) (mark_of : C → ℕ)
     (old new : Calls M K) (context context' : C) (client left : HttpSession)
     (turns : CallsNext allows old client (mark_of context) new left (mark_of context'))
-    (opens : (first : Seen) (mark : ℕ)
-    → OpensSoFar allows first mark (place_of old.at) (seen_with old client) (mark_of context)
-    → OpensSoFar allows first mark (place_of new.at) (seen_with new left) (mark_of context'))
-    (due : is_opening old.at ≡ true)
   where
     -- a hook was called, and led to that place
     record Turned (p : Place K) : Type 0 where
       which : Hook
-      from : Station
-      turn : TurnsTo allows which from (seen_with old client) (mark_of context)
+      turn : TurnsTo allows which (station_at old.at) (seen_with old client) (mark_of context)
           (seen_with new left) (mark_of context') p
 
-    turned_by : CallsNext allows old client (mark_of context) new left
-        (mark_of context')
-        → (last : Called K) → place_of old.at ≡ place.Behind last → (p : Place K)
-        → place_of new.at ≡ p → (p ≡ place.Lost → ⊥) → Turned p
-    turned_by (CallsNext.a_turn t) last was p is known =
-        let has = is_some old.session.modules in
-        let own : TurnsOn allows has (place.Behind last) (seen_with old client)
-        (mark_of context) (seen_with new left) (mark_of context') p =
-        subst (λ (q : Place K). TurnsOn allows has (place.Behind last) (seen_with old client)
-        (mark_of context) (seen_with new left) (mark_of context') q) is
-        (subst (λ (q : Place K). TurnsOn allows has q (seen_with old client)
-        (mark_of context) (seen_with new left) (mark_of context') (place_of new.at)) was t) in
-        record { which = next_hook last has; from = station_of last; turn = own }
-    turned_by (CallsNext.lost lost same) last was p is known = absurd (known (sym is ∙ lost))
+    turned_by : CallsNext allows old client (mark_of context) new left (mark_of context')
+        → (p : Place K) → new.at ≡ at.Opening p → (p ≡ place.Lost → ⊥) → Turned p
+    turned_by (TakesNext.leads which comes there to turn) p is known = record {
+      which = which;
+      turn = subst (λ (q : Place K). TurnsTo allows which (station_at old.at)
+          (seen_with old client) (mark_of context) (seen_with new left) (mark_of context') q)
+          (same_place there p (sym to ∙ is)) turn;
+    }
+    turned_by (TakesNext.names was peer to names) p is known =
+        absurd (let clash : at.Named peer ≡ at.Opening p = sym to ∙ is in cc)
+    turned_by (TakesNext.lost to same) p is known =
+        absurd (known (sym (same_place place.Lost p (sym to ∙ is))))
 
     -- the call, by the place that it leads to
-    turned : (p : Place K) → place_of new.at ≡ p → (p ≡ place.Lost → ⊥) → Turned p
-    turned p is known =
-        let was = due_behind old.at due in turned_by turns was.0 was.1 p is known
+    turned : (p : Place K) → new.at ≡ at.Opening p → (p ≡ place.Lost → ⊥) → Turned p
+    turned p is known = turned_by turns p is known
 
-    -- out of memory no entry is new
-    lost_by : CallsNext allows old client (mark_of context) new left
-        (mark_of context')
-        → (last : Called K) → place_of old.at ≡ place.Behind last → place_of new.at ≡ place.Lost
-        → log_of new ≡ log_of old
-    lost_by (CallsNext.a_turn t) last was is =
-        let has = is_some old.session.modules in
-        subst (λ (q : Place K). TurnsOn allows has (place.Behind last) (seen_with old client)
-        (mark_of context) (seen_with new left) (mark_of context') q) is
-        (subst (λ (q : Place K). TurnsOn allows has q (seen_with old client)
-        (mark_of context) (seen_with new left) (mark_of context') (place_of new.at)) was t)
-    lost_by (CallsNext.lost lost same) last was is = same
+    -- a peer was named
+    record IsNaming (peer : Peer) : Type 0 where
+      was : old.at ≡ at.Opening (place.Ended end.Attempts)
+      names : NamesPeer allows (seen_with old client) (mark_of context) (seen_with new left)
+          (mark_of context') (Ok peer)
 
-    pub lost_log : place_of new.at ≡ place.Lost → log_of new ≡ log_of old
-    lost_log is = let was = due_behind old.at due in lost_by turns was.0 was.1 is
+    named_by : CallsNext allows old client (mark_of context) new left (mark_of context')
+        → (peer : Peer) → new.at ≡ at.Named peer → IsNaming peer
+    named_by (TakesNext.leads which comes there to turn) peer is =
+        absurd (let clash : at.Opening there ≡ at.Named peer = sym to ∙ is in cc)
+    named_by (TakesNext.names was other to names) peer is = record {
+      was = was;
+      names = subst (λ (q : Peer). NamesPeer allows (seen_with old client) (mark_of context)
+          (seen_with new left) (mark_of context') (Ok q)) (same_peer other peer (sym to ∙ is)) names;
+    }
+    named_by (TakesNext.lost to same) peer is =
+        absurd (let clash : at.Opening place.Lost ≡ at.Named peer = sym to ∙ is in cc)
 
-    -- ---- the calls so far
+    -- no call of these leads to a link
+    unlinked_by : CallsNext allows old client (mark_of context) new left (mark_of context')
+        → new.at ≡ at.Linked → ⊥
+    unlinked_by (TakesNext.leads which comes there to turn) is =
+        let clash : at.Opening there ≡ at.Linked = sym to ∙ is in cc
+    unlinked_by (TakesNext.names was peer to names) is =
+        let clash : at.Named peer ≡ at.Linked = sym to ∙ is in cc
+    unlinked_by (TakesNext.lost to same) is =
+        let clash : at.Opening place.Lost ≡ at.Linked = sym to ∙ is in cc
 
-    pub opening_on : (tries : List AttemptRecord) → (place_of new.at ≡ place.Lost → ⊥)
+    -- ---- the request goes on
+
+    -- a hook was called that queued nothing, behind which the request goes on
+    record Goes (a : At K) : Type 0 where
+      which : Hook
+      turn : Turns allows which (station_at old.at) (station_at a) QueuesNothing
+          (seen_with old client) (mark_of context) (seen_with new left) (mark_of context')
+      goes : GoesOn a
+      tells : TellsPeer a (log_of new)
+
+    names_peer : (peer : Peer) → IsNaming peer → IsNamed (log_of new) peer
+    names_peer peer n =
+        ap (λ (l : List LogEntry). peer_in l) n.names.turn.calls.log
+        ∙ peer_last (log_of old) n.names.turn.e peer
+        (names_one n.names.turn.e peer n.names.turn.hook n.names.output)
+
+    goes_by : (a : At K) → new.at ≡ a → leads_at a ≡ led.GoesOn → Goes a
+    goes_by (at.Kept kept) is goes = cc
+    goes_by (at.Opening (place.Behind last)) is goes =
+        let t = turned (place.Behind last) is (λ lost. cc) in
+        record { which = t.which; turn = t.turn; goes = tt; tells = tt }
+    goes_by (at.Opening (place.Ended end.Attempts)) is goes =
+        let t = turned (place.Ended end.Attempts) is (λ lost. cc) in
+        record { which = t.which; turn = t.turn.0; goes = tt; tells = tt }
+    goes_by (at.Opening (place.Ended end.Answered)) is goes = cc
+    goes_by (at.Opening (place.Ended end.Purge)) is goes = cc
+    goes_by (at.Opening (place.Ended end.Declined)) is goes = cc
+    goes_by (at.Opening (place.Ended (end.Unwritten why))) is goes = cc
+    goes_by (at.Opening (place.Ended (end.Failed error))) is goes = cc
+    goes_by (at.Opening place.Lost) is goes = cc
+    goes_by (at.Named peer) is goes =
+        let n = named_by turns peer is in
+        record {
+          which = _;
+          turn = subst (λ (a : At K). Turns allows _ (station_at a) station.named QueuesNothing
+              (seen_with old client) (mark_of context) (seen_with new left) (mark_of context'))
+              (sym n.was) n.names.turn;
+          goes = tt;
+          tells = names_peer peer n;
+        }
+    goes_by at.Linked is goes = absurd (unlinked_by turns is)
+
+    pub opening_on : (tries : List AttemptRecord) → is_calling old.at ≡ true
+        → leads_at new.at ≡ led.GoesOn
         → IsOpening allows mark_of old context client tries
         → IsOpening allows mark_of new context' left tries
-    opening_on tries known o = record {
-      first = o.first;
-      mark = o.mark;
-      none = o.none;
-      opens = opens o.first o.mark o.opens;
-      known = known;
-      untried = λ still. o.untried due;
-    }
+    opening_on tries due goes o =
+        let g = goes_by new.at refl goes in
+        record {
+          first = o.first;
+          mark = o.mark;
+          none = o.none;
+          so_far = HasCalled-more allows QueuesNothing QueuesNothing QueuesNothing quiet_twice
+              o.first o.mark g.which station.accepted (station_at old.at) (station_at new.at)
+              (seen_with old client) (mark_of context) (seen_with new left) (mark_of context')
+              o.so_far g.turn;
+          goes = g.goes;
+          named = g.tells;
+          untried = λ still. o.untried due;
+        }
 
-    pub lost_logged : (tries : List AttemptRecord) → place_of new.at ≡ place.Lost
+    pub goes_connecting : leads_at new.at ≡ led.GoesOn → (s : Start) (q : Passed)
+        (w : World) (tries : List AttemptRecord) → tries ≡ []
+        → IsConnecting (called_to s (log_of old)) q w client tries
+        → IsConnecting (called_to s (log_of new)) q w left tries
+    goes_connecting goes s q w tries none k =
+        let g = goes_by new.at refl goes in
+        stays_connecting allows old new client left (mark_of context) (mark_of context')
+        g.which (station_at old.at) (station_at new.at) g.turn s q w tries (inl none) k
+
+    -- ---- it does not
+
+    -- the log leads to where the call leads
+    order_on : (tries : List AttemptRecord) (e : LogEntry) (to : Station)
+        → log_of new ≡ log_of old ++ e ∷ [] → next (station_at old.at) e ≡ Some to
         → IsOpening allows mark_of old context client tries
-        → (at : Station) × IsLogged allows (log_of new) at
-    lost_logged tries lost o =
-        subst (λ (l : List LogEntry). (at : Station) × IsLogged allows l at) (sym (lost_log lost))
-        (opening_logged allows mark_of old context client tries o)
-
-    -- ---- the run so far
-
-    -- the request goes on
-    connects_by : (p : Place K) → place_of new.at ≡ p → GoesOn p → (s : Start) (q : Passed)
-        (w : World) (tries : List AttemptRecord)
-        → IsConnecting (called_to s (log_of old)) q w client tries
-        → IsConnecting (called_to s (log_of new)) q w left tries
-    connects_by (place.Behind last) is goes s q w tries k =
-        let t = turned (place.Behind last) is (λ lost. cc) in
-        stays_connecting allows old new client left (mark_of context) (mark_of context')
-        t.which t.from (station_of last) t.turn s q w tries k
-    connects_by (place.Ended end.Attempts) is goes s q w tries k =
-        let t = turned (place.Ended end.Attempts) is (λ lost. cc) in
-        stays_connecting allows old new client left (mark_of context) (mark_of context')
-        t.which t.from (end_station end.Attempts) t.turn.0 s q w tries k
-    connects_by (place.Ended end.Answered) is goes s q w tries k = absurd goes
-    connects_by (place.Ended end.Purge) is goes s q w tries k = absurd goes
-    connects_by (place.Ended end.Declined) is goes s q w tries k = absurd goes
-    connects_by (place.Ended (end.Unwritten why)) is goes s q w tries k = absurd goes
-    connects_by (place.Ended (end.Failed error)) is goes s q w tries k = absurd goes
-    connects_by place.Lost is goes s q w tries k = absurd goes
-
-    pub goes_connecting : leads_to (place_of new.at) ≡ led.GoesOn → (s : Start) (q : Passed)
-        (w : World) (tries : List AttemptRecord)
-        → IsConnecting (called_to s (log_of old)) q w client tries
-        → IsConnecting (called_to s (log_of new)) q w left tries
-    goes_connecting goes s q w tries k =
-        connects_by (place_of new.at) refl (goes_of (place_of new.at) goes) s q w tries k
+        → Accepts station.accepted (log_of new) to
+    order_on tries e to more leads o =
+        subst (λ (l : List LogEntry). Accepts station.accepted l to) (sym more)
+        (Accepts-one station.accepted (station_at old.at) to (log_of old) e
+        (opening_stands allows mark_of old context client tries o).order leads)
 
     -- hooks answered it: what waits is what its client is owed
     pub record Answered (s : Start) (q : Passed) : Type 0 where
@@ -243,13 +277,14 @@ module _ {C M K : Type 0} (allows : Standing → LogEntry → Type 0) (mark_of :
       pub is_open : left.writing.output ≡ outgoing.Open text
       pub owed : IsOwedAhead (called_to s (log_of new)) q None text
 
-    pub answered : leads_to (place_of new.at) ≡ led.Answered → (s : Start) (q : Passed)
-        (w : World) (tries : List AttemptRecord)
+    answered_by : (p : Place K) → new.at ≡ at.Opening p → leads_to p ≡ led.Answered → (s : Start)
+        (q : Passed) (w : World) (tries : List AttemptRecord)
         → IsOpening allows mark_of old context client tries
         → IsConnecting (called_to s (log_of old)) q w client tries → Answered s q
-    answered leads s q w tries o k =
-        let done = done_of (place_of new.at) leads in
-        let t = turned (place.Ended done.how) done.is (λ lost. cc) in
+    answered_by p is leads s q w tries o k =
+        let done = done_of p leads in
+        let t = turned (place.Ended done.how)
+        (is ∙ ap (λ (x : Place K). at.Opening x) done.is) (λ lost. cc) in
         let waits : IsOpen left.writing.output =
         end_open done.how client.writing left.writing t.turn.0.e.wrote t.turn.0.queued
         ([], (k.begins k.head false).output) in
@@ -257,18 +292,28 @@ module _ {C M K : Type 0} (allows : Standing → LogEntry → Type 0) (mark_of :
           text = waits.0;
           is_open = waits.1;
           owed = hooks_answer allows old new client left (mark_of context)
-              (mark_of context') t.which t.from done.how s q w tries waits.0 t.turn.0 done.answers
-              done.at (over done.how done.is tries o) waits.1 k;
+              (mark_of context') t.which (station_at old.at) done.how s q w tries waits.0 t.turn.0
+              done.answers done.at
+              (order_on tries t.turn.0.e (end_station done.how) t.turn.0.calls.log t.turn.0.order o)
+              waits.1 k;
         }
-      where
-        over : (how : End) → place_of new.at ≡ place.Ended how → (tries : List AttemptRecord)
-            → IsOpening allows mark_of old context client tries
-            → Accepts station.accepted (log_of new) (end_station how)
-        over how is tries o = ended_order allows o.first (seen_with new left) o.mark
-            (mark_of context') (place_of new.at) how (log_of new) is o.none refl
-            (opens o.first o.mark o.opens)
 
-    stopped_by : (how : End) (e : Error) → place_of new.at ≡ place.Ended how → StopsFor how e
+    answered_at : (a : At K) → new.at ≡ a → leads_at a ≡ led.Answered → (s : Start)
+        (q : Passed) (w : World) (tries : List AttemptRecord)
+        → IsOpening allows mark_of old context client tries
+        → IsConnecting (called_to s (log_of old)) q w client tries → Answered s q
+    answered_at (at.Kept kept) is leads s q w tries o k = cc
+    answered_at (at.Opening p) is leads s q w tries o k = answered_by p is leads s q w tries o k
+    answered_at (at.Named peer) is leads s q w tries o k = cc
+    answered_at at.Linked is leads s q w tries o k = cc
+
+    pub answered : leads_at new.at ≡ led.Answered → (s : Start) (q : Passed)
+        (w : World) (tries : List AttemptRecord)
+        → IsOpening allows mark_of old context client tries
+        → IsConnecting (called_to s (log_of old)) q w client tries → Answered s q
+    answered leads s q w tries o k = answered_at new.at refl leads s q w tries o k
+
+    stopped_by : (how : End) (e : Error) → new.at ≡ at.Opening (place.Ended how) → StopsFor how e
         → Accepts station.accepted (log_of new) (end_station how) → IsStoppedFor (log_of new) e
     stopped_by end.Attempts e is stops order = absurd stops
     stopped_by end.Answered e is stops order = absurd stops
@@ -285,7 +330,7 @@ module _ {C M K : Type 0} (allows : Standing → LogEntry → Type 0) (mark_of :
         })
 
     -- and queued nothing
-    quiet_by : (how : End) (e : Error) → place_of new.at ≡ place.Ended how → StopsFor how e
+    quiet_by : (how : End) (e : Error) → new.at ≡ at.Opening (place.Ended how) → StopsFor how e
         → left.writing ≡ client.writing
     quiet_by end.Attempts e is stops = absurd stops
     quiet_by end.Answered e is stops = absurd stops
@@ -305,14 +350,17 @@ module _ {C M K : Type 0} (allows : Standing → LogEntry → Type 0) (mark_of :
       pub accepted : IsAccepted (called_to s (log_of new)) q head
       pub why : IsStoppedFor (log_of new) e
 
-    pub stopped : (e : Error) → leads_to (place_of new.at) ≡ led.Stopped e → (s : Start)
-        (q : Passed) (w : World) (tries : List AttemptRecord)
+    stopped_place : (p : Place K) (e : Error) → new.at ≡ at.Opening p → leads_to p ≡ led.Stopped e
+        → (s : Start) (q : Passed) (w : World) (tries : List AttemptRecord)
         → IsOpening allows mark_of old context client tries
         → IsConnecting (called_to s (log_of old)) q w client tries → Stopped s q e
-    stopped e leads s q w tries o k =
-        let stop = stop_of (place_of new.at) e leads in
+    stopped_place p e is leads s q w tries o k =
+        let stop = stop_of p e leads in
+        let at_end : new.at ≡ at.Opening (place.Ended stop.how) =
+        is ∙ ap (λ (x : Place K). at.Opening x) stop.is in
+        let t = turned (place.Ended stop.how) at_end (λ lost. cc) in
         let begins = k.begins k.head false in
-        let same = quiet_by stop.how e stop.is stop.stops in
+        let same = quiet_by stop.how e at_end stop.stops in
         record {
           head = k.head;
           is_open = ap (λ (x : Writing). x.output) same ∙ begins.output;
@@ -321,68 +369,87 @@ module _ {C M K : Type 0} (allows : Standing → LogEntry → Type 0) (mark_of :
           place = ap (λ (x : Writing). x.place) same
               ∙ stands_first client.writing begins.response begins.output;
           accepted = called_accepted s (log_of old) (log_of new) q k.head k.accepted;
-          why = stopped_by stop.how e stop.is stop.stops
-              (ended_order allows o.first (seen_with new left) o.mark (mark_of context')
-              (place_of new.at) stop.how (log_of new) stop.is o.none refl
-              (opens o.first o.mark o.opens));
+          why = stopped_by stop.how e at_end stop.stops
+              (order_on tries t.turn.0.e (end_station stop.how) t.turn.0.calls.log t.turn.0.order
+              o);
         }
 
-    -- ---- what is counted
+    stopped_at : (a : At K) (e : Error) → new.at ≡ a → leads_at a ≡ led.Stopped e → (s : Start)
+        (q : Passed) (w : World) (tries : List AttemptRecord)
+        → IsOpening allows mark_of old context client tries
+        → IsConnecting (called_to s (log_of old)) q w client tries → Stopped s q e
+    stopped_at (at.Kept kept) e is leads s q w tries o k = cc
+    stopped_at (at.Opening p) e is leads s q w tries o k =
+        stopped_place p e is leads s q w tries o k
+    stopped_at (at.Named peer) e is leads s q w tries o k = cc
+    stopped_at at.Linked e is leads s q w tries o k = cc
 
-    pub counts_called : (work : Work) → (place_of new.at ≡ place.Lost → ⊥) → work.called ≤ 1
+    pub stopped : (e : Error) → leads_at new.at ≡ led.Stopped e → (s : Start)
+        (q : Passed) (w : World) (tries : List AttemptRecord)
+        → IsOpening allows mark_of old context client tries
+        → IsConnecting (called_to s (log_of old)) q w client tries → Stopped s q e
+    stopped e leads s q w tries o k = stopped_at new.at e refl leads s q w tries o k
+
+    -- ---- what is counted, and the log
+
+    counts_by : CallsNext allows old client (mark_of context) new left (mark_of context')
+        → (work : Work) → (new.at ≡ at.Opening place.Lost → ⊥) → work.called ≤ 1
         → CountsCalls old new work
-    counts_called work known once = counts_by (place_of new.at) refl known
-      where
-        one_more : (e : LogEntry) → log_of new ≡ log_of old ++ e ∷ []
-            → CountsCalls old new work
-        one_more e is =
-            let more = ap (λ (l : List LogEntry). length l) is
-            ∙ length-append (log_of old) (e ∷ []) in
-            record {
-              counted = omega (arith, once, more);
-              once = omega (arith, more);
-            }
+    counts_by (TakesNext.leads which comes (place.Behind last) to turn) work known once =
+        one_called old new work once turn.e turn.calls.log
+    counts_by (TakesNext.leads which comes (place.Ended how) to turn) work known once =
+        one_called old new work once turn.0.e turn.0.calls.log
+    counts_by (TakesNext.leads which comes place.Lost to turn) work known once =
+        absurd (known to)
+    counts_by (TakesNext.names was peer to names) work known once =
+        one_called old new work once names.turn.e names.turn.calls.log
+    counts_by (TakesNext.lost to same) work known once = absurd (known to)
 
-        counts_by : (p : Place K) → place_of new.at ≡ p → (place_of new.at ≡ place.Lost → ⊥)
-            → CountsCalls old new work
-        counts_by (place.Behind last) is known =
-            let t = turned (place.Behind last) is (λ lost. cc) in one_more t.turn.e t.turn.calls.log
-        counts_by (place.Ended how) is known =
-            let t = turned (place.Ended how) is (λ lost. cc) in
-            one_more t.turn.0.e t.turn.0.calls.log
-        counts_by place.Lost is known = absurd (known is)
+    pub counts_called : (work : Work) → (new.at ≡ at.Opening place.Lost → ⊥) → work.called ≤ 1
+        → CountsCalls old new work
+    counts_called work known once = counts_by turns work known once
 
     -- out of memory there is an entry more or none, and none is counted
+    memory_by : CallsNext allows old client (mark_of context) new left (mark_of context')
+        → (work : Work) → work.called ≡ 0 → CountsCalls old new work
+    memory_by (TakesNext.leads which comes (place.Behind last) to turn) work none =
+        one_called old new work (omega (arith, none)) turn.e turn.calls.log
+    memory_by (TakesNext.leads which comes (place.Ended how) to turn) work none =
+        one_called old new work (omega (arith, none)) turn.0.e turn.0.calls.log
+    memory_by (TakesNext.leads which comes place.Lost to turn) work none = none_called old new work none turn
+    memory_by (TakesNext.names was peer to names) work none =
+        one_called old new work (omega (arith, none)) names.turn.e names.turn.calls.log
+    memory_by (TakesNext.lost to same) work none = none_called old new work none same
+
     pub memory_called : (work : Work) → work.called ≡ 0 → CountsCalls old new work
-    memory_called work none = memory_by (place_of new.at) refl
-      where
-        memory_by : (p : Place K) → place_of new.at ≡ p → CountsCalls old new work
-        memory_by (place.Behind last) is =
-            counts_called work (λ lost. cc) (omega (arith, none))
-        memory_by (place.Ended how) is =
-            counts_called work (λ lost. cc) (omega (arith, none))
-        memory_by place.Lost is =
-            let same = ap (λ (l : List LogEntry). length l) (lost_log is) in
-            record {
-              counted = omega (arith, none, same);
-              once = omega (arith, same);
-            }
+    memory_called work none = memory_by turns work none
 
     -- and the log is in order still
+    logged_by : CallsNext allows old client (mark_of context) new left (mark_of context')
+        → (tries : List AttemptRecord) → IsOpening allows mark_of old context client tries
+        → (at : Station) × IsLogged allows (log_of new) at
+    logged_by (TakesNext.leads which comes (place.Behind last) to turn) tries o =
+        (_, logged_more allows mark_of old new context context' client left tries which _ _ turn o)
+    logged_by (TakesNext.leads which comes (place.Ended how) to turn) tries o =
+        (_, logged_more allows mark_of old new context context' client left tries which _ _ turn.0 o)
+    logged_by (TakesNext.leads which comes place.Lost to turn) tries o =
+        logged_same allows mark_of old new context client tries turn o
+    logged_by (TakesNext.names was peer to names) tries o =
+        (
+          station.named,
+          logged_more allows mark_of old new context context' client left tries _ station.named
+              QueuesNothing
+              (subst (λ (a : At K). Turns allows _ (station_at a) station.named QueuesNothing
+              (seen_with old client) (mark_of context) (seen_with new left) (mark_of context'))
+              (sym was) names.turn) o,
+        )
+    logged_by (TakesNext.lost to same) tries o =
+        logged_same allows mark_of old new context client tries same o
+
     pub memory_logged : (tries : List AttemptRecord)
         → IsOpening allows mark_of old context client tries
         → (at : Station) × IsLogged allows (log_of new) at
-    memory_logged tries o = logged_by (place_of new.at) refl
-      where
-        logged_by : (p : Place K) → place_of new.at ≡ p
-            → (at : Station) × IsLogged allows (log_of new) at
-        logged_by (place.Behind last) is =
-            opening_logged allows mark_of new context' left tries
-            (opening_on tries (λ lost. cc) o)
-        logged_by (place.Ended how) is =
-            opening_logged allows mark_of new context' left tries
-            (opening_on tries (λ lost. cc) o)
-        logged_by place.Lost is = lost_logged tries is o
+    memory_logged tries o = logged_by turns tries o
 
 -- ---- the answer to an error
 

@@ -9,7 +9,9 @@ pub mod HeadSteps
 pub mod ConnectSteps
 pub mod OpenSteps
 pub mod CallLemmas
+pub mod NamedLemmas
 pub mod HookSteps
+pub mod PrepareSteps
 pub mod RelaySteps
 pub mod BoundLemmas
 pub mod StepLemmas

@@ -7,7 +7,8 @@
 --   hooks_answer, hooks_stop       calls that end it
 use Rattle.std.specs.Global.{Box}
 use Rattle.std.proofs.Common.{◌≡◌, ℕ, ◌<◌, Bool, true, false, List, [], ◌∷◌, ◌++◌, length, drop, Option, Some, None, refl, sym, ap, subst, ◌∙◌, inl, inr, true≢false, arith, append-nil, unwrap_or, is_some}
-use Rattle.std.specs.Prelude.{IsSome}
+use Rattle.std.specs.List.{All}
+use Rattle.std.specs.Prelude.{IsSome, ◌⊎◌}
 use Rattle.relay_tasks.specs.Head.{RequestHead, new_request}
 use Rattle.relay_tasks.specs.declared.Error.{Error}
 use Rattle.relay_tasks.specs.declared.hook.Hook.{Hook}
@@ -35,10 +36,7 @@ use Rattle.relay_phases.proofs.TurnLemmas.{wrote_in-append}
 use Rattle.relay_opening.specs.Told.{TellsHead, head_behind}
 use Rattle.relay_opening.proofs.ToldLemmas.{called_head, reads_done, reads_so_far, walk_head}
 use Rattle.relay_opening.specs.Queued.{Completes, QueuesAnswer, QueuesAtEnd}
-use Rattle.relay_opening.specs.Opens.{OpensSoFar}
 use Rattle.relay_opening.specs.Place.{end_station}
-use Rattle.relay_opening.specs.declared.place.Place as stage
-use Rattle.relay_opening.specs.declared.place.Place.TheVariants as opening
 use Rattle.relay_opening.specs.declared.place.End.{End}
 use Rattle.relay_opening.specs.declared.place.End.TheVariants as end
 use Rattle.relay_hooks.specs.DefaultLaw.{lone_answer}
@@ -55,7 +53,8 @@ use Rattle.relay_proxy.specs.Endings.{IsInOrder, AttemptsUnlinked, EndsAhead, En
 use Rattle.relay_proxy.specs.Passed.{World, Start, asked, called_to, origin_of, IsUnsent, TellsClient}
 use Rattle.relay_proxy.specs.Phases.{IsConnecting, RunSoFar}
 use Rattle.relay_proxy.specs.Relayable.{IsAccepted, IsRelayable}
-use Rattle.relay_proxy.specs.Tries.{AreTries}
+use Rattle.relay_proxy.specs.Named.{peer_in}
+use Rattle.relay_proxy.specs.Tries.{AreTries, IsTry}
 use Rattle.relay_proxy.specs.Turn.{Advances}
 use Rattle.relay_proxy.specs.declared.calls.Calls.{Calls}
 use Rattle.relay_proxy.specs.declared.machine.Phase.{Phase}
@@ -69,6 +68,26 @@ use Rattle.relay_proxy.proofs.Tells.{client_still}
 use Rattle.relay_proxy.proofs.TryLemmas.{no_tries}
 
 -- ---- the same start, once more calls were made
+
+-- an attempt at a peer is one, where the calls name the same
+named_try : (these those : List LogEntry) → peer_in those ≡ peer_in these → (a : AttemptRecord)
+    → IsTry these a → IsTry those a
+named_try these those same a try = record {
+  fault = try.fault;
+  kind = try.kind;
+  is_record = record {
+    peer = same ∙ try.is_record.peer;
+    reused = try.is_record.reused;
+    kept = try.is_record.kept;
+    error = try.is_record.error;
+  };
+  again = try.again;
+}
+
+-- and so are all of them
+all_named : (these those : List LogEntry) → peer_in those ≡ peer_in these
+    → (tries : List AttemptRecord) → All (IsTry these) tries → All (IsTry those) tries
+all_named these those same tries all = λ k d within. named_try these those same _ (all k d within)
 
 -- what the client's link tells does not depend on the calls
 pub called_tells : (s : Start) (these those : List LogEntry) (p : Passed) (w : World)
@@ -91,10 +110,14 @@ called_accepted s these those p head accepted = record {
   relayable = accepted.relayable;
 }
 
--- nor how many attempts may be made
+-- nor, where they name the same peer, the attempts that were made
 pub called_tries : (s : Start) (these those : List LogEntry) (tries : List AttemptRecord)
+    → peer_in those ≡ peer_in these
     → AreTries (called_to s these) tries → AreTries (called_to s those) tries
-called_tries s these those tries are = record { each = are.each; allowed = are.allowed }
+called_tries s these those tries same are = record {
+  each = all_named these those same tries are.each;
+  allowed = are.allowed;
+}
 
 -- ---- the session
 
@@ -169,13 +192,14 @@ module _ {M K : Type 0} (allows : Standing → LogEntry → Type 0) (c d : Calls
         ∙ append-nil t.e.wrote
 
 -- a call that queued nothing leaves a request that wants a link as it stood
-pub stays_connecting : {M K : Type 0} (allows : Standing → LogEntry → Type 0) (c d : Calls M K)
+abbrev pub stays_connecting : {M K : Type 0} (allows : Standing → LogEntry → Type 0) (c d : Calls M K)
     (client left : HttpSession) (mark behind : ℕ) (which : Hook) (from to : Station)
     → Turns allows which from to QueuesNothing (seen_with c client) mark (seen_with d left) behind
     → (s : Start) (p : Passed) (w : World) (tries : List AttemptRecord)
+    → (tries ≡ []) ⊎ (peer_in (log_of d) ≡ peer_in (log_of c))
     → IsConnecting (called_to s (log_of c)) p w client tries
     → IsConnecting (called_to s (log_of d)) p w left tries
-stays_connecting allows c d client left mark behind which from to t s p w tries k = record {
+stays_connecting allows c d client left mark behind which from to t s p w tries same k = record {
   head = k.head;
   accepted = called_accepted s (log_of c) (log_of d) p k.head k.accepted;
   is_left = left_on allows c d client left mark behind which from to QueuesNothing t k.head
@@ -186,7 +210,10 @@ stays_connecting allows c d client left mark behind which from to t s p w tries 
       (seen_with c client) (seen_with d left) t.calls.reads t.queued.same (k.begins sent reused);
   written = k.written;
   unsent = k.unsent;
-  are_tries = called_tries s (log_of c) (log_of d) tries k.are_tries;
+  are_tries = elim same [
+    | inl none ↦ no_tries (called_to s (log_of d)) tries none
+    | inr peers ↦ called_tries s (log_of c) (log_of d) tries peers k.are_tries
+  ];
 }
 
 -- ---- what waits
@@ -285,18 +312,6 @@ hooks_queued end.Declined old new wrote waiting ends holds queues is_open =
     (queues.queued [] [] holds) queues.completed is_open)
 hooks_queued (end.Unwritten why) old new wrote waiting ends holds queues is_open = absurd ends
 hooks_queued (end.Failed error) old new wrote waiting ends holds queues is_open = absurd ends
-
--- where they ended so, the log leads to that station
-pub ended_order : {K : Type 0} (allows : Standing → LogEntry → Type 0) (first now : Seen)
-    (mark behind : ℕ) (p : stage.Place K) (how : End) (log : List LogEntry) → p ≡ opening.Ended how
-    → first.log ≡ [] → now.log ≡ log → OpensSoFar allows first mark p now behind
-    → Accepts station.accepted log (end_station how)
-ended_order {K} allows first now mark behind p how log is none same opens =
-    let h : HasCalled allows first mark station.accepted (end_station how) (QueuesAtEnd how) now
-    behind =
-    subst (λ (q : stage.Place K). OpensSoFar allows first mark q now behind) is opens in
-    subst (λ (l : List LogEntry). Accepts station.accepted l (end_station how))
-    (sym (ap (λ (l : List LogEntry). l ++ h.entries) none) ∙ sym h.log ∙ same) h.order
 
 -- the hooks before the attempts answered the request, and what waits is what it is owed
 pub hooks_answer : {M K : Type 0} (allows : Standing → LogEntry → Type 0) (c d : Calls M K)
@@ -439,10 +454,10 @@ module _ {L C : Type 0} (state : L → LinkState) (start_at : L → LinkStart) w
 
   -- one that was out of memory
   pub hooks_lost : (these those : List LogEntry) (s : Start) (p : Passed) (w : World) (context : C)
-      (client : Box HttpSession) (tries : List AttemptRecord)
+      (client : Box HttpSession) (tries : List AttemptRecord) → tries ≡ []
       → RunSoFar {C = C} state start_at (called_to s these) p w [] (Connect context client tries)
       → Advances {C = C} state start_at (called_to s those) w (Ended outcome.OutOfMemory tries)
-  hooks_lost these those s p w context client tries run = record {
+  hooks_lost these those s p w context client tries none run = record {
     passed = p;
     run = record {
       tells = called_tells s these those p w run.tells;
@@ -452,7 +467,7 @@ module _ {L C : Type 0} (state : L → LinkState) (start_at : L → LinkStart) w
       calm = tt;
       holds = (
         record { got = run.holds.unsent.got; sent = run.holds.unsent.sent },
-        inr (inl (called_tries s these those tries run.holds.are_tries, run.holds.written)),
+        inr (inl (no_tries (called_to s those) tries none, run.holds.written)),
       );
     };
   }

@@ -1,7 +1,7 @@
--- What a head that is sent keeps of the client's, and how one that is refused is answered.
+-- What a head that is sent keeps of the client's, and how it is made.
 --
 --   sends_agrees    from Sends, where the client's head is framed: both halves of an exchange agree
---   refused_code    from RefusesToSend: the answer has the status 500
+--   readies_as, settles_as    what the calls that make it answer
 --   client_is       whether the client's body has bytes, by the framing of its head
 use Rattle.std.proofs.Common.{◌≡◌, ◌≢◌, ◌⊎◌, Bool, true, false, not, List, [], ◌∷◌, Option, Some, None, refl, sym, ap, ◌∙◌, inl, inr, subst}
 use Rattle.std.proofs.lemmas.Bool.{cases_Bool}
@@ -10,15 +10,13 @@ use Rattle.http.specs.declared.version.TheConstants.Version.{HTTP_11}
 use Rattle.http_header.specs.FieldValue.{FieldValue}
 use Rattle.http_header.specs.HeaderMap.{get_all}
 use Rattle.relay_tasks.specs.Head.{RequestHead}
-use Rattle.relay_tasks.specs.declared.Context.{Context}
 use Rattle.relay_tasks.specs.declared.Error.{Error}
-use Rattle.relay_tasks.specs.declared.ErrorSource.TheVariants as side
 use Rattle.relay_tasks.specs.declared.log.LogEntry.{LogEntry}
 use Rattle.relay_authority.specs.Framing.{content_length, transfer_encoding}
 use Rattle.relay_authority.specs.Kept.{KeepsFields, SaysFraming}
 use Rattle.relay_tasks.specs.declared.Fail.{Fail}
 use Rattle.relay_tasks.specs.declared.Fail.TheVariants as fail
-use Rattle.relay_authority.specs.Stage.{FailsToMake, Makes, blamed}
+use Rattle.relay_authority.specs.Stage.{FailsToMake, Makes}
 use Rattle.relay_authority.specs.Table.{Outcome}
 use Rattle.relay_authority.specs.declared.upstream.Client.{Client}
 use Rattle.relay_authority.specs.Upstream.{ReadyHead, SentHead}
@@ -28,10 +26,12 @@ use Rattle.relay_h1.specs.Framing.{request_framing, request_table, length_said, 
 use Rattle.relay_h1.specs.declared.framing.Framing.{Framing}
 use Rattle.relay_session.specs.Asked.{asks_of}
 use Rattle.relay_session.specs.Front.{ends_with_head}
-use Rattle.relay_hooks.specs.DefaultAnswer.{answer_code}
+use Rattle.relay_session.specs.Reading.{head_of}
+use Rattle.relay_session.specs.declared.session.HttpSession.{HttpSession}
 use Rattle.relay_attempt.specs.Agrees.{Agrees}
 use Rattle.relay_opening.specs.Told.{head_behind}
-use Rattle.relay_proxy.specs.Sent.{has_body, client_of, unframed, MakesFramed, MakesSent, Sends, RefusesToSend}
+use Rattle.relay_proxy.specs.Preparing.{Readies, Settles}
+use Rattle.relay_proxy.specs.Sent.{Sends, SettlesFramed, asked_in, client_in, client_of, has_body, unframed}
 
 -- ---- framing
 
@@ -111,16 +111,14 @@ abbrev client_with : Bool → Client
 client_with b = record { custom = false; has_body = b }
 
 -- a head that is made of the client's asks as it does, and frames its body alike
-made_agrees : (head sent : RequestHead) (framing : Framing)
-    → request_framing head ≡ Some framing → MakesSent (client_of head) head (Ok sent)
-    → Agrees head sent
-made_agrees head sent framing framed (inl (error, failed, same)) =
-    absurd (let clash : Ok sent ≡ Err error = same in cc)
-made_agrees head sent framing framed (inr (ready, readies, sends)) =
+made_agrees : (head ready asked sent : RequestHead) (framing : Framing)
+    → request_framing head ≡ Some framing → ReadyHead over.H1 false head (Ok ready)
+    → SentHead over.H1 (client_of head) asked ready (Ok sent) → Agrees head sent
+made_agrees head ready asked sent framing framed readies sends =
     let is : ready ≡ record head { version = HTTP_11 } = readied head ready readies in
     let keeps : KeepsFields (record head { version = HTTP_11 }) sent =
     subst (λ (h : RequestHead). KeepsFields h sent) is
-    (sent_kept (client_of head) head ready sent (λ some. rw is (says_framing head some)) sends) in
+    (sent_kept (client_of head) asked ready sent (λ some. rw is (says_framing head some)) sends) in
     record {
       method = ap asks_of keeps.method;
       framing = framing_still head sent framing keeps.version
@@ -129,128 +127,87 @@ made_agrees head sent framing framed (inr (ready, readies, sends)) =
           ∙ sym framed;
     }
 
--- so the head that is sent of a client's that hooks left as it was agrees with it
+-- so the head that is sent of a client's agrees with it where hooks left both as they were: the
+-- client's up to the filter, and the filter what it was given
 pub sends_agrees : (called : List LogEntry) (head sent : RequestHead) (framing : Framing)
-    → head_behind head called ≡ head → request_framing head ≡ Some framing
-    → Sends called head sent → Agrees head sent
-sends_agrees called head sent framing same framed sends =
-    made_agrees head sent framing framed
-    (subst (λ (h : RequestHead). MakesSent (client_of head) h (Ok sent)) same sends.0)
-
--- ---- what is refused
-
--- a refusal on the relay's own side, or on none, is answered with 500
-own_code : (e : Error) (why : Context) → e ≡ blamed side.Internal why
-    → answer_code e.esource e.etype ≡ 500
-own_code e why is = rw is refl
-
-unset_code : (e : Error) (why : Context) → e ≡ blamed side.Unset why
-    → answer_code e.esource e.etype ≡ 500
-unset_code e why is = rw is refl
-
--- one answer has one error
-same_error : (a b : Error) (answer : Result RequestHead Error) → answer ≡ Err a → answer ≡ Err b
-    → a ≡ b
-same_error a b answer is_a is_b = cc
+    → (sends : Sends called head sent) → head_behind head sends.filters.before ≡ head
+    → sends.filtered ≡ sends.filters.ready → request_framing head ≡ Some framing
+    → Agrees head sent
+sends_agrees called head sent framing sends same filtered framed =
+    made_agrees head sends.filters.ready (asked_in sends.filters) sent framing framed
+    (subst (λ (h : RequestHead). ReadyHead over.H1 false h (Ok sends.filters.ready)) same
+    sends.filters.readies)
+    (subst (λ (h : RequestHead). SentHead over.H1 (client_of head) (asked_in sends.filters) h
+    (Ok sent)) filtered sends.settles.0)
 
 -- making a client's head ready refuses none
-never_unready : (head : RequestHead) (error : Error) → ReadyHead over.H1 false head (Err error) → ⊥
+pub never_unready : (head : RequestHead) (error : Error)
+    → ReadyHead over.H1 false head (Err error) → ⊥
 never_unready head error (why, left, is, inl spoke) =
     absurd (let clash : false ≡ true = spoke.0.0 in cc)
 never_unready head error (why, left, is, inr (other, leaves)) =
     absurd (let clash : Some why ≡ None = ap (λ (o : Outcome). o.refusal) leaves in cc)
 
--- the error with which no head is made
-made_code : (b : Bool) (head : RequestHead) (e : Error)
-    → MakesSent (client_with b) head (Err e) → answer_code e.esource e.etype ≡ 500
-made_code b head e (inl (error, failed, same)) = absurd (never_unready head error failed)
-made_code b head e (inr (ready, readies, inl (error, inl custom, same))) =
-    absurd (let clash : false ≡ true = custom.0 in cc)
-made_code b head e (inr (ready, readies, inl (error, inr (standard, refuses), same))) =
-    own_code e refuses.0 (same_error e error (Err e) refl same ∙ refuses.2)
-made_code b head e (inr (ready, readies, inr (middle, settles, refuses))) =
-    unset_code e refuses.0 refuses.2
-
--- the error of a head that is refused where it was to be sent
-pub refused_code : (called : List LogEntry) (head : RequestHead) (e : Error)
-    → RefusesToSend called head e → answer_code e.esource e.etype ≡ 500
-refused_code called head e (inl made) =
-    made_code (has_body (request_framing head)) (head_behind head called) e made
-refused_code called head e (inr (bare, is)) = rw is refl
-
 -- ---- what a call makes
 
--- a head that was made ready, and then as it is sent, is the one that is sent; with a framing
-pub framed_of : (client : Client) (copy ready asked sent framed : RequestHead)
-    → ReadyHead over.H1 client.custom copy (Ok ready) → asked ≡ copy
-    → SentHead over.H1 client asked ready (Ok sent)
-    → (framed ≡ sent) × IsSome (request_framing sent)
-    → MakesFramed client copy (Ok framed)
-framed_of client copy ready asked sent framed readies same made (is, some) =
-    subst (λ (h : RequestHead). MakesFramed client copy (Ok h)) (sym is) (
-      inr (
-        ready,
-        readies,
-        subst (λ (h : RequestHead). SentHead over.H1 client h ready (Ok sent)) same made,
-      ),
-      some_framing (request_framing sent) some,
+-- a session has one head
+one_head : (given own : RequestHead) (session : HttpSession)
+    → head_of session.reading ≡ Some given → head_of session.reading ≡ Some own → given ≡ own
+one_head given own session is is_own = grind (arith, is, is_own)
+
+-- a copy of the session's head that was made ready, or refused, is that of the session
+pub readies_as : (session : HttpSession) (own copy : RequestHead)
+    (answer : Result RequestHead Fail) → head_of session.reading ≡ Some own → copy ≡ own
+    → Makes (ReadyHead over.H1 false copy) answer → Makes (Readies session) answer
+readies_as session own copy (Ok ready) is same made = λ head heads.
+    subst (λ (h : RequestHead). ReadyHead over.H1 false h (Ok ready))
+    (same ∙ one_head own head session is heads) made
+readies_as session own copy (Err fail.OutOfMemory) is same made = tt
+readies_as session own copy (Err (fail.Error e)) is same made = λ head heads.
+    subst (λ (h : RequestHead). ReadyHead over.H1 false h (Err e))
+    (same ∙ one_head own head session is heads) made
+
+-- what is made of the filtered head beside the session's own, by its framing
+pub settles_as : (session : HttpSession) (own filtered sent : RequestHead)
+    (answer : Result RequestHead Fail) → head_of session.reading ≡ Some own
+    → SentHead over.H1 (client_in session) own filtered (Ok sent)
+    → IfOk answer (λ head. (head ≡ sent) × IsSome (request_framing sent))
+    → IfErr answer (λ why. (why ≡ fail.Error unframed) × (request_framing sent ≡ None))
+    → Makes (Settles session filtered) answer
+settles_as session own filtered sent (Ok head) is made ok err = λ asked asks.
+    subst (λ (h : RequestHead). SettlesFramed (client_in session) asked filtered (Ok h)) (sym ok.0)
+    (
+      subst (λ (h : RequestHead). SentHead over.H1 (client_in session) h filtered (Ok sent))
+          (one_head own asked session is asks) made,
+      some_framing (request_framing sent) ok.1,
     )
   where
     some_framing : (found : Option Framing) → IsSome found
         → (framing : Framing) × (found ≡ Some framing)
     some_framing None some = cc
     some_framing (Some framing) some = (framing, refl)
-
--- one without is refused
-pub unframed_of : (client : Client) (copy ready asked sent : RequestHead) (e : Error)
-    → ReadyHead over.H1 client.custom copy (Ok ready) → asked ≡ copy
-    → SentHead over.H1 client asked ready (Ok sent) → e ≡ unframed
-    → request_framing sent ≡ None → MakesFramed client copy (Err e)
-unframed_of client copy ready asked sent e readies same made is none =
-    inr (
+settles_as session own filtered sent (Err why) is made ok err =
+    subst (λ (f : Fail). FailsToMake (Settles session filtered) f) (sym err.0)
+    (λ asked asks. inr (
       record {
         sent = sent;
-        made = inr (
-          ready,
-          readies,
-          subst (λ (h : RequestHead). SentHead over.H1 client h ready (Ok sent)) same made,
-        );
-        no_framing = none;
+        settles = subst
+            (λ (h : RequestHead). SentHead over.H1 (client_in session) h filtered (Ok sent))
+            (one_head own asked session is asks) made;
+        no_framing = err.1;
       },
-      is,
-    )
-
--- what is made of a head that was made as it is sent, by its framing
-pub makes_framed : (client : Client) (copy ready asked sent : RequestHead)
-    (answer : Result RequestHead Fail) → ReadyHead over.H1 client.custom copy (Ok ready)
-    → asked ≡ copy → SentHead over.H1 client asked ready (Ok sent)
-    → IfOk answer (λ head. (head ≡ sent) × IsSome (request_framing sent))
-    → IfErr answer (λ why. (why ≡ fail.Error unframed) × (request_framing sent ≡ None))
-    → Makes (MakesFramed client copy) answer
-makes_framed client copy ready asked sent (Ok head) readies same made ok err =
-    framed_of client copy ready asked sent head readies same made ok
-makes_framed client copy ready asked sent (Err why) readies same made ok err =
-    subst (λ (f : Fail). FailsToMake (MakesFramed client copy) f) (sym err.0)
-    (unframed_of client copy ready asked sent unframed readies same made refl err.1)
-
--- one that was not made ready is not sent, nor one that was not made as it is sent
-pub unready_of : (client : Client) (copy : RequestHead) (failure : Fail)
-    → FailsToMake (ReadyHead over.H1 client.custom copy) failure
-    → FailsToMake (MakesFramed client copy) failure
-unready_of client copy fail.OutOfMemory made = tt
-unready_of client copy (fail.Error e) made = inl (inl (e, made, refl))
-
-pub unsent_of : (client : Client) (copy ready asked : RequestHead) (failure : Fail)
-    → ReadyHead over.H1 client.custom copy (Ok ready) → asked ≡ copy
-    → FailsToMake (SentHead over.H1 client asked ready) failure
-    → FailsToMake (MakesFramed client copy) failure
-unsent_of client copy ready asked fail.OutOfMemory readies same made = tt
-unsent_of client copy ready asked (fail.Error e) readies same made =
-    inl (inr (
-      ready,
-      readies,
-      subst (λ (h : RequestHead). SentHead over.H1 client h ready (Err e)) same made,
+      refl,
     ))
+
+-- one that was not made as it is sent
+pub unsettled_as : (session : HttpSession) (own filtered : RequestHead) (failure : Fail)
+    → head_of session.reading ≡ Some own
+    → FailsToMake (SentHead over.H1 (client_in session) own filtered) failure
+    → FailsToMake (Settles session filtered) failure
+unsettled_as session own filtered fail.OutOfMemory is made = tt
+unsettled_as session own filtered (fail.Error e) is made = λ asked asks.
+    inl (subst (λ (h : RequestHead). SentHead over.H1 (client_in session) h filtered (Err e))
+    (one_head own asked session is asks) made)
 
 -- ---- the client's body
 

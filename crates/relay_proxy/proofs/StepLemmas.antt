@@ -8,6 +8,7 @@ use Rattle.relay_links.specs.declared.Returned.{Returned}
 use Rattle.relay_session.specs.declared.session.HttpSession.{HttpSession}
 use Rattle.relay_tasks.specs.declared.Error.{Error}
 use Rattle.relay_tasks.specs.declared.Fault.{Fault}
+use Rattle.relay_tasks.specs.declared.Peer.{Peer}
 use Rattle.relay_h1.specs.Verdict.{IsOpen}
 use Rattle.relay_attempt.specs.Exchange.{IsUnderWay}
 use Rattle.relay_attempt.specs.Passed.{Passed}
@@ -38,7 +39,7 @@ use Rattle.relay_proxy.specs.declared.finish.Ending.{Ending}
 use Rattle.relay_proxy.specs.declared.machine.Attempt.{Attempt}
 use Rattle.relay_proxy.specs.declared.machine.Lease.{Lease}
 use Rattle.relay_proxy.specs.declared.machine.Phase.{Phase}
-use Rattle.relay_proxy.specs.declared.machine.Phase.TheVariants.{ReadHead, Connect, Relay, Fail, Close, Answer, Ended}
+use Rattle.relay_proxy.specs.declared.machine.Phase.TheVariants.{ReadHead, Connect, Prepare, Relay, Fail, Close, Answer, Ended}
 use Rattle.relay_proxy.specs.declared.machine.RunStep.{RunStep}
 use Rattle.relay_proxy.specs.declared.machine.RunStep.TheVariants as step
 use Rattle.relay_proxy.specs.declared.outcome.Outcome.{Outcome}
@@ -76,13 +77,13 @@ module _ {L : Type 0} (state : L → LinkState) (start_at : L → LinkStart) whe
       → EndsReturned state start_at s p w r attempts outcome
   returned_ends s p w link lease keep outcome r attempts leased hands ends = record {
     tells = rw hands.is_link leased.tells;
-    peer = hands.peer ∙ leased.peer;
+    peer = leased.peer ∙ ap (λ (x : Peer). Some x) (sym hands.peer);
     tries = tries_in lease;
     attempt = hands.attempt;
     attempts_are = hands.attempts_are;
     are_tries = leased.tries;
     is_record = record {
-      peer = hands.asked;
+      peer = leased.recorded ∙ ap (λ (x : Peer). Some x) (sym hands.recorded);
       reused = rw hands.is_link (hands.reused ∙ sym leased.reused);
       kept = hands.record_kept ∙ sym hands.kept;
     };
@@ -98,13 +99,13 @@ module _ {L : Type 0} (state : L → LinkState) (start_at : L → LinkStart) whe
       → IsGivenBack state start_at s p r attempts e
   given_back s p link lease keep e r attempts leased hands = record {
     tells = rw hands.is_link leased.tells;
-    peer = hands.peer ∙ leased.peer;
+    peer = leased.peer ∙ ap (λ (x : Peer). Some x) (sym hands.peer);
     tries = tries_in lease;
     attempt = hands.attempt;
     attempts_are = hands.attempts_are;
     are_tries = leased.tries;
     is_record = record {
-      peer = hands.asked;
+      peer = leased.recorded ∙ ap (λ (x : Peer). Some x) (sym hands.recorded);
       reused = rw hands.is_link (hands.reused ∙ sym leased.reused);
       kept = hands.record_kept ∙ sym hands.kept;
     };
@@ -278,6 +279,8 @@ module _ {L C : Type 0} (state : L → LinkState) (start_at : L → LinkStart) w
   }
   settle_run s p w (Connect context session tries) settled before after does run =
       stays s p w (Connect context session tries) settled before after does.0 does.1 refl run
+  settle_run s p w (Prepare context session link lease) settled before after does run =
+      stays s p w (Prepare context session link lease) settled before after does.0 does.1 refl run
   settle_run s p w (Relay a) settled before after does run =
       stays s p w (Relay a) settled before after does.0 does.1 refl run
   settle_run s p w (Close link lease keep outcome) settled before after does run = record {
@@ -318,6 +321,7 @@ module _ {L C : Type 0} (state : L → LinkState) (start_at : L → LinkStart) w
       → (settled ≡ next) × (after ≡ before)
   settles_same ReadHead settled before after does shut = does
   settles_same (Connect context session tries) settled before after does shut = does
+  settles_same (Prepare context session link lease) settled before after does shut = does
   settles_same (Relay a) settled before after does shut = does
   settles_same (Fail link lease keep session e) settled before after does shut =
       absurd (true≢false shut)
@@ -332,6 +336,7 @@ module _ {L C : Type 0} (state : L → LinkState) (start_at : L → LinkStart) w
       → (settled ≡ next) ⊎ (OwesAnswer next × OwesAnswer settled)
   settles_live ReadHead settled before after does going = inl does.0
   settles_live (Connect context session tries) settled before after does going = inl does.0
+  settles_live (Prepare context session link lease) settled before after does going = inl does.0
   settles_live (Relay a) settled before after does going = inl does.0
   settles_live (Fail link lease keep session e) settled before after does going =
       inr (
@@ -354,6 +359,7 @@ module _ {L C : Type 0} (state : L → LinkState) (start_at : L → LinkStart) w
       owing : (k : Phase L C) → OwesAnswer k → is_reading_head k ≡ false
       owing ReadHead o = absurd o
       owing (Connect context session tries) o = refl
+      owing (Prepare context session link lease) o = refl
       owing (Relay a) o = refl
       owing (Fail link lease keep session e) o = refl
       owing (Close link lease keep outcome) o = refl
@@ -361,6 +367,7 @@ module _ {L C : Type 0} (state : L → LinkState) (start_at : L → LinkStart) w
       owing (Ended outcome attempts) o = refl
   owes_moved w x (Connect context session tries) next settled owes owes' moved =
       inr (inr (inr owes'))
+  owes_moved w x (Prepare context session link lease) next settled owes owes' moved = inr owes'
   owes_moved w x (Relay a) next settled owes owes' moved = inr owes'
   owes_moved w x (Fail link lease keep session e) next settled owes owes' moved = owes'
   owes_moved w x (Close link lease keep outcome) next settled owes owes' moved = absurd moved
@@ -656,6 +663,10 @@ module _ {L C : Type 0} (state : L → LinkState) (start_at : L → LinkStart) w
       turn same rests kept does told takes carries tells run c i j o m adds uses bounds =
       live_on s s' p x (Connect context session tries) next settled before mid after t u h k refl
       (turn run) kept does told takes (carries refl) (tells refl) c i j o m adds uses bounds
+  step_on s s' p [] w x (Prepare context session link lease) next settled did before mid after t u h k
+      turn same rests kept does told takes carries tells run c i j o m adds uses bounds =
+      live_on s s' p x (Prepare context session link lease) next settled before mid after t u h k refl
+      (turn run) kept does told takes (carries refl) (tells refl) c i j o m adds uses bounds
   step_on s s' p [] w x (Relay a) next settled did before mid after t u h k
       turn same rests kept does told takes carries tells run c i j o m adds uses bounds =
       live_on s s' p x (Relay a) next settled before mid after t u h k refl
@@ -674,6 +685,9 @@ module _ {L C : Type 0} (state : L → LinkState) (start_at : L → LinkStart) w
       h k turn same rests kept does told takes carries tells run c i j o m adds uses bounds =
       absurd run.holds
   step_on s s' p (r ∷ own) w x (Connect context session tries) next settled did before mid after t u
+      h k turn same rests kept does told takes carries tells run c i j o m adds uses bounds =
+      absurd run.holds
+  step_on s s' p (r ∷ own) w x (Prepare context session link lease) next settled did before mid after t u
       h k turn same rests kept does told takes carries tells run c i j o m adds uses bounds =
       absurd run.holds
   step_on s s' p (r ∷ own) w x (Relay a) next settled did before mid after t u
@@ -961,12 +975,25 @@ module _ {L C : Type 0} (state : L → LinkState) (start_at : L → LinkStart) w
       run.holds.unsent run.holds.written run.holds.are_tries (λ h. absurd h) refl refl
       (λ n asked. asked)
       (λ tasks ends counted. (counted.0, omega (arith, counted.1)))
+  end_of s p [] w (Prepare context session link lease) before after ending does run =
+      linked_end s p w (Prepare context session link lease) link lease false before after ending
+      TurnLimit does.limit does.back run run.holds.0
+      (inr (run.holds.1.connecting.written, run.holds.1.connecting.unsent), refl)
+      (λ h. absurd h) refl refl (λ n asked. asked)
+      (λ tasks ends counted. record {
+        came = p.came;
+        got = p.got;
+        client_gave = run.tells.came;
+        own_gave = run.holds.0.tells.got;
+        tasks_within = omega (arith, counted.0);
+        ends_within = omega (arith, counted.1);
+      })
   end_of s p [] w (Relay a) before after ending does run =
       linked_end s p w (Relay a) (link_of a.value.exchange) a.value.lease false before after
       ending TurnLimit does.limit does.back run run.holds.leased (
-        part_relayed s p run.holds.head run.holds.sent a.value.lease.reused _ _
+        inl (part_relayed s p run.holds.head run.holds.sent a.value.lease.reused _ _
             run.holds.relayable run.holds.sends run.holds.leased.reused
-            run.holds.under_way.order,
+            run.holds.under_way.order),
         refl,
       )
       (λ h. quiet_over s p w a run.holds h) refl refl (λ n asked. asked)
@@ -995,6 +1022,8 @@ module _ {L C : Type 0} (state : L → LinkState) (start_at : L → LinkStart) w
       absurd run.holds
   end_of s p (r ∷ own) w (Connect context session tries) before after ending does run =
       absurd run.holds
+  end_of s p (r ∷ own) w (Prepare context session link lease) before after ending does run =
+      absurd run.holds
   end_of s p (r ∷ own) w (Relay a) before after ending does run = absurd run.holds
   end_of s p (r ∷ own) w (Close link lease keep outcome) before after ending does run =
       absurd run.holds
@@ -1012,6 +1041,8 @@ module _ {L C : Type 0} (state : L → LinkState) (start_at : L → LinkStart) w
   over_end (Answer session owes attempts) before after ending going does over =
       absurd (true≢false (sym over))
   over_end (Connect context session tries) before after ending going does over =
+      absurd (true≢false (sym over))
+  over_end (Prepare context session link lease) before after ending going does over =
       absurd (true≢false (sym over))
   over_end (Relay a) before after ending going does over = absurd (true≢false (sym over))
   over_end (Close link lease keep outcome) before after ending going does over =

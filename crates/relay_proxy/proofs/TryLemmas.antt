@@ -7,6 +7,7 @@ use Rattle.relay_tasks.specs.Error.{may_retry}
 use Rattle.relay_tasks.specs.declared.Error.{Error}
 use Rattle.relay_tasks.specs.declared.ErrorSource.TheVariants.{Upstream}
 use Rattle.relay_tasks.specs.declared.Fault.{Fault}
+use Rattle.relay_tasks.specs.declared.log.LogEntry.{LogEntry}
 use Rattle.relay_links.specs.Connector.{IsConnectFault}
 use Rattle.relay_links.specs.Link.{LinkState, LinkStart}
 use Rattle.relay_links.specs.declared.Returned.{Returned}
@@ -21,36 +22,39 @@ use Rattle.relay_proxy.specs.declared.record.AttemptRecord.{AttemptRecord}
 -- a request that made no attempt
 pub no_tries : (s : Start) (tries : List AttemptRecord) → tries ≡ [] → AreTries s tries
 no_tries s tries none = record {
-  each = subst (λ (xs : List AttemptRecord). All IsTry xs) (sym none) (All-nil IsTry);
+  each = subst (λ (xs : List AttemptRecord). All (IsTry s.called) xs) (sym none)
+      (All-nil (IsTry s.called));
   allowed = λ some. absurd (some none);
 }
 
 -- an attempt behind which the connector may be asked again
-is_try : (a : AttemptRecord) (fault : Fault) (e : Error) → IsConnectFault fault
-    → e ≡ fault_error Upstream fault → IsFailedRecord a e → may_retry e.retry ≡ true → IsTry a
-is_try a fault e kind is failed again = record {
+is_try : (called : List LogEntry) (a : AttemptRecord) (fault : Fault) (e : Error)
+    → IsConnectFault fault → e ≡ fault_error Upstream fault → IsFailedRecord called a e
+    → may_retry e.retry ≡ true → IsTry called a
+is_try called a fault e kind is failed again = record {
   fault = fault;
   kind = kind;
-  is_record = subst (λ (x : Error). IsFailedRecord a x) is failed;
+  is_record = subst (λ (x : Error). IsFailedRecord called a x) is failed;
   again = ap (λ (x : Error). may_retry x.retry) (sym is) ∙ again;
 }
 
 -- one attempt more, behind which another is allowed
 pub one_more : (s : Start) (most : ℕ) (tries attempts : List AttemptRecord) (a : AttemptRecord)
     (fault : Fault) (e : Error) → s.most ≡ most → attempts ≡ tries ++ a ∷ [] → AreTries s tries
-    → IsConnectFault fault → e ≡ fault_error Upstream fault → IsFailedRecord a e
+    → IsConnectFault fault → e ≡ fault_error Upstream fault → IsFailedRecord s.called a e
     → MayTry most (length attempts) e → AreTries s attempts
 one_more s most tries attempts a fault e limit are before kind is failed may = record {
-  each = subst (λ (xs : List AttemptRecord). All IsTry xs) (sym are)
-      (All-append IsTry tries (a ∷ []) before.each
-      (All-cons IsTry a [] (is_try a fault e kind is failed may.0) (All-nil IsTry)));
+  each = subst (λ (xs : List AttemptRecord). All (IsTry s.called) xs) (sym are)
+      (All-append (IsTry s.called) tries (a ∷ []) before.each
+      (All-cons (IsTry s.called) a [] (is_try s.called a fault e kind is failed may.0)
+      (All-nil (IsTry s.called))));
   allowed = λ some. omega (arith, may.1, limit);
 }
 
 -- the last one, behind which none is
 pub last_one : (s : Start) (most : ℕ) (tries attempts : List AttemptRecord) (a : AttemptRecord)
     (e : Error) → s.most ≡ most → attempts ≡ tries ++ a ∷ [] → AreTries s tries
-    → IsFailedRecord a e → ¬ (MayTry most (length attempts) e) → EndsTrying s attempts e
+    → IsFailedRecord s.called a e → ¬ (MayTry most (length attempts) e) → EndsTrying s attempts e
 last_one s most tries attempts a e limit are before failed over = record {
   tries = tries;
   last = a;

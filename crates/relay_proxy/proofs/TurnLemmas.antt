@@ -18,12 +18,14 @@ use Rattle.relay_proxy.specs.Refusals.{attempts_in, faults_before, faults_for, f
 use Rattle.relay_proxy.specs.Relaying.{is_relaying, is_closing}
 use Rattle.relay_proxy.specs.Stock.{items_held}
 use Rattle.relay_proxy.specs.Taken.{offers_before, offers_of_turn}
+use Rattle.relay_proxy.specs.Tries.{tries_in}
 use Rattle.relay_proxy.specs.Turn.{Advances, AdvancesOn, DoesWork, WorksIn, links_held}
 use Rattle.relay_proxy.proofs.CountLemmas.{client_counts}
 use Rattle.relay_proxy.proofs.UseLemmas.{relaying_of}
 use Rattle.relay_proxy.specs.declared.machine.Attempt.{Attempt}
+use Rattle.relay_proxy.specs.declared.machine.Lease.{Lease}
 use Rattle.relay_proxy.specs.declared.machine.Phase.{Phase}
-use Rattle.relay_proxy.specs.declared.machine.Phase.TheVariants.{ReadHead, Connect, Relay, Fail, Close, Answer, Ended}
+use Rattle.relay_proxy.specs.declared.machine.Phase.TheVariants.{ReadHead, Connect, Prepare, Relay, Fail, Close, Answer, Ended}
 use Rattle.relay_proxy.specs.declared.machine.RunStep.{RunStep}
 use Rattle.relay_proxy.specs.declared.owed.Owed.{Owed}
 use Rattle.relay_proxy.specs.declared.record.AttemptRecord.{AttemptRecord}
@@ -38,6 +40,8 @@ module _ {L C : Type 0} (state : L → LinkState) (start_at : L → LinkStart) w
       → TurnOf state start_at s x own phase next
   relaying_turn s p w x own ReadHead next is run turn = absurd (true≢false (sym is))
   relaying_turn s p w x own (Connect context session tries) next is run turn =
+      absurd (true≢false (sym is))
+  relaying_turn s p w x own (Prepare context session link lease) next is run turn =
       absurd (true≢false (sym is))
   relaying_turn s p w x [] (Relay a) next is run turn = turn run
   relaying_turn s p w x (r ∷ own) (Relay a) next is run turn = absurd run.holds
@@ -68,6 +72,16 @@ module _ {L C : Type 0} (state : L → LinkState) (start_at : L → LinkStart) w
   connect_turn s s' p w x [] context session tries next run turn = turn run
   connect_turn s s' p w x (r ∷ own) context session tries next run turn = absurd run.holds
 
+  -- and one that makes the head of an attempt
+  pub prepare_turn : (s s' : Start) (p : Passed) (w x : World) (own : List (Returned L))
+      (context : C) (session : Box HttpSession) (link : L) (lease : Lease) (next : Phase L C)
+      → RunSoFar state start_at s p w own (Prepare context session link lease)
+      → (RunSoFar state start_at s p w [] (Prepare context session link lease)
+      → Advances state start_at s' x next)
+      → AdvancesOn state start_at s' x own next
+  prepare_turn s s' p w x [] context session link lease next run turn = turn run
+  prepare_turn s s' p w x (r ∷ own) context session link lease next run turn = absurd run.holds
+
   -- it had not ended before
   pub relaying_rests : (w x : World) (phase next : Phase L C) (did : RunStep)
       → is_relaying phase ≡ true → Rests {L = L} {C = C} w x phase next did
@@ -75,6 +89,7 @@ module _ {L C : Type 0} (state : L → LinkState) (start_at : L → LinkStart) w
   relaying_rests w x (Fail link lease keep session error) next did is = absurd (true≢false (sym is))
   relaying_rests w x (Answer session owed attempts) next did is = absurd (true≢false (sym is))
   relaying_rests w x (Connect context session tries) next did is = absurd (true≢false (sym is))
+  relaying_rests w x (Prepare context session link lease) next did is = absurd (true≢false (sym is))
   relaying_rests w x (Relay a) next did is = tt
   relaying_rests w x (Close link lease keep outcome) next did is = absurd (true≢false (sym is))
   relaying_rests w x (Ended outcome attempts) next did is = absurd (true≢false (sym is))
@@ -86,6 +101,7 @@ module _ {L C : Type 0} (state : L → LinkState) (start_at : L → LinkStart) w
   relaying_unrefused (Fail link lease keep session error) next is = absurd (true≢false (sym is))
   relaying_unrefused (Answer session owed attempts) next is = absurd (true≢false (sym is))
   relaying_unrefused (Connect context session tries) next is = absurd (true≢false (sym is))
+  relaying_unrefused (Prepare context session link lease) next is = absurd (true≢false (sym is))
   relaying_unrefused (Relay a) next is = refl
   relaying_unrefused (Close link lease keep outcome) next is = absurd (true≢false (sym is))
   relaying_unrefused (Ended outcome attempts) next is = absurd (true≢false (sym is))
@@ -106,6 +122,7 @@ module _ {L C : Type 0} (state : L → LinkState) (start_at : L → LinkStart) w
   relaying_takes (Fail link lease keep session error) next is = absurd (true≢false (sym is))
   relaying_takes (Answer session owed attempts) next is = absurd (true≢false (sym is))
   relaying_takes (Connect context session tries) next is = absurd (true≢false (sym is))
+  relaying_takes (Prepare context session link lease) next is = absurd (true≢false (sym is))
   relaying_takes (Relay a) next is = refl
   relaying_takes (Close link lease keep outcome) next is = absurd (true≢false (sym is))
   relaying_takes (Ended outcome attempts) next is = absurd (true≢false (sym is))
@@ -137,6 +154,8 @@ module _ {L C : Type 0} (state : L → LinkState) (start_at : L → LinkStart) w
       absurd (true≢false (sym is))
   relaying_uses s p own w (Connect context session tries) T is run uses =
       absurd (true≢false (sym is))
+  relaying_uses s p own w (Prepare context session link lease) T is run uses =
+      absurd (true≢false (sym is))
   relaying_uses s p own w (Relay a) T is run uses =
       let relays = relaying_of state start_at s p w own a run in
       uses (origin_of s relays.head relays.sent a.value.lease.reused) p a refl relays.under_way
@@ -162,6 +181,8 @@ module _ {L C : Type 0} (state : L → LinkState) (start_at : L → LinkStart) w
       absurd (true≢false (sym is))
   relaying_counts s p own w client' n used (Connect context session tries) next is run had counts =
       absurd (true≢false (sym is))
+  relaying_counts s p own w client' n used (Prepare context session link lease) next is run had counts =
+      absurd (true≢false (sym is))
   relaying_counts s p [] w client' n used (Relay a) next is run had counts =
       counts (origin_of s run.holds.head run.holds.sent a.value.lease.reused) p a n refl
       run.holds.under_way had
@@ -180,6 +201,7 @@ module _ {L C : Type 0} (state : L → LinkState) (start_at : L → LinkStart) w
   unlinked_asked n own (Fail link lease keep session error) none had = cc
   unlinked_asked n own (Answer session owed attempts) none had = had
   unlinked_asked n own (Connect context session tries) none had = had
+  unlinked_asked n own (Prepare context session link lease) none had = cc
   unlinked_asked n own (Relay a) none had = cc
   unlinked_asked n own (Close link lease keep outcome) none had = cc
   unlinked_asked n own (Ended outcome attempts) none had = had
@@ -227,6 +249,32 @@ module _ {L C : Type 0} (state : L → LinkState) (start_at : L → LinkStart) w
   connect_counts s p (r ∷ own) w context session tries n used client next run had none fresh =
       absurd run.holds
 
+  -- the turn that makes the head of an attempt
+  pub prepare_counts : (s : Start) (p : Passed) (own : List (Returned L)) (w : World) (context : C)
+      (session : Box HttpSession) (link : L) (lease : Lease) (n used : ℕ) (client : LinkState)
+      (next : Phase L C) → RunSoFar state start_at s p w own (Prepare context session link lease)
+      → LinkUses state start_at n link → used ≡ 0
+      → ((k : ℕ) → LinkUses state start_at k link → PhaseUses state start_at k [] next)
+      → TurnCounts state start_at n client client used own next
+  prepare_counts s p [] w context session link lease n used client next run had none asked =
+      still_counts n used client [] next none (asked n had)
+  prepare_counts s p (r ∷ own) w context session link lease n used client next run had none asked =
+      absurd run.holds
+
+  -- what was taken before it was, before the next phase
+  pub prepare_offers : (context : C) (session : Box HttpSession) (link : L) (lease : Lease)
+      (next : Phase L C) → attempts_in next ≡ tries_in lease
+      → items_held start_at next ≡ (start_at link).items ∷ []
+      → offers_before {C = C} start_at [] (Prepare context session link lease)
+      ≡ offers_before start_at [] next
+  prepare_offers context session link lease next same items = rw (items, same) refl
+
+  pub prepare_faults : (context : C) (session : Box HttpSession) (link : L) (lease : Lease)
+      (next : Phase L C) → attempts_in next ≡ tries_in lease
+      → faults_before {L = L} {C = C} [] (Prepare context session link lease)
+      ≡ faults_before [] next
+  prepare_faults context session link lease next same = rw same refl
+
 -- a phase that does not relay holds no attempt
 pub not_relaying : {L C : Type 0} (phase : Phase L C) (a : Box (Attempt L C))
     → is_relaying phase ≡ false → phase ≡ Relay a → ⊥
@@ -240,6 +288,7 @@ relaying_works ReadHead did work is does = absurd (true≢false (sym is))
 relaying_works (Fail link lease keep session error) did work is does = absurd (true≢false (sym is))
 relaying_works (Answer session owed attempts) did work is does = absurd (true≢false (sym is))
 relaying_works (Connect context session tries) did work is does = absurd (true≢false (sym is))
+relaying_works (Prepare context session link lease) did work is does = absurd (true≢false (sym is))
 relaying_works (Relay a) did work is does = does
 relaying_works (Close link lease keep outcome) did work is does = absurd (true≢false (sym is))
 relaying_works (Ended outcome attempts) did work is does = absurd (true≢false (sym is))
@@ -251,6 +300,7 @@ open_settles ReadHead told is = (refl, refl)
 open_settles (Fail link lease keep session error) told is = absurd (true≢false is)
 open_settles (Answer session owed attempts) told is = (refl, refl)
 open_settles (Connect context session tries) told is = (refl, refl)
+open_settles (Prepare context session link lease) told is = (refl, refl)
 open_settles (Relay a) told is = (refl, refl)
 open_settles (Close link lease keep outcome) told is = absurd (true≢false is)
 open_settles (Ended outcome attempts) told is = (refl, refl)
@@ -260,6 +310,7 @@ pub unlinked_open : {L C : Type 0} (state : L → LinkState) (start_at : L → L
     (phase : Phase L C) → links_held state start_at phase ≡ 0 → is_closing phase ≡ false
 unlinked_open state start_at ReadHead none = refl
 unlinked_open state start_at (Connect context session tries) none = refl
+unlinked_open state start_at (Prepare context session link lease) none = refl
 unlinked_open state start_at (Relay a) none = refl
 unlinked_open state start_at (Fail link lease keep session error) none = cc
 unlinked_open state start_at (Close link lease keep outcome) none = cc
@@ -271,6 +322,7 @@ pub relaying_open : {L C : Type 0} (phase : Phase L C) → is_relaying phase ≡
     → is_closing phase ≡ false
 relaying_open ReadHead is = refl
 relaying_open (Connect context session tries) is = refl
+relaying_open (Prepare context session link lease) is = refl
 relaying_open (Relay a) is = refl
 relaying_open (Fail link lease keep session error) is = absurd (true≢false (sym is))
 relaying_open (Close link lease keep outcome) is = absurd (true≢false (sym is))
@@ -282,6 +334,7 @@ pub unlinked_items : {L C : Type 0} (state : L → LinkState) (start_at : L → 
     (phase : Phase L C) → links_held state start_at phase ≡ 0 → items_held start_at phase ≡ []
 unlinked_items state start_at ReadHead none = refl
 unlinked_items state start_at (Connect context session tries) none = refl
+unlinked_items state start_at (Prepare context session link lease) none = cc
 unlinked_items state start_at (Relay a) none = cc
 unlinked_items state start_at (Fail link lease keep session error) none = cc
 unlinked_items state start_at (Close link lease keep outcome) none = cc

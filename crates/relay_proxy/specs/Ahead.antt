@@ -1,6 +1,6 @@
 -- What a request comes to whose hooks ended it before its attempts: one of them answered it, or
 -- stopped it with an error (RFC 9110, sections 3.7 and 15).
-use Rattle.std.specs.Prelude.{◌≡◌, ◌⊎◌, ℕ, true, false, List, [], ◌∷◌, ◌++◌, Option, None, Some}
+use Rattle.std.specs.Prelude.{◌≡◌, ◌⊎◌, ℕ, Bool, true, false, List, [], ◌∷◌, ◌++◌, Option, None, Some}
 use Rattle.relay_tasks.specs.Error.{new_error}
 use Rattle.relay_tasks.specs.Head.{RequestHead}
 use Rattle.relay_tasks.specs.declared.Error.{Error}
@@ -16,7 +16,8 @@ use Rattle.relay_session.specs.declared.task_text.Place.TheVariants as place
 use Rattle.relay_session.specs.declared.task_text.Request.{Request}
 use Rattle.relay_hooks.specs.Answer.{is_whole}
 use Rattle.relay_hooks.specs.DefaultLaw.{lone_answer}
-use Rattle.relay_phases.specs.Order.{Accepts, accepted, answered, failing, purging, trying}
+use Rattle.relay_phases.specs.Order.{Accepts, Station, accepted, answered, failing, purging}
+use Rattle.relay_phases.specs.Order.{Station as station}
 use Rattle.relay_phases.specs.Turns.{wrote_in}
 use Rattle.relay_attempt.specs.Passed.{Passed}
 use Rattle.relay_proxy.specs.Answer.{answer_for}
@@ -27,9 +28,17 @@ use Rattle.relay_proxy.specs.Relayable.{IsAccepted}
 abbrev pub unrelayed : ErrorSource → Error
 unrelayed side = new_error (kind.Custom 1) side
 
--- the hooks before the attempts let the request go to an upstream, by their log
+-- at that station hooks have let the request go to an upstream, and none of an attempt has failed
+abbrev pub goes_on : Station → Bool
+goes_on station.trying = true
+goes_on station.named = true
+goes_on station.linked = true
+goes_on station.sent = true
+goes_on other = false
+
+-- hooks let the request go to an upstream, by their log
 abbrev pub LetsGo : List LogEntry → Type 0
-LetsGo called = Accepts accepted called trying
+LetsGo called = (at : Station) × Accepts accepted called at × (goes_on at ≡ true)
 
 -- what the client is given where hooks queued these tasks to answer a request: them; and the relay's
 -- own 502 behind them, where no final head is among them

@@ -11,7 +11,7 @@ use Rattle.relay_proxy.specs.Tries.{tries_in}
 use Rattle.relay_proxy.specs.declared.machine.Attempt.{Attempt}
 use Rattle.relay_proxy.specs.declared.machine.Lease.{Lease}
 use Rattle.relay_proxy.specs.declared.machine.Phase.{Phase}
-use Rattle.relay_proxy.specs.declared.machine.Phase.TheVariants.{ReadHead, Connect, Relay, Fail, Close, Answer, Ended}
+use Rattle.relay_proxy.specs.declared.machine.Phase.TheVariants.{ReadHead, Connect, Prepare, Relay, Fail, Close, Answer, Ended}
 use Rattle.relay_proxy.specs.declared.record.AttemptRecord.{AttemptRecord}
 use Rattle.relay_proxy.specs.declared.record.RunRecord.{RunRecord}
 use Rattle.relay_proxy.specs.declared.work.Work.{Work}
@@ -76,6 +76,8 @@ module _ {L C : Type 0} (state : L → LinkState) (start_at : L → LinkStart) w
   PhaseCounts tasks ends s client ahead own ReadHead = (tasks ≡ 0) × (ends ≡ 0)
   PhaseCounts tasks ends s client ahead own (Connect context session tries) =
       (tasks ≡ 0) × (ends ≡ 1 + length tries)
+  PhaseCounts tasks ends s client ahead own (Prepare context session link lease) =
+      (tasks ≡ 0) × (ends ≡ 1 + length (tries_in lease))
   PhaseCounts tasks ends s client ahead own (Relay a) =
       AttemptCounts tasks ends s client ahead a.value
   PhaseCounts tasks ends s client ahead own (Fail link lease keep session error) = ⊥
@@ -92,6 +94,8 @@ module _ {L C : Type 0} (state : L → LinkState) (start_at : L → LinkStart) w
       PhaseCounts tasks ends s client ahead own ReadHead
   TurnedCounts tasks ends s client ahead own (Connect context session tries) =
       PhaseCounts tasks ends s client ahead own (Connect context session tries)
+  TurnedCounts tasks ends s client ahead own (Prepare context session link lease) =
+      PhaseCounts tasks ends s client ahead own (Prepare context session link lease)
   TurnedCounts tasks ends s client ahead own (Relay a) =
       PhaseCounts tasks ends s client ahead own (Relay a)
   TurnedCounts tasks ends s client ahead own (Fail link lease keep session error) =
@@ -110,6 +114,7 @@ abbrev pub CountsHead : {L C : Type 0} → Phase L C → Work → Type 0
 CountsHead ReadHead work = (work.moved ≡ 0) × (work.ended ≡ 0)
 CountsHead (Connect context session tries) work =
     (work.moved ≡ 0) × (work.ended ≡ 1) × (tries ≡ [])
+CountsHead (Prepare context session link lease) work = ⊥
 CountsHead (Relay a) work = ⊥
 CountsHead (Fail link lease keep session error) work = ⊥
 CountsHead (Close link lease keep outcome) work = ⊥
@@ -122,6 +127,7 @@ abbrev pub CountsCall : {L C : Type 0} → List AttemptRecord → Phase L C → 
 CountsCall before ReadHead work = ⊥
 CountsCall before (Connect context session tries) work =
     (work.moved ≡ 0) × (work.ended ≡ 0) × (tries ≡ before)
+CountsCall before (Prepare context session link lease) work = ⊥
 CountsCall before (Relay a) work = ⊥
 CountsCall before (Fail link lease keep session error) work = ⊥
 CountsCall before (Close link lease keep outcome) work = ⊥
@@ -130,14 +136,15 @@ CountsCall before (Answer session owed attempts) work =
 CountsCall before (Ended outcome attempts) work =
     (work.moved ≡ 0) × (work.ended ≤ 1) × (attempts ≡ before)
 
--- what a turn counts that asks for a link behind those attempts: the head that is to be sent, or
--- one end, also where that head is refused; one that is refused a link made one attempt more
+-- what a turn counts that asks for a link behind those attempts: no task, and one end where none is
+-- given, or where a hook fails that is told of it; one that is refused a link made one attempt more
 abbrev pub CountsLink : {L C : Type 0} → List AttemptRecord → Phase L C → Work → Type 0
 CountsLink before ReadHead work = ⊥
 CountsLink before (Connect context session tries) work =
     (work.moved ≡ 0) × (work.ended ≡ 1) × (length tries ≡ 1 + length before)
-CountsLink before (Relay a) work =
-    (work.moved ≡ 1) × (work.ended ≡ 0) × (tries_in a.value.lease ≡ before)
+CountsLink before (Prepare context session link lease) work =
+    (work.moved ≡ 0) × (work.ended ≡ 0) × (tries_in lease ≡ before)
+CountsLink before (Relay a) work = ⊥
 CountsLink before (Fail link lease keep session error) work =
     (work.moved ≡ 0) × (work.ended ≡ 1) × (tries_in lease ≡ before)
 CountsLink before (Close link lease keep outcome) work =
@@ -147,10 +154,26 @@ CountsLink before (Answer session owed attempts) work =
 CountsLink before (Ended outcome attempts) work =
     (work.moved ≡ 0) × (work.ended ≡ 1) × (length before ≤ length attempts)
 
+-- what a turn counts that makes the head of an attempt behind those: that head, or one end where it
+-- is refused
+abbrev pub CountsSend : {L C : Type 0} → List AttemptRecord → Phase L C → Work → Type 0
+CountsSend before ReadHead work = ⊥
+CountsSend before (Connect context session tries) work = ⊥
+CountsSend before (Prepare context session link lease) work = ⊥
+CountsSend before (Relay a) work =
+    (work.moved ≡ 1) × (work.ended ≡ 0) × (tries_in a.value.lease ≡ before)
+CountsSend before (Fail link lease keep session error) work =
+    (work.moved ≡ 0) × (work.ended ≡ 1) × (tries_in lease ≡ before)
+CountsSend before (Close link lease keep outcome) work =
+    (work.moved ≡ 0) × (work.ended ≡ 1) × (tries_in lease ≡ before)
+CountsSend before (Answer session owed attempts) work = ⊥
+CountsSend before (Ended outcome attempts) work = ⊥
+
 -- what a turn counts that writes an answer: nothing, or one end at most
 abbrev pub CountsAnswer : {L C : Type 0} → Phase L C → Work → Type 0
 CountsAnswer ReadHead work = ⊥
 CountsAnswer (Connect context session tries) work = ⊥
+CountsAnswer (Prepare context session link lease) work = ⊥
 CountsAnswer (Relay a) work = ⊥
 CountsAnswer (Fail link lease keep session error) work = ⊥
 CountsAnswer (Close link lease keep outcome) work = ⊥
@@ -161,6 +184,7 @@ CountsAnswer (Ended outcome attempts) work = (work.moved ≡ 0) × (work.ended �
 abbrev pub LeavesLink : {L C : Type 0} → L → Lease → Phase L C → Type 0
 LeavesLink link lease ReadHead = ⊥
 LeavesLink link lease (Connect context session tries) = ⊥
+LeavesLink link lease (Prepare context session left by) = ⊥
 LeavesLink link lease (Relay a) = ⊥
 LeavesLink link lease (Fail left by keep session error) = (left ≡ link) × (by ≡ lease)
 LeavesLink link lease (Close left by keep outcome) = (left ≡ link) × (by ≡ lease)

@@ -1,20 +1,29 @@
 -- The calls of an application for one request: what its hooks are shown, their log, and where they
 -- stand (RFC 9110, section 3.7).
-use Rattle.std.specs.Prelude.{◌≡◌, ℕ, ◌+◌, ◌≤◌, Bool, true, false, is_some, length, List, [], Option}
+use Rattle.std.specs.Prelude.{◌≡◌, ℕ, ◌+◌, ◌≤◌, Bool, true, false, is_some, length, List, [], Option, Some, None, Ok}
 use Rattle.relay_tasks.specs.declared.ErrorSource.TheVariants.{Internal}
+use Rattle.relay_tasks.specs.declared.Peer.{Peer}
+use Rattle.relay_tasks.specs.declared.hook.Hook.{Hook}
+use Rattle.relay_tasks.specs.declared.hook.Hook.TheVariants as hook
 use Rattle.relay_tasks.specs.declared.log.LogEntry.{LogEntry}
 use Rattle.relay_session.specs.declared.session.HttpSession.{HttpSession}
 use Rattle.relay_modules.specs.Module.{ModuleCall}
 use Rattle.relay_modules.specs.declared.seen.Seen.{Seen}
 use Rattle.relay_hooks.specs.Standing.{Standing}
 use Rattle.relay_calls.specs.Log.{IsAllowed, Walk}
-use Rattle.relay_phases.specs.Order.{Accepts, Station, accepted}
-use Rattle.relay_opening.specs.Opens.{OpensSoFar, TurnsOn}
+use Rattle.relay_phases.specs.Order.{Accepts, Station, accepted, sent}
+use Rattle.relay_phases.specs.Order.{Station as station}
+use Rattle.relay_phases.specs.Turns.{HasCalled, QueuesNothing}
+use Rattle.relay_opening.specs.Opens.{TurnsTo}
+use Rattle.relay_opening.specs.Place.{end_station, next_hook, station_of}
 use Rattle.relay_opening.specs.declared.place.Called.TheVariants as called
 use Rattle.relay_opening.specs.declared.place.End.TheVariants as end
 use Rattle.relay_opening.specs.declared.place.Place.{Place}
 use Rattle.relay_opening.specs.declared.place.Place.TheVariants as place
+use Rattle.relay_trying.specs.Trying.{NamesPeer}
 use Rattle.relay_proxy.specs.Ahead.{unrelayed}
+use Rattle.relay_proxy.specs.Named.{IsNamed}
+use Rattle.relay_proxy.specs.Tries.{tries_in}
 use Rattle.relay_proxy.specs.declared.calls.At.{At}
 use Rattle.relay_proxy.specs.declared.calls.At.TheVariants as at
 use Rattle.relay_proxy.specs.declared.calls.Calls.{Calls}
@@ -23,7 +32,7 @@ use Rattle.relay_proxy.specs.declared.calls.Opened.TheVariants as led
 use Rattle.relay_proxy.specs.declared.work.Work.{Work}
 use Rattle.relay_proxy.specs.declared.record.AttemptRecord.{AttemptRecord}
 use Rattle.relay_proxy.specs.declared.machine.Phase.{Phase}
-use Rattle.relay_proxy.specs.declared.machine.Phase.TheVariants.{ReadHead, Connect, Relay, Fail, Close, Answer, Ended}
+use Rattle.relay_proxy.specs.declared.machine.Phase.TheVariants.{ReadHead, Connect, Prepare, Relay, Fail, Close, Answer, Ended}
 
 -- the log
 abbrev pub log_of : {M K : Type 0} → Calls M K → List LogEntry
@@ -33,27 +42,69 @@ log_of calls = calls.session.seen.log
 abbrev pub seen_with : {M K : Type 0} → Calls M K → HttpSession → Seen
 seen_with calls client = record calls.session.seen { downstream = client }
 
--- where the hooks before the attempts stand; nowhere before the first of them
-abbrev pub place_of : {K : Type 0} → At K → Place K
-place_of (at.Kept kept) = place.Lost
-place_of (at.Opening there) = there
-
 -- the context was made, and that value was kept from the request before, or none
 abbrev pub HasBegun : {K : Type 0} → At K → Type 0
 HasBegun {K} here =
     (kept : Option K) × (here ≡ at.Opening (place.Behind (called.Made kept)))
 
--- one of them comes next
-abbrev pub is_behind : {K : Type 0} → Place K → Bool
-is_behind (place.Behind last) = true
-is_behind (place.Ended how) = false
-is_behind place.Lost = false
+-- the hook that is called next without the connector; `has_modules` says that modules were made
+abbrev pub next_after : {K : Type 0} → Place K → Bool → Option Hook
+next_after (place.Behind last) has_modules = Some (next_hook last has_modules)
+next_after (place.Ended end.Attempts) has_modules = Some hook.UpstreamPeer
+next_after (place.Ended end.Answered) has_modules = None
+next_after (place.Ended end.Purge) has_modules = None
+next_after (place.Ended end.Declined) has_modules = None
+next_after (place.Ended (end.Unwritten why)) has_modules = None
+next_after (place.Ended (end.Failed error)) has_modules = None
+next_after place.Lost has_modules = None
 
-abbrev pub is_opening : {K : Type 0} → At K → Bool
-is_opening (at.Kept kept) = false
-is_opening (at.Opening there) = is_behind there
+abbrev pub comes_next : {K : Type 0} → At K → Bool → Option Hook
+comes_next (at.Kept kept) has_modules = None
+comes_next (at.Opening there) has_modules = next_after there has_modules
+comes_next (at.Named peer) has_modules = None
+comes_next at.Linked has_modules = None
 
--- what a call led to, by where they stand behind it; a purge is not done so far
+-- one is called next, and no peer was named
+abbrev pub is_calling : {K : Type 0} → At K → Bool
+is_calling here = is_some (comes_next here false)
+
+-- the station at which the order of calls has the request
+abbrev pub place_station : {K : Type 0} → Place K → Station
+place_station (place.Behind last) = station_of last
+place_station (place.Ended how) = end_station how
+place_station place.Lost = station.accepted
+
+abbrev pub station_at : {K : Type 0} → At K → Station
+station_at (at.Kept kept) = station.accepted
+station_at (at.Opening there) = place_station there
+station_at (at.Named peer) = station.named
+station_at at.Linked = station.linked
+
+-- the request goes on there: another hook comes next, or the connector is asked
+abbrev pub Goes : {K : Type 0} → Place K → Type 0
+Goes (place.Behind last) = Unit {0}
+Goes (place.Ended end.Attempts) = Unit {0}
+Goes (place.Ended end.Answered) = ⊥
+Goes (place.Ended end.Purge) = ⊥
+Goes (place.Ended end.Declined) = ⊥
+Goes (place.Ended (end.Unwritten why)) = ⊥
+Goes (place.Ended (end.Failed error)) = ⊥
+Goes place.Lost = ⊥
+
+abbrev pub GoesOn : {K : Type 0} → At K → Type 0
+GoesOn (at.Kept kept) = ⊥
+GoesOn (at.Opening there) = Goes there
+GoesOn (at.Named peer) = Unit {0}
+GoesOn at.Linked = Unit {0}
+
+-- the peer that was named is the one that the log tells
+abbrev pub TellsPeer : {K : Type 0} → At K → List LogEntry → Type 0
+TellsPeer (at.Kept kept) log = Unit {0}
+TellsPeer (at.Opening there) log = Unit {0}
+TellsPeer (at.Named peer) log = IsNamed log peer
+TellsPeer at.Linked log = Unit {0}
+
+-- what a call led to, by where the hooks stand behind it; a purge is not done so far
 abbrev pub leads_to : {K : Type 0} → Place K → Opened
 leads_to (place.Behind last) = led.GoesOn
 leads_to (place.Ended end.Attempts) = led.GoesOn
@@ -64,15 +115,33 @@ leads_to (place.Ended (end.Unwritten why)) = led.OutOfMemory
 leads_to (place.Ended (end.Failed error)) = led.Stopped error
 leads_to place.Lost = led.OutOfMemory
 
+abbrev pub leads_at : {K : Type 0} → At K → Opened
+leads_at (at.Kept kept) = led.OutOfMemory
+leads_at (at.Opening there) = leads_to there
+leads_at (at.Named peer) = led.GoesOn
+leads_at at.Linked = led.GoesOn
+
 module _ (allows : Standing → LogEntry → Type 0) where
-  -- the hook that comes next was called; out of memory no entry is new, wherever it stood
-  pub data CallsNext {M K : Type 0} (old : Calls M K) (client : HttpSession) (mark : ℕ)
-      (new : Calls M K) (left : HttpSession) (behind : ℕ) : Type 0 where
-    a_turn : TurnsOn allows (is_some old.session.modules) (place_of old.at) (seen_with old client)
-        mark (seen_with new left) behind (place_of new.at)
-        → CallsNext old client mark new left behind
-    lost : place_of new.at ≡ place.Lost → log_of new ≡ log_of old
-        → CallsNext old client mark new left behind
+  -- from there the hook that comes next was called, and led to that; out of memory no entry is new,
+  -- wherever it stood
+  pub data TakesNext {K : Type 0} (here : At K) (has_modules : Bool) (old : Seen) (before : ℕ)
+      (new : Seen) (behind : ℕ) (to : At K) : Type 0 where
+    leads : (which : Hook) → comes_next here has_modules ≡ Some which → (there : Place K)
+        → to ≡ at.Opening there
+        → TurnsTo allows which (station_at here) old before new behind there
+        → TakesNext here has_modules old before new behind to
+    names : here ≡ at.Opening (place.Ended end.Attempts) → (peer : Peer) → to ≡ at.Named peer
+        → NamesPeer allows old before new behind (Ok peer)
+        → TakesNext here has_modules old before new behind to
+    lost : to ≡ at.Opening place.Lost → new.log ≡ old.log
+        → TakesNext here has_modules old before new behind to
+
+  -- the same of the calls of a request, with its client shown
+  abbrev pub CallsNext : {M K : Type 0} → Calls M K → HttpSession → ℕ → Calls M K → HttpSession → ℕ
+      → Type 0
+  CallsNext old client mark new left behind =
+      TakesNext old.at (is_some old.session.modules) (seen_with old client) mark
+      (seen_with new left) behind new.at
 
 -- each call is allowed: by the application, or where a filter of modules was called, by modules of
 -- its requests
@@ -90,18 +159,19 @@ pub record IsLogged (allows : Standing → LogEntry → Type 0) (log : List LogE
   pub order : Accepts accepted log station
 
 module _ {C M K : Type 0} (allows : Standing → LogEntry → Type 0) (mark_of : C → ℕ) where
-  -- the hooks before the attempts, so far: each call of them stands in the log, which ends at the
-  -- mark of the context that is held
+  -- the hooks up to the exchange, so far, behind those attempts: each call of them stands in the log,
+  -- which ends at the mark of the context that is held, and the request goes on
   pub record IsOpening (calls : Calls M K) (context : C) (client : HttpSession)
       (tries : List AttemptRecord) : Type 0 where
     pub first : Seen
     pub mark : ℕ
     pub none : first.log ≡ []
-    pub opens : OpensSoFar allows first mark (place_of calls.at) (seen_with calls client)
-        (mark_of context)
-    pub known : place_of calls.at ≡ place.Lost → ⊥
-    -- until they are over no attempt was made
-    pub untried : is_opening calls.at ≡ true → tries ≡ []
+    pub so_far : HasCalled allows first mark accepted (station_at calls.at) QueuesNothing
+        (seen_with calls client) (mark_of context)
+    pub goes : GoesOn calls.at
+    pub named : TellsPeer calls.at (log_of calls)
+    -- until a peer is named no attempt was made
+    pub untried : is_calling calls.at ≡ true → tries ≡ []
 
 module _ {L C M K : Type 0} (allows : Standing → LogEntry → Type 0) (mark_of : C → ℕ) where
   -- the calls so far, by the phase in which the request stands
@@ -109,7 +179,10 @@ module _ {L C M K : Type 0} (allows : Standing → LogEntry → Type 0) (mark_of
   CallsSoFar calls ReadHead = log_of calls ≡ []
   CallsSoFar calls (Connect context session tries) =
       IsOpening allows mark_of calls context session.value tries
-  CallsSoFar calls (Relay a) = (at : Station) × IsLogged allows (log_of calls) at
+  CallsSoFar calls (Prepare context session link lease) =
+      IsOpening allows mark_of calls context session.value (tries_in lease)
+      × (calls.at ≡ at.Linked)
+  CallsSoFar calls (Relay a) = IsLogged allows (log_of calls) sent
   CallsSoFar calls (Fail link lease keep session error) =
       (at : Station) × IsLogged allows (log_of calls) at
   CallsSoFar calls (Close link lease keep outcome) =

@@ -18,13 +18,13 @@ use Rattle.relay_proxy.specs.Owed.{IsHalfGiven}
 use Rattle.relay_proxy.specs.Taken.{offers_for, offers_before}
 use Rattle.relay_proxy.specs.Refusals.{faults_for, attempts_in, faults_before}
 use Rattle.relay_proxy.specs.Relayable.{IsRelayable}
-use Rattle.relay_proxy.specs.Tries.{IsAskedPeer, tries_in}
+use Rattle.relay_proxy.specs.Tries.{tries_in}
 use Rattle.relay_proxy.specs.Turn.{links_held, IsStalled, AdvancesOn}
 use Rattle.relay_proxy.specs.Uses.{PhaseUses, OwnUses}
 use Rattle.relay_proxy.specs.declared.finish.Ending.{Ending}
 use Rattle.relay_proxy.specs.declared.machine.Lease.{Lease}
 use Rattle.relay_proxy.specs.declared.machine.Phase.{Phase}
-use Rattle.relay_proxy.specs.declared.machine.Phase.TheVariants.{ReadHead, Connect, Relay, Fail, Close, Answer, Ended}
+use Rattle.relay_proxy.specs.declared.machine.Phase.TheVariants.{ReadHead, Connect, Prepare, Relay, Fail, Close, Answer, Ended}
 use Rattle.relay_proxy.specs.declared.machine.RunStep.{RunStep}
 use Rattle.relay_proxy.specs.declared.machine.RunStep.TheVariants as step
 use Rattle.relay_proxy.specs.declared.outcome.Outcome.{Outcome}
@@ -42,7 +42,7 @@ pub record Hands {L : Type 0}
   pub kept : r.keep ≡ keep
   pub attempt : AttemptRecord
   pub attempts_are : attempts ≡ tries_in lease ++ attempt ∷ []
-  pub asked : IsAskedPeer attempt.peer
+  pub recorded : attempt.peer ≡ lease.recorded
   pub reused : attempt.reused ≡ lease.reused
   pub record_kept : attempt.kept ≡ keep
   pub error : attempt.error ≡ error_of outcome
@@ -62,6 +62,8 @@ abbrev pub Settles : {L C : Type 0} → Phase L C → Option (List (Returned L))
 Settles ReadHead before after next = (next ≡ ReadHead) × (after ≡ before)
 Settles (Connect context session tries) before after next =
     (next ≡ Connect context session tries) × (after ≡ before)
+Settles (Prepare context session link lease) before after next =
+    (next ≡ Prepare context session link lease) × (after ≡ before)
 Settles (Relay a) before after next = (next ≡ Relay a) × (after ≡ before)
 Settles (Fail link lease keep session error) before after next =
     (attempts : List AttemptRecord) × (next ≡ Answer session (Served error) attempts)
@@ -102,6 +104,8 @@ abbrev pub Finishes : {L C : Type 0} → Phase L C → Option (List (Returned L)
     → Option (List (Returned L)) → Ending → Type 0
 Finishes ReadHead before after ending = GivesUp [] before after ending
 Finishes (Connect context session tries) before after ending = GivesUp tries before after ending
+Finishes (Prepare context session link lease) before after ending =
+    GivesLinkUp link lease before after ending
 Finishes (Relay a) before after ending =
     GivesLinkUp (link_of a.value.exchange) a.value.lease before after ending
 Finishes (Fail link lease keep session error) before after ending =
@@ -117,6 +121,7 @@ Finishes (Ended outcome attempts) before after ending =
 abbrev pub Rests : {L C : Type 0} → World → World → Phase L C → Phase L C → RunStep → Type 0
 Rests w x ReadHead next did = Unit {0}
 Rests w x (Connect context session tries) next did = Unit {0}
+Rests w x (Prepare context session link lease) next did = Unit {0}
 Rests w x (Relay a) next did = Unit {0}
 Rests w x (Fail link lease keep session error) next did = Unit {0}
 Rests w x (Answer session owed attempts) next did = Unit {0}
@@ -161,6 +166,7 @@ module _ {L C : Type 0} (state : L → LinkState) (start_at : L → LinkStart) w
   abbrev pub TurnOf : Start → World → List (Returned L) → Phase L C → Phase L C → Type 0
   TurnOf s x own ReadHead next = AdvancesOn state start_at s x own next
   TurnOf s x own (Connect context session tries) next = AdvancesOn state start_at s x own next
+  TurnOf s x own (Prepare context session link lease) next = AdvancesOn state start_at s x own next
   TurnOf s x own (Relay a) next = AdvancesOn state start_at s x own next
   TurnOf s x own (Fail link lease keep session error) next = AdvancesOn state start_at s x own next
   TurnOf s x own (Close link lease keep outcome) next = Unit {0}

@@ -12,6 +12,7 @@ use Rattle.relay_tasks.specs.declared.ErrorSource.TheVariants.{Upstream, Downstr
 use Rattle.relay_tasks.specs.declared.error.Fail.{Fail}
 use Rattle.relay_tasks.specs.declared.error.Fail.TheVariants as fail
 use Rattle.relay_tasks.specs.declared.Fault.{Fault}
+use Rattle.relay_tasks.specs.declared.log.LogEntry.{LogEntry}
 use Rattle.relay_tasks.specs.declared.task.HttpTask.{HttpTask}
 use Rattle.relay_links.specs.Count.{Rose}
 use Rattle.relay_links.specs.Connector.{IsConnectFault}
@@ -22,8 +23,9 @@ use Rattle.relay_h1.specs.Verdict.{IsOpen, HasRequest, IsRefusedRequest, refused
 use Rattle.relay_h1.specs.Wire.{generated}
 use Rattle.relay_h1.specs.declared.framing.Framing.{Framing}
 use Rattle.relay_authority.specs.Entry.{Entered}
+use Rattle.relay_session.specs.Asked.{request_of}
 use Rattle.relay_session.specs.Reading.{IsWhole}
-use Rattle.relay_hooks.specs.DefaultAnswer.{answer_code}
+use Rattle.relay_session.specs.declared.task_text.Place.TheVariants as place
 use Rattle.relay_core.specs.Past.{Origin}
 use Rattle.relay_peer.specs.Body.{IsFrontOf, body_of}
 use Rattle.relay_peer.specs.Faults.{IsAmong, IsLast}
@@ -34,11 +36,12 @@ use Rattle.relay_attempt.specs.Agrees.{Agrees}
 use Rattle.relay_attempt.specs.Passed.{Passed}
 use Rattle.relay_valid.specs.Valid.{IsValid}
 use Rattle.relay_proxy.specs.Ahead.{IsOwedAhead, unrelayed}
-use Rattle.relay_proxy.specs.Answer.{owed_text, past_at}
+use Rattle.relay_proxy.specs.Answer.{answer_for, owed_text, past_at}
+use Rattle.relay_proxy.specs.Named.{IsNamed}
 use Rattle.relay_proxy.specs.Relayable.{IsAccepted, IsConnect, IsRelayable, NamesUpgrade}
 use Rattle.relay_proxy.specs.Passed.{World, Start, origin_of, asked, TellsClient, TellsLink, IsUnsent, IsUntouched}
 use Rattle.relay_proxy.specs.Sent.{Sends, RefusesToSend}
-use Rattle.relay_proxy.specs.Tries.{AreTries, EndsTrying, IsAskedPeer, fault_error}
+use Rattle.relay_proxy.specs.Tries.{AreTries, EndsTrying, fault_error}
 use Rattle.relay_proxy.specs.declared.outcome.Outcome.{Outcome}
 use Rattle.relay_proxy.specs.declared.outcome.Outcome.TheVariants.{NoRequest, Refused, Served, TurnLimit, OutOfMemory}
 use Rattle.relay_proxy.specs.declared.record.AttemptRecord.{AttemptRecord}
@@ -65,6 +68,10 @@ IsNext None order = Unit {0}
 IsNext (Some at) order =
     (order.closing ≡ []) × IsFrontOf (order.batched ++ at ∷ []) order.read
 
+-- the answer to an error of a request with that head, of which nothing was queued
+abbrev pub answer_to : RequestHead → Error → List ℕ
+answer_to head e = answer_for (request_of head) place.NoHead e
+
 -- what was sent and what was written, whatever the outcome: nothing; the front of a generated
 -- answer, or of what hooks answered, with nothing sent; those of one exchange, whose request is of a
 -- form that is relayed; or those of one that failed when a part had been written: the front of what
@@ -81,8 +88,9 @@ pub data IsInOrder (s : Start) (p : Passed) : Type 0 where
       → IsInOrder s p
   is_unlinked : (head : RequestHead) → IsAccepted s p head
       → IsFrontOf p.written (generated 502) → p.sent ≡ [] → IsInOrder s p
-  is_unsent : (head : RequestHead) (e : Error) → IsAccepted s p head → RefusesToSend s.called head e
-      → IsFrontOf p.written (generated 500) → p.sent ≡ [] → IsInOrder s p
+  is_unsent : (head : RequestHead) (keep : Bool) (e : Error) → IsAccepted s p head
+      → RefusesToSend s.called head keep e → IsFrontOf p.written (answer_to head e) → p.sent ≡ []
+      → IsInOrder s p
   is_failure : (cut : Option HttpTask) (head sent : RequestHead) (reused closed : Bool)
       (before : List ℕ) (e : Error) → IsRelayable head → Sends s.called head sent
       → (order : IsInOrderWith cut (origin_of s head sent reused) (past_at p before) closed)
@@ -312,28 +320,26 @@ abbrev pub owed_by : {s : Start} {p : Passed} {client link : LinkState} {start :
     {e : Error} → HasFailed s p client link start e → List ℕ
 owed_by {e = e} failed = owed_text (order_of failed.why) e
 
--- the head that was to be sent of the client's is refused with that error, before anything was
--- asked of the link, which stands as it was handed out
+-- an attempt failed with that error before its head was sent, and before anything was asked of the
+-- link, which stands as it was handed out and is kept or not
 pub record IsRefusedAhead (s : Start) (p : Passed) (link : LinkState) (start : LinkStart)
-    (e : Error)
+    (keep : Bool) (e : Error)
     : Type 0 where
   pub head : RequestHead
   pub accepted : IsAccepted s p head
-  pub refused : RefusesToSend s.called head e
-  -- which is answered so
-  pub status : answer_code e.esource e.etype ≡ 500
+  pub refused : RefusesToSend s.called head keep e
   pub fresh : IsHandedOut link start start.reused
   pub unsent : IsUnsent p
 
 -- why an attempt failed that had a link, what its client is owed, and whether the link is kept: its
--- exchange failed; or the head was refused ahead of it, and a link that nobody asked is kept
+-- exchange failed; or no head was sent, and nobody asked the link
 pub data Misses
     (s : Start) (p : Passed) (client link : LinkState) (start : LinkStart) (keep : Bool) (e : Error)
     (text : List ℕ) : Type 0 where
   in_exchange : (failed : HasFailed s p client link start e) → text ≡ owed_by failed
       → keep ≡ false → Misses s p client link start keep e text
-  ahead_of_it : IsRefusedAhead s p link start e → text ≡ generated 500 → keep ≡ true
-      → Misses s p client link start keep e text
+  ahead_of_it : (refused : IsRefusedAhead s p link start keep e)
+      → text ≡ answer_to refused.head e → Misses s p client link start keep e text
 
 -- an attempt failed, for a cause that no valid exchange has, and its client was given what was
 -- queued for it and the answer: its link is not kept, and the client does not go back
@@ -346,14 +352,13 @@ pub record IsFailedAttempt
   pub not_kept : keep ≡ false
   pub stays : reuse ≡ false
 
--- the head of an attempt was refused ahead of its exchange, and its client was given the answer to
--- that: its link is kept, and the client does not go back
+-- an attempt failed ahead of its exchange, and its client was given the answer to that: the client
+-- does not go back
 pub record IsUnsentAttempt
     (s : Start) (p : Passed) (w : World) (link : LinkState) (start : LinkStart) (keep reuse : Bool)
     (e : Error) : Type 0 where
-  pub refused : IsRefusedAhead s p link start e
-  pub answered : IsGiven s p w (generated 500)
-  pub kept : keep ≡ true
+  pub refused : IsRefusedAhead s p link start keep e
+  pub answered : IsGiven s p w (answer_to refused.head e)
   pub stays : reuse ≡ false
 
 -- what was sent and written so far of one exchange over this link, as the link came back
@@ -375,18 +380,13 @@ pub record IsPartAnswered
   pub misses : Misses s p w.client link start keep e text
   pub part : IsFrontOf p.written text
 
--- what passed where the request was not brought to an end: a part of one exchange, whose link is
--- not kept; or, by the error with which the attempt had failed, a part of what the client is owed
+-- what passed where the request was not brought to an end: a part of one exchange, or nothing but
+-- bytes of the client, and the link is not kept; or, by the error with which the attempt had failed,
+-- a part of what the client is owed
 abbrev pub IsPart : Start → Passed → World → LinkState → LinkStart → Bool → Option Error → Type 0
-IsPart s p w link start keep None = IsPartRelayed s p link start × (keep ≡ false)
-IsPart s p w link start keep (Some e) = IsPartAnswered s p w link start keep e
-
--- what passed where memory was wanted: such a part, or nothing but bytes of the client
-abbrev pub IsPartOrNone : Start → Passed → World → LinkState → LinkStart → Bool → Option Error
-    → Type 0
-IsPartOrNone s p w link start keep None =
+IsPart s p w link start keep None =
     (IsPartRelayed s p link start ⊎ ((p.written ≡ []) × IsUnsent p)) × (keep ≡ false)
-IsPartOrNone s p w link start keep (Some e) = IsPartAnswered s p w link start keep e
+IsPart s p w link start keep (Some e) = IsPartAnswered s p w link start keep e
 
 -- how a request ends that had this link, which was handed back with that mark, and whose attempt is
 -- recorded with that error
@@ -399,7 +399,7 @@ EndsLinked s p w link start keep told (Served None reuse) =
 EndsLinked s p w link start keep told (Served (Some e) reuse) =
     IsFailedAttempt s p w link start keep reuse e ⊎ IsUnsentAttempt s p w link start keep reuse e
 EndsLinked s p w link start keep told TurnLimit = IsPart s p w link start keep told
-EndsLinked s p w link start keep told OutOfMemory = IsPartOrNone s p w link start keep told
+EndsLinked s p w link start keep told OutOfMemory = IsPart s p w link start keep told
 
 -- how a request ends whose exchange failed
 abbrev pub outcome_of : Fail → Outcome
@@ -414,9 +414,10 @@ error_of (Served error reuse) = error
 error_of TurnLimit = None
 error_of OutOfMemory = None
 
--- the record of an attempt that had a link
-pub record IsRecordOf (a : AttemptRecord) (start : LinkStart) (keep : Bool) : Type 0 where
-  pub peer : IsAskedPeer a.peer
+-- the record of an attempt at the peer that these calls named, which had a link
+pub record IsRecordOf (called : List LogEntry) (a : AttemptRecord) (start : LinkStart) (keep : Bool)
+    : Type 0 where
+  pub peer : IsNamed called a.peer
   pub reused : a.reused ≡ start.reused
   pub kept : a.kept ≡ keep
 
@@ -471,12 +472,12 @@ module _ {L : Type 0} (state : L → LinkState) (start_at : L → LinkStart) whe
       (s : Start) (p : Passed) (w : World) (r : Returned L) (attempts : List AttemptRecord)
       (outcome : Outcome) : Type 0 where
     pub tells : TellsLink p (state r.link) (start_at r.link)
-    pub peer : IsAskedPeer r.peer
+    pub peer : IsNamed s.called r.peer
     pub tries : List AttemptRecord
     pub attempt : AttemptRecord
     pub attempts_are : attempts ≡ tries ++ attempt ∷ []
     pub are_tries : AreTries s tries
-    pub is_record : IsRecordOf attempt (start_at r.link) r.keep
+    pub is_record : IsRecordOf s.called attempt (start_at r.link) r.keep
     pub error : IsErrorOf attempt.error outcome
     pub ends : EndsLinked s p w (state r.link) (start_at r.link) r.keep attempt.error outcome
 

@@ -71,7 +71,7 @@ module _ {L : Type 0} (state : L → LinkState) (start_at : L → LinkStart) whe
     -- a valid request of a form that is relayed, which hooks let go, and of which a head can be sent
     -- that agrees with it; and a valid response to whatever head is sent of it, with no fault
     pub whole : (head : RequestHead) → IsRelayable head → LetsGo s.called
-        → ((e : Error) → ¬ (RefusesToSend s.called head e))
+        → ((keep : Bool) (e : Error) → ¬ (RefusesToSend s.called head keep e))
         → ((sent : RequestHead) → Sends s.called head sent → Agrees head sent)
         → AsksFor (origin_of s head head false) p w.client
         → ((r : Returned L) (sent : RequestHead) → own ≡ r ∷ [] → Sends s.called head sent

@@ -1,6 +1,7 @@
 pub mod Passed
 pub mod Relayable
 pub mod Sent
+pub mod Named
 pub mod Tries
 pub mod Answer
 pub mod Ahead
@@ -10,6 +11,7 @@ pub mod Phases
 pub mod Work
 pub mod Calls
 pub mod Uses
+pub mod Preparing
 pub mod Bound
 pub mod Turn
 pub mod Closing

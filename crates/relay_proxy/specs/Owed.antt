@@ -13,7 +13,8 @@ use Rattle.relay_proxy.specs.Ahead.{IsOwedAhead}
 use Rattle.relay_proxy.specs.Answer.{WaitsOf}
 use Rattle.relay_proxy.specs.Endings.{IsTurnedDown, IsUnconnected, Misses, IsRecordOf}
 use Rattle.relay_proxy.specs.Passed.{World, Start, asked, TellsLink, IsUnsent}
-use Rattle.relay_proxy.specs.Tries.{AreTries, EndsTrying, IsAskedPeer, fault_error}
+use Rattle.relay_proxy.specs.Named.{IsNamed}
+use Rattle.relay_proxy.specs.Tries.{AreTries, EndsTrying, fault_error}
 use Rattle.relay_proxy.specs.declared.outcome.Outcome.{Outcome}
 use Rattle.relay_proxy.specs.declared.outcome.Outcome.TheVariants as outcome
 use Rattle.relay_proxy.specs.declared.owed.Owed.{Owed}
@@ -50,12 +51,12 @@ module _ {L : Type 0} (state : L → LinkState) (start_at : L → LinkStart) whe
   pub record IsGivenBack (s : Start) (p : Passed) (r : Returned L)
       (attempts : List AttemptRecord) (e : Error) : Type 0 where
     pub tells : TellsLink p (state r.link) (start_at r.link)
-    pub peer : IsAskedPeer r.peer
+    pub peer : IsNamed s.called r.peer
     pub tries : List AttemptRecord
     pub attempt : AttemptRecord
     pub attempts_are : attempts ≡ tries ++ attempt ∷ []
     pub are_tries : AreTries s tries
-    pub is_record : IsRecordOf attempt (start_at r.link) r.keep
+    pub is_record : IsRecordOf s.called attempt (start_at r.link) r.keep
     pub error : attempt.error ≡ Some e
 
   -- the attempts of a request that owes its client an answer

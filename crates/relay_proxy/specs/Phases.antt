@@ -2,7 +2,7 @@
 use Rattle.std.specs.Prelude.{◌≡◌, ◌≢◌, Bool, ℕ, List, [], ◌∷◌, Some}
 use Rattle.relay_tasks.specs.Head.{RequestHead}
 use Rattle.relay_tasks.specs.declared.Error.{Error}
-use Rattle.relay_links.specs.Link.{LinkState, LinkStart}
+use Rattle.relay_links.specs.Link.{LinkState, LinkStart, IsHandedOut}
 use Rattle.relay_links.specs.declared.Returned.{Returned}
 use Rattle.relay_opening.specs.Told.{head_behind}
 use Rattle.relay_phases.specs.Turns.{wrote_in}
@@ -18,13 +18,14 @@ use Rattle.relay_proxy.specs.Sent.{Sends}
 use Rattle.relay_proxy.specs.Answer.{WaitsOf}
 use Rattle.relay_proxy.specs.Endings.{IsInOrder, Misses, error_of, EndsUnlinked, EndsLinked, EndsWith, AttemptsUnlinked}
 use Rattle.relay_proxy.specs.Owed.{IsAnswering}
-use Rattle.relay_proxy.specs.Tries.{AreTries, IsAskedPeer, tries_in}
+use Rattle.relay_proxy.specs.Named.{IsNamed}
+use Rattle.relay_proxy.specs.Tries.{AreTries, tries_in}
 use Rattle.relay_proxy.specs.declared.outcome.Outcome.TheVariants.{TurnLimit}
 use Rattle.relay_proxy.specs.declared.machine.Attempt.{Attempt}
 use Rattle.relay_proxy.specs.declared.machine.Lease.{Lease}
 use Rattle.relay_proxy.specs.declared.machine.Phase.{Phase}
 use Rattle.relay_proxy.specs.declared.record.AttemptRecord.{AttemptRecord}
-use Rattle.relay_proxy.specs.declared.machine.Phase.TheVariants.{ReadHead, Connect, Relay, Fail, Close, Answer, Ended}
+use Rattle.relay_proxy.specs.declared.machine.Phase.TheVariants.{ReadHead, Connect, Prepare, Relay, Fail, Close, Answer, Ended}
 
 -- the client's head is read: nothing was taken from what is ahead
 pub record IsReadingHead (s : Start) (p : Passed) (ahead : List ℕ) : Type 0 where
@@ -50,10 +51,18 @@ pub record IsConnecting (s : Start) (p : Passed) (w : World) (session : HttpSess
 pub record IsLeased (s : Start) (p : Passed) (link : LinkState) (start : LinkStart) (lease : Lease)
     : Type 0 where
   pub tells : TellsLink p link start
-  pub peer : IsAskedPeer lease.peer
+  -- and for which peer it was asked, as it is recorded too
+  pub peer : IsNamed s.called lease.peer
+  pub recorded : IsNamed s.called lease.recorded
   pub reused : start.reused ≡ lease.reused
   -- and of the attempts before it
   pub tries : AreTries s (tries_in lease)
+
+-- a link was given, of which nothing was asked yet, and the head is wanted that is sent over it
+pub record IsPreparing (s : Start) (p : Passed) (w : World) (link : LinkState) (start : LinkStart)
+    (session : HttpSession) (lease : Lease) : Type 0 where
+  pub connecting : IsConnecting s p w session (tries_in lease)
+  pub fresh : IsHandedOut link start lease.reused
 
 module _ {L : Type 0} (state : L → LinkState) (start_at : L → LinkStart) where
   -- an attempt failed, and its client is owed an answer, or what was queued for it
@@ -79,6 +88,9 @@ module _ {L C : Type 0} (state : L → LinkState) (start_at : L → LinkStart) w
   abbrev pub IsAt : Start → Passed → World → Phase L C → Type 0
   IsAt s p w ReadHead = IsReadingHead s p w.ahead
   IsAt s p w (Connect context session tries) = IsConnecting s p w session.value tries
+  IsAt s p w (Prepare context session link lease) =
+      IsLeased s p (state link) (start_at link) lease
+      × IsPreparing s p w (state link) (start_at link) session.value lease
   IsAt s p w (Relay a) = IsRelaying s p w a.value
   IsAt s p w (Fail link lease keep session error) =
       IsLeased s p (state link) (start_at link) lease
@@ -97,6 +109,7 @@ module _ {L C : Type 0} (state : L → LinkState) (start_at : L → LinkStart) w
   PhaseHolds s p w [] phase = IsAt s p w phase
   PhaseHolds s p w (r ∷ own) ReadHead = ⊥
   PhaseHolds s p w (r ∷ own) (Connect context session tries) = ⊥
+  PhaseHolds s p w (r ∷ own) (Prepare context session link lease) = ⊥
   PhaseHolds s p w (r ∷ own) (Relay a) = ⊥
   PhaseHolds s p w (r ∷ own) (Fail link lease keep session error) = ⊥
   PhaseHolds s p w (r ∷ own) (Close link lease keep outcome) = ⊥
@@ -109,6 +122,7 @@ module _ {L C : Type 0} (state : L → LinkState) (start_at : L → LinkStart) w
   abbrev pub IsGoing : Phase L C → Type 0
   IsGoing ReadHead = Unit {0}
   IsGoing (Connect context session tries) = Unit {0}
+  IsGoing (Prepare context session link lease) = Unit {0}
   IsGoing (Relay a) = Unit {0}
   IsGoing (Fail link lease keep session error) = Unit {0}
   IsGoing (Answer session owed attempts) = Unit {0}
@@ -119,6 +133,7 @@ module _ {L C : Type 0} (state : L → LinkState) (start_at : L → LinkStart) w
   abbrev pub IsCalm : Start → World → Phase L C → Type 0
   IsCalm s w ReadHead = w.client.faults ≡ s.faults
   IsCalm s w (Connect context session tries) = w.client.faults ≡ s.faults
+  IsCalm s w (Prepare context session link lease) = w.client.faults ≡ s.faults
   IsCalm s w (Relay a) = w.client.faults ≡ s.faults
   IsCalm s w (Fail link lease keep session error) = Unit {0}
   IsCalm s w (Answer session owed attempts) = Unit {0}

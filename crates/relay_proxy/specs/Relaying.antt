@@ -17,12 +17,13 @@ use Rattle.relay_attempt.specs.declared.h1_exchange.H1Exchange.{H1Exchange}
 use Rattle.relay_proxy.specs.Uses.{Measured}
 use Rattle.relay_proxy.specs.declared.machine.Attempt.{Attempt}
 use Rattle.relay_proxy.specs.declared.machine.Phase.{Phase}
-use Rattle.relay_proxy.specs.declared.machine.Phase.TheVariants.{ReadHead, Connect, Relay, Fail, Close, Answer, Ended}
+use Rattle.relay_proxy.specs.declared.machine.Phase.TheVariants.{ReadHead, Connect, Prepare, Relay, Fail, Close, Answer, Ended}
 
 -- the exchange of an attempt is under way
 abbrev pub is_relaying : {L C : Type 0} → Phase L C → Bool
 is_relaying ReadHead = false
 is_relaying (Connect context session tries) = false
+is_relaying (Prepare context session link lease) = false
 is_relaying (Relay a) = true
 is_relaying (Fail link lease keep session error) = false
 is_relaying (Close link lease keep outcome) = false
@@ -33,6 +34,7 @@ is_relaying (Ended outcome attempts) = false
 abbrev pub is_closing : {L C : Type 0} → Phase L C → Bool
 is_closing ReadHead = false
 is_closing (Connect context session tries) = false
+is_closing (Prepare context session link lease) = false
 is_closing (Relay a) = false
 is_closing (Fail link lease keep session error) = true
 is_closing (Close link lease keep outcome) = true

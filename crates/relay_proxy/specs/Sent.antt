@@ -1,12 +1,16 @@
 -- The head that an attempt sends of the client's (RFC 9110, section 7.6; RFC 9112, sections 3.2 and
 -- 6).
-use Rattle.std.specs.Prelude.{◌≡◌, ◌⊎◌, Bool, false, not, List, Option, Some, None, Result, Ok, Err}
+use Rattle.std.specs.Prelude.{◌≡◌, ◌⊎◌, Bool, true, false, not, List, [], ◌∷◌, ◌++◌, Option, Some, None, Result, Ok, Err}
+use Rattle.std.specs.List.{list_any}
 use Rattle.relay_tasks.specs.Head.{RequestHead}
 use Rattle.relay_tasks.specs.declared.Context.TheVariants.{BadFraming}
 use Rattle.relay_tasks.specs.declared.Error.{Error}
 use Rattle.relay_tasks.specs.declared.ErrorSource.TheVariants.{Internal}
+use Rattle.relay_tasks.specs.Hooks.{same_hook}
+use Rattle.relay_tasks.specs.declared.hook.Hook.{Hook}
+use Rattle.relay_tasks.specs.declared.hook.Hook.TheVariants as hook
+use Rattle.relay_tasks.specs.declared.log.Item.TheVariants as item
 use Rattle.relay_tasks.specs.declared.log.LogEntry.{LogEntry}
-use Rattle.relay_authority.specs.Stage.{AndThen}
 use Rattle.relay_authority.specs.Upstream.{ReadyHead, SentHead}
 use Rattle.relay_authority.specs.declared.upstream.Client.{Client}
 use Rattle.relay_authority.specs.declared.upstream.Upstream.TheVariants as over
@@ -31,34 +35,75 @@ client_in session = record { custom = false; has_body = not (is_body_done sessio
 abbrev pub client_of : RequestHead → Client
 client_of head = record { custom = false; has_body = has_body (request_framing head) }
 
--- what is made of a head for that client: it is made ready, and then as it is sent; no hook is
--- between
-abbrev pub MakesSent : Client → RequestHead → Result RequestHead Error → Type 0
-MakesSent client head answer =
-    AndThen (ReadyHead over.H1 client.custom) (SentHead over.H1 client head) head answer
-
 -- the error of a head whose body has no framing
 abbrev pub unframed : Error
 unframed = refused_from Internal BadFraming
 
--- a head is made, and its body has none
-pub record MakesUnframed (client : Client) (head : RequestHead) : Type 0 where
+-- what the filter left is made as it is sent, and its body has no framing; `asked` is the client's
+-- own head
+pub record SettlesUnframed (client : Client) (asked filtered : RequestHead) : Type 0 where
   pub sent : RequestHead
-  pub made : MakesSent client head (Ok sent)
+  pub settles : SentHead over.H1 client asked filtered (Ok sent)
   pub no_framing : request_framing sent ≡ None
 
--- the same where its body is to have a framing: one without is refused
-abbrev pub MakesFramed : Client → RequestHead → Result RequestHead Error → Type 0
-MakesFramed client head (Ok sent) =
-    MakesSent client head (Ok sent)
+-- what the filter left is made as it is sent, where its body is to have a framing: one without is
+-- refused
+abbrev pub SettlesFramed : Client → RequestHead → RequestHead → Result RequestHead Error → Type 0
+SettlesFramed client asked filtered (Ok sent) =
+    SentHead over.H1 client asked filtered (Ok sent)
     × ((framing : Framing) × (request_framing sent ≡ Some framing))
-MakesFramed client head (Err e) =
-    MakesSent client head (Err e) ⊎ (MakesUnframed client head × (e ≡ unframed))
+SettlesFramed client asked filtered (Err e) =
+    SentHead over.H1 client asked filtered (Err e)
+    ⊎ (SettlesUnframed client asked filtered × (e ≡ unframed))
 
--- the head that is sent upstream of a client's head, as these calls of hooks left it
-abbrev pub Sends : List LogEntry → RequestHead → RequestHead → Type 0
-Sends called head sent = MakesFramed (client_of head) (head_behind head called) (Ok sent)
+-- ---- by the calls of hooks
 
--- the error with which the head that would be sent of a client's is refused
-abbrev pub RefusesToSend : List LogEntry → RequestHead → Error → Type 0
-RefusesToSend called head e = MakesFramed (client_of head) (head_behind head called) (Err e)
+-- the entry is one of that hook
+abbrev pub is_of : Hook → LogEntry → Bool
+is_of which e = same_hook which e.hook
+
+-- the last of these calls of the filter of the head that is sent was given the client's head, made
+-- ready as hooks had left it before that call, and it left this one
+pub record Filters (called : List LogEntry) (head filtered : RequestHead) : Type 0 where
+  pub before : List LogEntry
+  pub e : LogEntry
+  pub after : List LogEntry
+  pub called_are : called ≡ before ++ e ∷ after
+  pub is_last : list_any (is_of hook.UpstreamRequestFilter) after ≡ false
+  pub is_filter : e.hook ≡ hook.UpstreamRequestFilter
+  pub ready : RequestHead
+  pub readies : ReadyHead over.H1 false (head_behind head before) (Ok ready)
+  pub given : e.input ≡ item.Request ready
+  pub left : e.output ≡ item.Request filtered
+  pub passes : e.error ≡ None
+
+-- the client's own head, as hooks left it up to that call
+abbrev pub asked_in : {called : List LogEntry} {head filtered : RequestHead}
+    → Filters called head filtered → RequestHead
+asked_in {head = head} f = head_behind head (f.before ++ f.e ∷ [])
+
+-- the head that is sent upstream of a client's: filtered, and then made as it is sent
+pub record Sends (called : List LogEntry) (head sent : RequestHead) : Type 0 where
+  pub filtered : RequestHead
+  pub filters : Filters called head filtered
+  pub settles : SettlesFramed (client_of head) (asked_in filters) filtered (Ok sent)
+
+-- the last of these calls is one of that hook, and failed with that error
+pub record FailsAt (which : Hook) (called : List LogEntry) (e : Error) : Type 0 where
+  pub before : List LogEntry
+  pub last : LogEntry
+  pub called_are : called ≡ before ++ last ∷ []
+  pub is_of_it : last.hook ≡ which
+  pub error : last.error ≡ Some e
+
+-- why an attempt that has a link sends no head, and whether that link is kept: the application
+-- failed as it was told of the link; the filter failed; or what it left is refused
+pub data RefusesToSend (called : List LogEntry) (head : RequestHead) (keep : Bool) (e : Error)
+    : Type 0 where
+  untold : FailsAt hook.ConnectedToUpstream called e → keep ≡ false
+      → RefusesToSend called head keep e
+  unfiltered : FailsAt hook.UpstreamRequestFilter called e → keep ≡ true
+      → RefusesToSend called head keep e
+  unsettled : (filtered : RequestHead) → (filters : Filters called head filtered)
+      → SettlesFramed (client_of head) (asked_in filters) filtered (Err e) → keep ≡ true
+      → RefusesToSend called head keep e

@@ -6,8 +6,9 @@ use Rattle.relay_tasks.specs.declared.Error.{Error}
 use Rattle.relay_tasks.specs.declared.ErrorSource.{ErrorSource}
 use Rattle.relay_tasks.specs.declared.ErrorSource.TheVariants.{Upstream}
 use Rattle.relay_tasks.specs.declared.Fault.{Fault}
-use Rattle.relay_tasks.specs.declared.Peer.{Peer}
 use Rattle.relay_links.specs.Connector.{IsConnectFault}
+use Rattle.relay_tasks.specs.declared.log.LogEntry.{LogEntry}
+use Rattle.relay_proxy.specs.Named.{IsNamed}
 use Rattle.relay_proxy.specs.Passed.{Start}
 use Rattle.relay_proxy.specs.declared.machine.Lease.{Lease}
 use Rattle.relay_proxy.specs.declared.record.AttemptRecord.{AttemptRecord}
@@ -16,13 +17,10 @@ use Rattle.relay_proxy.specs.declared.record.AttemptRecord.{AttemptRecord}
 abbrev pub fault_error : ErrorSource → Fault → Error
 fault_error side fault = record (error_of_fault fault) { esource = side }
 
--- the peer that each attempt asks for
-abbrev pub IsAskedPeer : Peer → Type 0
-IsAskedPeer peer = peer ≡ record { address = []; tls = false; allows_h1 = true }
-
--- the record of an attempt that was given no link, for that error
-pub record IsFailedRecord (a : AttemptRecord) (e : Error) : Type 0 where
-  pub peer : IsAskedPeer a.peer
+-- the record of an attempt at the peer that these calls named, which was given no link, for that
+-- error
+pub record IsFailedRecord (called : List LogEntry) (a : AttemptRecord) (e : Error) : Type 0 where
+  pub peer : IsNamed called a.peer
   pub reused : a.reused ≡ false
   pub kept : a.kept ≡ false
   pub error : a.error ≡ Some e
@@ -33,15 +31,15 @@ abbrev pub MayTry : ℕ → ℕ → Error → Type 0
 MayTry most made e = (may_retry e.retry ≡ true) × (made < most)
 
 -- the connector refused an attempt its link, with a fault that lets it be asked again
-pub record IsTry (a : AttemptRecord) : Type 0 where
+pub record IsTry (called : List LogEntry) (a : AttemptRecord) : Type 0 where
   pub fault : Fault
   pub kind : IsConnectFault fault
-  pub is_record : IsFailedRecord a (fault_error Upstream fault)
+  pub is_record : IsFailedRecord called a (fault_error Upstream fault)
   pub again : may_retry fault.retry ≡ true
 
 -- the attempts before another one: each was refused so, and one more was allowed
 pub record AreTries (s : Start) (tries : List AttemptRecord) : Type 0 where
-  pub each : All IsTry tries
+  pub each : All (IsTry s.called) tries
   pub allowed : tries ≢ [] → length tries < s.most
 
 -- the attempts of a request whose last one failed with that error before it had a link: no other
@@ -51,7 +49,7 @@ pub record EndsTrying (s : Start) (attempts : List AttemptRecord) (e : Error) : 
   pub last : AttemptRecord
   pub attempts_are : attempts ≡ tries ++ last ∷ []
   pub are_tries : AreTries s tries
-  pub is_record : IsFailedRecord last e
+  pub is_record : IsFailedRecord s.called last e
   pub over : ¬ (MayTry s.most (length attempts) e)
 
 -- all attempts but the last

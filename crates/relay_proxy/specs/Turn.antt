@@ -14,11 +14,11 @@ use Rattle.relay_attempt.specs.Passed.{Passed}
 use Rattle.relay_attempt.specs.Head.{link_of}
 use Rattle.relay_proxy.specs.Passed.{World, Start}
 use Rattle.relay_proxy.specs.Phases.{RunSoFar}
-use Rattle.relay_proxy.specs.Relaying.{is_closing}
+use Rattle.relay_proxy.specs.Relaying.{is_closing, is_relaying}
 use Rattle.relay_proxy.specs.Uses.{ExchangeMoved, OwesAnswer}
 use Rattle.relay_proxy.specs.Work.{total_work}
 use Rattle.relay_proxy.specs.declared.machine.Phase.{Phase}
-use Rattle.relay_proxy.specs.declared.machine.Phase.TheVariants.{ReadHead, Connect, Relay, Fail, Close, Answer, Ended}
+use Rattle.relay_proxy.specs.declared.machine.Phase.TheVariants.{ReadHead, Connect, Prepare, Relay, Fail, Close, Answer, Ended}
 use Rattle.relay_proxy.specs.declared.machine.RunStep.{RunStep}
 use Rattle.relay_proxy.specs.declared.machine.RunStep.TheVariants as step
 use Rattle.relay_proxy.specs.declared.record.AttemptRecord.{AttemptRecord}
@@ -45,6 +45,7 @@ DoesWork (step.Waited Silent) work = total_work work ≡ 0
 abbrev pub is_reading_head : {L C : Type 0} → Phase L C → Bool
 is_reading_head ReadHead = true
 is_reading_head (Connect context session tries) = false
+is_reading_head (Prepare context session link lease) = false
 is_reading_head (Relay a) = false
 is_reading_head (Fail link lease keep session error) = false
 is_reading_head (Close link lease keep outcome) = false
@@ -55,16 +56,29 @@ is_reading_head (Ended outcome attempts) = false
 abbrev pub is_connecting : {L C : Type 0} → Phase L C → Bool
 is_connecting ReadHead = false
 is_connecting (Connect context session tries) = true
+is_connecting (Prepare context session link lease) = false
 is_connecting (Relay a) = false
 is_connecting (Fail link lease keep session error) = false
 is_connecting (Close link lease keep outcome) = false
 is_connecting (Answer session owed attempts) = false
 is_connecting (Ended outcome attempts) = false
 
+-- the exchange has begun: it is under way, or it left its link, which is to be handed back
+abbrev pub IsBegun : {L C : Type 0} → Phase L C → Type 0
+IsBegun ReadHead = ⊥
+IsBegun (Connect context session tries) = ⊥
+IsBegun (Prepare context session link lease) = ⊥
+IsBegun (Relay a) = Unit {0}
+IsBegun (Fail link lease keep session error) = Unit {0}
+IsBegun (Close link lease keep outcome) = Unit {0}
+IsBegun (Answer session owed attempts) = ⊥
+IsBegun (Ended outcome attempts) = ⊥
+
 -- where a link is wanted still, it is for that session and that context
 abbrev pub KeepsAsked : {L C : Type 0} → C → Box HttpSession → Phase L C → Type 0
 KeepsAsked context session ReadHead = ⊥
 KeepsAsked context session (Connect other stays tries) = (other ≡ context) × (stays ≡ session)
+KeepsAsked context session (Prepare other stays link lease) = Unit {0}
 KeepsAsked context session (Relay a) = Unit {0}
 KeepsAsked context session (Fail link lease keep stays error) = Unit {0}
 KeepsAsked context session (Close link lease keep outcome) = Unit {0}
@@ -75,6 +89,7 @@ KeepsAsked context session (Ended outcome attempts) = Unit {0}
 abbrev pub held_state : {L C : Type 0} → (L → LinkState) → Phase L C → Option LinkState
 held_state state ReadHead = None
 held_state state (Connect context session tries) = None
+held_state state (Prepare context session link lease) = Some (state link)
 held_state state (Relay a) = Some (state (link_of a.value.exchange))
 held_state state (Fail link lease keep session error) = Some (state link)
 held_state state (Close link lease keep outcome) = Some (state link)
@@ -100,6 +115,7 @@ module _ {L C : Type 0} (state : L → LinkState) (start_at : L → LinkStart) w
   abbrev pub links_held : Phase L C → ℕ
   links_held ReadHead = 0
   links_held (Connect context session tries) = 0
+  links_held (Prepare context session link lease) = 1
   links_held (Relay a) = 1
   links_held (Fail link lease keep session error) = 1
   links_held (Close link lease keep outcome) = 1
@@ -122,6 +138,7 @@ module _ {L C : Type 0} (state : L → LinkState) (start_at : L → LinkStart) w
   abbrev pub IsStalled : World → Phase L C → Type 0
   IsStalled w ReadHead = IsOpen w.ahead × (w.client.silent_on_read ≡ true)
   IsStalled w (Connect context session tries) = ⊥
+  IsStalled w (Prepare context session link lease) = ⊥
   IsStalled w (Relay a) =
       SilentIn state start_at w.client a.value.exchange
   IsStalled w (Fail link lease keep session error) = ⊥
@@ -150,6 +167,8 @@ module _ {L C : Type 0} (state : L → LinkState) (start_at : L → LinkStart) w
   HasMoved w x ReadHead next = HasGiven w.client x.client ⊎ (is_reading_head next ≡ false)
   HasMoved w x (Connect context session tries) next =
       (links_held next ≡ 1) ⊎ (TriesOn tries next ⊎ (CallsOn tries next ⊎ OwesAnswer next))
+  HasMoved w x (Prepare context session link lease) next =
+      (is_relaying next ≡ true) ⊎ OwesAnswer next
   HasMoved w x (Relay a) next =
       ((branch : Option Branch) × ExchangeMoved state start_at branch w x a.value.exchange next)
       ⊎ OwesAnswer next
@@ -185,6 +204,7 @@ HandsOn next did = is_closing next ≡ true → (did ≡ step.Moved) ⊎ (did �
 abbrev pub WorksIn : {L C : Type 0} → Phase L C → RunStep → Work → Type 0
 WorksIn ReadHead did work = DoesWork did work
 WorksIn (Connect context session tries) did work = DoesWork did work
+WorksIn (Prepare context session link lease) did work = DoesWork did work
 WorksIn (Relay a) did work = DoesWork did work
 WorksIn (Fail link lease keep session error) did work = DoesWork did work
 WorksIn (Answer session owed attempts) did work = DoesWork did work
@@ -195,6 +215,7 @@ WorksIn (Ended outcome attempts) did work = (total_work work ≡ 0) × (did ≡ 
 abbrev pub is_over : {L C : Type 0} → Phase L C → Bool
 is_over ReadHead = false
 is_over (Connect context session tries) = false
+is_over (Prepare context session link lease) = false
 is_over (Relay a) = false
 is_over (Fail link lease keep session error) = false
 is_over (Close link lease keep outcome) = true

@@ -1,18 +1,20 @@
 //! The calls of an application for one request: what its hooks are shown, the log of their calls,
 //! and which of them comes next (RFC 9110, section 3.7).
-ghost use Rattle.std.specs.Prelude.{◌≡◌, ◌+◌, [], false, length, None, IfOk, IsOkUnless, IsSome, IsTrue, OnErr, OnOk};
+ghost use Rattle.std.specs.Prelude.{◌≡◌, ◌+◌, [], false, true, length, None, IfOk, IfSome, IsOkUnless, IsSome, IsTrue, OnErr, OnOk, is_some};
 ghost use Rattle.relay_modules.specs.declared.seen.Seen.{Seen};
 ghost use Rattle.relay_session.specs.Reading.{head_of};
 ghost use Rattle.relay_session.specs.Response.{has_head};
+ghost use Rattle.relay_opening.specs.Place.{is_open};
 ghost use Rattle.relay_phases.specs.Order.{accepted, made};
 ghost use Rattle.relay_phases.specs.Turns.{HasCalled, QueuesNothing};
-ghost use Rattle.relay_opening.specs.Opens.{OpensSoFar};
-ghost use Rattle.relay_proxy.specs.Calls.{CallsNext, HasBegun, allowed_by, is_opening, leads_to, log_of, place_of, seen_with};
+ghost use Rattle.relay_trying.specs.Trying.{FiltersHead, TellsConnected};
+ghost use Rattle.relay_proxy.specs.Calls.{CallsNext, HasBegun, TakesNext, allowed_by, is_calling, leads_at, leads_to, log_of, seen_with};
 
 use relay_hooks::{HttpModule, ProxyHttp, Session};
 use relay_opening::{End, Place, begin_opening, take_turn};
 use relay_session::HttpSession;
-use relay_tasks::{Error, ErrorType, Fail, PhaseLog, Result};
+use relay_tasks::{Error, ErrorType, Fail, Peer, PhaseLog, RequestHeader, Result};
+use relay_trying::{filter_head, name_peer, tell_connected};
 use std::alloc::Global;
 use std::mem;
 
@@ -21,12 +23,42 @@ use std::mem;
 pub(crate) enum At<K> {
     /// None was called, and that value was kept from the request before on the connection.
     Kept(Option<K>),
-    /// The hooks before the attempts stand there.
+    /// The hooks before the attempts stand there; behind the last of them a peer is asked for.
     Opening(Place<K>),
+    /// That peer was named, and the connector is asked for a link to it.
+    Named(Peer),
+    /// The application was told of the link, and the head is to be filtered.
+    Linked,
 }
 
-/// What a call of a hook before the attempts led to: the request goes on, to another hook or to its
-/// attempts; it was answered; it was stopped with that error; or memory was wanted.
+impl<K> At<K> {
+    /// What the last call led to.
+    fn leads(&self) -> Opened
+        ensures { result ≡ leads_at self.now }
+    {
+        match self {
+            At::Kept(_) => Opened::OutOfMemory,
+            At::Opening(place) => leads_to(place),
+            At::Named(_) => Opened::GoesOn,
+            At::Linked => Opened::GoesOn,
+        }
+    }
+
+    /// Whether a hook is called next without the connector.
+    fn is_calling(&self) -> bool
+        ensures { result ≡ is_calling self.now }
+    {
+        match self {
+            At::Opening(Place::Behind(_) | Place::Ended(End::Attempts)) => true,
+            At::Opening(Place::Ended(End::Answered | End::Purge | End::Declined)) => false,
+            At::Opening(Place::Ended(End::Unwritten(_) | End::Failed(_)) | Place::Lost) => false,
+            At::Kept(_) | At::Named(_) | At::Linked => false,
+        }
+    }
+}
+
+/// What a call of a hook before a link was given led to: the request goes on, to another hook or to
+/// the connector; it was answered; it was stopped with that error; or memory was wanted.
 #[derive(Clone, Copy)]
 pub(crate) enum Opened {
     GoesOn,
@@ -35,7 +67,7 @@ pub(crate) enum Opened {
     OutOfMemory,
 }
 
-/// The same, by where the hooks stand. A purge is not done so far.
+/// The same, by where the hooks before the attempts stand. A purge is not done so far.
 fn leads_to<K>(place: &Place<K>) -> Opened
     ensures { result ≡ leads_to place.now }
 {
@@ -72,14 +104,20 @@ impl<M: HttpModule + Drop, K: Drop> Calls<M, K> {
         }
     }
 
-    /// Whether a hook before the attempts is to be called.
-    pub(crate) fn is_opening(&self) -> bool
-        ensures { result ≡ is_opening self.now.at }
+    /// Whether a hook is called next without the connector.
+    pub(crate) fn is_calling(&self) -> bool
+        ensures { result ≡ is_calling self.now.at }
+    {
+        self.at.is_calling()
+    }
+
+    /// A copy of the peer that was named; none where none was, or there is no memory.
+    pub(crate) fn peer(&self) -> Option<Peer>
+        ensures { IfSome result (λ peer. self.now.at ≡ At.Named peer) }
     {
         match &self.at {
-            At::Kept(_) => false,
-            At::Opening(Place::Behind(_)) => true,
-            At::Opening(Place::Ended(_) | Place::Lost) => false,
+            At::Named(peer) => peer.copy().ok(),
+            At::Kept(_) | At::Opening(_) | At::Linked => None,
         }
     }
 
@@ -114,7 +152,7 @@ pub(crate) fn begin_calls<SV: ProxyHttp>(
 {
     let kept = match mem::replace(&mut calls.at, At::Kept(None)) {
         At::Kept(kept) => kept,
-        At::Opening(_) => None,
+        At::Opening(_) | At::Named(_) | At::Linked => None,
     };
     mem::swap(client, &mut calls.session.seen.downstream);
     let begun = begin_opening(app, &mut calls.session, kept);
@@ -124,8 +162,8 @@ pub(crate) fn begin_calls<SV: ProxyHttp>(
     Ok(context)
 }
 
-/// Calls the hook that comes next, and no other, and answers where the hooks before the attempts
-/// stand then. The request has modules, which are made behind `allow_spawning_subrequest`.
+/// Calls the hook that comes next, and no other, and answers what it led to. The request has
+/// modules, which are made behind `allow_spawning_subrequest`.
 ///
 /// A hook is called only for a client whose head was read and to whom no final head was queued:
 /// where it is called next that is so, and else this is out of memory.
@@ -135,27 +173,98 @@ pub(crate) fn call_next<SV: ProxyHttp>(
     context: &mut SV::CTX,
     client: &mut HttpSession,
 ) -> Opened
-    ensures shown { result ≡ leads_to (place_of calls.new.at) }
+    requires { is_calling calls.old.at ≡ true }
+    ensures shown { result ≡ leads_at calls.new.at }
     ensures turns { CallsNext (allowed_by (SV.allows app.now) SV.Modules.allows) calls.old
         client.old (SV.mark_of app.now context.old) calls.new client.new
         (SV.mark_of app.now context.new) }
-    ensures opens { (first : Seen) (mark : _)
-        → OpensSoFar (allowed_by (SV.allows app.now) SV.Modules.allows) first mark
-        (place_of calls.old.at) (seen_with calls.old client.old) (SV.mark_of app.now context.old)
-        → OpensSoFar (allowed_by (SV.allows app.now) SV.Modules.allows) first mark
-        (place_of calls.new.at) (seen_with calls.new client.new) (SV.mark_of app.now context.new) }
 {
     let at = mem::replace(&mut calls.at, At::Opening(Place::Lost));
-    let At::Opening(place) = at else {
-        return Opened::OutOfMemory;
-    };
     if !client.has_head() || client.response_written() {
         return Opened::OutOfMemory;
     }
     mem::swap(client, &mut calls.session.seen.downstream);
-    let place = take_turn(app, &mut calls.session, context, place, true);
+    let at = take_next(app, &mut calls.session, context, at);
     mem::swap(client, &mut calls.session.seen.downstream);
-    let led = leads_to(&place);
-    calls.at = At::Opening(place);
+    let led = at.leads();
+    calls.at = at;
     led
+}
+
+/// The same over the session that hooks are shown.
+fn take_next<SV: ProxyHttp>(
+    app: &SV,
+    session: &mut Session<SV::Modules>,
+    context: &mut SV::CTX,
+    at: At<SV::Kept>,
+) -> At<SV::Kept>
+    requires calling { is_calling at ≡ true }
+    requires open_to { IsTrue (is_open session.old.seen) }
+    ensures { TakesNext (allowed_by (SV.allows app.now) SV.Modules.allows) at
+        (is_some session.old.modules) session.old.seen (SV.mark_of app.now context.old)
+        session.new.seen (SV.mark_of app.now context.new) result }
+{
+    match at {
+        At::Opening(Place::Ended(End::Attempts)) => match name_peer(app, session, context) {
+            Ok(peer) => At::Named(peer),
+            Err(Fail::Error(error)) => At::Opening(Place::Ended(End::Failed(error))),
+            Err(Fail::OutOfMemory) => At::Opening(Place::Lost),
+        },
+        At::Opening(place) => At::Opening(take_turn(app, session, context, place, true)),
+        At::Kept(_) | At::Named(_) | At::Linked => unreachable!(),
+    }
+}
+
+/// Tells the application of the link to that peer, which had been used before or not.
+///
+/// The error of the hook, which stands in its entry. Out of memory also where the client's head was
+/// not read, which cannot be where this is called.
+pub(crate) fn tell_link<SV: ProxyHttp>(
+    app: &SV,
+    calls: &mut Calls<SV::Modules, SV::Kept>,
+    context: &mut SV::CTX,
+    client: &mut HttpSession,
+    peer: &Peer,
+    reused: bool,
+) -> Result<()>
+    ensures told { TellsConnected (allowed_by (SV.allows app.now) SV.Modules.allows) peer.now reused
+        (seen_with calls.old client.old) (SV.mark_of app.now context.old)
+        (seen_with calls.new client.new) (SV.mark_of app.now context.new) result }
+    ensures at { OnOk result (calls.new.at ≡ At.Linked) }
+{
+    if !client.has_head() {
+        return Err(Fail::OutOfMemory);
+    }
+    mem::swap(client, &mut calls.session.seen.downstream);
+    let told = tell_connected(app, &mut calls.session, context, peer, reused);
+    mem::swap(client, &mut calls.session.seen.downstream);
+    if told.is_ok() {
+        calls.at = At::Linked;
+    }
+    told
+}
+
+/// Calls the filter of the head that is sent, and answers the head as it left it.
+///
+/// The error of the filter, which stands in its entry. Out of memory also where the client's head
+/// was not read, which cannot be where this is called.
+pub(crate) fn filter<SV: ProxyHttp>(
+    app: &SV,
+    calls: &mut Calls<SV::Modules, SV::Kept>,
+    context: &mut SV::CTX,
+    client: &mut HttpSession,
+    ready: RequestHeader,
+) -> Result<RequestHeader>
+    ensures filters { FiltersHead (allowed_by (SV.allows app.now) SV.Modules.allows) ready
+        (seen_with calls.old client.old) (SV.mark_of app.now context.old)
+        (seen_with calls.new client.new) (SV.mark_of app.now context.new) result }
+    ensures at { calls.new.at ≡ calls.old.at }
+{
+    if !client.has_head() {
+        return Err(Fail::OutOfMemory);
+    }
+    mem::swap(client, &mut calls.session.seen.downstream);
+    let filtered = filter_head(app, &mut calls.session, context, ready);
+    mem::swap(client, &mut calls.session.seen.downstream);
+    filtered
 }

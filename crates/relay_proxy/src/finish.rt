@@ -5,7 +5,6 @@ ghost use Rattle.relay_proxy.specs.Relaying.{is_closing};
 ghost use Rattle.relay_proxy.specs.Stock.{items_held, all_items};
 ghost use Rattle.relay_proxy.specs.Turn.{links_held, is_over};
 
-use crate::connecting::asked_peer;
 use crate::machine::{Attempt, Lease, Phase};
 use crate::outcome::Outcome;
 use crate::owed::Owed;
@@ -40,10 +39,15 @@ fn release<K: Connector>(
         ≡ all_items K.Byte.start (K.returned connector.old) ((K.Byte.start link).items ∷ [])
         (K.stock connector.old) }
 {
-    let Lease { peer, reused, room } = lease;
+    let Lease {
+        peer,
+        recorded,
+        reused,
+        room,
+    } = lease;
     connector.release(peer, link, keep);
     room.fill(AttemptRecord {
-        peer: asked_peer(),
+        peer: recorded,
         reused,
         kept: keep,
         error: outcome.error(),
@@ -101,6 +105,7 @@ fn close<K: Connector, C: Drop>(connector: &mut K, phase: &mut Phase<K::Byte, C>
         }
         Phase::ReadHead => unreachable!(),
         Phase::Connect(_context, _session, _tries) => unreachable!(),
+        Phase::Prepare(_context, _session, _link, _lease) => unreachable!(),
         Phase::Relay(_attempt) => unreachable!(),
         Phase::Answer(_session, _owed, _attempts) => unreachable!(),
         Phase::Ended(_outcome, _attempts) => unreachable!(),
@@ -158,6 +163,7 @@ pub(crate) fn finish<K: Connector, C: Drop>(
     match phase {
         Phase::ReadHead => give_up(AttemptList::new(alloc)),
         Phase::Connect(_context, _session, tries) => give_up(tries),
+        Phase::Prepare(_context, _session, link, lease) => give_link_up(connector, link, lease),
         Phase::Relay(attempt) => {
             let Attempt {
                 exchange,

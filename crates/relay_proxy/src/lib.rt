@@ -10,6 +10,7 @@ mod machine;
 mod opening;
 mod outcome;
 mod owed;
+mod preparing;
 mod proxy;
 mod record;
 mod relayable;

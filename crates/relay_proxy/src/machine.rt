@@ -1,12 +1,12 @@
 //! The machine of one request: its phases, and what a turn makes of one.
 //!
 //! ```text
-//! ReadHead -> Connect -> Relay -> Close -> Ended (relayed)
-//!    |         |    |      |
-//!    |         | (a hook, or again)
-//!    |           |         +-> Fail -> Answer -> Ended (the exchange failed)
-//!    |           +-> Answer -> Ended (hooks ended it, or no link was given)
-//!    |           +-> Fail -> Answer -> Ended (the head that was to be sent is refused)
+//! ReadHead -> Connect -> Prepare -> Relay -> Close -> Ended (relayed)
+//!    |         |    |        |        |
+//!    |         | (a hook,    |        +-> Fail -> Answer -> Ended (the exchange failed)
+//!    |         |  or again)  +-> Fail -> Answer -> Ended (no head was sent)
+//!    |         +-> Answer -> Ended (hooks ended it, or no link was given)
+//!    |         +-> Fail -> Answer -> Ended (a hook failed that was told of the link)
 //!    +-> Answer -> Ended (the head was turned down)
 //!    +-> Ended (nothing asked, nothing relayed)
 //! ```
@@ -35,11 +35,13 @@ pub enum RunStep {
     Ended,
 }
 
-/// What is known of a link that the connector gave, beside the link: for whom it was asked, whether
-/// it had been used before, and room for the record of its attempt.
+/// What is known of a link that the connector gave, beside the link: for whom it was asked, twice,
+/// since it goes back with its peer and is recorded with it; whether it had been used before; and
+/// room for the record of its attempt.
 #[derive(Drop)]
 pub(crate) struct Lease {
     pub(crate) peer: Peer,
+    pub(crate) recorded: Peer,
     pub(crate) reused: bool,
     pub(crate) room: AttemptRoom,
 }
@@ -56,10 +58,12 @@ pub(crate) struct Attempt<L, C> {
 pub(crate) enum Phase<L, C> {
     /// The client's head is read.
     ReadHead,
-    /// The head was accepted. The hooks before the attempts are called one a turn, and then a link is
-    /// wanted for the session that begins behind it. These attempts were refused one, and the
-    /// connector may be asked again.
+    /// The head was accepted. The hooks before the attempts are called one a turn, and the one that
+    /// names a peer; then a link to it is wanted for the session that begins behind the head. These
+    /// attempts were refused one, and the connector may be asked again.
     Connect(C, Box<HttpSession>, AttemptList),
+    /// A link was given, of which nothing was asked yet, and the head is to be filtered and sent.
+    Prepare(C, Box<HttpSession>, L, Lease),
     /// The request is sent, and the response comes back, over the attempt's link.
     Relay(Box<Attempt<L, C>>),
     /// The attempt failed with that error: its link is to be handed back with that mark, and what
@@ -101,8 +105,9 @@ impl<L, C> Phase<L, C> {
     {
         match self {
             Phase::ReadHead => true,
-            Phase::Connect(_, _, _) | Phase::Relay(_) | Phase::Fail(_, _, _, _, _) => false,
-            Phase::Close(_, _, _, _) | Phase::Answer(_, _, _) | Phase::Ended(_, _) => false,
+            Phase::Connect(_, _, _) | Phase::Prepare(_, _, _, _) | Phase::Relay(_) => false,
+            Phase::Fail(_, _, _, _, _) | Phase::Close(_, _, _, _) => false,
+            Phase::Answer(_, _, _) | Phase::Ended(_, _) => false,
         }
     }
 
@@ -112,8 +117,9 @@ impl<L, C> Phase<L, C> {
     {
         match self {
             Phase::Relay(_) => true,
-            Phase::ReadHead | Phase::Connect(_, _, _) | Phase::Fail(_, _, _, _, _) => false,
-            Phase::Close(_, _, _, _) | Phase::Answer(_, _, _) | Phase::Ended(_, _) => false,
+            Phase::ReadHead | Phase::Connect(_, _, _) | Phase::Prepare(_, _, _, _) => false,
+            Phase::Fail(_, _, _, _, _) | Phase::Close(_, _, _, _) => false,
+            Phase::Answer(_, _, _) | Phase::Ended(_, _) => false,
         }
     }
 
@@ -123,7 +129,8 @@ impl<L, C> Phase<L, C> {
     {
         match self {
             Phase::Fail(_, _, _, _, _) | Phase::Close(_, _, _, _) => true,
-            Phase::ReadHead | Phase::Connect(_, _, _) | Phase::Relay(_) => false,
+            Phase::ReadHead | Phase::Connect(_, _, _) | Phase::Prepare(_, _, _, _) => false,
+            Phase::Relay(_) => false,
             Phase::Answer(_, _, _) | Phase::Ended(_, _) => false,
         }
     }
@@ -138,6 +145,7 @@ impl<L, C> Phase<L, C> {
             Phase::Relay(attempt) => attempt,
             Phase::ReadHead => unreachable!(),
             Phase::Connect(_context, _session, _tries) => unreachable!(),
+            Phase::Prepare(_context, _session, _link, _lease) => unreachable!(),
             Phase::Fail(_link, _lease, _keep, _session, _error) => unreachable!(),
             Phase::Close(_link, _lease, _keep, _outcome) => unreachable!(),
             Phase::Answer(_session, _owed, _attempts) => unreachable!(),
@@ -153,6 +161,7 @@ impl<L, C> Phase<L, C> {
         match mem::replace(self, phase) {
             Phase::ReadHead => {}
             Phase::Connect(_context, _session, _tries) => unreachable!(),
+            Phase::Prepare(_context, _session, _link, _lease) => unreachable!(),
             Phase::Relay(_attempt) => unreachable!(),
             Phase::Fail(_link, _lease, _keep, _session, _error) => unreachable!(),
             Phase::Close(_link, _lease, _keep, _outcome) => unreachable!(),

@@ -1,5 +1,5 @@
-//! The hooks before the attempts: one is called a turn, until they let the request go to an
-//! upstream, answer it, or stop it (RFC 9110, section 3.7).
+//! The hooks up to the peer that an attempt is to reach: one is called a turn, until that is named, or
+//! they answer the request or stop it (RFC 9110, section 3.7).
 ghost use Rattle.std.specs.Prelude.{◌≡◌, ◌⊎◌, ◌+◌, ◌≤◌, ◌<◌, [], ℕ, List, None, Some, length, true, false};
 ghost use Rattle.std.specs.Global.{Box};
 ghost use Rattle.relay_links.specs.Link.{LinkState};
@@ -12,7 +12,7 @@ ghost use Rattle.relay_tasks.specs.declared.log.LogEntry.{LogEntry};
 ghost use Rattle.relay_attempt.specs.Passed.{Passed};
 ghost use Rattle.relay_proxy.specs.Ahead.{IsStoppedFor};
 ghost use Rattle.relay_proxy.specs.Bound.{CountsCall, CountsLink};
-ghost use Rattle.relay_proxy.specs.Calls.{CallsSoFar, CountsCalls, allowed_by, is_opening, log_of};
+ghost use Rattle.relay_proxy.specs.Calls.{CallsSoFar, CountsCalls, allowed_by, is_calling, log_of};
 ghost use Rattle.relay_proxy.specs.Passed.{World, Start, called_to};
 ghost use Rattle.relay_proxy.specs.Phases.{RunSoFar};
 ghost use Rattle.relay_proxy.specs.Stock.{items_held};
@@ -33,12 +33,10 @@ use relay_hooks::ProxyHttp;
 use relay_links::{ByteLink, Connector};
 use relay_session::HttpSession;
 use relay_tasks::Error;
-use std::alloc::Global;
 
-/// Calls the hook that comes next, while there is one before the attempts; and then asks the connector
-/// for a link.
+/// Calls the hook that comes next, while no peer is named; and then asks the connector for a link to
+/// it.
 pub(crate) fn reach<SV: ProxyHttp, K: Connector>(
-    alloc: Global,
     app: &SV,
     connector: &mut K,
     most: usize,
@@ -79,10 +77,10 @@ pub(crate) fn reach<SV: ProxyHttp, K: Connector>(
         (K.refusals connector.new) (K.stock connector.old) (K.stock connector.new) }
     ensures faults { K.fault_count connector.old ≤ K.fault_count connector.new }
 {
-    if calls.is_opening() {
+    if calls.is_calling() {
         return open(app, calls, context, session, tries);
     }
-    connect(alloc, connector, most, context, session, tries)
+    connect(app, connector, most, calls, context, session, tries)
 }
 
 /// Calls the hook that comes next, and no other.
@@ -93,7 +91,7 @@ fn open<SV: ProxyHttp, L: ByteLink>(
     session: Box<HttpSession>,
     tries: AttemptList,
 ) -> Next<L, SV::CTX>
-    requires { is_opening calls.old.at ≡ true }
+    requires { is_calling calls.old.at ≡ true }
     ensures run { (s : Start) (p : Passed) (w : World)
         → CallsSoFar {L = L} (allowed_by (SV.allows app.now) SV.Modules.allows)
         (SV.mark_of app.now) calls.old (Phase.Connect context session tries)

@@ -18,7 +18,7 @@ ghost use Rattle.relay_proxy.specs.Refusals.{attempts_in};
 ghost use Rattle.relay_proxy.specs.Relaying.{is_relaying, TurnsOver, TurnsWithin};
 ghost use Rattle.relay_proxy.specs.Reuse.{client_reusable};
 ghost use Rattle.relay_proxy.specs.Stock.{items_held};
-ghost use Rattle.relay_proxy.specs.Turn.{world_of, DoesWork, is_over, is_end, held_state, links_held, Advances, HandsOn, HasCause};
+ghost use Rattle.relay_proxy.specs.Turn.{world_of, DoesWork, is_over, is_end, held_state, links_held, Advances, HandsOn, HasCause, IsBegun};
 ghost use Rattle.relay_proxy.specs.Uses.{LinkUses, MovedBy, OwesAnswer, PhaseUses, TurnCounts, TurnUses};
 ghost use Rattle.relay_proxy.specs.Work.{total_work};
 
@@ -85,6 +85,7 @@ pub(crate) fn relay<D: ByteLink, U: Drop, L: ByteLink, H: Schedule, C: Drop>(
     ensures linked { links_held L.state L.start phase.new ≡ links_held L.state L.start phase.old }
     ensures items { items_held L.start phase.new ≡ items_held L.start phase.old }
     ensures tries { attempts_in phase.new ≡ attempts_in phase.old }
+    ensures begun { IsBegun phase.new }
     ensures kept { client.new.kept ≡ client.old.kept }
     ensures client_start { D.start client.new.link ≡ D.start client.old.link }
 {
@@ -119,6 +120,7 @@ fn close_finished<D, U, L: ByteLink, C: Drop>(
     ensures leaves { (a : Box (Attempt L C)) → phase.old ≡ Phase.Relay a
         → LeavesLink (link_of a.value.exchange) a.value.lease phase.new }
     ensures over { is_over phase.new ≡ true }
+    ensures begun { IsBegun phase.new }
     ensures linked { links_held L.state L.start phase.new ≡ links_held L.state L.start phase.old }
     ensures items { items_held L.start phase.new ≡ items_held L.start phase.old }
     ensures step { result.step ≡ RunStep.Ended }
@@ -162,6 +164,7 @@ fn leave_failed<L: ByteLink, C: Drop>(
         → LinkUses L.state L.start n (link_of a.value.exchange)
         → PhaseUses L.state L.start n [] phase.new }
     ensures over { is_over phase.new ≡ is_end result.step }
+    ensures begun { IsBegun phase.new }
     ensures linked { links_held L.state L.start phase.new ≡ links_held L.state L.start phase.old }
     ensures items { items_held L.start phase.new ≡ items_held L.start phase.old }
     ensures work { 0 < total_work result.work }
@@ -203,6 +206,7 @@ fn leave<L: ByteLink, C>(
     ensures last { (n : ℕ) → LinkUses L.state L.start n link
         → PhaseUses L.state L.start n [] result.phase }
     ensures over { is_over result.phase ≡ is_end result.step }
+    ensures begun { IsBegun result.phase }
     ensures linked { links_held L.state L.start result.phase ≡ 1 }
     ensures items { items_held L.start result.phase ≡ (L.start link).items ∷ [] }
     ensures work { result.work ≡ work }
@@ -233,6 +237,7 @@ fn owe<L: ByteLink, C>(
     ensures last { (n : ℕ) → LinkUses L.state L.start n link
         → PhaseUses L.state L.start n [] result.phase }
     ensures over { is_over result.phase ≡ is_end result.step }
+    ensures begun { IsBegun result.phase }
     ensures linked { links_held L.state L.start result.phase ≡ 1 }
     ensures items { items_held L.start result.phase ≡ (L.start link).items ∷ [] }
     ensures work { result.work ≡ work }
@@ -277,6 +282,7 @@ fn turn_within<D: ByteLink, U: Drop, L: ByteLink, H: Schedule, C>(
     ensures turns { TurnsWithin L.state L.start (D.state client.old.link) (D.state client.new.link)
         client.old.ahead client.new.ahead phase.old phase.new result.turn result.asked }
     ensures relaying { is_relaying phase.new ≡ true }
+    ensures begun { IsBegun phase.new }
     ensures going { is_over phase.new ≡ false }
     ensures linked { links_held L.state L.start phase.new ≡ links_held L.state L.start phase.old }
     ensures items { items_held L.start phase.new ≡ items_held L.start phase.old }
@@ -287,6 +293,7 @@ fn turn_within<D: ByteLink, U: Drop, L: ByteLink, H: Schedule, C>(
         Phase::Relay(attempt) => turn_counted(&mut attempt.exchange, client, schedule),
         Phase::ReadHead => unreachable!(),
         Phase::Connect(_, _, _) => unreachable!(),
+        Phase::Prepare(_, _, _, _) => unreachable!(),
         Phase::Fail(_, _, _, _, _) => unreachable!(),
         Phase::Close(_, _, _, _) => unreachable!(),
         Phase::Answer(_, _, _) => unreachable!(),

@@ -21,6 +21,7 @@ use crate::calls::Calls;
 use crate::client_head::read_head;
 use crate::machine::{Did, Next, Phase, RunStep};
 use crate::opening::reach;
+use crate::preparing::prepare;
 use crate::relaying::relay;
 use crate::work::Work;
 use relay_h1::Connection;
@@ -206,9 +207,10 @@ fn move_on<SV: ProxyHttp, K: Connector, D: ByteLink, U: Drop>(
     match mem::replace(phase, Phase::ReadHead) {
         Phase::ReadHead => phase.go_on(read_head(alloc, hooks, calls, client)),
         Phase::Connect(context, session, tries) => {
-            phase.go_on(reach(
-                alloc, hooks, connector, most, calls, context, session, tries,
-            ))
+            phase.go_on(reach(hooks, connector, most, calls, context, session, tries))
+        }
+        Phase::Prepare(context, session, link, lease) => {
+            phase.go_on(prepare(alloc, hooks, calls, context, session, link, lease))
         }
         Phase::Relay(_attempt) => unreachable!(),
         Phase::Fail(link, lease, keep, session, error) => phase.go_on(Next {

@@ -61,6 +61,14 @@ impl Work {
         called: 1,
     };
 
+    /// The head that is sent was filtered by a hook, and put.
+    pub(crate) const SENT: Work = Work {
+        used: 0,
+        moved: 1,
+        ended: 0,
+        called: 1,
+    };
+
     /// The head of a request was judged, and its first hook called.
     pub(crate) const BEGUN: Work = Work {
         used: 0,

@@ -5,7 +5,7 @@ use Rattle.relay_proxy.specs.Endings as endings
 use Rattle.relay_proxy.specs.Calls.{log_of}
 use Rattle.relay_proxy.specs.Passed.{called_to}
 use Rattle.relay_proxy.specs.Turn.{world_of}
-use Rattle.relay_proxy.proofs.CallLemmas.{unopened_calls}
+use Rattle.relay_proxy.proofs.CallLemmas.{none_logged, unopened_calls}
 use Rattle.relay_proxy.proofs.client_head.read_head.Goals as goal
 
 -- a head that was found lies within the client's bytes
@@ -24,19 +24,19 @@ returns-in-Ok-None-clause-run g c = λ s p faults none run.
 -- and no hook is called for it
 pub returns-in-Ok-None-clause-calls : goal.returns-in-Ok-None-clause-calls
 returns-in-Ok-None-clause-calls g c = λ none.
-    unopened_calls _ _ c.args.calls.now c.await_head.result.phase none c.await_head.ensures.unopened
+    unopened_calls _ _ c.args.calls.now c.await_head.result.phase c.await_head.result.work none
+    c.await_head.ensures.unopened c.await_head.ensures.counts
 
 -- nor for a bad one
 pub returns-in-Err-Error-clause-calls : goal.returns-in-Err-Error-clause-calls
 returns-in-Err-Error-clause-calls g c = λ none.
-    unopened_calls _ _ c.args.calls.now c.give_answer.result.phase none
-    c.give_answer.ensures.unopened
+    unopened_calls _ _ c.args.calls.now c.give_answer.result.phase c.give_answer.result.work none
+    c.give_answer.ensures.unopened c.give_answer.ensures.counts
 
 -- nor out of memory
 pub returns-in-Err-OutOfMemory-clause-calls : goal.returns-in-Err-OutOfMemory-clause-calls
 returns-in-Err-OutOfMemory-clause-calls g c = λ none.
-    unopened_calls _ _ c.args.calls.now c.out_of_memory.result.phase none
-    (rw c.out_of_memory.ensures.phase refl)
+    rw c.out_of_memory.ensures.phase (none_logged _ _ none)
 
 -- a bad head is turned down
 pub returns-in-Err-Error-clause-run : goal.returns-in-Err-Error-clause-run

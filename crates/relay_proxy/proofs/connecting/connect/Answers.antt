@@ -1,37 +1,57 @@
 -- Over a link that the connector gave the exchange begins; where it gave none, its count rose.
+use Rattle.std.proofs.Common.{refl, subst, sym, ◌∙◌}
+use Rattle.relay_proxy.specs.Calls.{TellsPeer, log_of}
+use Rattle.relay_proxy.specs.Passed.{called_to}
 use Rattle.relay_proxy.specs.Turn.{world_with}
+use Rattle.relay_proxy.specs.declared.calls.At.{At}
+use Rattle.relay_proxy.proofs.CallLemmas.{asked_calls, none_called}
+use Rattle.relay_proxy.proofs.HookSteps.{same_peer}
 use Rattle.relay_proxy.proofs.RefusalLemmas.{told_before_link}
 use Rattle.relay_proxy.proofs.TakenLemmas.{took_fault, took_link}
 use Rattle.relay_proxy.proofs.connecting.connect.Goals as goal
 
 -- the run goes on over the link that the connector gave
 pub returns-in-Ok-get-clause-run : goal.returns-in-Ok-get-clause-run
-returns-in-Ok-get-clause-run g c = λ s p client ahead limit run.
-    rw c.in-Ok-get.ensures.no_fault (c.send.ensures.run s p
+returns-in-Ok-get-clause-run g c = λ s p client ahead limit o run.
+    rw c.in-Ok-get.ensures.no_fault (c.tell.ensures.run s p
     (world_with client ahead (g.K.Connector.fault_count c.args.connector.now))
-    (rw (← c.in-Ok.ensures.ok) at run) c.in-Ok-get.ensures.handed c.asked_peer-peer.ensures)
+    (rw (← c.in-Ok.ensures.ok) at o) (rw (← c.in-Ok.ensures.ok) at run) c.in-Some.ensures
+    (same_peer _ _ (sym c.in-Some-peer-2.ensures ∙ c.in-Some.ensures)) c.in-Ok-get.ensures.handed)
 
--- the copy is that of the session's head
-pub send-requires : goal.send-requires
-send-requires g c = rw c.deref.ensures at c.in-Some.ensures
+-- and so do its calls
+pub returns-in-Ok-get-clause-calls : goal.returns-in-Ok-get-clause-calls
+returns-in-Ok-get-clause-calls g c = λ o.
+    c.tell.ensures.calls c.in-Some.ensures (rw (← c.in-Ok.ensures.ok) at o)
 
 -- where it gave none the request goes on, or ends with its fault
 pub returns-in-Err-get-clause-run : goal.returns-in-Err-get-clause-run
-returns-in-Err-get-clause-run g c = λ s p client ahead limit run.
-    c.refused_link.ensures.run s p
+returns-in-Err-get-clause-run g c = λ s p client ahead limit o run.
+    c.refused_link.ensures.run (called_to s (log_of c.args.calls.now)) p
     (world_with client ahead (g.K.Connector.fault_count c.args.connector.now))
     (g.K.Connector.fault_count c.get.new.self) limit c.get.ensures.fits.0
-    c.in-Err-get.ensures.rose c.in-Err-get.ensures.fault c.asked_peer-peer.ensures
+    c.in-Err-get.ensures.rose c.in-Err-get.ensures.fault
+    (subst (λ (a : At _). TellsPeer a (log_of c.args.calls.now)) c.in-Some-peer-2.ensures o.named)
     (rw (← c.in-Ok.ensures.ok) at run)
+
+-- and no hook is called
+pub returns-in-Err-get-clause-calls : goal.returns-in-Err-get-clause-calls
+returns-in-Err-get-clause-calls g c = λ o.
+    asked_calls _ _ c.args.calls.now c.args.context c.args.session c.args.tries
+    c.refused_link.result.phase g.K.Byte.ByteLink.state g.K.Byte.ByteLink.start c.requires
+    c.refused_link.ensures.asked c.refused_link.ensures.unlinked o
+
+pub returns-in-Err-get-clause-called : goal.returns-in-Err-get-clause-called
+returns-in-Err-get-clause-called g c =
+    none_called _ _ c.refused_link.result.work c.refused_link.ensures.uncalled refl
 
 -- a link that was given is no refusal, and was the first of the offers
 pub returns-in-Ok-get-clause-asks : goal.returns-in-Ok-get-clause-asks
 returns-in-Ok-get-clause-asks g c =
     took_link _ _ _ _ _ _ _ _
     (told_before_link g.K.Byte.ByteLink.state g.K.Byte.ByteLink.start c.args.tries
-    c.send.result.phase c.send.result.work (rw c.in-Ok.ensures.ok at c.send.ensures.counts)
-    c.send.ensures.linked)
-    c.send.ensures.items c.in-Ok-get.ensures.calm c.in-Ok-get.ensures.first
+    c.tell.result.phase c.tell.result.work (rw c.in-Ok.ensures.ok at c.tell.ensures.counts)
+    c.tell.ensures.linked)
+    c.tell.ensures.items c.in-Ok-get.ensures.calm c.in-Ok-get.ensures.first
 
 -- one that was not given is one refusal more, and its fault was the first of them
 pub returns-in-Err-get-clause-asks : goal.returns-in-Err-get-clause-asks

@@ -2,8 +2,8 @@
 use Rattle.std.proofs.Common.{arith, refl, sym}
 use Rattle.relay_proxy.specs.Calls.{log_of}
 use Rattle.relay_proxy.proofs.CallLemmas.{ended_calls}
-use Rattle.relay_proxy.proofs.HookSteps.{answered, counts_called, goes_connecting, known_of, memory_called, memory_logged, stopped}
-use Rattle.relay_proxy.proofs.OpenSteps.{hooks_leave, opened_on}
+use Rattle.relay_proxy.proofs.HookSteps.{answered, counts_called, goes_connecting, known_at, memory_called, memory_logged, opening_on, stopped}
+use Rattle.relay_proxy.proofs.OpenSteps.{hooks_leave, hooks_lost, opened_on}
 use Rattle.relay_proxy.proofs.opening.open.Goals as goal
 
 -- it goes on
@@ -14,8 +14,22 @@ returns-in-GoesOn-clause-run g c = λ s p w o run.
     (goes_connecting _ (g.SV.ProxyHttp.mark_of c.args.app.now) c.args.calls.now
     c.call_next.new.calls c.args.context c.call_next.new.context c.args.session.value
     c.call_next.new.client (rw c.deref_mut.ensures.value at c.in-GoesOn.ensures.turns)
-    (rw c.deref_mut.ensures.value at c.in-GoesOn.ensures.opens) c.requires
-    (sym c.in-GoesOn.ensures.shown) s p w c.args.tries run.holds) run
+    (sym c.in-GoesOn.ensures.shown) s p w c.args.tries (o.untried c.requires) run.holds) run
+
+-- and its calls go on
+pub returns-in-GoesOn-clause-calls : goal.returns-in-GoesOn-clause-calls
+returns-in-GoesOn-clause-calls g c = λ o.
+    opening_on _ (g.SV.ProxyHttp.mark_of c.args.app.now) c.args.calls.now
+    c.call_next.new.calls c.args.context c.call_next.new.context c.args.session.value
+    c.call_next.new.client (rw c.deref_mut.ensures.value at c.in-GoesOn.ensures.turns) c.args.tries
+    c.requires (sym c.in-GoesOn.ensures.shown) o
+
+pub returns-in-GoesOn-clause-called : goal.returns-in-GoesOn-clause-called
+returns-in-GoesOn-clause-called g c =
+    counts_called _ (g.SV.ProxyHttp.mark_of c.args.app.now) c.args.calls.now
+    c.call_next.new.calls c.args.context c.call_next.new.context c.args.session.value
+    c.call_next.new.client (rw c.deref_mut.ensures.value at c.in-GoesOn.ensures.turns) _
+    (known_at _ _ c.in-GoesOn.ensures.shown (λ lost. cc)) (omega arith)
 
 -- hooks answered it
 pub returns-in-Answered-clause-run : goal.returns-in-Answered-clause-run
@@ -23,7 +37,6 @@ returns-in-Answered-clause-run g c = λ s p w o run.
     let done = answered _ (g.SV.ProxyHttp.mark_of c.args.app.now) c.args.calls.now
     c.call_next.new.calls c.args.context c.call_next.new.context c.args.session.value
     c.call_next.new.client (rw c.deref_mut.ensures.value at c.in-Answered.ensures.turns)
-    (rw c.deref_mut.ensures.value at c.in-Answered.ensures.opens) c.requires
     (sym c.in-Answered.ensures.shown) s p w c.args.tries o run.holds in
     hooks_leave g.L.ByteLink.state g.L.ByteLink.start (log_of c.args.calls.now)
     (log_of c.call_next.new.calls) s p w c.args.context c.args.session _ c.args.tries _ done.text
@@ -36,24 +49,21 @@ returns-in-Answered-clause-calls g c = λ o.
     c.owe.ensures.counts c.owe.ensures.unopened
     (memory_logged _ (g.SV.ProxyHttp.mark_of c.args.app.now) c.args.calls.now
     c.call_next.new.calls c.args.context c.call_next.new.context c.args.session.value
-    c.call_next.new.client (rw c.deref_mut.ensures.value at c.in-Answered.ensures.turns)
-    (rw c.deref_mut.ensures.value at c.in-Answered.ensures.opens) c.requires c.args.tries o)
+    c.call_next.new.client (rw c.deref_mut.ensures.value at c.in-Answered.ensures.turns) c.args.tries o)
 
 pub returns-in-Answered-clause-called : goal.returns-in-Answered-clause-called
 returns-in-Answered-clause-called g c =
     counts_called _ (g.SV.ProxyHttp.mark_of c.args.app.now) c.args.calls.now
     c.call_next.new.calls c.args.context c.call_next.new.context c.args.session.value
-    c.call_next.new.client (rw c.deref_mut.ensures.value at c.in-Answered.ensures.turns)
-    (rw c.deref_mut.ensures.value at c.in-Answered.ensures.opens) c.requires c.owe.result.work
-    (known_of _ _ c.in-Answered.ensures.shown (λ lost. cc)) (rw c.owe.ensures.work (omega arith))
+    c.call_next.new.client (rw c.deref_mut.ensures.value at c.in-Answered.ensures.turns) c.owe.result.work
+    (known_at _ _ c.in-Answered.ensures.shown (λ lost. cc)) (rw c.owe.ensures.work (omega arith))
 
 -- or stopped it
 pub returns-in-Stopped-clause-run : goal.returns-in-Stopped-clause-run
 returns-in-Stopped-clause-run g c = λ s p w o run.
     let done = stopped _ (g.SV.ProxyHttp.mark_of c.args.app.now) c.args.calls.now
     c.call_next.new.calls c.args.context c.call_next.new.context c.args.session.value
-    c.call_next.new.client (rw c.deref_mut.ensures.value at c.in-Stopped.ensures.turns)
-    (rw c.deref_mut.ensures.value at c.in-Stopped.ensures.opens) c.requires c.in-Stopped.error
+    c.call_next.new.client (rw c.deref_mut.ensures.value at c.in-Stopped.ensures.turns) c.in-Stopped.error
     (sym c.in-Stopped.ensures.shown) s p w c.args.tries o run.holds in
     c.stop.ensures.run s (log_of c.args.calls.now) (log_of c.call_next.new.calls) p w
     c.args.context c.args.session done.head done.is_open done.request done.place done.accepted
@@ -65,30 +75,33 @@ returns-in-Stopped-clause-calls g c = λ o.
     c.stop.ensures.counts c.stop.ensures.unopened
     (memory_logged _ (g.SV.ProxyHttp.mark_of c.args.app.now) c.args.calls.now
     c.call_next.new.calls c.args.context c.call_next.new.context c.args.session.value
-    c.call_next.new.client (rw c.deref_mut.ensures.value at c.in-Stopped.ensures.turns)
-    (rw c.deref_mut.ensures.value at c.in-Stopped.ensures.opens) c.requires c.args.tries o)
+    c.call_next.new.client (rw c.deref_mut.ensures.value at c.in-Stopped.ensures.turns) c.args.tries o)
 
 pub returns-in-Stopped-clause-called : goal.returns-in-Stopped-clause-called
 returns-in-Stopped-clause-called g c =
     counts_called _ (g.SV.ProxyHttp.mark_of c.args.app.now) c.args.calls.now
     c.call_next.new.calls c.args.context c.call_next.new.context c.args.session.value
-    c.call_next.new.client (rw c.deref_mut.ensures.value at c.in-Stopped.ensures.turns)
-    (rw c.deref_mut.ensures.value at c.in-Stopped.ensures.opens) c.requires c.stop.result.work
-    (known_of _ _ c.in-Stopped.ensures.shown (λ lost. cc)) c.stop.ensures.called
+    c.call_next.new.client (rw c.deref_mut.ensures.value at c.in-Stopped.ensures.turns) c.stop.result.work
+    (known_at _ _ c.in-Stopped.ensures.shown (λ lost. cc)) c.stop.ensures.called
 
 -- or memory was wanted
+pub returns-in-OutOfMemory-clause-run : goal.returns-in-OutOfMemory-clause-run
+returns-in-OutOfMemory-clause-run g c = λ s p w o run.
+    rw c.lacks_memory.ensures.phase
+    (hooks_lost g.L.ByteLink.state g.L.ByteLink.start (log_of c.args.calls.now)
+    (log_of c.call_next.new.calls) s p w c.args.context c.args.session c.args.tries
+    (o.untried c.requires) run)
+
 pub returns-in-OutOfMemory-clause-calls : goal.returns-in-OutOfMemory-clause-calls
 returns-in-OutOfMemory-clause-calls g c = λ o.
     rw c.lacks_memory.ensures.phase
     (memory_logged _ (g.SV.ProxyHttp.mark_of c.args.app.now) c.args.calls.now
     c.call_next.new.calls c.args.context c.call_next.new.context c.args.session.value
-    c.call_next.new.client (rw c.deref_mut.ensures.value at c.in-OutOfMemory.ensures.turns)
-    (rw c.deref_mut.ensures.value at c.in-OutOfMemory.ensures.opens) c.requires c.args.tries o)
+    c.call_next.new.client (rw c.deref_mut.ensures.value at c.in-OutOfMemory.ensures.turns) c.args.tries o)
 
 pub returns-in-OutOfMemory-clause-called : goal.returns-in-OutOfMemory-clause-called
 returns-in-OutOfMemory-clause-called g c =
     memory_called _ (g.SV.ProxyHttp.mark_of c.args.app.now) c.args.calls.now
     c.call_next.new.calls c.args.context c.call_next.new.context c.args.session.value
     c.call_next.new.client (rw c.deref_mut.ensures.value at c.in-OutOfMemory.ensures.turns)
-    (rw c.deref_mut.ensures.value at c.in-OutOfMemory.ensures.opens) c.requires
     c.lacks_memory.result.work (rw c.lacks_memory.ensures.work refl)

@@ -22,4 +22,4 @@ returns-in_default-clause-run g c =
     λ s these those p w context client head is request place accepted why untried run.
     rw c.lacks_memory.ensures.phase
     (hooks_lost g.L.ByteLink.state g.L.ByteLink.start these those s p w context client c.args.tries
-    run)
+    untried run)

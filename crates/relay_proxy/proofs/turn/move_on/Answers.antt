@@ -8,10 +8,10 @@ use Rattle.relay_proxy.specs.declared.record.AttemptRecord.{AttemptRecord}
 use Rattle.relay_proxy.specs.Calls.{log_of}
 use Rattle.relay_proxy.specs.Passed.{called_to}
 use Rattle.relay_proxy.specs.Turn.{world_of}
-use Rattle.relay_proxy.proofs.BoundLemmas.{answer_bounds, head_turn_bounds, link_turn_bounds}
+use Rattle.relay_proxy.proofs.BoundLemmas.{answer_bounds, head_turn_bounds, link_turn_bounds, send_turn_bounds}
 use Rattle.relay_proxy.proofs.RefusalLemmas.{none_added, none_unmade, others_told}
 use Rattle.relay_proxy.proofs.TakenLemmas.{takes_nothing, takes_more, took_more, one_out, no_offers}
-use Rattle.relay_proxy.proofs.TurnLemmas.{head_turn, connect_turn, head_counts, still_counts, connect_counts, unlinked_open, answer_offers}
+use Rattle.relay_proxy.proofs.TurnLemmas.{head_turn, connect_turn, prepare_turn, head_counts, still_counts, connect_counts, prepare_counts, prepare_faults, prepare_offers, unlinked_open, answer_offers}
 use Rattle.relay_proxy.proofs.turn.move_on.Goals as goal
 
 -- a turn that reads the head is a turn
@@ -350,3 +350,92 @@ returns-in-Ended-clause-bounds g c =
       tasks_within = omega (arith, had.tasks_within);
       ends_within = omega (arith, had.ends_within);
     })
+
+-- a turn that makes the head of an attempt is a turn
+pub returns-in-Prepare-clause-turn : goal.returns-in-Prepare-clause-turn
+returns-in-Prepare-clause-turn g c =
+    rw (c.go_on-in-Prepare.ensures.phase, sym c.replace.ensures.value ∙ c.in-Prepare.is)
+    (λ s p own most calls run. prepare_turn g.K.Byte.ByteLink.state g.K.Byte.ByteLink.start
+    (called_to s (log_of c.args.calls.now)) (called_to s (log_of c.prepare.new.calls)) p
+    (world_of g.D.ByteLink.state c.args.client.now
+    (g.K.Connector.fault_count c.args.connector.now))
+    (world_of g.D.ByteLink.state c.args.client.now
+    (g.K.Connector.fault_count c.args.connector.now)) own _ _ _ _ c.prepare.result.phase run
+    (λ first. c.prepare.ensures.run s p
+    (world_of g.D.ByteLink.state c.args.client.now
+    (g.K.Connector.fault_count c.args.connector.now)) first))
+
+-- its cause
+pub returns-in-Prepare-clause-cause : goal.returns-in-Prepare-clause-cause
+returns-in-Prepare-clause-cause g c =
+    rw (
+      c.go_on-in-Prepare.ensures.phase,
+      c.go_on-in-Prepare.ensures.step,
+      sym c.replace.ensures.value ∙ c.in-Prepare.is,
+    )
+    (c.prepare.ensures.cause
+    (world_of g.D.ByteLink.state c.args.client.now
+    (g.K.Connector.fault_count c.args.connector.now))
+    (world_of g.D.ByteLink.state c.args.client.now
+    (g.K.Connector.fault_count c.args.connector.now)))
+
+-- it asks no link
+pub returns-in-Prepare-clause-uses : goal.returns-in-Prepare-clause-uses
+returns-in-Prepare-clause-uses g c =
+    rw (
+      c.go_on-in-Prepare.ensures.phase,
+      c.go_on-in-Prepare.ensures.work,
+      sym c.replace.ensures.value ∙ c.in-Prepare.is,
+      c.prepare.ensures.unused,
+    )
+    (λ s p own run. (
+      g.K.Byte.ByteLink.state c.in-Prepare.link,
+      c.prepare.ensures.held,
+      inr (refl, record { client_same = refl; upstream_same = refl }),
+    ))
+
+-- and counts no use
+pub returns-in-Prepare-clause-counts : goal.returns-in-Prepare-clause-counts
+returns-in-Prepare-clause-counts g c =
+    rw (
+      c.go_on-in-Prepare.ensures.phase,
+      c.go_on-in-Prepare.ensures.work,
+      sym c.replace.ensures.value ∙ c.in-Prepare.is,
+    )
+    (λ s p own n run had. prepare_counts g.K.Byte.ByteLink.state g.K.Byte.ByteLink.start s p own
+    _ _ _ _ _ n c.prepare.result.work.used _ c.prepare.result.phase run had
+    c.prepare.ensures.unused c.prepare.ensures.asked)
+
+-- but one head or one end
+pub returns-in-Prepare-clause-bounds : goal.returns-in-Prepare-clause-bounds
+returns-in-Prepare-clause-bounds g c =
+    rw (
+      c.go_on-in-Prepare.ensures.phase,
+      c.go_on-in-Prepare.ensures.work,
+      sym c.replace.ensures.value ∙ c.in-Prepare.is,
+    )
+    (λ s p own tasks ends most calls run had. send_turn_bounds g.K.Byte.ByteLink.state
+    g.K.Byte.ByteLink.start (called_to s (log_of c.args.calls.now))
+    (called_to s (log_of c.prepare.new.calls)) p
+    (world_of g.D.ByteLink.state c.args.client.now
+    (g.K.Connector.fault_count c.args.connector.now))
+    (world_of g.D.ByteLink.state c.args.client.now
+    (g.K.Connector.fault_count c.args.connector.now)) own _ _ _ _ c.prepare.result.phase
+    c.prepare.result.work tasks ends run
+    (λ first. c.prepare.ensures.run s p
+    (world_of g.D.ByteLink.state c.args.client.now
+    (g.K.Connector.fault_count c.args.connector.now)) first) c.prepare.ensures.counts had)
+
+-- it holds the link that it held
+pub returns-in-Prepare-clause-carries : goal.returns-in-Prepare-clause-carries
+returns-in-Prepare-clause-carries g c =
+    rw (c.go_on-in-Prepare.ensures.phase, sym c.replace.ensures.value ∙ c.in-Prepare.is) (λ live.
+    append-nil _ ∙ prepare_offers g.K.Byte.ByteLink.state g.K.Byte.ByteLink.start _ _ _ _
+    c.prepare.result.phase c.prepare.ensures.tries c.prepare.ensures.items)
+
+-- and the attempts before it
+pub returns-in-Prepare-clause-tells : goal.returns-in-Prepare-clause-tells
+returns-in-Prepare-clause-tells g c =
+    rw (c.go_on-in-Prepare.ensures.phase, sym c.replace.ensures.value ∙ c.in-Prepare.is) (λ live.
+    append-nil _ ∙ prepare_faults g.K.Byte.ByteLink.state g.K.Byte.ByteLink.start _ _ _ _
+    c.prepare.result.phase c.prepare.ensures.tries)

@@ -1,0 +1,783 @@
+-- Turns over a link that was given: the application is told of it, the head is made, and the
+-- attempt's exchange begins.
+--
+--   linked_on, prepared_on     a hook was called, and the request stands as it stood
+--   told_badly                 the application failed as it was told of the link
+--   sends_by, refuses_by       what became of the head
+--   failed_ahead .. link_lost  an attempt that ends ahead of its exchange
+--   begun .. not_begun         its exchange
+use Rattle.std.proofs.Common.{◌≡◌, ◌≢◌, ℕ, ◌<◌, Bool, false, true, List, [], ◌∷◌, ◌++◌, length, Option, Some, None, refl, sym, ap, subst, ◌∙◌, inl, inr, arith, true≢false}
+use Rattle.std.specs.Global.{Box}
+use Rattle.std.specs.Prelude.{Result, Ok, Err, ◌⊎◌}
+use Rattle.relay_tasks.specs.declared.error.Error.{Error}
+use Rattle.relay_tasks.specs.declared.error.ErrorSource.TheVariants.{Internal}
+use Rattle.relay_tasks.specs.declared.error.Fail.{Fail}
+use Rattle.relay_tasks.specs.declared.error.Fail.TheVariants as fail
+use Rattle.relay_tasks.specs.declared.context.Context.TheVariants.{BadFraming}
+use Rattle.relay_tasks.specs.declared.Peer.{Peer}
+use Rattle.relay_tasks.specs.declared.hook.Hook.{Hook}
+use Rattle.relay_tasks.specs.declared.hook.Hook.TheVariants as hook
+use Rattle.relay_tasks.specs.declared.log.LogEntry.{LogEntry}
+use Rattle.relay_tasks.specs.Hooks.{same_hook}
+use Rattle.relay_tasks.specs.Error.{IsMemoryOr}
+use Rattle.relay_tasks.specs.Head.{RequestHead}
+use Rattle.relay_links.specs.Link.{LinkState, LinkStart, IsHandedOut}
+use Rattle.relay_links.specs.Told.{Since}
+use Rattle.relay_links.proofs.SinceLemmas.{Since-start}
+use Rattle.relay_h1.specs.Framing.{request_framing}
+use Rattle.relay_h1.specs.Verdict.{refused_from}
+use Rattle.relay_h1.specs.declared.framing.Framing.{Framing}
+use Rattle.relay_h1.proofs.VerdictLemmas.{HasRequest-IsOpen}
+use Rattle.relay_session.specs.Asked.{request_of}
+use Rattle.relay_session.specs.Reading.{head_of, is_body_done}
+use Rattle.relay_session.specs.Response.{pending}
+use Rattle.relay_session.specs.declared.task_text.Place.TheVariants as stands
+use Rattle.relay_session.specs.declared.writing.Outgoing.{Outgoing}
+use Rattle.relay_session.specs.declared.writing.Outgoing.TheVariants as outgoing
+use Rattle.relay_session.specs.declared.writing.Writing.{Writing}
+use Rattle.relay_session.specs.declared.session.HttpSession.{HttpSession}
+use Rattle.relay_hooks.specs.Standing.{Standing}
+use Rattle.relay_phases.specs.Order.{Station}
+use Rattle.relay_phases.specs.Order.{Station as station}
+use Rattle.relay_phases.specs.Turns.{HasCalled, QueuesNothing, Turns}
+use Rattle.relay_phases.proofs.TurnLemmas.{HasCalled-more}
+use Rattle.relay_opening.specs.Told.{head_behind}
+use Rattle.relay_trying.specs.Trying.{FiltersHead, TellsConnected}
+use Rattle.relay_sides.specs.Client.{BeginsBehind}
+use Rattle.relay_core.specs.Past.{Origin}
+use Rattle.relay_attempt.specs.Exchange.{IsUnderWay, UpHolds}
+use Rattle.relay_attempt.specs.Passed.{Passed}
+use Rattle.relay_attempt.specs.declared.h1_exchange.H1Exchange.{H1Exchange}
+use Rattle.relay_attempt.specs.Head.{link_of}
+use Rattle.relay_proxy.specs.Answer.{QueuesAnswer, WaitsOf}
+use Rattle.relay_proxy.specs.Calls.{CountsCalls, GoesOn, IsLogged, IsOpening, TellsPeer, is_calling, log_of, seen_with, station_at}
+use Rattle.relay_proxy.specs.Named.{IsNamed, peer_in}
+use Rattle.relay_proxy.specs.Preparing.{FiltersReady, MakesHead, Prepares, Readies, Settles, Unprepared}
+use Rattle.relay_proxy.specs.Relayable.{IsRelayable}
+use Rattle.relay_proxy.specs.Sent.{Filters, Sends, RefusesToSend, SettlesFramed, asked_in, client_in, client_of}
+use Rattle.relay_proxy.specs.Endings.{IsInOrder, IsRefusedAhead, Misses, EndsLinked, answer_to, error_of, outcome_of}
+use Rattle.relay_proxy.specs.Leaving.{LeavesAhead}
+use Rattle.relay_proxy.specs.Tries.{AreTries, tries_in}
+use Rattle.relay_proxy.specs.Passed.{World, Start, asked, called_to, origin_of, TellsClient, IsUnsent, IsUntouched}
+use Rattle.relay_proxy.specs.Phases.{IsConnecting, IsLeased, IsPreparing, IsRelaying, PhaseHolds, RunSoFar}
+use Rattle.relay_proxy.specs.Turn.{Advances}
+use Rattle.relay_proxy.specs.declared.calls.At.{At}
+use Rattle.relay_proxy.specs.declared.calls.At.TheVariants as at
+use Rattle.relay_proxy.specs.declared.calls.Calls.{Calls}
+use Rattle.relay_proxy.specs.declared.machine.Attempt.{Attempt}
+use Rattle.relay_proxy.specs.declared.machine.Lease.{Lease}
+use Rattle.relay_proxy.specs.declared.machine.Phase.TheVariants.{Connect, Prepare, Relay, Close}
+use Rattle.relay_proxy.specs.declared.machine.Phase.TheVariants as phase
+use Rattle.relay_proxy.specs.declared.record.AttemptRecord.{AttemptRecord}
+use Rattle.relay_proxy.specs.declared.outcome.Outcome.{Outcome}
+use Rattle.relay_proxy.specs.declared.outcome.Outcome.TheVariants as outcome
+use Rattle.relay_proxy.specs.declared.work.Work.{Work}
+use Rattle.relay_proxy.proofs.AnswerSteps.{ends_missed}
+use Rattle.relay_proxy.proofs.ConnectSteps.{no_limit, part_relayed}
+use Rattle.relay_proxy.proofs.CallLemmas.{logged_more, logged_same, none_called, one_called}
+use Rattle.relay_proxy.proofs.HookSteps.{quiet_twice, stop_text}
+use Rattle.relay_proxy.proofs.NamedLemmas.{names_none, peer_still}
+use Rattle.relay_proxy.proofs.OpenHead.{exchange_open}
+use Rattle.relay_proxy.proofs.OpenSteps.{called_tells, called_tries, stands_first, stays_connecting}
+use Rattle.relay_proxy.proofs.SentLemmas.{client_is, never_unready}
+
+-- ---- the calls
+
+-- a hook that is not the one that names a peer leaves the peer that the log tells
+pub peers_stay : {M K : Type 0} (allows : Standing → LogEntry → Type 0) (c d : Calls M K)
+    (client left : HttpSession) (mark behind : ℕ) (which : Hook) (from to : Station)
+    → same_hook hook.UpstreamPeer which ≡ false
+    → Turns allows which from to QueuesNothing (seen_with c client) mark (seen_with d left) behind
+    → peer_in (log_of d) ≡ peer_in (log_of c)
+peers_stay allows c d client left mark behind which from to other t =
+    ap (λ (l : List LogEntry). peer_in l) t.calls.log
+    ∙ peer_still (log_of c) t.e (names_none t.e which t.hook other)
+
+-- a link that was just handed out gave and took nothing since
+leased_anew : (s : Start) (p : Passed) (link : LinkState) (start : LinkStart) (lease : Lease)
+    → IsUnsent p → AreTries s (tries_in lease) → IsHandedOut link start lease.reused
+    → IsNamed s.called lease.peer → IsNamed s.called lease.recorded → IsLeased s p link start lease
+leased_anew s p link start lease unsent tries handed peer recorded = record {
+  tells = record {
+    got = rw handed.given (rw unsent.got (Since-start [] link.given));
+    sent = rw handed.taken (rw unsent.sent (Since-start [] link.taken));
+    faults = omega (arith, handed.faults);
+  };
+  peer = peer;
+  recorded = recorded;
+  reused = handed.marked;
+  tries = tries;
+}
+
+-- it is that of the same peer, once more calls were made that name none
+leased_on : (s : Start) (these those : List LogEntry) (p : Passed) (link : LinkState)
+    (start : LinkStart) (lease : Lease) → peer_in those ≡ peer_in these
+    → IsLeased (called_to s these) p link start lease
+    → IsLeased (called_to s those) p link start lease
+leased_on s these those p link start lease same leased = record {
+  tells = leased.tells;
+  peer = same ∙ leased.peer;
+  recorded = same ∙ leased.recorded;
+  reused = leased.reused;
+  tries = called_tries s these those (tries_in lease) same leased.tries;
+}
+
+-- ---- what is made of the head
+
+-- whether the client's body has bytes is what its session says, before any was read
+client_asked : (s : Start) (p : Passed) (w : World) (session : HttpSession)
+    (tries : List AttemptRecord) (k : IsConnecting s p w session tries)
+    → client_in session ≡ client_of k.head
+client_asked s p w session tries k =
+    let b = k.begins k.head false in
+    let framed : request_framing k.head ≡ Some b.framing =
+    subst (λ (h : RequestHead). request_framing h ≡ Some b.framing) b.own b.has.let_in.framed in
+    client_is k.head b.framing (is_body_done session.reading) framed b.done
+
+module _ {M K : Type 0} (allows : Standing → LogEntry → Type 0) (c d : Calls M K)
+    (client left : HttpSession) (mark behind : ℕ) (s : Start) (p : Passed) (w : World)
+    (tries : List AttemptRecord) (k : IsConnecting (called_to s (log_of c)) p w client tries)
+  where
+    -- behind a hook that names no peer the request stands as it stood
+    abbrev pub stays_on : (which : Hook) (from to : Station) → same_hook hook.UpstreamPeer which ≡ false
+        → Turns allows which from to QueuesNothing (seen_with c client) mark (seen_with d left)
+        behind
+        → IsConnecting (called_to s (log_of d)) p w left tries
+    stays_on which from to other t =
+        stays_connecting allows c d client left mark behind which from to t s p w tries
+        (inr (peers_stay allows c d client left mark behind which from to other t)) k
+
+    -- the filter was called on the client's head, made ready
+    filters_by : (filtered : RequestHead)
+        → (f : FiltersReady allows c client mark d left behind filtered)
+        → Filters (log_of d) k.head filtered
+    filters_by filtered f = record {
+      before = log_of c;
+      e = f.call.turn.e;
+      after = [];
+      called_are = f.call.turn.calls.log;
+      is_last = refl;
+      is_filter = f.call.turn.hook;
+      ready = f.ready;
+      readies = f.readies (head_behind k.head (log_of c)) k.is_left;
+      given = f.call.input;
+      left = f.call.output;
+      passes = f.call.error;
+    }
+
+    -- what it left is settled beside the client's head
+    settled_by : (filtered : RequestHead) (answer : Result RequestHead Error)
+        → (f : FiltersReady allows c client mark d left behind filtered)
+        → Settles left filtered answer
+        → SettlesFramed (client_of k.head) (asked_in (filters_by filtered f)) filtered answer
+    settled_by filtered answer f settles =
+        let on : IsConnecting (called_to s (log_of d)) p w left tries =
+        stays_on hook.UpstreamRequestFilter station.linked station.sent refl f.call.turn in
+        subst (λ (h : RequestHead). SettlesFramed (client_of k.head) h filtered answer)
+        (ap (λ (l : List LogEntry). head_behind k.head l) f.call.turn.calls.log)
+        (subst (λ (x : _). SettlesFramed x (head_behind k.head (log_of d)) filtered answer)
+        (client_asked (called_to s (log_of d)) p w left tries on)
+        (settles (head_behind k.head (log_of d)) on.is_left))
+
+    -- so the head is sent of the client's
+    pub sends_by : (sent : RequestHead) → Prepares allows c client mark d left behind sent
+        → Sends (log_of d) k.head sent
+    sends_by sent made = record {
+      filtered = made.filtered;
+      filters = filters_by made.filtered made.filters;
+      settles = settled_by made.filtered (Ok sent) made.filters made.settles;
+    }
+
+    -- why it is not, and how the request stands then
+    pub record Refuses (e : Error) : Type 0 where
+      pub on : IsConnecting (called_to s (log_of d)) p w left tries
+      pub same_peers : peer_in (log_of d) ≡ peer_in (log_of c)
+      pub why : RefusesToSend (log_of d) on.head true e
+
+    pub refuses_as : (e : Error) → Unprepared allows c client mark d left behind e → Refuses e
+    refuses_as e (Unprepared.unready same stays still readies) =
+        absurd (never_unready (head_behind k.head (log_of c)) e
+        (readies (head_behind k.head (log_of c)) k.is_left))
+    refuses_as e (Unprepared.unfiltered ready call) =
+        record {
+          on = stays_on hook.UpstreamRequestFilter station.linked station.broken refl
+              call.call.turn;
+          same_peers = peers_stay allows c d client left mark behind hook.UpstreamRequestFilter
+              station.linked station.broken refl call.call.turn;
+          why = RefusesToSend.unfiltered (record {
+            before = log_of c;
+            last = call.call.turn.e;
+            called_are = call.call.turn.calls.log;
+            is_of_it = call.call.turn.hook;
+            error = call.call.error;
+          }) refl;
+        }
+    refuses_as e (Unprepared.unsettled filtered f settles) =
+        record {
+          on = stays_on hook.UpstreamRequestFilter station.linked station.sent refl f.call.turn;
+          same_peers = peers_stay allows c d client left mark behind hook.UpstreamRequestFilter
+              station.linked station.sent refl f.call.turn;
+          why = RefusesToSend.unsettled filtered (filters_by filtered f)
+              (settled_by filtered (Err e) f settles) refl;
+        }
+
+-- ---- what passed
+
+-- what passed is what the client gave, where nothing was written and no link of an attempt was used
+came_alone : (p : Passed) → p.written ≡ [] → IsUnsent p
+    → record { came = p.came; written = []; got = []; sent = [] } ≡ p
+came_alone p none unsent = grind (arith, none, unsent.got, unsent.sent)
+
+-- a framing that is there is not missing
+not_missing : (framing : Framing) (found : Option Framing) → found ≡ None → found ≡ Some framing → ⊥
+not_missing framing found none some = cc
+
+-- an exchange is refused only where its head has no framing, so with one it was memory that failed
+memory_alone : (error : Error) (why : Fail) (found : Option Framing) (framing : Framing)
+    → IsMemoryOr error why → (why ≡ fail.Error error → found ≡ None) → found ≡ Some framing
+    → why ≡ fail.OutOfMemory
+memory_alone error fail.OutOfMemory found framing causes refused framed = refl
+memory_alone error (fail.Error e) found framing causes refused framed =
+    absurd (not_missing framing found (refused (ap (λ (x : Error). fail.Error x) causes)) framed)
+
+-- ---- an attempt that ends ahead of its exchange
+
+module _ {L C : Type 0} (state : L → LinkState) (start_at : L → LinkStart) where
+  -- the link is to go back, not kept, where memory was wanted
+  pub link_lost : (these those : List LogEntry) (s : Start) (p : Passed) (w : World) (context : C)
+      (session : Box HttpSession) (link : L) (lease : Lease) → peer_in those ≡ peer_in these
+      → RunSoFar {C = C} state start_at (called_to s these) p w []
+      (Prepare context session link lease)
+      → Advances {C = C} state start_at (called_to s those) w
+      (Close link lease false outcome.OutOfMemory)
+  link_lost these those s p w context session link lease same run = record {
+    passed = p;
+    run = record {
+      tells = called_tells s these those p w run.tells;
+      order = IsInOrder.is_nothing run.holds.1.connecting.written
+          run.holds.1.connecting.unsent.sent;
+      untouched = run.untouched;
+      going = no_limit;
+      calm = tt;
+      holds = (
+        leased_on s these those p (state link) (start_at link) lease same run.holds.0,
+        (
+          inr (
+            run.holds.1.connecting.written,
+            record {
+              got = run.holds.1.connecting.unsent.got;
+              sent = run.holds.1.connecting.unsent.sent;
+            },
+          ),
+          refl,
+        ),
+      );
+    };
+  }
+
+  -- a hook was called, and the request stands as it stood, its link given
+  abbrev pub prepared_on : (these those : List LogEntry) (s : Start) (p : Passed) (w : World)
+      (context context' : C) (session session' : Box HttpSession) (link : L) (lease : Lease)
+      → peer_in those ≡ peer_in these
+      → IsConnecting (called_to s those) p w session'.value (tries_in lease)
+      → RunSoFar {C = C} state start_at (called_to s these) p w []
+      (Prepare context session link lease)
+      → RunSoFar {C = C} state start_at (called_to s those) p w []
+      (Prepare context' session' link lease)
+  prepared_on these those s p w context context' session session' link lease same k run = record {
+    tells = called_tells s these those p w run.tells;
+    order = IsInOrder.is_nothing k.written k.unsent.sent;
+    untouched = run.untouched;
+    going = tt;
+    calm = run.calm;
+    holds = (
+      leased_on s these those p (state link) (start_at link) lease same run.holds.0,
+      record { connecting = k; fresh = run.holds.1.fresh },
+    );
+  }
+
+  -- a link was given that nobody asked yet
+  abbrev pub linked : (s : Start) (p : Passed) (w : World) (context : C) (session : Box HttpSession)
+      (link : L) (lease : Lease) → IsHandedOut (state link) (start_at link) lease.reused
+      → IsNamed s.called lease.peer → lease.recorded ≡ lease.peer
+      → RunSoFar {C = C} state start_at s p w [] (Connect context session (tries_in lease))
+      → RunSoFar {C = C} state start_at s p w [] (Prepare context session link lease)
+  linked s p w context session link lease handed named same run = record {
+    tells = run.tells;
+    order = run.order;
+    untouched = run.untouched;
+    going = tt;
+    calm = run.calm;
+    holds = (
+      leased_anew s p (state link) (start_at link) lease run.holds.unsent run.holds.are_tries handed
+          named (named ∙ ap (λ (x : Peer). Some x) (sym same)),
+      record { connecting = run.holds; fresh = handed },
+    );
+  }
+
+  -- the attempt was refused ahead of its exchange
+  refused_of : (s : Start) (p : Passed) (w : World) (session : HttpSession) (link : L)
+      (lease : Lease) (keep : Bool) (e : Error)
+      → (l : LeavesAhead s p w (state link) (start_at link) session lease keep e)
+      → IsRefusedAhead s p (state link) (start_at link) keep e
+  refused_of s p w session link lease keep e l = record {
+    head = l.connecting.head;
+    accepted = l.connecting.accepted;
+    refused = l.why;
+    fresh = subst (λ (b : Bool). IsHandedOut (state link) (start_at link) b) (sym l.fresh.marked)
+        l.fresh;
+    unsent = l.connecting.unsent;
+  }
+
+  -- the answer to its error is all that waits
+  ahead_text : (s : Start) (p : Passed) (w : World) (session : HttpSession) (new : Writing)
+      (tries : List AttemptRecord) (e : Error) → (k : IsConnecting s p w session tries)
+      → QueuesAnswer session.writing.output e session.writing new
+      → new.output ≡ outgoing.Open (answer_to k.head e)
+  ahead_text s p w session new tries e k queues =
+      let b = k.begins k.head false in
+      stop_text session.writing new k.head e b.output
+      (b.answers ∙ ap (λ (h : RequestHead). request_of h) b.own)
+      (stands_first session.writing b.response b.output) queues
+
+  module _ (s : Start) (p : Passed) (w : World) (session session' : Box HttpSession) (link : L)
+      (lease : Lease) (keep : Bool) (e : Error) (tells : TellsClient s p w)
+      (untouched : IsUntouched s p w)
+      (l : LeavesAhead s p w (state link) (start_at link) session.value lease keep e)
+    where
+      -- memory was wanted for its answer
+      pub ahead_lost : Advances {C = C} state start_at s w
+          (Close link lease false outcome.OutOfMemory)
+      ahead_lost = record {
+        passed = p;
+        run = record {
+          tells = tells;
+          order = IsInOrder.is_nothing l.connecting.written l.connecting.unsent.sent;
+          untouched = untouched;
+          going = no_limit;
+          calm = tt;
+          holds = (l.leased, (inr (l.connecting.written, l.connecting.unsent), refl));
+        };
+      }
+
+      -- its error has no answer
+      pub ahead_over : QueuesAnswer session.value.writing.output e session.value.writing
+          session'.value.writing → pending session'.value.writing.output ≡ []
+          → Advances {C = C} state start_at s w
+          (Close link lease keep (outcome.Served (Some e) false))
+      ahead_over queues none = record {
+        passed = p;
+        run = record {
+          tells = tells;
+          order = IsInOrder.is_nothing l.connecting.written l.connecting.unsent.sent;
+          untouched = untouched;
+          going = λ limit. cc;
+          calm = tt;
+          holds = (
+            l.leased,
+            inr (record {
+              refused = refused_of s p w session.value link lease keep e l;
+              answered = inl (l.connecting.written ∙ sym empty);
+              stays = refl;
+            }),
+          );
+        };
+      }
+        where
+          empty : answer_to l.connecting.head e ≡ []
+          empty = sym (ap (λ (o : Outgoing). pending o)
+              (ahead_text s p w session.value session'.value.writing (tries_in lease) e l.connecting
+              queues)) ∙ none
+
+      -- the client is owed it
+      pub ahead_owing : QueuesAnswer session.value.writing.output e session.value.writing
+          session'.value.writing → 0 < length (pending session'.value.writing.output)
+          → Advances {C = C} state start_at s w (phase.Fail link lease keep session' e)
+      ahead_owing queues some = record {
+        passed = p;
+        run = record {
+          tells = tells;
+          order = IsInOrder.is_nothing l.connecting.written l.connecting.unsent.sent;
+          untouched = untouched;
+          going = tt;
+          calm = tt;
+          holds = (
+            l.leased,
+            record {
+              text = answer_to l.connecting.head e;
+              misses = Misses.ahead_of_it (refused_of s p w session.value link lease keep e l) refl;
+              waits = record {
+                left = answer_to l.connecting.head e;
+                is_open = text;
+                some = subst (λ (xs : List ℕ). 0 < length xs)
+                    (ap (λ (o : Outgoing). pending o) text) some;
+                joined = ap (λ (xs : List ℕ). xs ++ answer_to l.connecting.head e)
+                    l.connecting.written;
+              };
+            },
+          );
+        };
+      }
+        where
+          text : session'.value.writing.output ≡ outgoing.Open (answer_to l.connecting.head e)
+          text = ahead_text s p w session.value session'.value.writing (tries_in lease) e
+              l.connecting queues
+
+-- ---- the application is told of a link
+
+module _ {L C M K : Type 0} (state : L → LinkState) (start_at : L → LinkStart)
+    (allows : Standing → LogEntry → Type 0) (c d : Calls M K) (mark behind : ℕ) (s : Start)
+    (p : Passed) (w : World) (context context' : C) (session session' : Box HttpSession) (link : L)
+    (lease : Lease) (handed : IsHandedOut (state link) (start_at link) lease.reused)
+    (was : c.at ≡ at.Named lease.peer) (same : lease.recorded ≡ lease.peer)
+    (tells : TellsPeer c.at (log_of c))
+    (run : RunSoFar {C = C} state start_at (called_to s (log_of c)) p w []
+    (Connect context session (tries_in lease)))
+  where
+    -- the link is held
+    holds_link : RunSoFar {C = C} state start_at (called_to s (log_of c)) p w []
+        (Prepare context session link lease)
+    holds_link = linked state start_at (called_to s (log_of c)) p w context session link lease handed
+        (subst (λ (a : At K). TellsPeer a (log_of c)) was tells) same run
+
+    -- the head comes next
+    pub told_well : Turns allows hook.ConnectedToUpstream station.named station.linked QueuesNothing
+        (seen_with c session.value) mark (seen_with d session'.value) behind
+        → Advances {C = C} state start_at (called_to s (log_of d)) w
+        (Prepare context' session' link lease)
+    told_well turn = record {
+      passed = p;
+      run = prepared_on state start_at (log_of c) (log_of d) s p w context context' session session'
+          link lease
+          (peers_stay allows c d session.value session'.value mark behind hook.ConnectedToUpstream
+          station.named station.linked refl turn)
+          (stays_on allows c d session.value session'.value mark behind s p w (tries_in lease)
+          run.holds hook.ConnectedToUpstream station.named station.linked refl turn) holds_link;
+    }
+
+    -- it failed
+    pub told_badly : (e : Error)
+        → (turn : Turns allows hook.ConnectedToUpstream station.named station.broken QueuesNothing
+        (seen_with c session.value) mark (seen_with d session'.value) behind)
+        → turn.e.error ≡ Some e
+        → LeavesAhead (called_to s (log_of d)) p w (state link) (start_at link) session'.value lease
+        false e
+    told_badly e turn fails = record {
+      connecting = stays_on allows c d session.value session'.value mark behind s p w
+          (tries_in lease) run.holds hook.ConnectedToUpstream station.named station.broken refl turn;
+      leased = leased_on s (log_of c) (log_of d) p (state link) (start_at link) lease
+          (peers_stay allows c d session.value session'.value mark behind hook.ConnectedToUpstream
+          station.named station.broken refl turn) holds.0;
+      fresh = handed;
+      why = RefusesToSend.untold (record {
+        before = log_of c;
+        last = turn.e;
+        called_are = turn.calls.log;
+        is_of_it = turn.hook;
+        error = fails;
+      }) refl;
+    }
+      where
+        holds : PhaseHolds {C = C} state start_at (called_to s (log_of c)) p w []
+            (Prepare context session link lease)
+        holds = holds_link.holds
+
+    -- memory was wanted
+    pub told_lost : log_of d ≡ log_of c
+        → Advances {C = C} state start_at (called_to s (log_of d)) w
+        (Close link lease false outcome.OutOfMemory)
+    told_lost log =
+        link_lost state start_at (log_of c) (log_of d) s p w context session link lease
+        (ap (λ (l : List LogEntry). peer_in l) log) holds_link
+
+-- ---- the head is made
+
+module _ {L C M K : Type 0} (state : L → LinkState) (start_at : L → LinkStart)
+    (allows : Standing → LogEntry → Type 0) (c d : Calls M K) (mark behind : ℕ) (s : Start)
+    (p : Passed) (w : World) (context context' : C) (session session' : Box HttpSession) (link : L)
+    (lease : Lease)
+    (run : RunSoFar {C = C} state start_at (called_to s (log_of c)) p w []
+    (Prepare context session link lease))
+  where
+    -- the filter was called
+    abbrev pub filtered_run : (filtered : RequestHead)
+        → FiltersReady allows c session.value mark d session'.value behind filtered
+        → RunSoFar {C = C} state start_at (called_to s (log_of d)) p w []
+        (Prepare context' session' link lease)
+    filtered_run filtered f =
+        prepared_on state start_at (log_of c) (log_of d) s p w context context' session session'
+        link lease
+        (peers_stay allows c d session.value session'.value mark behind hook.UpstreamRequestFilter
+        station.linked station.sent refl f.call.turn)
+        (stays_on allows c d session.value session'.value mark behind s p w (tries_in lease)
+        run.holds.1.connecting hook.UpstreamRequestFilter station.linked station.sent refl
+        f.call.turn) run
+
+    -- and the head is sent of the client's
+    pub filtered_sends : (sent : RequestHead)
+        → (made : Prepares allows c session.value mark d session'.value behind sent)
+        → Sends (log_of d) (filtered_run made.filtered made.filters).holds.1.connecting.head sent
+    filtered_sends sent made =
+        sends_by allows c d session.value session'.value mark behind s p w (tries_in lease)
+        run.holds.1.connecting sent made
+
+    -- it is refused
+    pub filtered_badly : (e : Error)
+        → Unprepared allows c session.value mark d session'.value behind e
+        → LeavesAhead (called_to s (log_of d)) p w (state link) (start_at link) session'.value lease
+        true e
+    filtered_badly e refused =
+        let r = refuses_as allows c d session.value session'.value mark behind s p w
+        (tries_in lease) run.holds.1.connecting e refused in
+        record {
+          connecting = r.on;
+          leased = leased_on s (log_of c) (log_of d) p (state link) (start_at link) lease
+              r.same_peers run.holds.0;
+          fresh = run.holds.1.fresh;
+          why = r.why;
+        }
+
+    -- memory was wanted
+    pub filtered_lost : MakesHead allows c session.value mark d session'.value behind
+        (Err fail.OutOfMemory)
+        → Advances {C = C} state start_at (called_to s (log_of d)) w
+        (Close link lease false outcome.OutOfMemory)
+    filtered_lost (inl log) =
+        link_lost state start_at (log_of c) (log_of d) s p w context session link lease
+        (ap (λ (l : List LogEntry). peer_in l) log) run
+    filtered_lost (inr (filtered, f)) =
+        link_lost state start_at (log_of c) (log_of d) s p w context session link lease
+        (peers_stay allows c d session.value session'.value mark behind hook.UpstreamRequestFilter
+        station.linked station.sent refl f.call.turn) run
+
+-- ---- the calls so far
+
+module _ {C M K : Type 0} (allows : Standing → LogEntry → Type 0) (mark_of : C → ℕ)
+    (c d : Calls M K) (context context' : C) (client left : HttpSession)
+    (tries : List AttemptRecord) (o : IsOpening allows mark_of c context client tries)
+  where
+    -- a call from where the hooks stand
+    logged_at : (from : Station) → station_at c.at ≡ from → (which : Hook) (to : Station)
+        → Turns allows which from to QueuesNothing (seen_with c client) (mark_of context)
+        (seen_with d left) (mark_of context') → IsLogged allows (log_of d) to
+    logged_at from is which to turn =
+        logged_more allows mark_of c d context context' client left tries which to QueuesNothing
+        (subst (λ (a : Station). Turns allows which a to QueuesNothing (seen_with c client)
+        (mark_of context) (seen_with d left) (mark_of context')) (sym is) turn) o
+
+    -- the application was told of a link
+    pub told_calls : (peer : Peer) → c.at ≡ at.Named peer → d.at ≡ at.Linked
+        → Turns allows hook.ConnectedToUpstream station.named station.linked QueuesNothing
+        (seen_with c client) (mark_of context) (seen_with d left) (mark_of context')
+        → IsOpening allows mark_of d context' left tries
+    told_calls peer was is turn = record {
+      first = o.first;
+      mark = o.mark;
+      none = o.none;
+      so_far = subst (λ (a : At K). HasCalled allows o.first o.mark station.accepted (station_at a)
+          QueuesNothing (seen_with d left) (mark_of context')) (sym is)
+          (HasCalled-more allows QueuesNothing QueuesNothing QueuesNothing quiet_twice o.first
+          o.mark hook.ConnectedToUpstream station.accepted station.named station.linked
+          (seen_with c client) (mark_of context) (seen_with d left) (mark_of context')
+          (subst (λ (a : At K). HasCalled allows o.first o.mark station.accepted (station_at a)
+          QueuesNothing (seen_with c client) (mark_of context)) was o.so_far) turn);
+      goes = subst (λ (a : At K). GoesOn a) (sym is) tt;
+      named = subst (λ (a : At K). TellsPeer a (log_of d)) (sym is) tt;
+      untried = λ still.
+          absurd (true≢false (sym still ∙ ap (λ (a : At K). is_calling a) is));
+    }
+
+    pub told_logged : (peer : Peer) → c.at ≡ at.Named peer
+        → Turns allows hook.ConnectedToUpstream station.named station.broken QueuesNothing
+        (seen_with c client) (mark_of context) (seen_with d left) (mark_of context')
+        → (at : Station) × IsLogged allows (log_of d) at
+    told_logged peer was turn =
+        (
+          station.broken,
+          logged_at station.named (ap (λ (a : At K). station_at a) was) hook.ConnectedToUpstream
+              station.broken turn,
+        )
+
+    -- the filter was called
+    pub filtered_logged : c.at ≡ at.Linked → (filtered : RequestHead)
+        → FiltersReady allows c client (mark_of context) d left (mark_of context') filtered
+        → IsLogged allows (log_of d) station.sent
+    filtered_logged was filtered f =
+        logged_at station.linked (ap (λ (a : At K). station_at a) was) hook.UpstreamRequestFilter
+        station.sent f.call.turn
+
+    pub unsent_logged : c.at ≡ at.Linked → (e : Error)
+        → Unprepared allows c client (mark_of context) d left (mark_of context') e
+        → (at : Station) × IsLogged allows (log_of d) at
+    unsent_logged was e (Unprepared.unready same stays still readies) =
+        logged_same allows mark_of c d context client tries
+        (ap (λ (x : Calls M K). log_of x) same) o
+    unsent_logged was e (Unprepared.unfiltered ready call) =
+        (
+          station.broken,
+          logged_at station.linked (ap (λ (a : At K). station_at a) was)
+              hook.UpstreamRequestFilter station.broken call.call.turn,
+        )
+    unsent_logged was e (Unprepared.unsettled filtered f settles) =
+        (station.sent, filtered_logged was filtered f)
+
+    pub lost_logged : c.at ≡ at.Linked
+        → MakesHead allows c client (mark_of context) d left (mark_of context')
+        (Err fail.OutOfMemory) → (at : Station) × IsLogged allows (log_of d) at
+    lost_logged was (inl log) = logged_same allows mark_of c d context client tries log o
+    lost_logged was (inr (filtered, f)) = (station.sent, filtered_logged was filtered f)
+
+-- what is counted of the calls of a head that is not sent
+module _ {M K : Type 0} (allows : Standing → LogEntry → Type 0) (c d : Calls M K)
+    (client left : HttpSession) (mark behind : ℕ) (work : Work) (none : work.called ≡ 0)
+  where
+    pub unsent_counts : (e : Error) → Unprepared allows c client mark d left behind e
+        → CountsCalls c d work
+    unsent_counts e (Unprepared.unready same stays still readies) =
+        none_called c d work none (ap (λ (x : Calls M K). log_of x) same)
+    unsent_counts e (Unprepared.unfiltered ready call) =
+        one_called c d work (omega (arith, none)) call.call.turn.e call.call.turn.calls.log
+    unsent_counts e (Unprepared.unsettled filtered f settles) =
+        one_called c d work (omega (arith, none)) f.call.turn.e f.call.turn.calls.log
+
+    pub lost_counts : MakesHead allows c client mark d left behind (Err fail.OutOfMemory)
+        → CountsCalls c d work
+    lost_counts (inl log) = none_called c d work none log
+    lost_counts (inr (filtered, f)) =
+        one_called c d work (omega (arith, none)) f.call.turn.e f.call.turn.calls.log
+
+-- ---- the exchange
+
+module _ {L : Type 0} (state : L → LinkState) (start_at : L → LinkStart) where
+  -- an exchange that is under way is over a link that tells what passed
+  leased_under_way : (s : Start) (o : Origin) (p : Passed) (client : LinkState) (ahead : List ℕ)
+      (x : H1Exchange L) (lease : Lease) → o.reused ≡ lease.reused → IsNamed s.called lease.peer
+      → IsNamed s.called lease.recorded
+      → AreTries s (tries_in lease) → IsUnderWay state start_at o p client ahead x
+      → IsLeased s p (state (link_of x)) (start_at (link_of x)) lease
+  leased_under_way s o p client ahead x lease reused peer recorded tries under = record {
+    tells = record {
+      got = subst (λ (xs : List ℕ). Since [] (start_at (link_of x)).given
+          (state (link_of x)).given xs) under.got side.holds.peer.got;
+      sent = subst (λ (xs : List ℕ). Since [] (start_at (link_of x)).taken
+          (state (link_of x)).taken xs) under.sent side.holds.peer.sent;
+      faults = side.holds.peer.faults;
+    };
+    peer = peer;
+    recorded = recorded;
+    reused = side.holds.reused ∙ reused;
+    tries = tries;
+  }
+    where
+      side : UpHolds state start_at x.exchange.up o under.up
+      side = under.holds.so_far.up
+
+module _ {L C : Type 0} (state : L → LinkState) (start_at : L → LinkStart) where
+  -- the exchange is under way, and nothing was sent or written yet
+  pub begun : (s : Start) (p : Passed) (w : World) (context : C) (session : Box HttpSession)
+      (given : RequestHead) (link : L) (a : Attempt L C)
+      → (run : RunSoFar {C = C} state start_at s p w [] (Prepare context session link a.lease))
+      → Sends s.called run.holds.1.connecting.head given
+      → ((o : Origin) (came : List ℕ) (client : LinkState) (ahead : List ℕ) (reused : Bool)
+      → given ≡ o.sent → o.asked ≡ false → BeginsBehind o came client ahead session.value
+      → IsHandedOut (state link) (start_at link) reused → o.reused ≡ reused
+      → IsUnderWay state start_at o
+      (record { came = came; written = []; got = []; sent = [] }) client ahead a.exchange)
+      → IsRelaying state start_at s p w a
+  begun s p w context session given link a run sends begins =
+      record {
+        leased = leased_under_way state start_at s origin p w.client w.ahead a.exchange a.lease refl
+            run.holds.0.peer run.holds.0.recorded run.holds.0.tries under;
+        head = run.holds.1.connecting.head;
+        sent = given;
+        relayable = run.holds.1.connecting.accepted.relayable;
+        sends = sends;
+        under_way = under;
+      }
+    where
+      origin : Origin
+      origin = origin_of s run.holds.1.connecting.head given a.lease.reused
+
+      under : IsUnderWay state start_at origin p w.client w.ahead a.exchange
+      under = subst (λ (q : Passed). IsUnderWay state start_at origin q w.client w.ahead a.exchange)
+          (came_alone p run.holds.1.connecting.written run.holds.1.connecting.unsent)
+          (begins origin p.came w.client w.ahead a.lease.reused refl refl
+          (run.holds.1.connecting.begins given a.lease.reused) run.holds.1.fresh refl)
+
+  -- the attempt is held
+  pub held : (s : Start) (p : Passed) (w : World) (a : Attempt L C) (b : Box (Attempt L C))
+      → b.value ≡ a → TellsClient s p w → IsInOrder s p → w.client.faults ≡ s.faults
+      → IsRelaying state start_at s p w a
+      → Advances {C = C} state start_at s w (Relay b)
+  held s p w a b same tells order calm relaying = record {
+    passed = p;
+    run = record {
+      tells = tells;
+      order = order;
+      untouched = λ open_head.
+          absurd (exchange_open _ s p relaying.head relaying.sent a.lease.reused _
+          relaying.under_way.order open_head);
+      going = tt;
+      calm = calm;
+      holds = subst (λ (x : Attempt L C). IsRelaying state start_at s p w x) (sym same) relaying;
+    };
+  }
+
+  -- the attempt is not held, when out of memory
+  pub not_held : (s : Start) (p : Passed) (w : World) (a : Attempt L C) → TellsClient s p w
+      → IsInOrder s p → IsRelaying state start_at s p w a
+      → Advances {C = C} state start_at s w
+      (Close (link_of a.exchange) a.lease false outcome.OutOfMemory)
+  not_held s p w a tells order relaying = record {
+    passed = p;
+    run = record {
+      tells = tells;
+      order = order;
+      untouched = λ open_head.
+          absurd (exchange_open _ s p relaying.head relaying.sent a.lease.reused _
+          relaying.under_way.order open_head);
+      going = no_limit;
+      calm = tt;
+      holds = (
+        relaying.leased,
+        (
+          inl (part_relayed s p relaying.head relaying.sent a.lease.reused _ _ relaying.relayable
+              relaying.sends relaying.leased.reused relaying.under_way.order),
+          refl,
+        ),
+      );
+    };
+  }
+
+  -- the exchange was not begun, when out of memory
+  pub not_begun : (s : Start) (p : Passed) (w : World) (context : C) (session : Box HttpSession)
+      (given : RequestHead) (link back : L) (lease : Lease) (why : Fail) (end : Outcome)
+      → back ≡ link → end ≡ outcome_of why
+      → IsMemoryOr (refused_from Internal BadFraming) why
+      → (why ≡ fail.Error (refused_from Internal BadFraming) → request_framing given ≡ None)
+      → (run : RunSoFar {C = C} state start_at s p w [] (Prepare context session link lease))
+      → Sends s.called run.holds.1.connecting.head given
+      → Advances {C = C} state start_at s w (Close back lease false end)
+  not_begun s p w context session given link back lease why end same ends causes refused run sends =
+      record {
+        passed = p;
+        run = record {
+          tells = run.tells;
+          order = run.order;
+          untouched = run.untouched;
+          going = λ limit. no_limit (sym is_memory ∙ limit);
+          calm = tt;
+          holds = (
+            subst (λ (l : L). IsLeased s p (state l) (start_at l) lease) (sym same) run.holds.0,
+            subst (λ (o : Outcome).
+                EndsLinked s p w (state back) (start_at back) false (error_of o) o)
+                (sym is_memory)
+                (inr (run.holds.1.connecting.written, run.holds.1.connecting.unsent), refl),
+          );
+        };
+      }
+    where
+      is_memory : end ≡ outcome.OutOfMemory
+      is_memory = ends ∙ ap (λ (f : Fail). outcome_of f)
+          (memory_alone (refused_from Internal BadFraming) why (request_framing given)
+          sends.settles.1.0 causes refused sends.settles.1.1)

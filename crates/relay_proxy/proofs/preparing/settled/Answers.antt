@@ -1,0 +1,17 @@
+-- What the filter left is made as it is sent beside the session's own head.
+use Rattle.relay_proxy.proofs.SentLemmas.{settles_as, unsettled_as}
+use Rattle.relay_proxy.proofs.preparing.settled.Goals as goal
+
+-- it is made, and has a framing or none
+pub returns-in-Ok : goal.returns-in-Ok
+returns-in-Ok c =
+    settles_as c.args.client.now c.req_header.result.now c.args.filtered c.in-Ok.sent
+    c.framed.result c.req_header.ensures
+    (rw c.is_body_done.ensures.value at c.in-Ok.ensures.table) c.framed.ensures.ok
+    c.framed.ensures.err
+
+-- it is refused, or memory was wanted
+pub returns-in-Err : goal.returns-in-Err
+returns-in-Err c =
+    unsettled_as c.args.client.now c.req_header.result.now c.args.filtered c.in-Err.why
+    c.req_header.ensures (rw c.is_body_done.ensures.value at c.in-Err.ensures.table)

@@ -1,0 +1,299 @@
+//! The head of an attempt: it is filtered by the application and made as it is sent, over a link of
+//! which nothing was asked yet; and the attempt's exchange begins with it (RFC 9110, section 7.6; RFC
+//! 9112, section 3.2).
+ghost use Rattle.std.specs.Prelude.{◌≡◌, ◌⊎◌, ◌≤◌, [], ◌∷◌, ℕ, None, Some, IsSome, IfErr, IfOk};
+ghost use Rattle.std.specs.Global.{Box};
+ghost use Rattle.relay_tasks.specs.Head.{RequestHead};
+ghost use Rattle.relay_attempt.specs.Head.{link_of};
+ghost use Rattle.relay_attempt.specs.Passed.{Passed};
+ghost use Rattle.relay_authority.specs.Stage.{Makes};
+ghost use Rattle.relay_authority.specs.Upstream.{ReadyHead};
+ghost use Rattle.relay_authority.specs.declared.upstream.Upstream.TheVariants as over;
+ghost use Rattle.relay_h1.specs.Framing.{request_framing};
+ghost use Rattle.relay_links.specs.Link.{IsHandedOut};
+ghost use Rattle.relay_session.specs.Reading.{head_of};
+ghost use Rattle.relay_proxy.specs.Bound.{CountsSend, LeavesLink};
+ghost use Rattle.relay_proxy.specs.Calls.{CallsSoFar, CountsCalls, allowed_by, log_of};
+ghost use Rattle.relay_proxy.specs.Endings.{IsInOrder, outcome_of};
+ghost use Rattle.relay_proxy.specs.Leaving.{LeavesAhead};
+ghost use Rattle.relay_proxy.specs.Passed.{World, Start, called_to, IsUntouched, TellsClient};
+ghost use Rattle.relay_proxy.specs.Phases.{IsConnecting, IsRelaying, RunSoFar};
+ghost use Rattle.relay_proxy.specs.Preparing.{MakesHead, Readies, Settles};
+ghost use Rattle.relay_proxy.specs.Sent.{Sends, unframed};
+ghost use Rattle.relay_proxy.specs.Refusals.{attempts_in};
+ghost use Rattle.relay_proxy.specs.Stock.{items_held};
+ghost use Rattle.relay_proxy.specs.Tries.{tries_in};
+ghost use Rattle.relay_proxy.specs.Uses.{LinkUses, OwesAnswer, PhaseUses};
+ghost use Rattle.relay_proxy.specs.Turn.{DoesWork, held_state, is_over, is_end, links_held, Advances, HasCause, IsBegun};
+
+use crate::calls::{Calls, filter};
+use crate::machine::{Attempt, Lease, Next, Phase, RunStep};
+use crate::outcome::Outcome;
+use crate::owed::{Owed, queue_answer};
+use crate::work::Work;
+use relay_attempt::{H1Exchange, Unbegun};
+use relay_authority::{Client, Upstream, ready_head, sent_head};
+use relay_h1::request_framing;
+use relay_hooks::ProxyHttp;
+use relay_links::ByteLink;
+use relay_session::HttpSession;
+use relay_tasks::{Error, Fail, RequestHeader, Result};
+use std::alloc::Global;
+
+/// Makes the head that is sent: ready for the application's filter, filtered, and settled; and begins
+/// the exchange with it. A refusal on this way is the error of the attempt, whose link nobody asked.
+pub(crate) fn prepare<SV: ProxyHttp, L: ByteLink>(
+    alloc: Global,
+    app: &SV,
+    calls: &mut Calls<SV::Modules, SV::Kept>,
+    context: SV::CTX,
+    session: Box<HttpSession>,
+    link: L,
+    lease: Lease,
+) -> Next<L, SV::CTX>
+    ensures run { (s : Start) (p : Passed) (w : World)
+        → RunSoFar {C = SV.CTX} L.state L.start (called_to s (log_of calls.old)) p w []
+        (Phase.Prepare context session link lease)
+        → Advances L.state L.start (called_to s (log_of calls.new)) w result.phase }
+    ensures calls { CallsSoFar {L = L} (allowed_by (SV.allows app.now) SV.Modules.allows)
+        (SV.mark_of app.now) calls.old (Phase.Prepare context session link lease)
+        → CallsSoFar {L = L} (allowed_by (SV.allows app.now) SV.Modules.allows)
+        (SV.mark_of app.now) calls.new result.phase }
+    ensures cause { (w x : World) → HasCause L.state L.start w x
+        (Phase.Prepare context session link lease) result.phase result.step }
+    ensures work { DoesWork result.step result.work }
+    ensures called { CountsCalls calls.old calls.new result.work }
+    ensures counts { CountsSend (tries_in lease) result.phase result.work }
+    ensures unused { result.work.used ≡ 0 }
+    ensures step { (result.step ≡ RunStep.Moved) ⊎ (result.step ≡ RunStep.Ended) }
+    ensures over { is_over result.phase ≡ is_end result.step }
+    ensures held { held_state L.state result.phase ≡ Some (L.state link) }
+    ensures tries { attempts_in result.phase ≡ tries_in lease }
+    ensures linked { links_held L.state L.start result.phase ≡ 1 }
+    ensures items { items_held L.start result.phase ≡ (L.start link).items ∷ [] }
+    ensures asked { (n : ℕ) → LinkUses L.state L.start n link
+        → PhaseUses L.state L.start n [] result.phase }
+{
+    let mut context = context;
+    let mut session = session;
+    match sent_of(alloc, app, calls, &mut context, &mut session) {
+        Ok(sent) => begin(alloc, context, session, sent, link, lease),
+        Err(Fail::Error(error)) => fail_ahead(session, link, lease, true, error),
+        Err(Fail::OutOfMemory) => closed(link, lease, false, Outcome::OutOfMemory),
+    }
+}
+
+/// The head that is sent of the session's: made ready, filtered, and settled. One whose body has no
+/// framing is refused.
+fn sent_of<SV: ProxyHttp>(
+    alloc: Global,
+    app: &SV,
+    calls: &mut Calls<SV::Modules, SV::Kept>,
+    context: &mut SV::CTX,
+    client: &mut HttpSession,
+) -> Result<RequestHeader>
+    ensures makes { MakesHead (allowed_by (SV.allows app.now) SV.Modules.allows) calls.old client.old
+        (SV.mark_of app.now context.old) calls.new client.new (SV.mark_of app.now context.new)
+        result }
+{
+    let ready = readied(alloc, client)?;
+    let filtered = filter(app, calls, context, client, ready)?;
+    settled(alloc, client, filtered)
+}
+
+/// A copy of the session's head, made ready for the filter. Out of memory also where there is no
+/// head, which cannot be where this is called.
+fn readied(alloc: Global, client: &HttpSession) -> Result<RequestHeader>
+    ensures { Makes (Readies client.now) result }
+{
+    if !client.has_head() {
+        return Err(Fail::OutOfMemory);
+    }
+    let Ok(copy) = client.req_header().copy() else {
+        return Err(Fail::OutOfMemory);
+    };
+    ready_head(alloc, copy, Upstream::H1, false)
+}
+
+/// The head that the filter left, as it is sent beside the session's own.
+fn settled(
+    alloc: Global,
+    client: &HttpSession,
+    filtered: RequestHeader,
+) -> Result<RequestHeader>
+    ensures { Makes (Settles client.now filtered) result }
+{
+    if !client.has_head() {
+        return Err(Fail::OutOfMemory);
+    }
+    let asks = Client {
+        custom: false,
+        has_body: !client.is_body_done(),
+    };
+    match sent_head(alloc, client.req_header(), filtered, Upstream::H1, asks) {
+        Ok(sent) => framed(sent),
+        Err(why) => Err(why),
+    }
+}
+
+/// A head whose body has a framing; one without is refused, for the relay's own side.
+fn framed(sent: RequestHeader) -> Result<RequestHeader>
+    ensures ok { IfOk result (λ head. (head ≡ sent) × IsSome (request_framing sent)) }
+    ensures err { IfErr result (λ why. (why ≡ Fail.Error unframed)
+        × (request_framing sent ≡ None)) }
+{
+    match request_framing(&sent) {
+        Ok(_) => Ok(sent),
+        Err(error) => Err(Fail::Error(error.into_in())),
+    }
+}
+
+/// An attempt that failed with that error before its head was sent: its link, which nobody asked, is
+/// to go back, kept or not, and the client is owed the answer to the error, where it has one.
+pub(crate) fn fail_ahead<L: ByteLink, C>(
+    session: Box<HttpSession>,
+    link: L,
+    lease: Lease,
+    keep: bool,
+    error: Error,
+) -> Next<L, C>
+    ensures run { (s : Start) (p : Passed) (w : World) → TellsClient s p w → IsUntouched s p w
+        → LeavesAhead s p w (L.state link) (L.start link) session.value lease keep error
+        → Advances {C = C} L.state L.start s w result.phase }
+    ensures owes { result.step ≡ RunStep.Moved → OwesAnswer result.phase }
+    ensures step { (result.step ≡ RunStep.Moved) ⊎ (result.step ≡ RunStep.Ended) }
+    ensures leaves { LeavesLink link lease result.phase }
+    ensures over { is_over result.phase ≡ is_end result.step }
+    ensures held { held_state L.state result.phase ≡ Some (L.state link) }
+    ensures tries { attempts_in result.phase ≡ tries_in lease }
+    ensures linked { links_held L.state L.start result.phase ≡ 1 }
+    ensures items { items_held L.start result.phase ≡ (L.start link).items ∷ [] }
+    ensures asked { (n : ℕ) → LinkUses L.state L.start n link
+        → PhaseUses L.state L.start n [] result.phase }
+    ensures work { result.work ≡ Work.ENDED }
+{
+    let mut session = session;
+    let Ok(()) = queue_answer(&mut session, error) else {
+        return closed(link, lease, false, Outcome::OutOfMemory);
+    };
+    if !session.has_pending() {
+        return closed(link, lease, keep, Owed::Served(error).outcome());
+    }
+    Next {
+        phase: Phase::Fail(link, lease, keep, session, error),
+        step: RunStep::Moved,
+        work: Work::ENDED,
+    }
+}
+
+/// A request that ended over a link that is to go back, kept or not.
+pub(crate) fn closed<L, C>(link: L, lease: Lease, keep: bool, outcome: Outcome) -> Next<L, C>
+    ensures phase { result.phase ≡ Phase.Close link lease keep outcome }
+    ensures step { result.step ≡ RunStep.Ended }
+    ensures work { result.work ≡ Work.ENDED }
+{
+    Next {
+        phase: Phase::Close(link, lease, keep, outcome),
+        step: RunStep::Ended,
+        work: Work::ENDED,
+    }
+}
+
+/// Begins the attempt's exchange over its link, with the head that is sent.
+fn begin<L: ByteLink, C: Drop>(
+    alloc: Global,
+    context: C,
+    session: Box<HttpSession>,
+    head: RequestHeader,
+    link: L,
+    lease: Lease,
+) -> Next<L, C>
+    ensures run { (s : Start) (p : Passed) (w : World)
+        → (run : RunSoFar {C = C} L.state L.start s p w []
+        (Phase.Prepare context session link lease))
+        → Sends s.called run.holds.1.connecting.head head
+        → Advances {C = C} L.state L.start s w result.phase }
+    ensures cause { (w x : World) (context : C) (session : Box HttpSession)
+        → HasCause L.state L.start w x (Phase.Prepare context session link lease) result.phase
+        result.step }
+    ensures work { DoesWork result.step result.work }
+    ensures called { result.work.called ≤ 1 }
+    ensures begun { IsBegun result.phase }
+    ensures counts { CountsSend (tries_in lease) result.phase result.work }
+    ensures unused { result.work.used ≡ 0 }
+    ensures step { (result.step ≡ RunStep.Moved) ⊎ (result.step ≡ RunStep.Ended) }
+    ensures over { is_over result.phase ≡ is_end result.step }
+    ensures held { held_state L.state result.phase ≡ Some (L.state link) }
+    ensures tries { attempts_in result.phase ≡ tries_in lease }
+    ensures linked { links_held L.state L.start result.phase ≡ 1 }
+    ensures items { items_held L.start result.phase ≡ (L.start link).items ∷ [] }
+    ensures asked { (n : ℕ) → LinkUses L.state L.start n link
+        → PhaseUses L.state L.start n [] result.phase }
+{
+    match H1Exchange::begin(alloc, Box::into_inner(session), link, head) {
+        Ok(exchange) => hold(
+            alloc,
+            Attempt {
+                exchange,
+                lease,
+                context,
+            },
+        ),
+        Err(Unbegun { link, why }) => closed(link, lease, false, outcome_of(why)),
+    }
+}
+
+/// Holds an attempt whose exchange was begun. Where there is no memory for it, its link is to go
+/// back.
+fn hold<L: ByteLink, C: Drop>(alloc: Global, attempt: Attempt<L, C>) -> Next<L, C>
+    ensures run { (s : Start) (p : Passed) (w : World) → TellsClient s p w → IsInOrder s p
+        → w.client.faults ≡ s.faults → IsRelaying L.state L.start s p w attempt
+        → Advances {C = C} L.state L.start s w result.phase }
+    ensures cause { (w x : World) (context : C) (session : Box HttpSession) (link : L)
+        → HasCause L.state L.start w x (Phase.Prepare context session link attempt.lease)
+        result.phase result.step }
+    ensures work { DoesWork result.step result.work }
+    ensures called { result.work.called ≤ 1 }
+    ensures begun { IsBegun result.phase }
+    ensures counts { CountsSend (tries_in attempt.lease) result.phase result.work }
+    ensures unused { result.work.used ≡ 0 }
+    ensures step { (result.step ≡ RunStep.Moved) ⊎ (result.step ≡ RunStep.Ended) }
+    ensures over { is_over result.phase ≡ is_end result.step }
+    ensures held { held_state L.state result.phase
+        ≡ Some (L.state (link_of attempt.exchange)) }
+    ensures tries { attempts_in result.phase ≡ tries_in attempt.lease }
+    ensures linked { links_held L.state L.start result.phase ≡ 1 }
+    ensures items { items_held L.start result.phase
+        ≡ (L.start (link_of attempt.exchange)).items ∷ [] }
+    ensures asked { (n : ℕ) → LinkUses L.state L.start n (link_of attempt.exchange)
+        → PhaseUses L.state L.start n [] result.phase }
+{
+    match Box::new(alloc, attempt) {
+        Ok(attempt) => Next {
+            phase: Phase::Relay(attempt),
+            step: RunStep::Moved,
+            work: Work::SENT,
+        },
+        Err(failed) => {
+            let Attempt {
+                exchange,
+                lease,
+                context: _,
+            } = failed.value;
+            closed(exchange.into_link(), lease, false, Outcome::OutOfMemory)
+        }
+    }
+}
+
+/// How a request ends whose exchange failed to begin. No head that is sent is refused there.
+fn outcome_of(why: Fail) -> Outcome
+    ensures { result ≡ outcome_of why }
+{
+    match why {
+        Fail::OutOfMemory => Outcome::OutOfMemory,
+        Fail::Error(error) => Outcome::Served {
+            error: Some(error),
+            reuse: false,
+        },
+    }
+}
