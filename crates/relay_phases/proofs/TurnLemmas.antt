@@ -1,9 +1,10 @@
 -- One call of an application's hook as a turn, and turns behind one another.
-use Rattle.std.proofs.Common.{◌≡◌, ℕ, true, false, Some, None, List, [], ◌∷◌, ◌++◌, refl, sym, ap, subst, ◌∙◌, unwrap_or, append-nil, append_assoc, true≢false}
+use Rattle.std.proofs.Common.{◌≡◌, ℕ, Bool, true, false, Option, Some, None, List, [], ◌∷◌, ◌++◌, refl, sym, ap, subst, ◌∙◌, unwrap_or, append-nil, append_assoc, true≢false}
 use Rattle.relay_tasks.specs.Head.{new_request}
 use Rattle.relay_tasks.specs.declared.hook.Hook.{Hook}
 use Rattle.relay_tasks.specs.declared.log.Item.{Item}
 use Rattle.relay_tasks.specs.declared.log.LogEntry.{LogEntry}
+use Rattle.relay_tasks.specs.declared.peer.Peer.{Peer}
 use Rattle.relay_tasks.specs.declared.task.HttpTask.{HttpTask}
 use Rattle.relay_session.specs.Reading.{head_of}
 use Rattle.relay_session.specs.Response.{GoesOnWith, Holds, IsOpen}
@@ -55,10 +56,23 @@ Kept-queues old new open_to queues =
 
 -- ---- a call of the application's
 
-module _ (app : Standing → LogEntry → Type 0) (modules : ModuleCall → Type 0)
-    (law : Seen → Seen → Type 0) (which : Hook) (input : Item) (old : Seen) (before : ℕ)
-    (new : Seen) (behind : ℕ) (left : Left)
-    (call : CallsOf None false law app which input old before new behind left) where
+-- a hook may be told of a peer: that changes nothing else of what stands before it
+told_of : (peer : Option Peer) (reused : Bool) (at : Moment)
+    → Views (standing None false at) (standing peer reused at)
+told_of peer reused at =
+    record {
+      mark = refl;
+      head = refl;
+      keepalive = refl;
+      final_head = λ h. h;
+      upgraded = λ h. h;
+    }
+
+-- the hook may be told of a peer, or of none
+module _ {peer : Option Peer} {reused : Bool} (app : Standing → LogEntry → Type 0)
+    (modules : ModuleCall → Type 0) (law : Seen → Seen → Type 0) (which : Hook) (input : Item)
+    (old : Seen) (before : ℕ) (new : Seen) (behind : ℕ) (left : Left)
+    (call : CallsOf peer reused law app which input old before new behind left) where
   -- its entry
   abbrev pub entered : LogEntry
   entered = entry which input (moment (cleared old) before) left (moment call.returned behind)
@@ -72,7 +86,7 @@ module _ (app : Standing → LogEntry → Type 0) (modules : ModuleCall → Type
 
   -- what stands behind it is what its entry tells
   views : Kept (cleared old) call.returned
-      → Views (after (standing None false (moment old before)) entered)
+      → Views (after (standing peer reused (moment old before)) entered)
       (standing None false (moment new behind))
   views kept =
       record {
@@ -96,8 +110,8 @@ module _ (app : Standing → LogEntry → Type 0) (modules : ModuleCall → Type
       record {
         log = call.log;
         walk = (
-          standing None false (moment old before),
-          Views-same _,
+          standing peer reused (moment old before),
+          told_of peer reused (moment old before),
           record { mark = refl; view = refl; by_module = LeavesIf-app _ _ _ is_app },
           AllowsBy-app _ app modules _ _ is_app call.allowed,
           views kept,
@@ -146,12 +160,13 @@ Leads which input at left from to =
     (behind : Moment) → next from (entry which input at left behind) ≡ Some to
 
 -- the call of a hook that queues nothing is a turn
-unfoldable pub leaves_turn : (app : Standing → LogEntry → Type 0) (modules : ModuleCall → Type 0)
-    (which : Hook) → is_module which ≡ false → (input : Item) (old : Seen) (before : ℕ)
-    (new : Seen) (mark : ℕ) (law : Seen → Seen → Type 0) (left : Left) (from to : Station)
+unfoldable pub leaves_turn : {peer : Option Peer} {reused : Bool}
+    (app : Standing → LogEntry → Type 0) (modules : ModuleCall → Type 0) (which : Hook)
+    → is_module which ≡ false → (input : Item) (old : Seen) (before : ℕ) (new : Seen) (mark : ℕ)
+    (law : Seen → Seen → Type 0) (left : Left) (from to : Station)
     → ((r : Seen) → law (cleared old) r → Leaves (cleared old) r)
     → Leads which input (moment (cleared old) before) left from to
-    → CallsOf None false law app which input old before new mark left
+    → CallsOf peer reused law app which input old before new mark left
     → Turns (IsAllowed app modules) which from to QueuesNothing old before new mark
 leaves_turn app modules which is_app input old before new mark law left from to keeps leads call =
     let leaves = keeps call.returned call.lawful in
