@@ -16,7 +16,7 @@ use Rattle.relay_modules.specs.Module.{ModuleCall}
 use Rattle.relay_modules.specs.declared.seen.Seen.{Seen}
 use Rattle.relay_hooks.specs.Call.{Left, answered, changed, failed, only}
 use Rattle.relay_hooks.specs.Session.{Leaves, moment, request_head}
-use Rattle.relay_hooks.specs.Standing.{Moment, Standing}
+use Rattle.relay_hooks.specs.Standing.{Standing}
 use Rattle.relay_calls.specs.Calls.{Calls, CallsOf, Enters}
 use Rattle.relay_calls.specs.Entry.{cleared}
 use Rattle.relay_calls.specs.Log.{IsAllowed, is_module}
@@ -26,18 +26,18 @@ use Rattle.relay_phases.specs.Order.{Station as station}
 use Rattle.relay_phases.specs.Turns.{QueuesNothing}
 use Rattle.relay_phases.proofs.EnterLemmas.{Looks-calls}
 use Rattle.relay_phases.proofs.TurnLemmas.{Leads, leaves_turn}
-use Rattle.relay_trying.specs.Trying.{CallsHook, FiltersHead, LooksOnce, NamesPeer, Summarizes, TellsConnected, Treats, Warns, may_break, may_follow, may_go_on, treated_at, warned_at}
+use Rattle.relay_trying.specs.Trying.{CallsHook, FiltersHead, LooksOnce, NamesPeer, Summarizes, TellsConnected, Treats, Warns, may_break, may_follow, may_go_on, treated_at}
 use Rattle.relay_trying.proofs.WithinLemmas.{AllowsBy-own, Turns-wider}
 
 -- no call of the modules
-abbrev none : ModuleCall → Type 0
+abbrev pub none : ModuleCall → Type 0
 none call = ⊥
 
 module _ (app : Standing → LogEntry → Type 0) (which : Hook) (is_app : is_module which ≡ false)
     (peer : Option Peer) (reused : Bool) (told : Item) (old : Seen) (before : ℕ) (new : Seen)
     (behind : ℕ) where
   -- what is allowed beside no call of the modules is allowed by the application
-  own : (st : Standing) (e : LogEntry) → e.hook ≡ which → IsAllowed app none st e → app st e
+  pub own : (st : Standing) (e : LogEntry) → e.hook ≡ which → IsAllowed app none st e → app st e
   own st e is allowed =
       AllowsBy-own (is_module e.hook) app none st e (ap is_module is ∙ is_app) allowed
 
@@ -63,66 +63,68 @@ module _ (app : Standing → LogEntry → Type 0) (which : Hook) (is_app : is_mo
 
 -- ---- on the way to the peer
 
-module _ (app : Standing → LogEntry → Type 0) (old : Seen) (before : ℕ) (new : Seen) (behind : ℕ)
-  where
-    pub names_peer : (answer : Result Peer Fail)
-        → Enters (answered (λ peer. item.Addressed peer false) answer)
-        (Calls app hook.UpstreamPeer (item.Request (request_head old)) old before new behind) old new
-        → NamesPeer app old before new behind answer
-    names_peer (Ok peer) call =
-        calls_hook app hook.UpstreamPeer refl None false (item.Request (request_head old)) old
-        before new behind (only (item.Addressed peer false)) station.trying station.named
-        (λ at. refl) call
-    names_peer (Err (fail.Error error)) call =
-        calls_hook app hook.UpstreamPeer refl None false (item.Request (request_head old)) old
-        before new behind (failed item.Nothing error) station.trying station.failing (λ at. refl)
-        call
-    names_peer (Err fail.OutOfMemory) same = same
+module _ (app : Standing → LogEntry → Type 0) (old : Seen) (before : ℕ) (new : Seen)
+    (behind : ℕ) where
+  -- the peer is named, or the error is final
+  pub names_peer : (answer : Result Peer Fail)
+      → Enters (answered (λ peer. item.Addressed peer false) answer)
+      (Calls app hook.UpstreamPeer (item.Request (request_head old)) old before new behind) old new
+      → NamesPeer app old before new behind answer
+  names_peer (Ok peer) call =
+      calls_hook app hook.UpstreamPeer refl None false (item.Request (request_head old)) old
+      before new behind (only (item.Addressed peer false)) station.trying station.named
+      (λ at. refl) call
+  names_peer (Err (fail.Error error)) call =
+      calls_hook app hook.UpstreamPeer refl None false (item.Request (request_head old)) old
+      before new behind (failed item.Nothing error) station.trying station.failing (λ at. refl)
+      call
+  names_peer (Err fail.OutOfMemory) same = same
 
-    pub tells_connected : (peer : Peer) (reused : Bool) (answer : Result Unit Fail)
-        → Enters (changed item.Nothing answer)
-        (CallsOf (Some peer) reused Leaves app hook.ConnectedToUpstream (item.Addressed peer reused)
-        old before new behind) old new
-        → TellsConnected app peer reused old before new behind answer
-    tells_connected peer reused (Ok done) call =
-        calls_hook app hook.ConnectedToUpstream refl (Some peer) reused (item.Addressed peer reused)
-        old before new behind (only item.Nothing) station.named station.linked (λ at. refl) call
-    tells_connected peer reused (Err (fail.Error error)) call =
-        calls_hook app hook.ConnectedToUpstream refl (Some peer) reused (item.Addressed peer reused)
-        old before new behind (failed item.Nothing error) station.named station.broken (λ at. refl)
-        call
-    tells_connected peer reused (Err fail.OutOfMemory) same = same
+  -- the application was told of the link, or failed
+  pub tells_connected : (peer : Peer) (reused : Bool) (answer : Result Unit Fail)
+      → Enters (changed item.Nothing answer)
+      (CallsOf (Some peer) reused Leaves app hook.ConnectedToUpstream (item.Addressed peer reused)
+      old before new behind) old new
+      → TellsConnected app peer reused old before new behind answer
+  tells_connected peer reused (Ok done) call =
+      calls_hook app hook.ConnectedToUpstream refl (Some peer) reused (item.Addressed peer reused)
+      old before new behind (only item.Nothing) station.named station.linked (λ at. refl) call
+  tells_connected peer reused (Err (fail.Error error)) call =
+      calls_hook app hook.ConnectedToUpstream refl (Some peer) reused (item.Addressed peer reused)
+      old before new behind (failed item.Nothing error) station.named station.broken (λ at. refl)
+      call
+  tells_connected peer reused (Err fail.OutOfMemory) same = same
 
-    -- the head was filtered
-    pub filters_head : (head filtered : RequestHead)
-        → Calls app hook.UpstreamRequestFilter (item.Request head) old before new behind
-        (only (item.Request filtered))
-        → FiltersHead app head old before new behind (Ok filtered)
-    filters_head head filtered call =
-        calls_hook app hook.UpstreamRequestFilter refl None false (item.Request head) old before new
-        behind (only (item.Request filtered)) station.linked station.sent (λ at. refl) call
+  -- the head was filtered
+  pub filters_head : (head filtered : RequestHead)
+      → Calls app hook.UpstreamRequestFilter (item.Request head) old before new behind
+      (only (item.Request filtered))
+      → FiltersHead app head old before new behind (Ok filtered)
+  filters_head head filtered call =
+      calls_hook app hook.UpstreamRequestFilter refl None false (item.Request head) old before new
+      behind (only (item.Request filtered)) station.linked station.sent (λ at. refl) call
 
-    -- or its filter failed
-    pub breaks_head : (head left : RequestHead) (why : Fail)
-        → Enters (changed {T = Unit} (item.Request left) (Err why))
-        (Calls app hook.UpstreamRequestFilter (item.Request head) old before new behind) old new
-        → FiltersHead app head old before new behind (Err why)
-    breaks_head head left (fail.Error error) call =
-        record {
-          left = left;
-          call =
-              calls_hook app hook.UpstreamRequestFilter refl None false (item.Request head) old
-              before new behind (failed (item.Request left) error) station.linked station.broken
-              (λ at. refl) call;
-        }
-    breaks_head head left fail.OutOfMemory same = same
+  -- or its filter failed
+  pub breaks_head : (head left : RequestHead) (why : Fail)
+      → Enters (changed {T = Unit} (item.Request left) (Err why))
+      (Calls app hook.UpstreamRequestFilter (item.Request head) old before new behind) old new
+      → FiltersHead app head old before new behind (Err why)
+  breaks_head head left (fail.Error error) call =
+      record {
+        left = left;
+        call =
+            calls_hook app hook.UpstreamRequestFilter refl None false (item.Request head) old
+            before new behind (failed (item.Request left) error) station.linked station.broken
+            (λ at. refl) call;
+      }
+  breaks_head head left fail.OutOfMemory same = same
 
 -- ---- behind an error
 
 -- where an error leads that was treated, by whether another attempt may follow
 treated_next : (again : Bool)
-    → (if again then Some station.repeatable else (if not again then Some station.failing else None))
-    ≡ Some (treated_at again)
+    → (if again then Some station.repeatable
+    else (if not again then Some station.failing else None)) ≡ Some (treated_at again)
 treated_next true = refl
 treated_next false = refl
 
@@ -157,6 +159,7 @@ module _ (app : Standing → LogEntry → Type 0) (peer : Peer) (reused : Bool) 
   fails_at station.broken h treated = λ at. treated_next (may_follow treated old)
   fails_at other h treated = absurd (true≢false (sym h))
 
+  -- the error was treated
   pub treats_failure : (from : Station) → may_break from ≡ true → (answer : Result Error Fail)
       → Enters (answered item.Failure answer)
       (CallsOf (Some peer) reused Leaves app hook.ErrorWhileProxy (item.Failure error) old before
@@ -183,6 +186,7 @@ treats_refusal app peer error old before new behind (Err why) call = tt
 -- ---- hooks that only look
 
 module _ (app : Standing → LogEntry → Type 0) (old : Seen) (mark : ℕ) (new : Seen) where
+  -- the call of a hook that only looks is one turn, and leaves the rest
   looks_once : (which : Hook) → is_module which ≡ false → (told : Item) (left : Left)
       (from to : Station) → Leads which told (moment (cleared old) mark) left from to
       → Looks app which told mark old new left
@@ -197,6 +201,7 @@ module _ (app : Standing → LogEntry → Type 0) (old : Seen) (mark : ℕ) (new
             ∙ ap (λ (s : Seen). record s { log = new.log; wrote = [] }) looks.lawful;
       }
 
+  -- it is asked whether the error is hidden
   pub warns : (error : Error) (answer : Result Bool Fail)
       → Enters (answered item.Answer answer)
       (Looks app hook.SuppressProxyWarnLog (item.Failure error) mark old new) old new
@@ -209,6 +214,7 @@ module _ (app : Standing → LogEntry → Type 0) (old : Seen) (mark : ℕ) (new
       station.repeatable station.warning (λ at. refl) looks
   warns error (Err why) looks = tt
 
+  -- and for the line of the warning
   pub summarizes : (answer : Result (List ℕ) Fail)
       → Enters (answered item.Text answer)
       (Looks app hook.RequestSummary (item.Request (request_head old)) mark old new) old new
@@ -230,6 +236,7 @@ module _ (app : Standing → LogEntry → Type 0) (which : Hook) (peer : Option 
       subst (λ (s : Seen). is_some (head_of s.downstream.reading) ≡ true) (sym call.rest)
       (call.lawful.request.head read)
 
+  -- so a hook may be called behind one that answers a value
   pub ready_answered : {T : Type 0} (says : T → Item) (answer : Result T Fail)
       → Enters (answered says answer)
       (CallsOf peer reused Leaves app which told old before new behind) old new
@@ -238,6 +245,7 @@ module _ (app : Standing → LogEntry → Type 0) (which : Hook) (peer : Option 
   ready_answered says (Err (fail.Error error)) call = reads_on (failed item.Nothing error) call
   ready_answered says (Err fail.OutOfMemory) same = refl
 
+  -- and behind one that changes what it is told
   pub ready_changed : {T : Type 0} (left : Item) (answer : Result T Fail)
       → Enters (changed left answer)
       (CallsOf peer reused Leaves app which told old before new behind) old new

@@ -1,5 +1,5 @@
--- What an application allows by itself is allowed beside each relation of the modules' calls: no hook
--- of an attempt is a filter of theirs.
+-- What an application allows by itself is allowed beside each relation of the modules' calls: no
+-- hook of an attempt is a filter of theirs.
 use Rattle.std.proofs.Common.{◌≡◌, ℕ, Bool, true, false, List, [], ◌∷◌, Option, Some, None, Result, Ok, Err, refl, ap, ◌∙◌, true≢false}
 use Rattle.relay_tasks.specs.Head.{RequestHead}
 use Rattle.relay_tasks.specs.declared.error.Error.{Error}
@@ -23,14 +23,14 @@ use Rattle.relay_calls.proofs.CallLemmas.{AllowsBy-app}
 use Rattle.relay_phases.specs.Order.{Station}
 use Rattle.relay_phases.specs.Order.{Station as station}
 use Rattle.relay_phases.specs.Turns.{QueuesNothing, Turns}
-use Rattle.relay_trying.specs.Trying.{BreaksHead, CallsHook, FiltersHead, LooksOnce, NamesPeer, TellsConnected, Treats, may_follow, treated_at}
+use Rattle.relay_trying.specs.Trying.{CallsHook, FiltersHead, LooksOnce, NamesPeer, TellsConnected, Treats, may_follow, treated_at}
 
 -- ---- turns within a wider relation
 
 module _ (allows wider : Standing → LogEntry → Type 0) (which : Hook)
     (wide : (st : Standing) (e : LogEntry) → e.hook ≡ which → allows st e → wider st e) where
   -- a walk of one call of that hook also is one
-  walk_wider : (from to : Standing) (e : LogEntry) → e.hook ≡ which
+  pub walk_wider : (from to : Standing) (e : LogEntry) → e.hook ≡ which
       → Walk allows from (e ∷ []) to → Walk wider from (e ∷ []) to
   walk_wider from to e is (st, views, fits, allowed, rest) =
       (st, views, fits, wide st e is allowed, rest)

@@ -1,6 +1,6 @@
 //! What comes of an attempt that failed: its error is treated, and where another attempt may follow
 //! it is asked for the warning.
-ghost use Rattle.std.specs.Prelude.{◌≡◌, IfOk, IsOkUnless, IsSome, IsTrue, OnErr};
+ghost use Rattle.std.specs.Prelude.{◌≡◌, false, IfOk, IsOkUnless, IsSome, IsTrue, OnErr};
 ghost use Rattle.relay_session.specs.Reading.{head_of};
 ghost use Rattle.relay_phases.specs.Order.{Station, named};
 ghost use Rattle.relay_trying.specs.Trying.{Summarizes, Treats, Warns, may_break, may_go_on};

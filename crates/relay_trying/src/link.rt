@@ -53,8 +53,8 @@ pub fn filter_head<SV: ProxyHttp>(
     head: RequestHeader,
 ) -> Result<RequestHeader>
     requires { IsSome (head_of session.old.seen.downstream.reading) }
-    ensures filters { FiltersHead (SV.allows app.now) head session.old.seen (SV.mark_of app.now ctx.old)
-        session.new.seen (SV.mark_of app.now ctx.new) result }
+    ensures filters { FiltersHead (SV.allows app.now) head session.old.seen
+        (SV.mark_of app.now ctx.old) session.new.seen (SV.mark_of app.now ctx.new) result }
     ensures ready { IsTrue (may_go_on result session.new.seen) }
 {
     let mut head = head;

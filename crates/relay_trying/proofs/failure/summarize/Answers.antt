@@ -20,7 +20,7 @@ returns-clause-lost g c =
 
 pub returns-clause-ready : goal.returns-clause-ready
 returns-clause-ready g c =
-    ready_looks (g.SV.ProxyHttp.allows c.args.app.now) RequestSummary (Request (request_head c.args.session.now.seen))
-    c.args.session.now.seen (g.SV.ProxyHttp.mark_of c.args.app.now c.args.ctx.now)
-    c.call_request_summary.new.session.seen c.requires Text c.call_request_summary.result
-    c.call_request_summary.ensures.calls
+    ready_looks (g.SV.ProxyHttp.allows c.args.app.now) RequestSummary
+    (Request (request_head c.args.session.now.seen)) c.args.session.now.seen
+    (g.SV.ProxyHttp.mark_of c.args.app.now c.args.ctx.now) c.call_request_summary.new.session.seen
+    c.requires Text c.call_request_summary.result c.call_request_summary.ensures.calls

@@ -19,7 +19,8 @@ returns-clause-lost g c =
 
 pub returns-clause-ready : goal.returns-clause-ready
 returns-clause-ready g c =
-    ready_looks (g.SV.ProxyHttp.allows c.args.app.now) SuppressProxyWarnLog (Failure c.args.error.now)
-    c.args.session.now.seen (g.SV.ProxyHttp.mark_of c.args.app.now c.args.ctx.now)
-    c.call_suppress_proxy_warn_log.new.session.seen c.requires Answer c.call_suppress_proxy_warn_log.result
-    c.call_suppress_proxy_warn_log.ensures.calls
+    ready_looks (g.SV.ProxyHttp.allows c.args.app.now) SuppressProxyWarnLog
+    (Failure c.args.error.now) c.args.session.now.seen
+    (g.SV.ProxyHttp.mark_of c.args.app.now c.args.ctx.now)
+    c.call_suppress_proxy_warn_log.new.session.seen c.requires Answer
+    c.call_suppress_proxy_warn_log.result c.call_suppress_proxy_warn_log.ensures.calls
