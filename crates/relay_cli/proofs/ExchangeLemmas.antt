@@ -11,6 +11,7 @@ use Rattle.relay_tasks.specs.declared.error.Error.{Error}
 use Rattle.relay_tasks.specs.declared.ErrorSource.TheVariants.{Upstream}
 use Rattle.relay_tasks.specs.declared.error.RetryType.{RetryType}
 use Rattle.relay_tasks.specs.declared.fault.Fault.{Fault}
+use Rattle.relay_tasks.specs.declared.log.LogEntry.{LogEntry}
 use Rattle.relay_links.specs.Connector.{Offer, connect_fault}
 use Rattle.relay_links.specs.Link.{LinkItems, LinkStart}
 use Rattle.relay_links.specs.ScriptLink.{script_state, script_start, AnswersBy}
@@ -154,14 +155,15 @@ behind_faults (peer ∷ peers) (a ∷ tries) rest left failed next =
     (one_told a.error one.0 (faults_told tries) rest (offers_of (peer ∷ peers)) left one.1 next).1
 
 -- attempts behind which another followed have errors
-tries_failed : (tries : List AttemptRecord) → All IsTry tries → All HasFailed tries
-tries_failed [] each = All-nil HasFailed
-tries_failed (a ∷ tries) each =
+tries_failed : (called : List LogEntry) (tries : List AttemptRecord) → All (IsTry called) tries
+    → All HasFailed tries
+tries_failed called [] each = All-nil HasFailed
+tries_failed called (a ∷ tries) each =
     All-cons HasFailed a tries (
-      fault_error Upstream (All-head IsTry a tries each).fault,
-      (All-head IsTry a tries each).is_record.error,
+      fault_error Upstream (All-head (IsTry called) a tries each).fault,
+      (All-head (IsTry called) a tries each).is_record.error,
     )
-    (tries_failed tries (All-tail IsTry a tries each))
+    (tries_failed called tries (All-tail (IsTry called) a tries each))
 
 -- and so have all that ended without a link
 ends_failed : (s : Start) (attempts : List AttemptRecord) (e : Error) → EndsTrying s attempts e
@@ -169,7 +171,7 @@ ends_failed : (s : Start) (attempts : List AttemptRecord) (e : Error) → EndsTr
 ends_failed s attempts e ends =
     subst (λ (xs : List AttemptRecord). All HasFailed xs) (sym ends.attempts_are)
     (All-append HasFailed ends.tries (ends.last ∷ [])
-    (tries_failed ends.tries ends.are_tries.each)
+    (tries_failed s.called ends.tries ends.are_tries.each)
     (All-cons HasFailed ends.last [] (e, ends.is_record.error) (All-nil HasFailed)))
 
 -- and where there are none
@@ -181,7 +183,8 @@ none_failed attempts none =
 unfinished_failed : (s : Start) (p : Passed) (w : World) (attempts : List AttemptRecord)
     → AttemptsUnfinished s p w attempts → All HasFailed attempts
 unfinished_failed s p w attempts (inl none) = none_failed attempts none.0
-unfinished_failed s p w attempts (inr (inl between)) = tries_failed attempts between.0.each
+unfinished_failed s p w attempts (inr (inl between)) =
+    tries_failed s.called attempts between.0.each
 unfinished_failed s p w attempts (inr (inr half)) = ends_failed s attempts half.e half.made
 
 unlinked_failed : (s : Start) (p : Passed) (w : World) (attempts : List AttemptRecord)
@@ -206,7 +209,7 @@ linked_next s p w r peers attempts outcome left ends next =
     behind_faults peers (tries_of attempts) (Ok (script_start r.link).items ∷ []) left
     (subst (λ (xs : List AttemptRecord). All HasFailed xs)
     (sym (tries_before ends.tries attempts ends.attempt ends.attempts_are))
-    (tries_failed ends.tries ends.are_tries.each)) next
+    (tries_failed s.called ends.tries ends.are_tries.each)) next
 
 -- one peer is behind those of the attempts before
 behind_last : (peers : List PeerSpec) (tries attempts : List AttemptRecord) (a : AttemptRecord)

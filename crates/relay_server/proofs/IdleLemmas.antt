@@ -12,7 +12,7 @@ use Rattle.relay_proxy.specs.Phases.{RunSoFar}
 use Rattle.relay_proxy.specs.Turn.{is_reading_head, is_over}
 use Rattle.relay_proxy.specs.declared.calls.Calls.{Calls}
 use Rattle.relay_proxy.specs.declared.machine.Phase.{Phase}
-use Rattle.relay_proxy.specs.declared.machine.Phase.TheVariants.{ReadHead, Connect, Relay, Fail, Close, Answer, Ended}
+use Rattle.relay_proxy.specs.declared.machine.Phase.TheVariants.{ReadHead, Connect, Prepare, Relay, Fail, Close, Answer, Ended}
 use Rattle.relay_server.specs.Idle.{is_idle, HasNotBegun}
 use Rattle.relay_server.specs.Serving.{Visit}
 
@@ -22,6 +22,7 @@ reads_on : {L C : Type 0} (phase : Phase L C) (empty : Bool)
 reads_on ReadHead empty idle = refl
 reads_on (Fail l lease keep session error) empty idle = absurd (true≢false (sym idle))
 reads_on (Connect context session tries) empty idle = absurd (true≢false (sym idle))
+reads_on (Prepare context session l lease) empty idle = absurd (true≢false (sym idle))
 reads_on (Relay a) empty idle = absurd (true≢false (sym idle))
 reads_on (Close l lease keep outcome) empty idle = absurd (true≢false (sym idle))
 reads_on (Answer session owed attempts) empty idle = absurd (true≢false (sym idle))
@@ -39,6 +40,8 @@ none_logged : {L C M K : Type 0} (allows : Standing → LogEntry → Type 0) (ma
     → log_of calls ≡ []
 none_logged allows mark_of calls ReadHead empty idle none = none
 none_logged allows mark_of calls (Connect context session tries) empty idle so_far =
+    absurd (true≢false (sym idle))
+none_logged allows mark_of calls (Prepare context session l lease) empty idle so_far =
     absurd (true≢false (sym idle))
 none_logged allows mark_of calls (Relay a) empty idle so_far = absurd (true≢false (sym idle))
 none_logged allows mark_of calls (Fail l lease keep session error) empty idle so_far =
@@ -77,6 +80,8 @@ not_begun state start_at s p w [] ReadHead idle run = record {
 }
 not_begun state start_at s p w (r ∷ own) ReadHead idle run = absurd run.holds
 not_begun state start_at s p w own (Connect context session tries) idle run =
+    absurd (true≢false (sym idle))
+not_begun state start_at s p w own (Prepare context session l lease) idle run =
     absurd (true≢false (sym idle))
 not_begun state start_at s p w own (Relay a) idle run = absurd (true≢false (sym idle))
 not_begun state start_at s p w own (Fail l lease keep session error) idle run =

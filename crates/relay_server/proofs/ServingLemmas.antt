@@ -13,18 +13,18 @@ use Rattle.relay_links.specs.Told.{more}
 use Rattle.relay_links.specs.declared.Returned.{Returned}
 use Rattle.relay_modules.specs.Module.{ModuleCall}
 use Rattle.relay_hooks.specs.Standing.{Standing}
-use Rattle.relay_phases.specs.Order.{Station}
 use Rattle.relay_attempt.specs.Passed.{Passed}
+use Rattle.relay_session.specs.declared.session.HttpSession.{HttpSession}
 use Rattle.relay_session.specs.declared.writing.Outgoing.{Outgoing}
-use Rattle.relay_proxy.specs.Calls.{CallsSoFar, IsLogged, allowed_by, log_of}
+use Rattle.relay_proxy.specs.Calls.{CallsSoFar, allowed_by, log_of}
 use Rattle.relay_proxy.specs.Owed.{Owes, IsAnswering}
 use Rattle.relay_proxy.specs.Passed.{World, Start, called_to}
-use Rattle.relay_proxy.specs.Phases.{RunSoFar, IsCalm, PhaseHolds, IsAt}
+use Rattle.relay_proxy.specs.Phases.{RunSoFar, IsCalm, IsConnecting, PhaseHolds, IsAt}
 use Rattle.relay_proxy.specs.Request.{StepsOn, ComesToEnd, ended_after}
+use Rattle.relay_proxy.specs.Tries.{tries_in}
 use Rattle.relay_proxy.specs.Turn.{world_with, world_of, is_over, links_held}
-use Rattle.relay_proxy.specs.declared.calls.Calls.{Calls}
 use Rattle.relay_proxy.specs.declared.machine.Phase.{Phase}
-use Rattle.relay_proxy.specs.declared.machine.Phase.TheVariants.{ReadHead, Connect, Relay, Fail, Close, Answer, Ended}
+use Rattle.relay_proxy.specs.declared.machine.Phase.TheVariants.{ReadHead, Connect, Prepare, Relay, Fail, Close, Answer, Ended}
 use Rattle.relay_proxy.specs.declared.outcome.Outcome.{Outcome}
 use Rattle.relay_proxy.specs.declared.work.Work.{Work}
 use Rattle.relay_proxy.specs.declared.outcome.Outcome.TheVariants.{NoRequest, Refused, Served, TurnLimit, OutOfMemory}
@@ -33,7 +33,7 @@ use Rattle.relay_proxy.specs.declared.owed.Owed.{Owed}
 use Rattle.relay_proxy.specs.declared.owed.Owed.TheVariants as due
 use Rattle.relay_proxy.specs.declared.proxy.HttpProxy.{HttpProxy}
 use Rattle.relay_proxy.specs.declared.record.AttemptRecord.{AttemptRecord}
-use Rattle.relay_proxy.proofs.CallLemmas.{opening_logged, unopened_calls}
+use Rattle.relay_proxy.proofs.CallLemmas.{calls_logged}
 use Rattle.relay_server.specs.Serving.{Books, books, CountRises, Visit, HaveEnded, EndedRequest, all_held, AreUnderWay, Serves, EndsOne, ServesOn}
 use Rattle.relay_server.specs.Serving.AreEnded.{none, one_more}
 
@@ -80,6 +80,22 @@ joins own rest all more joined =
     (IsPermutation-sym ((own ++ rest) ++ more) ((own ++ more) ++ rest) (add_last own more rest))
     (IsPermutation-append_left more (own ++ rest) all joined)
 
+-- a link is wanted at a higher count of the connector's faults too
+connecting_later : (s : Start) (p : Passed) (link : LinkState) (ahead : List ℕ) (f g : ℕ)
+    (session : HttpSession) (tries : List AttemptRecord)
+    → IsConnecting s p (world_with link ahead f) session tries
+    → IsConnecting s p (world_with link ahead g) session tries
+connecting_later s p link ahead f g session tries at = record {
+  head = at.head;
+  accepted = at.accepted;
+  is_left = at.is_left;
+  quiet = at.quiet;
+  begins = at.begins;
+  written = at.written;
+  unsent = at.unsent;
+  are_tries = at.are_tries;
+}
+
 module _ {L : Type 0} (state : L → LinkState) (start_at : L → LinkStart) where
   -- a client is owed an answer at a higher count too
   owes_later : (s : Start) (p : Passed) (link : LinkState) (ahead : List ℕ) (f g : ℕ)
@@ -124,16 +140,16 @@ module _ {L C : Type 0} (state : L → LinkState) (start_at : L → LinkStart) w
       → IsAt state start_at s p (world_with link ahead f) phase
       → IsAt state start_at s p (world_with link ahead g) phase
   at_later s p link ahead f g ReadHead going more_faults at = at
-  at_later s p link ahead f g (Connect context session tries) going more_faults at = record {
-    head = at.head;
-    accepted = at.accepted;
-    is_left = at.is_left;
-    quiet = at.quiet;
-    begins = at.begins;
-    written = at.written;
-    unsent = at.unsent;
-    are_tries = at.are_tries;
-  }
+  at_later s p link ahead f g (Connect context session tries) going more_faults at =
+      connecting_later s p link ahead f g session.value tries at
+  at_later s p link ahead f g (Prepare context session l lease) going more_faults at = (
+    at.0,
+    record {
+      connecting = connecting_later s p link ahead f g session.value (tries_in lease)
+          at.1.connecting;
+      fresh = at.1.fresh;
+    },
+  )
   at_later s p link ahead f g (Relay a) going more_faults at = record {
     leased = at.leased;
     head = at.head;
@@ -160,6 +176,7 @@ module _ {L C : Type 0} (state : L → LinkState) (start_at : L → LinkStart) w
       → IsCalm state start_at s (world_with link ahead g) phase
   calm_later s link ahead f g ReadHead calm = calm
   calm_later s link ahead f g (Connect context session tries) calm = calm
+  calm_later s link ahead f g (Prepare context session l lease) calm = calm
   calm_later s link ahead f g (Relay a) calm = calm
   calm_later s link ahead f g (Fail l lease keep session error) calm = calm
   calm_later s link ahead f g (Close l lease keep outcome) calm = calm
@@ -176,6 +193,8 @@ module _ {L C : Type 0} (state : L → LinkState) (start_at : L → LinkStart) w
   holds_later s p link ahead f g (r ∷ own) ReadHead going more_faults holds = absurd holds
   holds_later s p link ahead f g (r ∷ own) (Connect context session tries) going more_faults holds =
       absurd holds
+  holds_later s p link ahead f g (r ∷ own) (Prepare context session l lease) going more_faults
+      holds = absurd holds
   holds_later s p link ahead f g (r ∷ own) (Relay a) going more_faults holds = absurd holds
   holds_later s p link ahead f g (r ∷ own) (Fail l lease keep session error) going more_faults
       holds = absurd holds
@@ -206,20 +225,6 @@ module _ {L C : Type 0} (state : L → LinkState) (start_at : L → LinkStart) w
     calm = calm_later s link ahead f g phase run.calm;
     holds = holds_later s p link ahead f g own phase going more_faults run.holds;
   }
-
-module _ {L C M K : Type 0} (allows : Standing → LogEntry → Type 0) (mark_of : C → ℕ) where
-  -- whatever the phase of a request, each call of a hook for it was allowed, and they came in order
-  pub calls_logged : (calls : Calls M K) (phase : Phase L C) → CallsSoFar allows mark_of calls phase
-      → (at : Station) × IsLogged allows (log_of calls) at
-  calls_logged calls ReadHead so_far =
-      unopened_calls {L = L} allows mark_of calls (Ended NoRequest []) so_far refl
-  calls_logged calls (Connect context session tries) so_far =
-      opening_logged allows mark_of calls context session.value tries so_far
-  calls_logged calls (Relay a) so_far = so_far
-  calls_logged calls (Fail link lease keep session error) so_far = so_far
-  calls_logged calls (Close link lease keep outcome) so_far = so_far
-  calls_logged calls (Answer session owed attempts) so_far = so_far
-  calls_logged calls (Ended outcome attempts) so_far = so_far
 
 module _ {L : Type 0} (state : L → LinkState) (start_at : L → LinkStart)
     (allows : Standing → LogEntry → Type 0) where

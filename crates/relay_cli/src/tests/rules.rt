@@ -143,7 +143,7 @@ fn taken(alloc: Global, hooks: &str) -> Result<Result<usize, ScriptError>, Fail>
     Ok(read_script(alloc, text.as_bytes()).map(|script| script.rules.as_slice().len()))
 }
 
-const TAKEN: [(&str, usize); 4] = [
+const TAKEN: [(&str, usize); 5] = [
     ("[]", 0),
     (
         r#"[{"hook":"early_request_filter","do":"error","type":"ReadError"}]"#,
@@ -157,6 +157,12 @@ const TAKEN: [(&str, usize); 4] = [
         "[{\"hook\":\"is_purge\",\"do\":\"say\",\"on\":true},\
       {\"hook\":\"module_request_header\",\"do\":\"remove\",\"name\":\"a\"}]",
         2,
+    ),
+    (
+        "[{\"hook\":\"upstream_peer\",\"do\":\"error\",\"type\":\"Custom(7)\"},\
+      {\"hook\":\"connected_to_upstream\",\"do\":\"error\",\"type\":\"Custom(8)\"},\
+      {\"hook\":\"upstream_request_filter\",\"do\":\"remove\",\"name\":\"a\"}]",
+        3,
     ),
 ];
 
