@@ -10,3 +10,4 @@ mod modules;
 mod openings;
 mod orders;
 mod scripted;
+mod tryings;

@@ -116,7 +116,7 @@ fn told_of<M: HttpModule>(session: &Session<M>, cause: &Cause) -> Came {
 }
 
 /// The hook of the entry at that place.
-fn hook_at(log: &PhaseLog, at: usize) -> Option<Hook> {
+pub(crate) fn hook_at(log: &PhaseLog, at: usize) -> Option<Hook> {
     match log.get(at) {
         Some(entry) => Some(entry.hook),
         None => None,
