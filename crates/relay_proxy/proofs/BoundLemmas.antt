@@ -183,9 +183,9 @@ module _ {L C : Type 0} (state : L → LinkState) (start_at : L → LinkStart) w
   head_bounds s p w (Connect context session tries) work tasks ends run counts had = (
     omega (arith, counts.0, had.0),
     omega (arith, counts.1, had.1, as_many counts.2),
+  )
   head_bounds s p w (Prepare context session link lease) work tasks ends run counts had =
       absurd counts
-  )
   head_bounds s p w (Relay a) work tasks ends run counts had = absurd counts
   head_bounds s p w (Fail link lease keep session e) work tasks ends run counts had = absurd counts
   head_bounds s p w (Close link lease keep outcome) work tasks ends run counts had = absurd counts
@@ -216,10 +216,10 @@ module _ {L C : Type 0} (state : L → LinkState) (start_at : L → LinkStart) w
   link_bounds s p w (Connect context session tries) work before tasks ends run counts had = (
     omega (arith, counts.0, had.0),
     omega (arith, counts.1, counts.2, had.1),
+  )
   link_bounds s p w (Prepare context session link lease) work before tasks ends run counts had = (
     omega (arith, counts.0, had.0),
     omega (arith, counts.1, as_many counts.2, had.1),
-  )
   )
   link_bounds s p w (Relay a) work before tasks ends run counts had = absurd counts
   link_bounds s p w (Fail link lease keep session e) work before tasks ends run counts
@@ -308,9 +308,9 @@ module _ {L C : Type 0} (state : L → LinkState) (start_at : L → LinkStart) w
   call_bounds s p w (Connect context session tries) work before tasks ends run counts had = (
     omega (arith, counts.0, had.0),
     omega (arith, counts.1, as_many counts.2, had.1),
+  )
   call_bounds s p w (Prepare context session link lease) work before tasks ends run counts had =
       absurd counts
-  )
   call_bounds s p w (Relay a) work before tasks ends run counts had = absurd counts
   call_bounds s p w (Fail link lease keep session e) work before tasks ends run counts had =
       absurd counts

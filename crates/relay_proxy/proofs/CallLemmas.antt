@@ -24,6 +24,8 @@ use Rattle.relay_phases.specs.Turns.{HasCalled, QueuesNothing, Turns}
 use Rattle.relay_phases.proofs.TurnLemmas.{HasCalled-more}
 use Rattle.relay_opening.specs.Place.{TurnAllows}
 use Rattle.relay_opening.specs.declared.place.Called.TheVariants as called
+use Rattle.relay_opening.specs.declared.place.End.{End}
+use Rattle.relay_opening.specs.declared.place.End.TheVariants as end
 use Rattle.relay_opening.specs.declared.place.Place.{Place}
 use Rattle.relay_opening.specs.declared.place.Place.TheVariants as place
 use Rattle.relay_proxy.specs.Bound.{CountsAnswer, CountsCall, CountsHead, LeavesLink}
@@ -33,6 +35,7 @@ use Rattle.relay_proxy.specs.Relaying.{is_relaying}
 use Rattle.relay_proxy.specs.Tries.{tries_in}
 use Rattle.relay_proxy.specs.Turn.{IsBegun, KeepsAsked, is_connecting, links_held}
 use Rattle.relay_proxy.specs.declared.calls.At.{At}
+use Rattle.relay_proxy.specs.declared.calls.At.TheVariants as at
 use Rattle.relay_proxy.specs.declared.calls.Calls.{Calls}
 use Rattle.relay_proxy.specs.declared.machine.Lease.{Lease}
 use Rattle.relay_proxy.specs.declared.machine.Phase.{Phase}
@@ -54,6 +57,16 @@ turn_allowed allows (place.Behind called.Filtered) made call none = absurd none
 turn_allowed allows (place.Behind called.Sending) made call none = absurd none
 turn_allowed allows (place.Ended how) made call none = absurd none
 turn_allowed allows place.Lost made call none = absurd none
+
+-- where the hooks before the attempts are over, a hook comes next only where they let it go
+pub calling_ended : (K : Type 0) (how : End)
+    → is_calling {K = K} (at.Opening (place.Ended how)) ≡ true → how ≡ end.Attempts
+calling_ended K end.Attempts calls = refl
+calling_ended K end.Answered calls = absurd (true≢false (sym calls))
+calling_ended K end.Purge calls = absurd (true≢false (sym calls))
+calling_ended K end.Declined calls = absurd (true≢false (sym calls))
+calling_ended K (end.Unwritten why) calls = absurd (true≢false (sym calls))
+calling_ended K (end.Failed error) calls = absurd (true≢false (sym calls))
 
 -- ---- logs
 
@@ -87,23 +100,28 @@ none_logged allows log none = (
   }),
 )
 
--- the calls that were made of a session are one
+-- the calls that were made of a session are one, up to where they lead
+pub called_stands : (allows : Standing → LogEntry → Type 0) (first now : Seen) (mark behind : ℕ)
+    (to : Station) (queues : Writing → Writing → List HttpTask → Type 0) (log : List LogEntry)
+    → first.log ≡ [] → now.log ≡ log
+    → HasCalled allows first mark station.accepted to queues now behind → IsLogged allows log to
+called_stands allows first now mark behind to queues log none same h =
+    subst (λ (l : List LogEntry). IsLogged allows l to)
+    (sym (ap (λ (l : List LogEntry). l ++ h.entries) none) ∙ sym h.log ∙ same)
+    (record {
+      from = standing None false (moment first mark);
+      to = standing None false (moment now behind);
+      walks = h.walks;
+      order = h.order;
+    })
+
 pub called_logged : (allows : Standing → LogEntry → Type 0) (first now : Seen) (mark behind : ℕ)
     (to : Station) (queues : Writing → Writing → List HttpTask → Type 0) (log : List LogEntry)
     → first.log ≡ [] → now.log ≡ log
     → HasCalled allows first mark station.accepted to queues now behind
     → (at : Station) × IsLogged allows log at
-called_logged allows first now mark behind to queues log none same h = (
-  to,
-  subst (λ (l : List LogEntry). IsLogged allows l to)
-      (sym (ap (λ (l : List LogEntry). l ++ h.entries) none) ∙ sym h.log ∙ same)
-      (record {
-        from = standing None false (moment first mark);
-        to = standing None false (moment now behind);
-        walks = h.walks;
-        order = h.order;
-      }),
-)
+called_logged allows first now mark behind to queues log none same h =
+    (to, called_stands allows first now mark behind to queues log none same h)
 
 -- ---- what is counted
 
@@ -135,8 +153,8 @@ module _ {C M K : Type 0} (allows : Standing → LogEntry → Type 0) (mark_of :
       (tries : List AttemptRecord) → IsOpening allows mark_of calls context client tries
       → IsLogged allows (log_of calls) (station_at calls.at)
   opening_stands calls context client tries o =
-      (called_logged allows o.first (seen_with calls client) o.mark (mark_of context)
-      (station_at calls.at) QueuesNothing (log_of calls) o.none refl o.so_far).1
+      called_stands allows o.first (seen_with calls client) o.mark (mark_of context)
+      (station_at calls.at) QueuesNothing (log_of calls) o.none refl o.so_far
 
   pub opening_logged : (calls : Calls M K) (context : C) (client : HttpSession)
       (tries : List AttemptRecord) → IsOpening allows mark_of calls context client tries
@@ -152,12 +170,12 @@ module _ {C M K : Type 0} (allows : Standing → LogEntry → Type 0) (mark_of :
       (seen_with d left) (mark_of context')
       → IsOpening allows mark_of c context client tries → IsLogged allows (log_of d) to
   logged_more c d context context' client left tries which to queues turn o =
-      (called_logged allows o.first (seen_with d left) o.mark (mark_of context') to
+      called_stands allows o.first (seen_with d left) o.mark (mark_of context') to
       (λ a b wrote. Unit {0}) (log_of d) o.none refl
       (HasCalled-more allows QueuesNothing queues (λ a b wrote. Unit {0})
       (λ a b c v w first then. tt) o.first o.mark which station.accepted (station_at c.at) to
       (seen_with c client) (mark_of context) (seen_with d left) (mark_of context')
-      o.so_far turn)).1
+      o.so_far turn)
 
   -- and behind none it is as it was
   pub logged_same : (c d : Calls M K) (context : C) (client : HttpSession)

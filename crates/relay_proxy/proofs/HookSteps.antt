@@ -7,12 +7,13 @@
 --   stopped                    hooks stopped it with an error
 --   counts_called ..           what is counted of the call
 --   stop_text                  what answers such an error
-use Rattle.std.proofs.Common.{◌≡◌, ℕ, ◌≤◌, true, false, List, [], ◌∷◌, ◌++◌, Ok, Some, None, refl, sym, ap, subst, ◌∙◌, inl, inr, arith, length, length-append}
+use Rattle.std.proofs.Common.{◌≡◌, ℕ, ◌≤◌, true, false, List, [], ◌∷◌, ◌++◌, Ok, Some, None, refl, sym, ap, subst, ◌∙◌, inl, arith}
 use Rattle.relay_tasks.specs.Head.{RequestHead}
 use Rattle.relay_tasks.specs.declared.Error.{Error}
 use Rattle.relay_tasks.specs.declared.ErrorSource.TheVariants.{Internal}
 use Rattle.relay_tasks.specs.declared.Peer.{Peer}
 use Rattle.relay_tasks.specs.declared.hook.Hook.{Hook}
+use Rattle.relay_tasks.specs.declared.hook.Hook.TheVariants as hook
 use Rattle.relay_tasks.specs.declared.log.LogEntry.{LogEntry}
 use Rattle.relay_tasks.specs.declared.task.HttpTask.{HttpTask}
 use Rattle.relay_session.specs.Asked.{request_of}
@@ -24,15 +25,14 @@ use Rattle.relay_session.specs.declared.task_text.Request.{Request}
 use Rattle.relay_session.specs.declared.writing.Outgoing.{Outgoing}
 use Rattle.relay_session.specs.declared.writing.Outgoing.TheVariants as outgoing
 use Rattle.relay_session.specs.declared.writing.Writing.{Writing}
-use Rattle.relay_modules.specs.declared.seen.Seen.{Seen}
 use Rattle.relay_hooks.specs.Standing.{Standing}
 use Rattle.relay_phases.specs.Order.{Accepts, Station, next}
 use Rattle.relay_phases.specs.Order.{Station as station}
-use Rattle.relay_phases.specs.Turns.{HasCalled, QueuesNothing, Turns}
+use Rattle.relay_phases.specs.Turns.{QueuesNothing, Turns}
 use Rattle.relay_phases.proofs.OrderLemmas.{Accepts-one}
 use Rattle.relay_phases.proofs.TurnLemmas.{HasCalled-more}
 use Rattle.relay_opening.specs.Opens.{TurnsTo}
-use Rattle.relay_opening.specs.Place.{end_station, station_of}
+use Rattle.relay_opening.specs.Place.{end_station}
 use Rattle.relay_opening.specs.declared.place.Place.{Place}
 use Rattle.relay_opening.specs.declared.place.Place.TheVariants as place
 use Rattle.relay_opening.specs.declared.place.End.{End}
@@ -114,7 +114,7 @@ pub known_at : {K : Type 0} (a : At K) (to : Opened) → to ≡ leads_at a
 known_at a to is known lost = known (is ∙ ap (λ (b : At _). leads_at b) lost)
 
 -- the place of the hooks before the attempts, or the peer, of a place where the hooks stand
-place_in : {K : Type 0} → At K → Place K
+abbrev place_in : {K : Type 0} → At K → Place K
 place_in (at.Kept kept) = place.Lost
 place_in (at.Opening there) = there
 place_in (at.Named peer) = place.Lost
@@ -123,7 +123,7 @@ place_in at.Linked = place.Lost
 same_place : {K : Type 0} (p q : Place K) → at.Opening p ≡ at.Opening q → p ≡ q
 same_place p q same = ap (λ (a : At _). place_in a) same
 
-pub same_peer : {K : Type 0} (p q : Peer) → at.Named {K = K} p ≡ at.Named q → p ≡ q
+pub same_peer : {K : Type 0} (p q : Peer) → ◌≡◌ {A = At K} (at.Named p) (at.Named q) → p ≡ q
 same_peer p q same = cc
 
 -- nothing was queued twice
@@ -222,8 +222,8 @@ module _ {C M K : Type 0} (allows : Standing → LogEntry → Type 0) (mark_of :
     goes_by (at.Named peer) is goes =
         let n = named_by turns peer is in
         record {
-          which = _;
-          turn = subst (λ (a : At K). Turns allows _ (station_at a) station.named QueuesNothing
+          which = hook.UpstreamPeer;
+          turn = subst (λ (a : At K). Turns allows hook.UpstreamPeer (station_at a) station.named QueuesNothing
               (seen_with old client) (mark_of context) (seen_with new left) (mark_of context'))
               (sym n.was) n.names.turn;
           goes = tt;
@@ -434,15 +434,15 @@ module _ {C M K : Type 0} (allows : Standing → LogEntry → Type 0) (mark_of :
         (_, logged_more allows mark_of old new context context' client left tries which _ _ turn.0 o)
     logged_by (TakesNext.leads which comes place.Lost to turn) tries o =
         logged_same allows mark_of old new context client tries turn o
-    logged_by (TakesNext.names was peer to names) tries o =
-        (
-          station.named,
-          logged_more allows mark_of old new context context' client left tries _ station.named
-              QueuesNothing
-              (subst (λ (a : At K). Turns allows _ (station_at a) station.named QueuesNothing
-              (seen_with old client) (mark_of context) (seen_with new left) (mark_of context'))
-              (sym was) names.turn) o,
-        )
+    logged_by (TakesNext.names was peer to names) tries o = (
+      station.named,
+      logged_more allows mark_of old new context context' client left tries
+          hook.UpstreamPeer station.named QueuesNothing
+          (subst (λ (a : At K). Turns allows hook.UpstreamPeer (station_at a) station.named
+          QueuesNothing
+          (seen_with old client) (mark_of context) (seen_with new left) (mark_of context'))
+          (sym was) names.turn) o,
+    )
     logged_by (TakesNext.lost to same) tries o =
         logged_same allows mark_of old new context client tries same o
 

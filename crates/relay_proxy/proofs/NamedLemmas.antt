@@ -1,5 +1,5 @@
 -- Which peer a log tells, once it has one call more.
-use Rattle.std.proofs.Common.{◌≡◌, false, List, [], ◌∷◌, ◌++◌, Option, None, Some, ap, ◌∙◌, refl}
+use Rattle.std.proofs.Common.{◌≡◌, false, List, [], ◌∷◌, ◌++◌, Option, None, Some, ap, refl}
 use Rattle.relay_tasks.specs.Hooks.{same_hook}
 use Rattle.relay_tasks.specs.declared.Peer.{Peer}
 use Rattle.relay_tasks.specs.declared.hook.Hook.{Hook}

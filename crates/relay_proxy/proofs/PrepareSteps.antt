@@ -6,9 +6,9 @@
 --   sends_by, refuses_by       what became of the head
 --   failed_ahead .. link_lost  an attempt that ends ahead of its exchange
 --   begun .. not_begun         its exchange
-use Rattle.std.proofs.Common.{◌≡◌, ◌≢◌, ℕ, ◌<◌, Bool, false, true, List, [], ◌∷◌, ◌++◌, length, Option, Some, None, refl, sym, ap, subst, ◌∙◌, inl, inr, arith, true≢false}
+use Rattle.std.proofs.Common.{◌≡◌, ℕ, ◌<◌, Bool, false, true, List, [], ◌++◌, length, Option, Some, None, refl, sym, ap, subst, ◌∙◌, inl, inr, arith, true≢false}
 use Rattle.std.specs.Global.{Box}
-use Rattle.std.specs.Prelude.{Result, Ok, Err, ◌⊎◌}
+use Rattle.std.specs.Prelude.{Result, Ok, Err}
 use Rattle.relay_tasks.specs.declared.error.Error.{Error}
 use Rattle.relay_tasks.specs.declared.error.ErrorSource.TheVariants.{Internal}
 use Rattle.relay_tasks.specs.declared.error.Fail.{Fail}
@@ -27,15 +27,15 @@ use Rattle.relay_links.proofs.SinceLemmas.{Since-start}
 use Rattle.relay_h1.specs.Framing.{request_framing}
 use Rattle.relay_h1.specs.Verdict.{refused_from}
 use Rattle.relay_h1.specs.declared.framing.Framing.{Framing}
-use Rattle.relay_h1.proofs.VerdictLemmas.{HasRequest-IsOpen}
+use Rattle.relay_authority.specs.Stage.{Makes}
 use Rattle.relay_session.specs.Asked.{request_of}
-use Rattle.relay_session.specs.Reading.{head_of, is_body_done}
+use Rattle.relay_session.specs.Reading.{is_body_done}
 use Rattle.relay_session.specs.Response.{pending}
-use Rattle.relay_session.specs.declared.task_text.Place.TheVariants as stands
 use Rattle.relay_session.specs.declared.writing.Outgoing.{Outgoing}
 use Rattle.relay_session.specs.declared.writing.Outgoing.TheVariants as outgoing
 use Rattle.relay_session.specs.declared.writing.Writing.{Writing}
 use Rattle.relay_session.specs.declared.session.HttpSession.{HttpSession}
+use Rattle.relay_modules.specs.declared.seen.Seen.{Seen}
 use Rattle.relay_hooks.specs.Standing.{Standing}
 use Rattle.relay_phases.specs.Order.{Station}
 use Rattle.relay_phases.specs.Order.{Station as station}
@@ -49,17 +49,16 @@ use Rattle.relay_attempt.specs.Exchange.{IsUnderWay, UpHolds}
 use Rattle.relay_attempt.specs.Passed.{Passed}
 use Rattle.relay_attempt.specs.declared.h1_exchange.H1Exchange.{H1Exchange}
 use Rattle.relay_attempt.specs.Head.{link_of}
-use Rattle.relay_proxy.specs.Answer.{QueuesAnswer, WaitsOf}
+use Rattle.relay_proxy.specs.Answer.{QueuesAnswer}
 use Rattle.relay_proxy.specs.Calls.{CountsCalls, GoesOn, IsLogged, IsOpening, TellsPeer, is_calling, log_of, seen_with, station_at}
 use Rattle.relay_proxy.specs.Named.{IsNamed, peer_in}
-use Rattle.relay_proxy.specs.Preparing.{FiltersReady, MakesHead, Prepares, Readies, Settles, Unprepared}
-use Rattle.relay_proxy.specs.Relayable.{IsRelayable}
+use Rattle.relay_proxy.specs.Preparing.{FiltersReady, MakesHead, Prepares, Settles, Unprepared}
 use Rattle.relay_proxy.specs.Sent.{Filters, Sends, RefusesToSend, SettlesFramed, asked_in, client_in, client_of}
 use Rattle.relay_proxy.specs.Endings.{IsInOrder, IsRefusedAhead, Misses, EndsLinked, answer_to, error_of, outcome_of}
 use Rattle.relay_proxy.specs.Leaving.{LeavesAhead}
 use Rattle.relay_proxy.specs.Tries.{AreTries, tries_in}
-use Rattle.relay_proxy.specs.Passed.{World, Start, asked, called_to, origin_of, TellsClient, IsUnsent, IsUntouched}
-use Rattle.relay_proxy.specs.Phases.{IsConnecting, IsLeased, IsPreparing, IsRelaying, PhaseHolds, RunSoFar}
+use Rattle.relay_proxy.specs.Passed.{World, Start, called_to, origin_of, TellsClient, IsUnsent, IsUntouched}
+use Rattle.relay_proxy.specs.Phases.{IsConnecting, IsLeased, IsRelaying, PhaseHolds, RunSoFar}
 use Rattle.relay_proxy.specs.Turn.{Advances}
 use Rattle.relay_proxy.specs.declared.calls.At.{At}
 use Rattle.relay_proxy.specs.declared.calls.At.TheVariants as at
@@ -72,7 +71,6 @@ use Rattle.relay_proxy.specs.declared.record.AttemptRecord.{AttemptRecord}
 use Rattle.relay_proxy.specs.declared.outcome.Outcome.{Outcome}
 use Rattle.relay_proxy.specs.declared.outcome.Outcome.TheVariants as outcome
 use Rattle.relay_proxy.specs.declared.work.Work.{Work}
-use Rattle.relay_proxy.proofs.AnswerSteps.{ends_missed}
 use Rattle.relay_proxy.proofs.ConnectSteps.{no_limit, part_relayed}
 use Rattle.relay_proxy.proofs.CallLemmas.{logged_more, logged_same, none_called, one_called}
 use Rattle.relay_proxy.proofs.HookSteps.{quiet_twice, stop_text}
@@ -94,7 +92,7 @@ peers_stay allows c d client left mark behind which from to other t =
     ∙ peer_still (log_of c) t.e (names_none t.e which t.hook other)
 
 -- a link that was just handed out gave and took nothing since
-leased_anew : (s : Start) (p : Passed) (link : LinkState) (start : LinkStart) (lease : Lease)
+pub leased_anew : (s : Start) (p : Passed) (link : LinkState) (start : LinkStart) (lease : Lease)
     → IsUnsent p → AreTries s (tries_in lease) → IsHandedOut link start lease.reused
     → IsNamed s.called lease.peer → IsNamed s.called lease.recorded → IsLeased s p link start lease
 leased_anew s p link start lease unsent tries handed peer recorded = record {
@@ -110,7 +108,7 @@ leased_anew s p link start lease unsent tries handed peer recorded = record {
 }
 
 -- it is that of the same peer, once more calls were made that name none
-leased_on : (s : Start) (these those : List LogEntry) (p : Passed) (link : LinkState)
+pub leased_on : (s : Start) (these those : List LogEntry) (p : Passed) (link : LinkState)
     (start : LinkStart) (lease : Lease) → peer_in those ≡ peer_in these
     → IsLeased (called_to s these) p link start lease
     → IsLeased (called_to s those) p link start lease
@@ -148,7 +146,7 @@ module _ {M K : Type 0} (allows : Standing → LogEntry → Type 0) (c d : Calls
         (inr (peers_stay allows c d client left mark behind which from to other t)) k
 
     -- the filter was called on the client's head, made ready
-    filters_by : (filtered : RequestHead)
+    abbrev pub filters_by : (filtered : RequestHead)
         → (f : FiltersReady allows c client mark d left behind filtered)
         → Filters (log_of d) k.head filtered
     filters_by filtered f = record {
@@ -242,6 +240,32 @@ memory_alone error (fail.Error e) found framing causes refused framed =
 
 -- ---- an attempt that ends ahead of its exchange
 
+-- the answer to its error is all that waits
+ahead_text : (s : Start) (p : Passed) (w : World) (session : HttpSession) (new : Writing)
+    (tries : List AttemptRecord) (e : Error) → (k : IsConnecting s p w session tries)
+    → QueuesAnswer session.writing.output e session.writing new
+    → new.output ≡ outgoing.Open (answer_to k.head e)
+ahead_text s p w session new tries e k queues =
+    let b = k.begins k.head false in
+    stop_text session.writing new k.head e b.output
+    (b.answers ∙ ap (λ (h : RequestHead). request_of h) b.own)
+    (stands_first session.writing b.response b.output) queues
+
+module _ {L : Type 0} (state : L → LinkState) (start_at : L → LinkStart) where
+  -- the attempt was refused ahead of its exchange
+  abbrev pub refused_of : (s : Start) (p : Passed) (w : World) (session : HttpSession) (link : L)
+      (lease : Lease) (keep : Bool) (e : Error)
+      → (l : LeavesAhead s p w (state link) (start_at link) session lease keep e)
+      → IsRefusedAhead s p (state link) (start_at link) keep e
+  refused_of s p w session link lease keep e l = record {
+    head = l.connecting.head;
+    accepted = l.connecting.accepted;
+    refused = l.why;
+    fresh = subst (λ (b : Bool). IsHandedOut (state link) (start_at link) b) (sym l.fresh.marked)
+        l.fresh;
+    unsent = l.connecting.unsent;
+  }
+
 module _ {L C : Type 0} (state : L → LinkState) (start_at : L → LinkStart) where
   -- the link is to go back, not kept, where memory was wanted
   pub link_lost : (these those : List LogEntry) (s : Start) (p : Passed) (w : World) (context : C)
@@ -315,32 +339,7 @@ module _ {L C : Type 0} (state : L → LinkState) (start_at : L → LinkStart) w
     );
   }
 
-  -- the attempt was refused ahead of its exchange
-  refused_of : (s : Start) (p : Passed) (w : World) (session : HttpSession) (link : L)
-      (lease : Lease) (keep : Bool) (e : Error)
-      → (l : LeavesAhead s p w (state link) (start_at link) session lease keep e)
-      → IsRefusedAhead s p (state link) (start_at link) keep e
-  refused_of s p w session link lease keep e l = record {
-    head = l.connecting.head;
-    accepted = l.connecting.accepted;
-    refused = l.why;
-    fresh = subst (λ (b : Bool). IsHandedOut (state link) (start_at link) b) (sym l.fresh.marked)
-        l.fresh;
-    unsent = l.connecting.unsent;
-  }
-
-  -- the answer to its error is all that waits
-  ahead_text : (s : Start) (p : Passed) (w : World) (session : HttpSession) (new : Writing)
-      (tries : List AttemptRecord) (e : Error) → (k : IsConnecting s p w session tries)
-      → QueuesAnswer session.writing.output e session.writing new
-      → new.output ≡ outgoing.Open (answer_to k.head e)
-  ahead_text s p w session new tries e k queues =
-      let b = k.begins k.head false in
-      stop_text session.writing new k.head e b.output
-      (b.answers ∙ ap (λ (h : RequestHead). request_of h) b.own)
-      (stands_first session.writing b.response b.output) queues
-
-  module _ (s : Start) (p : Passed) (w : World) (session session' : Box HttpSession) (link : L)
+  module _ (s : Start) (p : Passed) (w : World) (session : Box HttpSession) (link : L)
       (lease : Lease) (keep : Bool) (e : Error) (tells : TellsClient s p w)
       (untouched : IsUntouched s p w)
       (l : LeavesAhead s p w (state link) (start_at link) session.value lease keep e)
@@ -361,11 +360,11 @@ module _ {L C : Type 0} (state : L → LinkState) (start_at : L → LinkStart) w
       }
 
       -- its error has no answer
-      pub ahead_over : QueuesAnswer session.value.writing.output e session.value.writing
-          session'.value.writing → pending session'.value.writing.output ≡ []
-          → Advances {C = C} state start_at s w
+      pub ahead_over : (new : Writing)
+          → QueuesAnswer session.value.writing.output e session.value.writing new
+          → pending new.output ≡ [] → Advances {C = C} state start_at s w
           (Close link lease keep (outcome.Served (Some e) false))
-      ahead_over queues none = record {
+      ahead_over new queues none = record {
         passed = p;
         run = record {
           tells = tells;
@@ -376,7 +375,7 @@ module _ {L C : Type 0} (state : L → LinkState) (start_at : L → LinkStart) w
           holds = (
             l.leased,
             inr (record {
-              refused = refused_of s p w session.value link lease keep e l;
+              refused = refused_of state start_at s p w session.value link lease keep e l;
               answered = inl (l.connecting.written ∙ sym empty);
               stays = refl;
             }),
@@ -386,14 +385,14 @@ module _ {L C : Type 0} (state : L → LinkState) (start_at : L → LinkStart) w
         where
           empty : answer_to l.connecting.head e ≡ []
           empty = sym (ap (λ (o : Outgoing). pending o)
-              (ahead_text s p w session.value session'.value.writing (tries_in lease) e l.connecting
-              queues)) ∙ none
+              (ahead_text s p w session.value new (tries_in lease) e l.connecting queues)) ∙ none
 
       -- the client is owed it
-      pub ahead_owing : QueuesAnswer session.value.writing.output e session.value.writing
+      pub ahead_owing : (session' : Box HttpSession)
+          → QueuesAnswer session.value.writing.output e session.value.writing
           session'.value.writing → 0 < length (pending session'.value.writing.output)
           → Advances {C = C} state start_at s w (phase.Fail link lease keep session' e)
-      ahead_owing queues some = record {
+      ahead_owing session' queues some = record {
         passed = p;
         run = record {
           tells = tells;
@@ -405,7 +404,8 @@ module _ {L C : Type 0} (state : L → LinkState) (start_at : L → LinkStart) w
             l.leased,
             record {
               text = answer_to l.connecting.head e;
-              misses = Misses.ahead_of_it (refused_of s p w session.value link lease keep e l) refl;
+              misses = Misses.ahead_of_it
+                  (refused_of state start_at s p w session.value link lease keep e l) refl;
               waits = record {
                 left = answer_to l.connecting.head e;
                 is_open = text;
@@ -425,48 +425,80 @@ module _ {L C : Type 0} (state : L → LinkState) (start_at : L → LinkStart) w
 
 -- ---- the application is told of a link
 
+-- what it answered, by the error
+pub told_error : (allows : Standing → LogEntry → Type 0) (peer : Peer) (reused : Bool) (old : Seen)
+    (before : ℕ) (new : Seen) (behind : ℕ) (why to : Fail) → why ≡ to
+    → TellsConnected allows peer reused old before new behind (Err why)
+    → TellsConnected allows peer reused old before new behind (Err to)
+told_error allows peer reused old before new behind why to is told =
+    subst (λ (f : Fail). TellsConnected allows peer reused old before new behind (Err f)) is told
+
 module _ {L C M K : Type 0} (state : L → LinkState) (start_at : L → LinkStart)
-    (allows : Standing → LogEntry → Type 0) (c d : Calls M K) (mark behind : ℕ) (s : Start)
-    (p : Passed) (w : World) (context context' : C) (session session' : Box HttpSession) (link : L)
-    (lease : Lease) (handed : IsHandedOut (state link) (start_at link) lease.reused)
+    (c : Calls M K) (s : Start) (p : Passed) (w : World) (context : C) (session : Box HttpSession)
+    (link : L) (lease : Lease) (handed : IsHandedOut (state link) (start_at link) lease.reused)
     (was : c.at ≡ at.Named lease.peer) (same : lease.recorded ≡ lease.peer)
     (tells : TellsPeer c.at (log_of c))
     (run : RunSoFar {C = C} state start_at (called_to s (log_of c)) p w []
     (Connect context session (tries_in lease)))
   where
     -- the link is held
-    holds_link : RunSoFar {C = C} state start_at (called_to s (log_of c)) p w []
+    abbrev pub holds_link : RunSoFar {C = C} state start_at (called_to s (log_of c)) p w []
         (Prepare context session link lease)
     holds_link = linked state start_at (called_to s (log_of c)) p w context session link lease handed
         (subst (λ (a : At K). TellsPeer a (log_of c)) was tells) same run
 
+    -- memory was wanted
+    pub told_lost : (d : Calls M K) → log_of d ≡ log_of c
+        → Advances {C = C} state start_at (called_to s (log_of d)) w
+        (Close link lease false outcome.OutOfMemory)
+    told_lost d log =
+        link_lost state start_at (log_of c) (log_of d) s p w context session link lease
+        (ap (λ (l : List LogEntry). peer_in l) log) holds_link
+
+module _ {L C M K : Type 0} (state : L → LinkState) (start_at : L → LinkStart)
+    (allows : Standing → LogEntry → Type 0) (c d : Calls M K) (mark behind : ℕ) (s : Start)
+    (p : Passed) (w : World) (context : C) (session : Box HttpSession) (left : HttpSession)
+    (link : L) (lease : Lease) (handed : IsHandedOut (state link) (start_at link) lease.reused)
+    (was : c.at ≡ at.Named lease.peer) (same : lease.recorded ≡ lease.peer)
+    (tells : TellsPeer c.at (log_of c))
+    (run : RunSoFar {C = C} state start_at (called_to s (log_of c)) p w []
+    (Connect context session (tries_in lease)))
+  where
+    -- the link is held
+    held_link : RunSoFar {C = C} state start_at (called_to s (log_of c)) p w []
+        (Prepare context session link lease)
+    held_link = holds_link state start_at c s p w context session link lease handed was same tells run
+
     -- the head comes next
-    pub told_well : Turns allows hook.ConnectedToUpstream station.named station.linked QueuesNothing
-        (seen_with c session.value) mark (seen_with d session'.value) behind
+    pub told_well : (context' : C) (session' : Box HttpSession) → session'.value ≡ left
+        → Turns allows hook.ConnectedToUpstream station.named station.linked QueuesNothing
+        (seen_with c session.value) mark (seen_with d left) behind
         → Advances {C = C} state start_at (called_to s (log_of d)) w
         (Prepare context' session' link lease)
-    told_well turn = record {
+    told_well context' session' is turn = record {
       passed = p;
       run = prepared_on state start_at (log_of c) (log_of d) s p w context context' session session'
           link lease
-          (peers_stay allows c d session.value session'.value mark behind hook.ConnectedToUpstream
+          (peers_stay allows c d session.value left mark behind hook.ConnectedToUpstream
           station.named station.linked refl turn)
-          (stays_on allows c d session.value session'.value mark behind s p w (tries_in lease)
-          run.holds hook.ConnectedToUpstream station.named station.linked refl turn) holds_link;
+          (subst (λ (h : HttpSession). IsConnecting (called_to s (log_of d)) p w h (tries_in lease))
+          (sym is)
+          (stays_on allows c d session.value left mark behind s p w (tries_in lease)
+          run.holds hook.ConnectedToUpstream station.named station.linked refl turn)) held_link;
     }
 
     -- it failed
     pub told_badly : (e : Error)
         → (turn : Turns allows hook.ConnectedToUpstream station.named station.broken QueuesNothing
-        (seen_with c session.value) mark (seen_with d session'.value) behind)
+        (seen_with c session.value) mark (seen_with d left) behind)
         → turn.e.error ≡ Some e
-        → LeavesAhead (called_to s (log_of d)) p w (state link) (start_at link) session'.value lease
+        → LeavesAhead (called_to s (log_of d)) p w (state link) (start_at link) left lease
         false e
     told_badly e turn fails = record {
-      connecting = stays_on allows c d session.value session'.value mark behind s p w
+      connecting = stays_on allows c d session.value left mark behind s p w
           (tries_in lease) run.holds hook.ConnectedToUpstream station.named station.broken refl turn;
       leased = leased_on s (log_of c) (log_of d) p (state link) (start_at link) lease
-          (peers_stay allows c d session.value session'.value mark behind hook.ConnectedToUpstream
+          (peers_stay allows c d session.value left mark behind hook.ConnectedToUpstream
           station.named station.broken refl turn) holds.0;
       fresh = handed;
       why = RefusesToSend.untold (record {
@@ -480,54 +512,54 @@ module _ {L C M K : Type 0} (state : L → LinkState) (start_at : L → LinkStar
       where
         holds : PhaseHolds {C = C} state start_at (called_to s (log_of c)) p w []
             (Prepare context session link lease)
-        holds = holds_link.holds
-
-    -- memory was wanted
-    pub told_lost : log_of d ≡ log_of c
-        → Advances {C = C} state start_at (called_to s (log_of d)) w
-        (Close link lease false outcome.OutOfMemory)
-    told_lost log =
-        link_lost state start_at (log_of c) (log_of d) s p w context session link lease
-        (ap (λ (l : List LogEntry). peer_in l) log) holds_link
+        holds = held_link.holds
 
 -- ---- the head is made
 
 module _ {L C M K : Type 0} (state : L → LinkState) (start_at : L → LinkStart)
     (allows : Standing → LogEntry → Type 0) (c d : Calls M K) (mark behind : ℕ) (s : Start)
-    (p : Passed) (w : World) (context context' : C) (session session' : Box HttpSession) (link : L)
-    (lease : Lease)
+    (p : Passed) (w : World) (context : C) (session : Box HttpSession) (left : HttpSession)
+    (link : L) (lease : Lease)
     (run : RunSoFar {C = C} state start_at (called_to s (log_of c)) p w []
     (Prepare context session link lease))
   where
-    -- the filter was called
-    abbrev pub filtered_run : (filtered : RequestHead)
-        → FiltersReady allows c session.value mark d session'.value behind filtered
-        → RunSoFar {C = C} state start_at (called_to s (log_of d)) p w []
-        (Prepare context' session' link lease)
-    filtered_run filtered f =
-        prepared_on state start_at (log_of c) (log_of d) s p w context context' session session'
-        link lease
-        (peers_stay allows c d session.value session'.value mark behind hook.UpstreamRequestFilter
-        station.linked station.sent refl f.call.turn)
-        (stays_on allows c d session.value session'.value mark behind s p w (tries_in lease)
-        run.holds.1.connecting hook.UpstreamRequestFilter station.linked station.sent refl
-        f.call.turn) run
+    -- the filter was called, and the head is sent of the client's
+    pub record IsFiltered (context' : C) (session' : Box HttpSession) (sent : RequestHead)
+        : Type 0 where
+      pub on : RunSoFar {C = C} state start_at (called_to s (log_of d)) p w []
+          (Prepare context' session' link lease)
+      pub sends : Sends (log_of d) on.holds.1.connecting.head sent
 
-    -- and the head is sent of the client's
-    pub filtered_sends : (sent : RequestHead)
-        → (made : Prepares allows c session.value mark d session'.value behind sent)
-        → Sends (log_of d) (filtered_run made.filtered made.filters).holds.1.connecting.head sent
-    filtered_sends sent made =
-        sends_by allows c d session.value session'.value mark behind s p w (tries_in lease)
-        run.holds.1.connecting sent made
+    pub filtered_well : (context' : C) (session' : Box HttpSession) → session'.value ≡ left
+        → (sent : RequestHead)
+        → (made : Prepares allows c session.value mark d left behind sent)
+        → IsFiltered context' session' sent
+    filtered_well context' session' is sent made =
+        subst (λ (h : HttpSession). (k : IsConnecting (called_to s (log_of d)) p w h
+        (tries_in lease)) → Sends (log_of d) k.head sent → h ≡ session'.value
+        → IsFiltered context' session' sent) is
+        (λ k sends same. record {
+          on = prepared_on state start_at (log_of c) (log_of d) s p w context context' session
+              session' link lease peers k run;
+          sends = sends;
+        })
+        (stays_on allows c d session.value left mark behind s p w (tries_in lease)
+        run.holds.1.connecting hook.UpstreamRequestFilter station.linked station.sent refl
+        made.filters.call.turn)
+        (sends_by allows c d session.value left mark behind s p w (tries_in lease)
+        run.holds.1.connecting sent made) (sym is)
+      where
+        peers : peer_in (log_of d) ≡ peer_in (log_of c)
+        peers = peers_stay allows c d session.value left mark behind hook.UpstreamRequestFilter
+            station.linked station.sent refl made.filters.call.turn
 
     -- it is refused
     pub filtered_badly : (e : Error)
-        → Unprepared allows c session.value mark d session'.value behind e
-        → LeavesAhead (called_to s (log_of d)) p w (state link) (start_at link) session'.value lease
+        → Unprepared allows c session.value mark d left behind e
+        → LeavesAhead (called_to s (log_of d)) p w (state link) (start_at link) left lease
         true e
     filtered_badly e refused =
-        let r = refuses_as allows c d session.value session'.value mark behind s p w
+        let r = refuses_as allows c d session.value left mark behind s p w
         (tries_in lease) run.holds.1.connecting e refused in
         record {
           connecting = r.on;
@@ -538,7 +570,7 @@ module _ {L C M K : Type 0} (state : L → LinkState) (start_at : L → LinkStar
         }
 
     -- memory was wanted
-    pub filtered_lost : MakesHead allows c session.value mark d session'.value behind
+    pub filtered_lost : MakesHead allows c session.value mark d left behind
         (Err fail.OutOfMemory)
         → Advances {C = C} state start_at (called_to s (log_of d)) w
         (Close link lease false outcome.OutOfMemory)
@@ -547,8 +579,37 @@ module _ {L C M K : Type 0} (state : L → LinkState) (start_at : L → LinkStar
         (ap (λ (l : List LogEntry). peer_in l) log) run
     filtered_lost (inr (filtered, f)) =
         link_lost state start_at (log_of c) (log_of d) s p w context session link lease
-        (peers_stay allows c d session.value session'.value mark behind hook.UpstreamRequestFilter
+        (peers_stay allows c d session.value left mark behind hook.UpstreamRequestFilter
         station.linked station.sent refl f.call.turn) run
+
+-- ---- what the steps to the head come to
+
+module _ {M K : Type 0} (allows : Standing → LogEntry → Type 0) (c d : Calls M K)
+    (client left : HttpSession) (mark behind : ℕ)
+  where
+    -- the filter did not leave a head
+    pub filter_fails : (ready : RequestHead) (why : Fail)
+        → FiltersHead allows ready (seen_with c client) mark (seen_with d left) behind (Err why)
+        → MakesHead allows c client mark d left behind (Err why)
+    filter_fails ready fail.OutOfMemory same = inl same
+    filter_fails ready (fail.Error e) call = Unprepared.unfiltered ready call
+
+    -- what it left is made as it is sent, or refused
+    pub settles_on : (filtered : RequestHead) (answer : Result RequestHead Fail)
+        → FiltersReady allows c client mark d left behind filtered
+        → Makes (Settles left filtered) answer
+        → MakesHead allows c client mark d left behind answer
+    settles_on filtered (Ok sent) f settles =
+        record { filtered = filtered; filters = f; settles = settles }
+    settles_on filtered (Err fail.OutOfMemory) f settles = inr (filtered, f)
+    settles_on filtered (Err (fail.Error e)) f settles = Unprepared.unsettled filtered f settles
+
+    -- and so by the error
+    pub makes_error : (why to : Fail) → why ≡ to
+        → MakesHead allows c client mark d left behind (Err why)
+        → MakesHead allows c client mark d left behind (Err to)
+    makes_error why to is makes =
+        subst (λ (f : Fail). MakesHead allows c client mark d left behind (Err f)) is makes
 
 -- ---- the calls so far
 
@@ -591,12 +652,11 @@ module _ {C M K : Type 0} (allows : Standing → LogEntry → Type 0) (mark_of :
         → Turns allows hook.ConnectedToUpstream station.named station.broken QueuesNothing
         (seen_with c client) (mark_of context) (seen_with d left) (mark_of context')
         → (at : Station) × IsLogged allows (log_of d) at
-    told_logged peer was turn =
-        (
-          station.broken,
-          logged_at station.named (ap (λ (a : At K). station_at a) was) hook.ConnectedToUpstream
-              station.broken turn,
-        )
+    told_logged peer was turn = (
+      station.broken,
+      logged_at station.named (ap (λ (a : At K). station_at a) was) hook.ConnectedToUpstream
+          station.broken turn,
+    )
 
     -- the filter was called
     pub filtered_logged : c.at ≡ at.Linked → (filtered : RequestHead)
@@ -612,12 +672,11 @@ module _ {C M K : Type 0} (allows : Standing → LogEntry → Type 0) (mark_of :
     unsent_logged was e (Unprepared.unready same stays still readies) =
         logged_same allows mark_of c d context client tries
         (ap (λ (x : Calls M K). log_of x) same) o
-    unsent_logged was e (Unprepared.unfiltered ready call) =
-        (
-          station.broken,
-          logged_at station.linked (ap (λ (a : At K). station_at a) was)
-              hook.UpstreamRequestFilter station.broken call.call.turn,
-        )
+    unsent_logged was e (Unprepared.unfiltered ready call) = (
+      station.broken,
+      logged_at station.linked (ap (λ (a : At K). station_at a) was)
+          hook.UpstreamRequestFilter station.broken call.call.turn,
+    )
     unsent_logged was e (Unprepared.unsettled filtered f settles) =
         (station.sent, filtered_logged was filtered f)
 

@@ -170,6 +170,7 @@ module _ {L : Type 0} (state : L → LinkState) (start_at : L → LinkStart) whe
   leased s head sent p q client old peer old_start start lease was told = record {
     tells = record { got = told.got; sent = told.sent; faults = told.peer_faults };
     peer = was.peer;
+    recorded = was.recorded;
     reused = told.reused;
     tries = was.tries;
   }

@@ -3,7 +3,7 @@
 --   sends_agrees    from Sends, where the client's head is framed: both halves of an exchange agree
 --   readies_as, settles_as    what the calls that make it answer
 --   client_is       whether the client's body has bytes, by the framing of its head
-use Rattle.std.proofs.Common.{◌≡◌, ◌≢◌, ◌⊎◌, Bool, true, false, not, List, [], ◌∷◌, Option, Some, None, refl, sym, ap, ◌∙◌, inl, inr, subst}
+use Rattle.std.proofs.Common.{◌≡◌, ◌≢◌, ◌⊎◌, Bool, true, false, not, List, [], ◌∷◌, Option, Some, None, refl, sym, ap, ◌∙◌, inl, inr, subst, arith}
 use Rattle.std.proofs.lemmas.Bool.{cases_Bool}
 use Rattle.std.specs.Prelude.{IfErr, IfOk, IsSome, Result, Ok, Err}
 use Rattle.http.specs.declared.version.TheConstants.Version.{HTTP_11}
@@ -175,8 +175,7 @@ pub settles_as : (session : HttpSession) (own filtered sent : RequestHead)
     → IfErr answer (λ why. (why ≡ fail.Error unframed) × (request_framing sent ≡ None))
     → Makes (Settles session filtered) answer
 settles_as session own filtered sent (Ok head) is made ok err = λ asked asks.
-    subst (λ (h : RequestHead). SettlesFramed (client_in session) asked filtered (Ok h)) (sym ok.0)
-    (
+    subst (λ (h : RequestHead). SettlesFramed (client_in session) asked filtered (Ok h)) (sym ok.0) (
       subst (λ (h : RequestHead). SentHead over.H1 (client_in session) h filtered (Ok sent))
           (one_head own asked session is asks) made,
       some_framing (request_framing sent) ok.1,

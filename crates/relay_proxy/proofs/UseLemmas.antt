@@ -158,7 +158,7 @@ module _ {L C : Type 0} (state : L → LinkState) (start_at : L → LinkStart) w
   settled_stands ReadHead settled before mid after link same does held = absurd (cc)
   settled_stands (Connect context session tries) settled before mid after link same does held =
       absurd (cc)
-  settled_stands (Prepare context session link lease) settled before mid after link same does held =
+  settled_stands (Prepare context session l lease) settled before mid after link same does held =
       inl (ap (λ (n : Phase L C). held_state state n) does.0 ∙ held)
   settled_stands (Relay a) settled before mid after link same does held =
       inl (ap (λ (n : Phase L C). held_state state n) does.0 ∙ held)

@@ -30,32 +30,32 @@ Settles client filtered answer =
 module _ (allows : Standing → LogEntry → Type 0) {M K : Type 0} (old : Calls M K)
     (client : HttpSession) (mark : ℕ) (new : Calls M K) (left : HttpSession) (behind : ℕ)
   where
-  -- the filter was called with what the client's head was made ready to, and left that head
-  pub record FiltersReady (filtered : RequestHead) : Type 0 where
-    pub ready : RequestHead
-    pub readies : Readies client (Ok ready)
-    pub call : FiltersHead allows ready (seen_with old client) mark (seen_with new left) behind
-        (Ok filtered)
+    -- the filter was called with what the client's head was made ready to, and left that head
+    pub record FiltersReady (filtered : RequestHead) : Type 0 where
+      pub ready : RequestHead
+      pub readies : Readies client (Ok ready)
+      pub call : FiltersHead allows ready (seen_with old client) mark (seen_with new left) behind
+          (Ok filtered)
 
-  -- and that is made as it is sent
-  pub record Prepares (sent : RequestHead) : Type 0 where
-    pub filtered : RequestHead
-    pub filters : FiltersReady filtered
-    pub settles : Settles left filtered (Ok sent)
+    -- and that is made as it is sent
+    pub record Prepares (sent : RequestHead) : Type 0 where
+      pub filtered : RequestHead
+      pub filters : FiltersReady filtered
+      pub settles : Settles left filtered (Ok sent)
 
-  -- why no head is made: it is refused as it is made ready, and no hook was called; the filter
-  -- failed; or what it left is refused
-  pub data Unprepared (e : Error) : Type 0 where
-    unready : new ≡ old → left ≡ client → behind ≡ mark → Readies client (Err e) → Unprepared e
-    unfiltered : (ready : RequestHead)
-        → FiltersHead allows ready (seen_with old client) mark (seen_with new left) behind
-        (Err (fail.Error e)) → Unprepared e
-    unsettled : (filtered : RequestHead) → FiltersReady filtered → Settles left filtered (Err e)
-        → Unprepared e
+    -- why no head is made: it is refused as it is made ready, and no hook was called; the filter
+    -- failed; or what it left is refused
+    pub data Unprepared (e : Error) : Type 0 where
+      unready : new ≡ old → left ≡ client → behind ≡ mark → Readies client (Err e) → Unprepared e
+      unfiltered : (ready : RequestHead)
+          → FiltersHead allows ready (seen_with old client) mark (seen_with new left) behind
+          (Err (fail.Error e)) → Unprepared e
+      unsettled : (filtered : RequestHead) → FiltersReady filtered → Settles left filtered (Err e)
+          → Unprepared e
 
-  -- the head that is made, or why none is; out of memory the filter was called or not
-  abbrev pub MakesHead : Result RequestHead Fail → Type 0
-  MakesHead (Ok sent) = Prepares sent
-  MakesHead (Err (fail.Error e)) = Unprepared e
-  MakesHead (Err fail.OutOfMemory) =
-      (log_of new ≡ log_of old) ⊎ ((filtered : RequestHead) × FiltersReady filtered)
+    -- the head that is made, or why none is; out of memory the filter was called or not
+    abbrev pub MakesHead : Result RequestHead Fail → Type 0
+    MakesHead (Ok sent) = Prepares sent
+    MakesHead (Err (fail.Error e)) = Unprepared e
+    MakesHead (Err fail.OutOfMemory) =
+        (log_of new ≡ log_of old) ⊎ ((filtered : RequestHead) × FiltersReady filtered)

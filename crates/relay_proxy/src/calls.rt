@@ -205,13 +205,16 @@ fn take_next<SV: ProxyHttp>(
         session.new.seen (SV.mark_of app.now context.new) result }
 {
     match at {
-        At::Opening(Place::Ended(End::Attempts)) => match name_peer(app, session, context) {
+        At::Opening(Place::Behind(last)) => {
+            let place = Place::Behind(last);
+            At::Opening(take_turn(app, session, context, place, true))
+        }
+        At::Opening(Place::Ended(_)) => match name_peer(app, session, context) {
             Ok(peer) => At::Named(peer),
             Err(Fail::Error(error)) => At::Opening(Place::Ended(End::Failed(error))),
             Err(Fail::OutOfMemory) => At::Opening(Place::Lost),
         },
-        At::Opening(place) => At::Opening(take_turn(app, session, context, place, true)),
-        At::Kept(_) | At::Named(_) | At::Linked => unreachable!(),
+        At::Opening(Place::Lost) | At::Kept(_) | At::Named(_) | At::Linked => unreachable!(),
     }
 }
 

@@ -2,7 +2,7 @@
 //! over which the attempt then goes. Where it refuses one with a fault that lets it be asked again, it
 //! is, while the request may make a further attempt (RFC 9110, section 9.2.2): nothing of the request
 //! was sent then.
-ghost use Rattle.std.specs.Prelude.{◌≡◌, ◌⊎◌, ◌↔◌, ◌+◌, ◌≤◌, [], ◌∷◌, ◌++◌, length, ℕ, List, Some, IsTrue};
+ghost use Rattle.std.specs.Prelude.{◌≡◌, ◌⊎◌, ◌↔◌, ◌+◌, ◌≤◌, [], ◌∷◌, ◌++◌, length, ℕ, List, IsTrue, false};
 ghost use Rattle.std.specs.Global.{Box};
 ghost use Rattle.relay_links.specs.Connector.{IsConnectFault, connect_fault};
 ghost use Rattle.relay_links.specs.Count.{last_count, Rose};
@@ -168,15 +168,14 @@ fn tell<SV: ProxyHttp, L: ByteLink>(
 {
     let mut context = context;
     let mut session = session;
-    let told = tell_link(
+    match tell_link(
         app,
         calls,
         &mut context,
         &mut session,
         &lease.peer,
         lease.reused,
-    );
-    match told {
+    ) {
         Ok(()) => Next {
             phase: Phase::Prepare(context, session, link, lease),
             step: RunStep::Moved,
@@ -280,4 +279,3 @@ fn answer_unlinked<L: ByteLink, C>(
         work: Work::ENDED,
     }
 }
-

@@ -116,11 +116,7 @@ fn readied(alloc: Global, client: &HttpSession) -> Result<RequestHeader>
 }
 
 /// The head that the filter left, as it is sent beside the session's own.
-fn settled(
-    alloc: Global,
-    client: &HttpSession,
-    filtered: RequestHeader,
-) -> Result<RequestHeader>
+fn settled(alloc: Global, client: &HttpSession, filtered: RequestHeader) -> Result<RequestHeader>
     ensures { Makes (Settles client.now filtered) result }
 {
     if !client.has_head() {

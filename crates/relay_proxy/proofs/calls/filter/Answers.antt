@@ -11,4 +11,4 @@ returns-clause-filters g c =
     (FiltersHead-within (g.SV.ProxyHttp.allows c.args.app.now)
     (λ (call : ModuleCall). (made : g.row.SV-Modules.Denot)
     × g.SV.Modules.HttpModule.allows made call) _ _ _ _ c.args.ready c.filter_head-filtered.result
-    c.filter_head-filtered.ensures)
+    c.filter_head-filtered.ensures.filters)

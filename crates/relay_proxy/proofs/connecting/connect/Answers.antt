@@ -1,13 +1,15 @@
 -- Over a link that the connector gave the exchange begins; where it gave none, its count rose.
-use Rattle.std.proofs.Common.{refl, subst, sym, ◌∙◌}
+use Rattle.std.proofs.Common.{List, ap, refl, subst, sym, ◌∙◌}
 use Rattle.relay_proxy.specs.Calls.{TellsPeer, log_of}
 use Rattle.relay_proxy.specs.Passed.{called_to}
+use Rattle.relay_proxy.specs.Refusals.{faults_told}
 use Rattle.relay_proxy.specs.Turn.{world_with}
 use Rattle.relay_proxy.specs.declared.calls.At.{At}
-use Rattle.relay_proxy.proofs.CallLemmas.{asked_calls, none_called}
+use Rattle.relay_proxy.specs.declared.record.AttemptRecord.{AttemptRecord}
+use Rattle.relay_proxy.proofs.CallLemmas.{asked_calls, none_called, opening_logged}
 use Rattle.relay_proxy.proofs.HookSteps.{same_peer}
 use Rattle.relay_proxy.proofs.RefusalLemmas.{told_before_link}
-use Rattle.relay_proxy.proofs.TakenLemmas.{took_fault, took_link}
+use Rattle.relay_proxy.proofs.TakenLemmas.{none_asked, took_fault, took_link}
 use Rattle.relay_proxy.proofs.connecting.connect.Goals as goal
 
 -- the run goes on over the link that the connector gave
@@ -16,12 +18,28 @@ returns-in-Ok-get-clause-run g c = λ s p client ahead limit o run.
     rw c.in-Ok-get.ensures.no_fault (c.tell.ensures.run s p
     (world_with client ahead (g.K.Connector.fault_count c.args.connector.now))
     (rw (← c.in-Ok.ensures.ok) at o) (rw (← c.in-Ok.ensures.ok) at run) c.in-Some.ensures
-    (same_peer _ _ (sym c.in-Some-peer-2.ensures ∙ c.in-Some.ensures)) c.in-Ok-get.ensures.handed)
+    (same_peer _ _ (sym c.in-Some-peer.ensures ∙ c.in-Some.ensures)) c.in-Ok-get.ensures.handed)
 
 -- and so do its calls
 pub returns-in-Ok-get-clause-calls : goal.returns-in-Ok-get-clause-calls
 returns-in-Ok-get-clause-calls g c = λ o.
     c.tell.ensures.calls c.in-Some.ensures (rw (← c.in-Ok.ensures.ok) at o)
+
+-- memory was wanted before it was asked
+pub returns-in-Err-clause-calls : goal.returns-in-Err-clause-calls
+returns-in-Err-clause-calls g c = λ o.
+    rw c.lacks_memory.ensures.phase
+    (opening_logged _ _ c.args.calls.now c.args.context c.args.session.value c.args.tries o)
+
+pub returns-in_default-clause-calls : goal.returns-in_default-clause-calls
+returns-in_default-clause-calls g c = λ o.
+    rw c.lacks_memory-in_default.ensures.phase
+    (opening_logged _ _ c.args.calls.now c.args.context c.args.session.value c.args.tries o)
+
+pub returns-in_default-peer-clause-calls : goal.returns-in_default-peer-clause-calls
+returns-in_default-peer-clause-calls g c = λ o.
+    rw c.lacks_memory-in_default-peer.ensures.phase
+    (opening_logged _ _ c.args.calls.now c.args.context c.args.session.value c.args.tries o)
 
 -- where it gave none the request goes on, or ends with its fault
 pub returns-in-Err-get-clause-run : goal.returns-in-Err-get-clause-run
@@ -30,7 +48,7 @@ returns-in-Err-get-clause-run g c = λ s p client ahead limit o run.
     (world_with client ahead (g.K.Connector.fault_count c.args.connector.now))
     (g.K.Connector.fault_count c.get.new.self) limit c.get.ensures.fits.0
     c.in-Err-get.ensures.rose c.in-Err-get.ensures.fault
-    (subst (λ (a : At _). TellsPeer a (log_of c.args.calls.now)) c.in-Some-peer-2.ensures o.named)
+    (subst (λ (a : At _). TellsPeer a (log_of c.args.calls.now)) c.in-Some-peer.ensures o.named)
     (rw (← c.in-Ok.ensures.ok) at run)
 
 -- and no hook is called
@@ -66,3 +84,11 @@ returns-in-Err-get-clause-cause g c = λ client ahead.
     rw c.in-Ok.ensures.ok at (c.refused_link.ensures.cause
     (world_with client ahead (g.K.Connector.fault_count c.args.connector.now))
     (world_with client ahead (g.K.Connector.fault_count c.get.new.self)))
+
+-- and where memory was wanted none was answered
+pub returns-in_default-peer-clause-asks : goal.returns-in_default-peer-clause-asks
+returns-in_default-peer-clause-asks g c =
+    rw c.lacks_memory-in_default-peer.ensures.phase
+    (none_asked _ _ _ _ _ _ _
+    (ap (λ (xs : List AttemptRecord). faults_told xs)
+    (c.into_tries-in_default-peer.ensures ∙ c.in-Ok.ensures.ok)) refl refl refl)

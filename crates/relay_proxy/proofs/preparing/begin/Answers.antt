@@ -1,6 +1,6 @@
 -- The exchange is under way over the link and its attempt is held, or memory was wanted for one of
 -- both.
-use Rattle.std.proofs.Common.{refl, sym}
+use Rattle.std.proofs.Common.{refl}
 use Rattle.relay_proxy.proofs.PrepareSteps.{begun, not_begun}
 use Rattle.relay_proxy.proofs.preparing.begin.Goals as goal
 

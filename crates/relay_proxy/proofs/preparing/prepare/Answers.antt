@@ -1,6 +1,85 @@
 -- The head is made, and the exchange begins with it; or the attempt fails.
-use Rattle.std.proofs.Common.{arith, refl, sym}
+use Rattle.std.proofs.Common.{refl}
+use Rattle.relay_tasks.specs.declared.error.Fail.TheVariants as fail
 use Rattle.relay_proxy.specs.Calls.{log_of}
 use Rattle.relay_proxy.proofs.CallLemmas.{begun_logged, left_calls, one_called}
-use Rattle.relay_proxy.proofs.PrepareSteps.{filtered_badly, filtered_logged, filtered_lost, filtered_run, filtered_sends, lost_counts, lost_logged, unsent_counts, unsent_logged}
+use Rattle.relay_proxy.proofs.OpenSteps.{called_tells}
+use Rattle.relay_proxy.proofs.PrepareSteps.{filtered_badly, filtered_logged, filtered_lost, filtered_well, lost_counts, lost_logged, makes_error, unsent_counts, unsent_logged}
 use Rattle.relay_proxy.proofs.preparing.prepare.Goals as goal
+
+-- the exchange begins
+pub returns-in-Ok-clause-run : goal.returns-in-Ok-clause-run
+returns-in-Ok-clause-run g c = λ s p w run.
+    let made = rw c.deref_mut.ensures.value at c.in-Ok.ensures.makes in
+    let on = filtered_well g.L.ByteLink.state g.L.ByteLink.start _ c.args.calls.now
+    c.sent_of.new.calls _ _ s p w c.args.context c.args.session _ c.args.link c.args.lease run _ _
+    refl c.in-Ok.sent made in
+    c.begin.ensures.run _ p w on.on on.sends
+
+pub returns-in-Ok-clause-calls : goal.returns-in-Ok-clause-calls
+returns-in-Ok-clause-calls g c = λ o.
+    let made = rw c.deref_mut.ensures.value at c.in-Ok.ensures.makes in
+    begun_logged _ _ c.sent_of.new.calls c.begin.result.phase c.begin.ensures.begun
+    (filtered_logged _ (g.SV.ProxyHttp.mark_of c.args.app.now) c.args.calls.now
+    c.sent_of.new.calls c.args.context c.sent_of.new.context c.args.session.value
+    c.sent_of.new.client _ o.0 o.1 made.filtered made.filters)
+
+pub returns-in-Ok-clause-called : goal.returns-in-Ok-clause-called
+returns-in-Ok-clause-called g c =
+    let made = rw c.deref_mut.ensures.value at c.in-Ok.ensures.makes in
+    one_called _ _ c.begin.result.work c.begin.ensures.called made.filters.call.turn.e
+    made.filters.call.turn.calls.log
+
+-- no head is made
+pub returns-in-Err-Error-clause-run : goal.returns-in-Err-Error-clause-run
+returns-in-Err-Error-clause-run g c = λ s p w run.
+    let refused = rw c.deref_mut.ensures.value at (makes_error _ _ _ _ _ _ _ _
+    (fail.Error c.in-Err-Error.error) c.in-Err-Error.field-0-is c.in-Err-Error.ensures.makes) in
+    c.fail_ahead.ensures.run _ p w
+    (called_tells s (log_of c.args.calls.now) (log_of c.sent_of.new.calls) p w run.tells)
+    run.untouched
+    (rw (← c.in-Err-Error.error-is) at (filtered_badly g.L.ByteLink.state g.L.ByteLink.start _ c.args.calls.now c.sent_of.new.calls _ _
+    s p w c.args.context c.args.session _ c.args.link c.args.lease run c.in-Err-Error.error refused))
+
+pub returns-in-Err-Error-clause-calls : goal.returns-in-Err-Error-clause-calls
+returns-in-Err-Error-clause-calls g c = λ o.
+    let refused = rw c.deref_mut.ensures.value at (makes_error _ _ _ _ _ _ _ _
+    (fail.Error c.in-Err-Error.error) c.in-Err-Error.field-0-is c.in-Err-Error.ensures.makes) in
+    left_calls _ _ c.sent_of.new.calls c.args.link c.args.lease c.fail_ahead.result.phase
+    c.fail_ahead.ensures.leaves
+    (unsent_logged _ (g.SV.ProxyHttp.mark_of c.args.app.now) c.args.calls.now
+    c.sent_of.new.calls c.args.context c.sent_of.new.context c.args.session.value
+    c.sent_of.new.client _ o.0 o.1 c.in-Err-Error.error refused)
+
+pub returns-in-Err-Error-clause-called : goal.returns-in-Err-Error-clause-called
+returns-in-Err-Error-clause-called g c =
+    let refused = rw c.deref_mut.ensures.value at (makes_error _ _ _ _ _ _ _ _
+    (fail.Error c.in-Err-Error.error) c.in-Err-Error.field-0-is c.in-Err-Error.ensures.makes) in
+    unsent_counts _ c.args.calls.now c.sent_of.new.calls c.args.session.value
+    c.sent_of.new.client _ _ c.fail_ahead.result.work (rw c.fail_ahead.ensures.work refl)
+    c.in-Err-Error.error refused
+
+-- memory was wanted
+pub returns-clause-run : goal.returns-clause-run
+returns-clause-run g c = λ s p w run.
+    let lost = rw c.deref_mut.ensures.value at (makes_error _ _ _ _ _ _ _ _
+    fail.OutOfMemory c.in-Err-OutOfMemory.field-0-is c.in-Err-OutOfMemory.ensures.makes) in
+    rw c.closed.ensures.phase
+    (filtered_lost g.L.ByteLink.state g.L.ByteLink.start _ c.args.calls.now c.sent_of.new.calls _ _
+    s p w c.args.context c.args.session _ c.args.link c.args.lease run lost)
+
+pub returns-clause-calls : goal.returns-clause-calls
+returns-clause-calls g c = λ o.
+    let lost = rw c.deref_mut.ensures.value at (makes_error _ _ _ _ _ _ _ _
+    fail.OutOfMemory c.in-Err-OutOfMemory.field-0-is c.in-Err-OutOfMemory.ensures.makes) in
+    rw c.closed.ensures.phase
+    (lost_logged _ (g.SV.ProxyHttp.mark_of c.args.app.now) c.args.calls.now
+    c.sent_of.new.calls c.args.context c.sent_of.new.context c.args.session.value
+    c.sent_of.new.client _ o.0 o.1 lost)
+
+pub returns-clause-called : goal.returns-clause-called
+returns-clause-called g c =
+    let lost = rw c.deref_mut.ensures.value at (makes_error _ _ _ _ _ _ _ _
+    fail.OutOfMemory c.in-Err-OutOfMemory.field-0-is c.in-Err-OutOfMemory.ensures.makes) in
+    lost_counts _ c.args.calls.now c.sent_of.new.calls c.args.session.value
+    c.sent_of.new.client _ _ c.closed.result.work (rw c.closed.ensures.work refl) lost

@@ -430,12 +430,14 @@ returns-in-Prepare-clause-bounds g c =
 pub returns-in-Prepare-clause-carries : goal.returns-in-Prepare-clause-carries
 returns-in-Prepare-clause-carries g c =
     rw (c.go_on-in-Prepare.ensures.phase, sym c.replace.ensures.value ∙ c.in-Prepare.is) (λ live.
-    append-nil _ ∙ prepare_offers g.K.Byte.ByteLink.state g.K.Byte.ByteLink.start _ _ _ _
+    append-nil _ ∙ prepare_offers g.K.Byte.ByteLink.state g.K.Byte.ByteLink.start
+    c.in-Prepare.context c.in-Prepare.session c.in-Prepare.link c.in-Prepare.lease
     c.prepare.result.phase c.prepare.ensures.tries c.prepare.ensures.items)
 
 -- and the attempts before it
 pub returns-in-Prepare-clause-tells : goal.returns-in-Prepare-clause-tells
 returns-in-Prepare-clause-tells g c =
     rw (c.go_on-in-Prepare.ensures.phase, sym c.replace.ensures.value ∙ c.in-Prepare.is) (λ live.
-    append-nil _ ∙ prepare_faults g.K.Byte.ByteLink.state g.K.Byte.ByteLink.start _ _ _ _
+    append-nil _ ∙ prepare_faults g.K.Byte.ByteLink.state g.K.Byte.ByteLink.start
+    c.in-Prepare.context c.in-Prepare.session c.in-Prepare.link c.in-Prepare.lease
     c.prepare.result.phase c.prepare.ensures.tries)
