@@ -1,4 +1,4 @@
--- What a failed exchange leaves of its client's session.
+-- What a failed exchange leaves of its client's session, and what a failure before it does.
 use Rattle.std.specs.Prelude.{◌≡◌, Bool}
 use Rattle.relay_tasks.specs.Head.{RequestHead}
 use Rattle.relay_tasks.specs.declared.Error.{Error}

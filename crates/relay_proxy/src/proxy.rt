@@ -151,10 +151,11 @@ impl<SV: ProxyHttp, K: Connector, P: Purger> HttpProxy<SV, K, P> {
     }
 
     /// Takes one turn of a request: one call of the link that it waits for, one verdict on a head,
-    /// one call of a hook or of the connector, or one branch of the duplex. In the duplex the schedule picks the
-    /// branch; where it names none or one that cannot be taken, the first that can is taken. A
-    /// branch whose link is silent passes the turn on to the next, going round; where all are
-    /// silent the answer is `Waited(Silent)`.
+    /// one call of a hook, one of the connector with that of `connected_to_upstream` behind the link
+    /// that it gave, or one branch of the duplex. In the duplex the schedule picks the branch; where
+    /// it names none or one that cannot be taken, the first that can is taken. A branch whose link is
+    /// silent passes the turn on to the next, going round; where all are silent the answer is
+    /// `Waited(Silent)`.
     ///
     /// Where the machine holds a link, the connector's number of links that are out is not 0, and
     /// the client is as the machine's last call left it.
