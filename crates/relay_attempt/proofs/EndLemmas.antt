@@ -15,12 +15,11 @@ use Rattle.relay_tasks.specs.Task.{is_end}
 use Rattle.relay_links.specs.Count.{Rose}
 use Rattle.relay_links.specs.Link.{LinkState, LinkStart}
 use Rattle.relay_h1.specs.Body.{Body, ended_text}
-use Rattle.relay_h1.specs.BodyWire.{is_full}
 use Rattle.relay_h1.specs.Tasks.{Tasks, ended}
 use Rattle.relay_peer.specs.H1Client.{may_keep_client}
 use Rattle.relay_peer.specs.ResponseReading.{says, may_keep_reading}
 use Rattle.relay_peer.specs.ResponseReading as reading
-use Rattle.relay_peer.specs.RequestWriting.{Sent, Stands, body_framing, sent_wire, may_keep_writing, short_request}
+use Rattle.relay_peer.specs.RequestWriting.{Sent, Stands, sent_wire, may_keep_writing, short_request}
 use Rattle.relay_session.specs.Response.{Holds, IsOpen, is_over, pending}
 use Rattle.relay_session.specs.declared.task_text.Place.TheVariants as place
 use Rattle.relay_session.specs.declared.writing.Outgoing.TheVariants as outgoing
@@ -68,7 +67,7 @@ use Rattle.relay_attempt.proofs.WriterLemmas.{IsWriters, client_apart, head_apar
 use Rattle.relay_attempt.proofs.FitLemmas.{over_has_end}
 use Rattle.relay_attempt.proofs.KeepLemmas.{kept_parts, kept_unfailed, sent_whole, read_whole, over_ends}
 use Rattle.relay_attempt.proofs.ServeLemmas.{never_refused_short, sends_short, ended_stands, kept_writing, kept_reading, all_keep}
-use Rattle.relay_attempt.proofs.ShortLemmas.{short_or_whole, head_full}
+use Rattle.relay_attempt.proofs.ShortLemmas.{short_or_whole}
 
 -- what is not awaited is empty
 none_waits : (waits : List ℕ) → not (length waits == 0) ≡ false → waits ≡ []
@@ -236,10 +235,7 @@ module _ {L : Type 0} (state : L → LinkState) (start_at : L → LinkStart)
           n = all.0;
           body = subst (λ (l : List ℕ).
               Body c.framing (drop c.len (given_to s p)) (ended_text l all.0)) (sym c.joined) all.1;
-          ended = elim (c.whole done) [
-            | inl ends ↦ inl ends
-            | inr none ↦ inr none.1
-          ];
+          ended = c.whole done;
           sent = sent_all none finishes;
         }
 
@@ -402,22 +398,6 @@ module _ {L : Type 0} (state : L → LinkState) (start_at : L → LinkStart)
           short serves)
     ]
 
-    -- a request that has ended has an end among its pieces, or the head that was sent has no body
-    ended_sent : duplex.send_error ≡ None → Finishes (core_of state start_at duplex down up) p q
-        → MayServe s (passed_by p q) (state up.inner.client.link).ended in_order
-        → (list_any is_end p.put ≡ true)
-        ⊎ ((p.put ≡ []) × (is_full (body_framing s.sent) ≡ true))
-    ended_sent none finishes serves =
-        elim (so_far.down.passed.client.whole (finishes.request_ended none)) [
-          | inl ends ↦ inl ends
-          | inr bare ↦ inr (
-            bare.0,
-            head_full s (passed_by p q) (state up.inner.client.link).ended in_order serves
-                (sent_all none finishes
-                ∙ ap (λ (l : List HttpTask). sent_wire (sent_as s.sent l)) bare.0),
-          )
-        ]
-
     -- a link that may serve another request is kept
     pub keeps_of : Finishes (core_of state start_at duplex down up) p q
         → list_any is_end q.read ≡ true
@@ -432,7 +412,7 @@ module _ {L : Type 0} (state : L → LinkState) (start_at : L → LinkStart)
         ∙ ap (λ (h : RequestHead). sent_as h q.taken) u.own
         ∙ ap (λ (ts : List HttpTask). sent_as s.sent ts) (finishes.taken none)) u.so_far.stands in
         let whole = ended_stands s.sent p.put up.inner.client.request.request stands
-        (ended_sent none finishes serves) in
+        (so_far.down.passed.client.whole (finishes.request_ended none)) in
         let over : reading.is_over up.inner.client.response.place ≡ true =
         sym tasks_are.ended
         ∙ any_left is_end so_far.up.given so_far.up.withheld
@@ -464,16 +444,7 @@ module _ {L : Type 0} (state : L → LinkState) (start_at : L → LinkStart)
     -- the request has ended exactly where the client's side says so
     request_ends : IsTrue (is_body_done down.session.reading) ↔ HasEnded in_order
     request_ends =
-        let c = so_far.down.passed.client in (
-          λ done. elim (c.whole done) [
-            | inl ends ↦ inl ends
-            | inr none ↦ inr none.1
-          ],
-          λ ended. elim ended [
-            | inl ends ↦ c.ended ends
-            | inr headed ↦ c.headed headed
-          ],
-        )
+        let c = so_far.down.passed.client in (λ done. c.whole done, λ ended. c.ended ended)
 
     -- what is ahead of the client then stands behind it
     request_behind : is_body_done down.session.reading ≡ true

@@ -152,6 +152,7 @@ module _
                 Body c.framing (drop c.len (given_to s p)) (ended_text l all.0)) (sym c.joined)
                 all.1),
           );
+      headed = λ none. c.whole (c.headed none);
     }
 
     -- the request with its own head

@@ -4,7 +4,7 @@
 --   kept_writing   a request that was sent whole, and whose head lets its link be kept
 --   kept_reading   a response that was read whole, and whose head and framing let its link be kept
 --   all_keep       a duplex of HTTP/1 in which both have ended and nothing failed
-use Rattle.std.proofs.Common.{◌≡◌, ℕ, ◌+◌, Bool, true, false, not, ◌&&◌, ◌==◌, ◌⊎◌, inl, inr, List, [], ◌∷◌, length, drop, refl, sym, ap, subst, ◌∙◌, Some, if◌then◌else◌}
+use Rattle.std.proofs.Common.{◌≡◌, ℕ, ◌+◌, Bool, true, false, not, ◌&&◌, ◌==◌, inl, inr, List, [], ◌∷◌, length, drop, refl, sym, ap, subst, ◌∙◌, Some, if◌then◌else◌}
 use Rattle.std.specs.List.{list_any}
 use Rattle.relay_tasks.specs.declared.error.Error.{Error}
 use Rattle.relay_tasks.specs.declared.task.HttpTask.{HttpTask}
@@ -20,7 +20,7 @@ use Rattle.relay_h1.specs.Tasks as tasks
 use Rattle.relay_h1.proofs.TasksLemmas.{HasFinal-unique}
 use Rattle.relay_core.proofs.BoolLemmas.{and_both, not_false, or_cases}
 use Rattle.relay_peer.specs.RequestWriting as writing
-use Rattle.relay_peer.specs.RequestWriting.{Sent, Stands, body_framing, head_in, is_whole, may_keep_writing, with_piece, with_end, short_request}
+use Rattle.relay_peer.specs.RequestWriting.{Sent, Stands, head_in, is_whole, may_keep_writing, with_piece, with_end, short_request}
 use Rattle.relay_peer.specs.ResponseReading.{ToldResponse, ReadAt, IsReadWhole, is_over, keeps_at, lets_keep, says}
 use Rattle.relay_peer.specs.declared.request_writing.RequestPlace.{RequestPlace}
 use Rattle.relay_peer.specs.declared.request_writing.RequestPlace.TheVariants as request
@@ -142,24 +142,12 @@ whole_stands (writing.Sent.whole head pieces) request.NoHead whole stands = absu
 whole_stands (writing.Sent.whole head pieces) (request.Sending sending) whole stands =
     ap is_full stands.1
 
--- the writing stands at the end of a head without a body
-headed_stands : (head : RequestHead) (now : RequestPlace) → is_full (body_framing head) ≡ true
-    → Stands (writing.Sent.begun head []) now → is_whole now ≡ true
-headed_stands head request.NoHead full stands = absurd stands
-headed_stands head (request.Sending sending) full stands = ap is_full stands.1.is_rest ∙ full
-
--- a request that has ended stands at its end, where its head has no body or an end is among its
--- pieces
+-- a request stands at its end where one is among its pieces
 pub ended_stands : (head : RequestHead) (items : List HttpTask) (now : RequestPlace)
-    → Stands (sent_as head items) now
-    → (list_any is_end items ≡ true) ⊎ ((items ≡ []) × (is_full (body_framing head) ≡ true))
-    → is_whole now ≡ true
-ended_stands head items now stands (inl found) =
+    → Stands (sent_as head items) now → list_any is_end items ≡ true → is_whole now ≡ true
+ended_stands head items now stands found =
     whole_stands (sent_as head items) now
     (ends_whole (writing.Sent.begun head []) items refl found) stands
-ended_stands head items now stands (inr none) =
-    headed_stands head now none.1
-    (subst (λ (xs : List HttpTask). Stands (sent_as head xs) now) none.0 stands)
 
 -- an option holds no more than one head
 some_head : (a b : RequestHead) → Some a ≡ Some b → a ≡ b

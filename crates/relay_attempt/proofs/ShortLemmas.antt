@@ -5,24 +5,19 @@
 --   stays_unshort    a framing that pieces leave as it is
 --   framing_is       the framing of a head that has one
 --   short_or_whole   no request was sent short and whole
---   head_full        a head behind which nothing was sent, and nothing is missing, has no body
-use Rattle.std.proofs.Common.{◌≡◌, ℕ, ◌+◌, ◌-◌, ◌≤◌, ◌<◌, Bool, true, false, ◌⊎◌, inl, inr, List, [], ◌∷◌, ◌++◌, length, take, refl, sym, ap, subst, ◌∙◌, arith, append-nil, Option, Some, None}
-use Rattle.std.specs.Prelude.{unwrap_or, if◌then◌else◌, codes}
+use Rattle.std.proofs.Common.{◌≡◌, ℕ, ◌+◌, ◌-◌, ◌≤◌, ◌<◌, Bool, true, false, ◌⊎◌, inl, inr, List, [], ◌∷◌, ◌++◌, length, take, refl, sym, ap, subst, ◌∙◌, arith, append-nil, Option, Some}
+use Rattle.std.specs.Prelude.{unwrap_or, if◌then◌else◌}
 use Rattle.std.specs.List.{concat}
 use Rattle.std.proofs.lemmas.Bool.Decides.{nat_tests}
 use Rattle.std.proofs.lemmas.List.{length-append, length-take}
 use Rattle.std.proofs.lemmas.List.Folds.{concat-append}
-use Rattle.std.specs.Str.Parse.{digits_value}
-use Rattle.std.proofs.lemmas.Bool.{cases_Bool}
-use Rattle.http_header.specs.FieldValue.{FieldValue}
-use Rattle.http_header.specs.HeaderMap.{get_all}
 use Rattle.relay_tasks.specs.declared.task.HttpTask.{HttpTask}
 use Rattle.relay_tasks.specs.Head.{RequestHead}
 use Rattle.relay_tasks.specs.Task.{is_end}
 use Rattle.relay_h1.specs.declared.framing.Framing.{Framing}
 use Rattle.relay_h1.specs.declared.framing.Framing.TheVariants as framing
-use Rattle.relay_h1.specs.BodyWire.{after_piece, after_pieces, body_text, end_text, is_full, is_short, pieces_text, says_end}
-use Rattle.relay_h1.specs.Framing.{coding_said, is_chunked, is_http_10, is_length, length_said, request_framing, request_table}
+use Rattle.relay_h1.specs.BodyWire.{after_piece, after_pieces, body_text, end_text, is_short, pieces_text}
+use Rattle.relay_h1.specs.Framing.{request_framing}
 use Rattle.relay_h1.specs.Wire.{request_text}
 use Rattle.relay_core.specs.Past.{Origin}
 use Rattle.relay_peer.specs.Body.{body_of, bytes_of, sent_as, sent_behind}
@@ -305,117 +300,3 @@ short_or_whole s p closed order short serves =
       ap (λ (l : List HttpTask). length (body_of l)) (short_all s p closed order short),
       ap (λ (l : List ℕ). length l) short.joined,
     )
-
--- ---- no body
-
--- what stands is one framing
-one_framing : (f g : Framing) → Some f ≡ Some g → says_end f ≡ true → says_end g ≡ true
-one_framing f g same ends = let one : f ≡ g = cc in rw (sym one) ends
-
--- nothing stands
-none_framed : (f : Framing) → ¬ (None ≡ Some f)
-none_framed f same = cc
-
--- each framing in the table of requests says where a body ends
-table_ends : (old : Bool) (sizes codings : List FieldValue) (f : Framing)
-    → request_table old (length_said sizes) (coding_said codings) ≡ Some f → says_end f ≡ true
-table_ends old [] [] f is = one_framing framing.Empty f is refl
-table_ends old [] (c ∷ []) f is =
-    elim (cases_Bool (is_chunked c.bytes)) [
-      | inl on ↦ chunked_ends old (rw on at is)
-      | inr off ↦ absurd (none_framed f (rw off at is))
-    ]
-  where
-    chunked_ends : (old : Bool) → (if old then None else Some framing.Chunked) ≡ Some f
-        → says_end f ≡ true
-    chunked_ends true is = absurd (none_framed f is)
-    chunked_ends false is = one_framing framing.Chunked f is refl
-table_ends old [] (c ∷ d ∷ codings) f is = absurd (none_framed f is)
-table_ends old (l ∷ []) [] f is =
-    elim (cases_Bool (is_length l.bytes)) [
-      | inl on ↦ one_framing (framing.Length (digits_value 10 l.bytes)) f (rw on at is) refl
-      | inr off ↦ absurd (none_framed f (rw off at is))
-    ]
-table_ends old (l ∷ []) (c ∷ []) f is =
-    elim (cases_Bool (is_length l.bytes)) [
-      | inl on ↦ elim (cases_Bool (is_chunked c.bytes)) [
-        | inl yet ↦ absurd (none_framed f (rw (on, yet) at is))
-        | inr not_yet ↦ absurd (none_framed f (rw (on, not_yet) at is))
-      ]
-      | inr off ↦ elim (cases_Bool (is_chunked c.bytes)) [
-        | inl yet ↦ absurd (none_framed f (rw (off, yet) at is))
-        | inr not_yet ↦ absurd (none_framed f (rw (off, not_yet) at is))
-      ]
-    ]
-table_ends old (l ∷ []) (c ∷ d ∷ codings) f is =
-    elim (cases_Bool (is_length l.bytes)) [
-      | inl on ↦ absurd (none_framed f (rw on at is))
-      | inr off ↦ absurd (none_framed f (rw off at is))
-    ]
-table_ends old (l ∷ m ∷ sizes) [] f is = absurd (none_framed f is)
-table_ends old (l ∷ m ∷ sizes) (c ∷ []) f is =
-    elim (cases_Bool (is_chunked c.bytes)) [
-      | inl on ↦ absurd (none_framed f (rw on at is))
-      | inr off ↦ absurd (none_framed f (rw off at is))
-    ]
-table_ends old (l ∷ m ∷ sizes) (c ∷ d ∷ codings) f is = absurd (none_framed f is)
-
--- so does the framing of a request
-request_ends : (head : RequestHead) (f : Framing) → request_framing head ≡ Some f
-    → says_end f ≡ true
-unfolding request_framing
-request_ends head f is =
-    table_ends (is_http_10 head.version) (get_all head.fields (codes "content-length"))
-    (get_all head.fields (codes "transfer-encoding")) f is
-
--- so does the framing of what is sent of a head
-body_ends : (head : RequestHead) → says_end (body_framing head) ≡ true
-unfolding body_framing
-body_ends head = on (request_framing head) refl
-  where
-    on : (o : Option Framing) → request_framing head ≡ o
-        → says_end (unwrap_or o framing.Empty) ≡ true
-    on None is = refl
-    on (Some f) is = request_ends head f is
-
--- a body of no text of which nothing is missing is full, where its framing says where it ends
-none_full : (f : Framing) (pieces : List (List ℕ)) → says_end f ≡ true → body_text f pieces ≡ []
-    → is_short (after_pieces f pieces) ≡ false → is_full f ≡ true
-none_full framing.Empty pieces says none fits = refl
-none_full (framing.Length n) pieces says none fits =
-    let size = ap (λ (l : List ℕ). length l) (sym (length_text n pieces) ∙ none) in
-    let zero : n ≡ 0 =
-    omega (arith, size, text_whole n pieces (unshort_length n pieces fits)) in
-    rw zero refl
-none_full framing.Chunked pieces says none fits =
-    let chunked = stays_framed framing.Chunked (λ piece. refl) pieces in
-    let size = ap (λ (l : List ℕ). length l)
-    (sym (ap (λ (f : Framing). pieces_text framing.Chunked pieces ++ end_text f) chunked)
-    ∙ none) in
-    absurd (omega (
-      arith,
-      size,
-      length-append (pieces_text framing.Chunked pieces) (end_text framing.Chunked),
-    ))
-none_full framing.UntilClose pieces says none fits = absurd (cc)
-none_full framing.Tunnel pieces says none fits = absurd (cc)
-
--- the same front of two texts leaves the same behind it
-append_cancel : (xs ys : List ℕ) → xs ++ ys ≡ xs → ys ≡ []
-append_cancel xs [] same = refl
-append_cancel xs (y ∷ ys) same =
-    absurd (omega (
-      arith,
-      ap (λ (l : List ℕ). length l) same,
-      length-append xs (y ∷ ys),
-    ))
-
--- a head behind which nothing was sent, and nothing is missing, has no body
-pub head_full : (s : Origin) (p : Passed) (closed : Bool) (order : IsInOrder s p closed)
-    → MayServe s p closed order → p.sent ≡ sent_wire (sent_as s.sent [])
-    → is_full (body_framing s.sent) ≡ true
-head_full s p closed order serves bare =
-    none_full (body_framing s.sent) serves.pieces (body_ends s.sent)
-    (append_cancel (request_text s.sent) (body_text (body_framing s.sent) serves.pieces)
-    (sym serves.request ∙ bare ∙ append-nil (request_text s.sent)))
-    serves.complete

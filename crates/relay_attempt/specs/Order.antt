@@ -42,7 +42,8 @@ pub record Asks (s : Origin) (p : Passed) : Type 0 where
 -- ---- the request
 
 -- the pieces are the front of the body that the bytes say: joined they are its first bytes, and an
--- end among them is the last of them, and the body's
+-- end among them is the last of them, and the body's. Where the head ends the body its end is among
+-- them from the first on
 pub record ArePieces (framing : Framing) (bytes : List ℕ) (pieces : List HttpTask) : Type 0 where
   pub text : BodyText
   pub says : Body framing bytes text
@@ -50,6 +51,7 @@ pub record ArePieces (framing : Framing) (bytes : List ℕ) (pieces : List HttpT
   pub ends_last : EndsLast pieces
   pub whole : list_any is_end pieces ≡ true
       → (n : ℕ) × (text ≡ ended_text (body_of pieces) n)
+  pub headed : ends_with_head framing ≡ true → list_any is_end pieces ≡ true
 
 -- ---- the response
 
@@ -199,12 +201,12 @@ pub record WrittenTo (before after : LinkState) : Type 0 where
   pub told : after.write_faults ≡ more before.write_faults failed
   pub faults : before.faults ≤ after.faults
 
--- the request has ended: an end is among its pieces, or its head says that it has no body
+-- the request has ended: an end is among its pieces, as it is from the first on where its head says
+-- that it has no body
 abbrev pub HasEnded : {s : Origin} {p : Passed} {closed : Bool} → IsInOrder s p closed → Type 0
-HasEnded order =
-    (list_any is_end order.pieces ≡ true) ⊎ (ends_with_head order.asks.framing ≡ true)
+HasEnded order = list_any is_end order.pieces ≡ true
 
--- the whole request was sent, with its end
+-- the whole request was sent, with its end as the head that is sent frames it
 pub record SendsWhole (s : Origin) (p : Passed) (closed : Bool) (order : IsInOrder s p closed)
     : Type 0 where
   pub n : ℕ

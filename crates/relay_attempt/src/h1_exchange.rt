@@ -1,6 +1,6 @@
 //! One exchange between a client and an HTTP/1 link to a peer (RFC 9112, sections 6, 7 and 9.3).
 ghost use Rattle.std.specs.declared.alloc.Global.{Global};
-ghost use Rattle.std.specs.Prelude.{◌≡◌, ◌↔◌, Bool, ℕ, List, [], None, false, IfOk, IfErr};
+ghost use Rattle.std.specs.Prelude.{◌≡◌, ◌↔◌, Bool, ℕ, List, [], None, false, IfOk, IfErr, option_to_list};
 ghost use Rattle.relay_tasks.specs.Error.{IsMemoryOr};
 ghost use Rattle.relay_links.specs.Link.{LinkState, IsHandedOut};
 ghost use Rattle.relay_h1.specs.Framing.{request_framing};
@@ -8,14 +8,16 @@ ghost use Rattle.relay_h1.specs.Verdict.{refused_from};
 ghost use Rattle.relay_core.specs.Asked.{WaitRose};
 ghost use Rattle.relay_core.specs.Causes.{says_failed};
 ghost use Rattle.relay_core.specs.Past.{Origin};
-ghost use Rattle.relay_sides.specs.Client.{BeginsBehind};
+ghost use Rattle.relay_session.specs.Reading.{head_of};
+ghost use Rattle.relay_sides.specs.Client.{BeginsBehind, end_put};
+ghost use Rattle.relay_exchange.specs.Exchange.{put_first};
 ghost use Rattle.relay_attempt.specs.Bound.{CountsOn, HasCounted};
 ghost use Rattle.relay_attempt.specs.Passed.{Passed};
 ghost use Rattle.relay_attempt.specs.Head.{IsRefusedFor, link_of, may_keep};
 ghost use Rattle.relay_attempt.specs.Attempt.{DownHalf, IsAttempt, UpHalf};
 ghost use Rattle.relay_attempt.specs.Exchange.{IsUnderWay, Turns, MeetsSilence, IsSilent, Asks, HasMoved, down_state};
 
-use relay_core::Step;
+use relay_core::{Piece, Step};
 use relay_exchange::{Exchange, Turn};
 use relay_links::{ByteLink, Schedule};
 use relay_peer::PeerSide;
@@ -40,7 +42,8 @@ impl<L: ByteLink> H1Exchange<L> {
     /// An exchange for the session's request over that link, which was just handed out. `head` is
     /// the head that is sent, which may differ from the client's in all: the request is framed as
     /// it says, and the response towards the client as the client's says. Where they frame alike
-    /// a request does not end short, and no task of a response is refused.
+    /// a request does not end short, and no task of a response is refused. Where the client's head
+    /// ended the body, its end is put before any turn, so that it is sent as `head` frames it.
     ///
     /// `InvalidHTTPHeader` of the source `Internal`, about `BadFraming`: exactly where
     /// `request_framing` refuses the head. Then, and where memory is wanted, the link comes back,
@@ -73,7 +76,8 @@ impl<L: ByteLink> H1Exchange<L> {
                 let body_done = session.is_body_done();
                 let client = ClientSide::new(alloc, session);
                 let upstream = Filtered::new(peer, of_head);
-                let exchange = Exchange::begin(alloc, client, body_done, upstream);
+                let end = end_in(body_done);
+                let exchange = Exchange::begin(alloc, client, body_done, upstream, end);
                 Ok(H1Exchange { exchange })
             }
             Err(why) => Err(Unbegun {
@@ -134,6 +138,9 @@ impl<L: ByteLink> H1Exchange<L> {
             → (F.state client.new).faults ≡ (F.state client.old).faults }
         ensures client_start { F.start client.new ≡ F.start client.old }
         ensures peer_start { L.start (link_of self.new) ≡ L.start (link_of self.old) }
+        // The client's session still has the head that it had.
+        ensures head { head_of self.new.exchange.down.session.reading
+            ≡ head_of self.old.exchange.down.session.reading }
     {
         self.exchange.turn(client, schedule)
     }
@@ -188,4 +195,18 @@ impl<L> H1Exchange<L> {
         let session = down.into_session();
         (session, up.into_inner().into_link())
     }
+}
+
+/// What is put of a body before anything is read of it: its end, where its head ended it.
+fn end_in(body_done: bool) -> Option<Piece>
+    ensures { option_to_list (put_first result) ≡ end_put body_done }
+{
+    if body_done {
+        return Some(Piece {
+            bytes: None,
+            upstream_end: true,
+            client_end: true,
+        });
+    }
+    None
 }

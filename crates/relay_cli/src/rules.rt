@@ -49,9 +49,9 @@ fn are_called(rules: &[Rule]) -> bool
     rules.iter().all(|rule| is_called(rule.hook))
 }
 
-/// Whether the proxy calls the hook: those in front of the attempts, and those of an attempt up to
-/// the head that is sent. A rule on another hook is taken once that is called, so that no script is
-/// taken that is not followed.
+/// Whether the proxy calls the hook: those in front of the attempts, those of an attempt up to the
+/// head that is sent, and the one that treats the error of an attempt that had a link. A rule on
+/// another hook is taken once that is called, so that no script is taken that is not followed.
 fn is_called(hook: Hook) -> bool
     ensures { result ≡ is_called hook }
 {
@@ -67,6 +67,7 @@ fn is_called(hook: Hook) -> bool
             | Hook::UpstreamPeer
             | Hook::ConnectedToUpstream
             | Hook::UpstreamRequestFilter
+            | Hook::ErrorWhileProxy
     )
 }
 

@@ -2,8 +2,9 @@
 --
 --   turns_on      from the step of a duplex and what it tells: Turns
 --   turns_failed  from such a step, and the send error that is kept: Turns
---   begun         from Begins, over a duplex that has moved nothing: IsUnderWay
-use Rattle.std.proofs.Common.{◌≡◌, Bool, true, false, inl, inr, List, [], ◌∷◌, ◌++◌, Some, None, refl, sym, ap, subst, ◌∙◌, append-nil}
+--   begun         from Begins, over a duplex that has put the first task at most: IsUnderWay
+use Rattle.std.proofs.Common.{◌≡◌, Bool, true, false, inl, inr, List, [], ◌∷◌, ◌++◌, Option, Some, None, refl, sym, ap, subst, ◌∙◌}
+use Rattle.std.specs.Prelude.{option_to_list}
 use Rattle.std.specs.List.{list_any}
 use Rattle.relay_tasks.specs.declared.error.Error.{Error}
 use Rattle.relay_tasks.specs.declared.error.Fail.TheVariants as fail
@@ -19,11 +20,12 @@ use Rattle.relay_core.specs.Past.{DownPast, UpPast}
 use Rattle.relay_core.specs.Sound.{IsSound}
 use Rattle.relay_core.specs.State.{is_reading}
 use Rattle.relay_core.specs.State as state
-use Rattle.relay_core.specs.Table.{State, begins, core, step_of_up_write}
+use Rattle.relay_core.specs.Table.{State, begins, core, step_of_up_write, with_replay}
 use Rattle.relay_core.specs.Up.{UpState}
 use Rattle.relay_core.specs.declared.duplex.Duplex.{Duplex}
 use Rattle.relay_core.specs.declared.step.Step.{Step}
 use Rattle.relay_core.specs.declared.step.Step.TheVariants as step
+use Rattle.relay_core.specs.declared.step.UpKind.{UpKind}
 use Rattle.relay_exchange.specs.Exchange.{Begins, IsUnderWay, ComesTo, Turns}
 
 -- a write to the upstream finishes nothing
@@ -91,92 +93,139 @@ none_behind : (front behind : List HttpTask) → [] ≡ front ++ behind → behi
 none_behind [] behind is = sym is
 none_behind (one ∷ front) behind is = absurd (cc)
 
--- nor holds it a failure
+-- behind an end among one task there is none
+none_after : (first : HttpTask) (front behind : List HttpTask) → first ∷ [] ≡ front ++ behind
+    → list_any is_end front ≡ true → behind ≡ []
+none_after first [] behind is found = absurd (cc)
+none_after first (one ∷ front) behind is found =
+    let left : [] ≡ front ++ behind = cc in none_behind front behind left
+
+-- nor behind one among the first task that was put, if there is one
+first_last : (first : Option HttpTask) → EndsLast (option_to_list first)
+first_last None = λ front behind is found. none_behind front behind is
+first_last (Some one) = none_after one
+
+-- an empty list holds no failure
 none_held : (front behind : List HttpTask) (e : Error) → [] ≡ front ++ task.Failed e ∷ behind → ⊥
 none_held [] behind e is = cc
 none_held (one ∷ front) behind e is = cc
 
--- a request that is not read from its beginning on has no body
+-- a request that is not read from its beginning on has ended
 begun_done : (done : Bool) → is_reading (state.begun done) ≡ false → done ≡ true
 begun_done true is = refl
 begun_done false is = absurd (cc)
 
+-- a duplex as it begins, with these tasks put, the upstream's request being done or not
+abbrev begins_with : UpKind → Bool → List HttpTask → Bool → Duplex → Duplex
+begins_with kind done tasks sent d = record (begins kind done d) {
+  upstream_request_done = sent;
+  requests = record { tasks = tasks; closed = false; failed = false };
+}
+
 module _
     (down_past : DownPast → Type 0) (up_past : UpPast → Type 0)
-    (up_blames : UpPast → Error → Type 0) (done : Bool) (down : DownState) (up : UpState)
-    (p : DownPast) (q : UpPast) (b : Begins down_past up_past done down up p q)
+    (up_blames : UpPast → Error → Type 0) (done : Bool) (first : Option HttpTask)
+    (down : DownState) (up : UpState) (p : DownPast) (q : UpPast)
+    (b : Begins down_past up_past done first down up p q)
   where
-    -- nothing was put, so nothing stands behind an end
+    -- nothing was put behind an end
     ends_last : EndsLast p.put
-    ends_last = λ front behind is found. none_behind front behind (sym b.none_put ∙ is)
+    ends_last = subst EndsLast (sym b.first_put) (first_last first)
 
-    -- nor is an end among it
-    unended : list_any is_end p.put ≡ false
-    unended = ap (list_any is_end) b.none_put
+    -- an end was put exactly where the request has ended
+    ended : list_any is_end p.put ≡ true → down.request_ended ≡ true
+    ended = λ is. b.request_ended ∙ (sym b.end_put ∙ is)
 
-    -- a test that passes does not fail
-    none_wrong : {A : Type 0} → true ≡ false → A
-    none_wrong wrong = absurd (cc)
+    module _ (tasks : List HttpTask) (sent : Bool)
+        (is_put : p.put ≡ tasks)
+        (whole : sent ≡ true → (tasks ≡ []) × (done ≡ true))
+        (taken_end : done ≡ true → tasks ≡ [] → sent ≡ true)
+      where
+        -- nothing was asked for, lost or taken
+        ordinary : (d : Duplex)
+            → Ordinary (core (begins_with up.kind done tasks sent d) down up) p q
+        ordinary d = record {
+          ends_last = ends_last;
+          ended = ended;
+          request_done = λ is. inl (b.request_ended ∙ begun_done done is);
+          unlost = λ none. b.none_lost;
+          whole = λ none is. (let w = whole is in (w.0, b.request_ended ∙ w.1));
+          put_end = λ is. inl (b.end_put ∙ (sym b.request_ended ∙ is));
+          taken_end = λ is none. taken_end (sym b.request_ended ∙ is) none;
+          sent = λ none is. absurd (cc);
+          through = λ is. absurd (cc);
+          answered = λ is. absurd (cc);
+          client_done = λ is. absurd (cc);
+          closed = inl b.none_closing;
+        }
 
-    -- nothing was asked for, lost or ended
-    ordinary : (d : Duplex) → Ordinary (core (begins up.kind done d) down up) p q
-    ordinary d = record {
-      ends_last = ends_last;
-      ended = λ is. none_wrong (sym is ∙ unended);
-      request_done = λ is. inl (b.request_ended ∙ begun_done done is);
-      unlost = λ none. b.none_lost;
-      whole = λ none is. (refl, b.request_ended ∙ is);
-      put_end = λ is. inr (sym b.request_ended ∙ is);
-      taken_end = λ is none. sym b.request_ended ∙ is;
-      sent = λ none is. absurd (cc);
-      through = λ is. absurd (cc);
-      answered = λ is. absurd (cc);
-      client_done = λ is. absurd (cc);
-      closed = inl b.none_closing;
-    }
+        -- the exchange so far is that of both sides as they begin
+        so_far : (d : Duplex) → IsSound (core (begins_with up.kind done tasks sent d) down up)
+            → SoFar down_past up_past up_blames
+            (core (begins_with up.kind done tasks sent d) down up) p q
+        so_far d sound = record {
+          down = b.down_holds;
+          up = b.up_holds;
+          sound = sound;
+          requests = is_put ∙ ap (λ (taken : List HttpTask). taken ++ tasks) (sym b.none_taken);
+          responses = record {
+            given = [];
+            refused = None;
+            rest = [];
+            failure = None;
+            dropped = [];
+            is_batched = b.none_batched;
+            front = b.none_read;
+            same = refl;
+            none_refused = λ is. refl;
+            none_dropped = λ is. refl;
+            none_failed = λ is. refl;
+          };
+          unended = λ is. ap (list_any is_end) b.none_read;
+          send_error = λ e is. absurd (cc);
+          failures = λ front behind e is. absurd (none_held front behind e is);
+          steady = λ is. record {
+            ends_last = ends_last;
+            ended = ended;
+            closed = inl b.none_closing;
+          };
+          ordinary = λ alive is. ordinary d;
+          marks = record { kind = refl; sends = sym b.unsent; reads = λ is. b.unread };
+        }
 
-    -- the exchange so far is that of both sides as they begin
-    so_far : (d : Duplex) → IsSound (core (begins up.kind done d) down up)
-        → SoFar down_past up_past up_blames (core (begins up.kind done d) down up) p q
-    so_far d sound = record {
-      down = b.down_holds;
-      up = b.up_holds;
-      sound = sound;
-      requests = b.none_put ∙ sym (append-nil q.taken ∙ b.none_taken);
-      responses = record {
-        given = [];
-        refused = None;
-        rest = [];
-        failure = None;
-        dropped = [];
-        is_batched = b.none_batched;
-        front = b.none_read;
-        same = refl;
-        none_refused = λ is. refl;
-        none_dropped = λ is. refl;
-        none_failed = λ is. refl;
-      };
-      unended = λ is. ap (list_any is_end) b.none_read;
-      send_error = λ e is. absurd (cc);
-      failures = λ front behind e is. absurd (none_held front behind e is);
-      steady = λ is. record {
-        ends_last = ends_last;
-        ended = λ is. none_wrong (sym is ∙ unended);
-        closed = inl b.none_closing;
-      };
-      ordinary = λ alive is. ordinary d;
-      marks = record { kind = refl; sends = sym b.unsent; reads = λ is. b.unread };
-    }
+        -- it is under way
+        under_way : (d : Duplex) → IsSound (core (begins_with up.kind done tasks sent d) down up)
+            → IsUnderWay down_past up_past up_blames
+            (core (begins_with up.kind done tasks sent d) down up) p q
+        under_way d sound = record {
+          so_far = so_far d sound;
+          goes_on = record { unfinished = refl; unfailed = refl };
+        }
+
+module _
+    (down_past : DownPast → Type 0) (up_past : UpPast → Type 0)
+    (up_blames : UpPast → Error → Type 0) (done : Bool)
+  where
+    -- by the first task
+    begun_by : (first : Option HttpTask) (down : DownState) (up : UpState) (p : DownPast)
+        (q : UpPast) → Begins down_past up_past done first down up p q → (d : Duplex)
+        → IsSound (core (with_replay (begins up.kind done d) first) down up)
+        → IsUnderWay down_past up_past up_blames
+        (core (with_replay (begins up.kind done d) first) down up) p q
+    begun_by None down up p q b d sound =
+        under_way down_past up_past up_blames done None down up p q b [] done b.first_put
+        (λ is. (refl, is)) (λ is none. is) d sound
+    begun_by (Some one) down up p q b d sound =
+        under_way down_past up_past up_blames done (Some one) down up p q b (one ∷ []) false
+        b.first_put (λ is. absurd (cc)) (λ is none. absurd (cc)) d sound
 
     -- an exchange begins with both sides as they are
-    pub begun : (d : Duplex) → d ≡ begins up.kind done d → IsSound (core d down up)
+    pub begun : (first : Option HttpTask) (down : DownState) (up : UpState) (p : DownPast)
+        (q : UpPast) → Begins down_past up_past done first down up p q → (d : Duplex)
+        → d ≡ with_replay (begins up.kind done d) first → IsSound (core d down up)
         → IsUnderWay down_past up_past up_blames (core d down up) p q
-    begun d is sound =
+    begun first down up p q b d is sound =
         let Under : Duplex → Type 0 = λ x.
         IsUnderWay down_past up_past up_blames (core x down up) p q in
         let Sound : Duplex → Type 0 = λ x. IsSound (core x down up) in
-        subst Under (sym is)
-        (record {
-          so_far = so_far d (subst Sound is sound);
-          goes_on = record { unfinished = refl; unfailed = refl };
-        })
+        subst Under (sym is) (begun_by first down up p q b d (subst Sound is sound))

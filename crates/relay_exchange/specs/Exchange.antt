@@ -1,8 +1,10 @@
 -- An exchange so far over any two sides, and what a turn makes of it.
-use Rattle.std.specs.Prelude.{◌≡◌, Bool, true, false, ◌⊎◌, List, [], Option, Some, None}
+use Rattle.std.specs.Prelude.{◌≡◌, Bool, true, false, ◌⊎◌, List, [], Option, Some, None, option_to_list}
+use Rattle.std.specs.List.{list_any}
 use Rattle.relay_tasks.specs.declared.error.Error.{Error}
 use Rattle.relay_tasks.specs.declared.error.Fail.TheVariants as fail
 use Rattle.relay_tasks.specs.declared.task.HttpTask.{HttpTask}
+use Rattle.relay_tasks.specs.Task.{is_end}
 use Rattle.relay_links.specs.Count.{up}
 use Rattle.relay_links.specs.Link.{LinkState}
 use Rattle.relay_links.specs.declared.branch.Branch.{Branch}
@@ -11,12 +13,14 @@ use Rattle.relay_core.specs.Counts.{Adds}
 use Rattle.relay_core.specs.Down.{DownState}
 use Rattle.relay_core.specs.Moves.{SoFar, Extends, Finishes, HasReason}
 use Rattle.relay_core.specs.Past.{DownPast, UpPast}
+use Rattle.relay_core.specs.Piece.{task_put_of}
 use Rattle.relay_core.specs.Table.{State, is_failed, is_finished}
 use Rattle.relay_core.specs.Table as core
 use Rattle.relay_core.specs.Up.{UpState}
 use Rattle.relay_core.specs.Uses.{AsksOne}
 use Rattle.relay_core.specs.Uses as uses
 use Rattle.relay_core.specs.declared.duplex.Duplex.{Duplex}
+use Rattle.relay_core.specs.declared.piece.Piece.{Piece}
 use Rattle.relay_core.specs.declared.step.Step.{Step}
 use Rattle.relay_core.specs.declared.step.Step.TheVariants as step
 use Rattle.relay_core.specs.declared.told.Told.{Told}
@@ -43,13 +47,22 @@ pub record GoesOn (d : Duplex) : Type 0 where
   pub unfinished : is_finished d ≡ false
   pub unfailed : is_failed d.word ≡ false
 
--- both sides as an exchange begins: nothing but the head was queued, and no call answered an error
+-- the task that what was read of the request before puts, if it puts one
+abbrev pub put_first : Option Piece → Option HttpTask
+put_first None = None
+put_first (Some piece) = task_put_of false piece
+
+-- both sides as an exchange begins: of the request's body that first task was put, if there is one,
+-- and it is an end exactly where the body has ended; nothing else was queued but the head, and no
+-- call answered an error
 pub record Begins
     (down_past : DownPast → Type 0) (up_past : UpPast → Type 0) (done : Bool)
-    (down : DownState) (up : UpState) (p : DownPast) (q : UpPast) : Type 0 where
+    (first : Option HttpTask) (down : DownState) (up : UpState) (p : DownPast) (q : UpPast)
+    : Type 0 where
   pub down_holds : down_past p
   pub up_holds : up_past q
-  pub none_put : p.put ≡ []
+  pub first_put : p.put ≡ option_to_list first
+  pub end_put : list_any is_end p.put ≡ done
   pub none_batched : p.batched ≡ []
   pub none_closing : p.closing ≡ []
   pub none_read : q.read ≡ []

@@ -7,12 +7,12 @@ ghost use Rattle.relay_core.specs.Causes.{says_failed, says_finished};
 ghost use Rattle.relay_core.specs.Down.{DownState};
 ghost use Rattle.relay_core.specs.Past.{Origin, DownPast, UpPast};
 ghost use Rattle.relay_core.specs.Sound.{IsSound};
-ghost use Rattle.relay_core.specs.Table.{begins, core, enabled};
+ghost use Rattle.relay_core.specs.Table.{begins, core, enabled, with_replay};
 ghost use Rattle.relay_core.specs.Uses.{Asks, AsksOne};
-ghost use Rattle.relay_exchange.specs.Exchange.{HasMoved, IsSilentLink, IsUnderWay, MeetsSilence, TellsOn, Turns, may_keep_at, stage_of};
+ghost use Rattle.relay_exchange.specs.Exchange.{HasMoved, IsSilentLink, IsUnderWay, MeetsSilence, TellsOn, Turns, may_keep_at, put_first, stage_of};
 
 use crate::round::go_round;
-use relay_core::{Down, Duplex, Step, Up};
+use relay_core::{Down, Duplex, Piece, Step, Up};
 use relay_links::{Branch, Schedule};
 use relay_tasks::{Fail, Pause};
 use std::alloc::Global;
@@ -43,9 +43,18 @@ pub struct Turn {
 
 impl<D, U: Up> Exchange<D, U> {
     /// An exchange between these sides. The upstream's side holds the head that is sent;
-    /// `body_done` says that the client's body has ended. It takes no memory.
-    pub fn begin(alloc: Global, down: D, body_done: bool, up: U) -> Exchange<D, U>
-        ensures fresh { result.duplex ≡ begins (U.state up).kind body_done result.duplex }
+    /// `body_done` says that the client's body has ended. `replay` is what was read of the request
+    /// before, as one piece, which is put first: an empty one that is not the end is not put. It
+    /// takes no memory.
+    pub fn begin(
+        alloc: Global,
+        down: D,
+        body_done: bool,
+        up: U,
+        replay: Option<Piece>,
+    ) -> Exchange<D, U>
+        ensures fresh { result.duplex ≡ with_replay
+            (begins (U.state up).kind body_done result.duplex) (put_first replay) }
         ensures sound { (down : DownState) → down.body_done ≡ body_done
             → IsSound (core result.duplex down (U.state up)) }
         ensures exact { result ≡ record {
@@ -55,7 +64,11 @@ impl<D, U: Up> Exchange<D, U> {
           stage = Stage.Head;
         } }
     {
-        let duplex = Duplex::new(alloc, up.kind(), body_done);
+        let mut duplex = Duplex::new(alloc, up.kind(), body_done);
+        match replay {
+            Some(piece) => duplex.put_replay(piece),
+            None => {}
+        }
         Exchange {
             down,
             up,
@@ -119,6 +132,8 @@ impl<D, U: Up> Exchange<D, U> {
             → (D.link client.new).faults ≡ (D.link client.old).faults }
         ensures client_start { D.start client.new ≡ D.start client.old }
         ensures peer_start { U.start self.new.up ≡ U.start self.old.up }
+        // No call of the client's side changes the head that it holds.
+        ensures head { D.head self.new.down ≡ D.head self.old.down }
     {
         if self.sends_head::<C>() {
             let step = send_head(
@@ -250,6 +265,7 @@ fn send_head<C, D: Down<C>, U: Up>(
         → (D.link client.new).faults ≡ (D.link client.old).faults }
     ensures client_start { D.start client.new ≡ D.start client.old }
     ensures peer_start { U.start up.new ≡ U.start up.old }
+    ensures head { D.head down.new ≡ D.head down.old }
 {
     let step = write_head(client, down, up, duplex);
     *stage = stage_behind(up);
@@ -294,6 +310,7 @@ fn write_head<C, D: Down<C>, U: Up>(
         → (D.link client.new).faults ≡ (D.link client.old).faults }
     ensures client_start { D.start client.new ≡ D.start client.old }
     ensures peer_start { U.start up.new ≡ U.start up.old }
+    ensures head { D.head down.new ≡ D.head down.old }
 {
     let step = duplex.step(client, down, up, Branch::UpWrite);
     match duplex.send_error() {

@@ -334,6 +334,8 @@ impl<'a, SV: ProxyHttp, C, D: Down<C>> Down<C> for Hooked<'a, SV, D> {
 
     ghost start = { D.start };
 
+    ghost head = { λ f. D.head f.inner };
+
     fn may_read(&self) -> bool {
         either(self.is_held(), self.inner.may_read())
     }

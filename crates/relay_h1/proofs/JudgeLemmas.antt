@@ -14,7 +14,7 @@ use Rattle.relay_h1.specs.declared.verdict.RequestRead.{RequestRead}
 use Rattle.relay_h1.specs.declared.verdict.ResponseRead.{ResponseRead}
 use Rattle.relay_h1.specs.Head.{most_bytes, head_refusal, ReadsRequest, ReadsResponse, RefusesRequest, RefusesResponse}
 use Rattle.relay_h1.specs.HeadEnd.{head_end}
-use Rattle.relay_h1.specs.Verdict.{JudgesRequest, JudgesResponse, AdmitsHead, AdmitsRequest, AdmitsResponse, HasRequest, HasResponse, IsTooLong, IsRefusedText, IsRefusedAnswer, IsRefusedRequest, IsRefusedResponse, fail_from, refused_from}
+use Rattle.relay_h1.specs.Verdict.{JudgesRequest, JudgesResponse, AdmitsRequest, AdmitsResponse, HasRequest, HasResponse, IsTooLong, IsRefusedText, IsRefusedAnswer, IsRefusedRequest, IsRefusedResponse, fail_from, refused_from}
 use Rattle.relay_h1.specs.Verdict as verdict
 use Rattle.relay_h1.specs.Framing.{IsFramedBy}
 use Rattle.relay_h1.specs.declared.framing.Framing.{Framing}
@@ -87,7 +87,7 @@ judges_request bytes len read ends admits =
         ends = ends ∙ ap Some (sym same);
         reads = rw same admits.0;
       };
-      let_in = admits.1;
+      framed = admits.1;
     }
 
 -- a failure on the text is one on the bytes

@@ -8,7 +8,7 @@ use Rattle.relay_h1.specs.declared.framing.Framing.{Framing}
 use Rattle.relay_h1.specs.Head.{most_bytes, ReadsRequest, ReadsResponse}
 use Rattle.relay_h1.specs.HeadEnd.{head_end}
 use Rattle.relay_h1.specs.Framing.{request_framing, response_framing}
-use Rattle.relay_h1.specs.Verdict.{IsOpen, IsTooLong, IsLetIn, IsTurnedAway, StartsWithRequest, HasRequest, IsRefusedText, IsRefusedRequest, StartsWithResponse, HasResponse, IsRefusedAnswer, IsRefusedResponse, settled}
+use Rattle.relay_h1.specs.Verdict.{IsOpen, IsTooLong, StartsWithRequest, HasRequest, IsRefusedText, IsRefusedRequest, StartsWithResponse, HasResponse, IsRefusedAnswer, IsRefusedResponse, settled}
 use Rattle.relay_h1.specs.Verdict as verdict
 use Rattle.relay_h1.proofs.HeadEndLemmas.{head_end-within, head_end-append, head_end-later}
 use Rattle.relay_h1.proofs.HeadLemmas.{request_head_unique, response_head_unique}
@@ -55,23 +55,14 @@ IsRefusedRequest-IsOpen bytes why (verdict.IsRefusedRequest.has_bad_text len end
     open_still =
     let none = open_still.no_end in cc
 
--- a head that is let in is not turned away
-let_in_or_away : (head : RequestHead) (framing : Framing) (why : Context) → IsLetIn head framing
-    → ¬ (IsTurnedAway head why)
-let_in_or_away head framing why let_in (verdict.IsTurnedAway.has_no_framing none is) =
-    let framed = let_in.framed in cc
-let_in_or_away head framing why let_in (verdict.IsTurnedAway.has_no_host other framed away is) =
-    let hosted = let_in.hosted in cc
-
--- a text that is let in is not refused
+-- a text that is framed is not refused
 admitted_or_refused : (text : List ℕ) (head : RequestHead) (framing : Framing) (why : Context)
-    → ReadsRequest text head → IsLetIn head framing → ¬ (IsRefusedText text why)
-admitted_or_refused text head framing why reads let_in (verdict.IsRefusedText.is_no_head none is) =
+    → ReadsRequest text head → request_framing head ≡ Some framing → ¬ (IsRefusedText text why)
+admitted_or_refused text head framing why reads framed (verdict.IsRefusedText.is_no_head none is) =
     none head reads
-admitted_or_refused text head framing why reads let_in
-    (verdict.IsRefusedText.is_turned_away other other_reads away) =
-    let same = request_head_unique text other head other_reads reads in
-    let_in_or_away head framing why let_in (subst (λ h. IsTurnedAway h why) same away)
+admitted_or_refused text head framing why reads framed
+    (verdict.IsRefusedText.has_no_framing other other_reads none is) =
+    let same = ap request_framing (request_head_unique text other head other_reads reads) in cc
 
 -- a head that stands at the front keeps the limit
 pub StartsWithRequest-short : (bytes : List ℕ) (head : RequestHead) (len : ℕ)
@@ -99,7 +90,7 @@ HasRequest-IsRefusedRequest bytes head framing len why has
 HasRequest-IsRefusedRequest bytes head framing len why has
     (verdict.IsRefusedRequest.has_bad_text other ends short text) =
     let same = one_end bytes other len ends has.starts.ends in
-    admitted_or_refused (take len bytes) head framing why has.starts.reads has.let_in
+    admitted_or_refused (take len bytes) head framing why has.starts.reads has.framed
     (subst (λ n. IsRefusedText (take n bytes) why) same text)
 
 -- bytes hold one head at most
@@ -109,9 +100,7 @@ HasRequest-unique bytes a b f g n m x y =
     let same = one_end bytes n m x.starts.ends y.starts.ends in
     let there = subst (λ k. ReadsRequest (take k bytes) a) same x.starts.reads in
     let heads = request_head_unique (take m bytes) a b there y.starts.reads in
-    let framed_x = x.let_in.framed in
-    let framed_y = y.let_in.framed in
-    (heads, same_framing (sym framed_x ∙ ap request_framing heads ∙ framed_y), same)
+    (heads, same_framing (sym x.framed ∙ ap request_framing heads ∙ y.framed), same)
 
 -- a head that stands at the front still does once more has come
 pub StartsWithRequest-append : (bytes more : List ℕ) (head : RequestHead) (len : ℕ)
@@ -122,13 +111,13 @@ StartsWithRequest-append bytes more head len starts =
       reads = rw (text-append bytes more len starts.ends) starts.reads;
     }
 
--- a head that was let in still is once more has come
+-- a head that was framed still is once more has come
 pub HasRequest-append : (bytes more : List ℕ) (head : RequestHead) (framing : Framing) (len : ℕ)
     → HasRequest bytes head framing len → HasRequest (bytes ++ more) head framing len
 HasRequest-append bytes more head framing len has =
     record {
       starts = StartsWithRequest-append bytes more head len has.starts;
-      let_in = has.let_in;
+      framed = has.framed;
     }
 
 -- what was too long still is once more has come

@@ -1,9 +1,9 @@
 -- What the bytes that were read so far are: not yet a head, a head, or refused for good
--- (RFC 9112, sections 2, 3 and 6; RFC 9110, section 7.2).
-use Rattle.std.specs.Prelude.{◌≡◌, ℕ, ◌<◌, ◌≤◌, Bool, true, false, ◌||◌, List, length, take, ◌==◌, codes, Option, Some, None, Result, Ok, Err}
-use Rattle.http_header.specs.HeaderMap.{get_all, remove}
+-- (RFC 9112, sections 2 and 6).
+use Rattle.std.specs.Prelude.{◌≡◌, ℕ, ◌<◌, ◌≤◌, Bool, List, length, take, codes, Option, Some, None, Result, Ok, Err}
+use Rattle.http_header.specs.HeaderMap.{remove}
 use Rattle.relay_tasks.specs.declared.context.Context.{Context}
-use Rattle.relay_tasks.specs.declared.context.Context.TheVariants.{HeadGrammar, HeadTooLong, BadFraming, HostCount}
+use Rattle.relay_tasks.specs.declared.context.Context.TheVariants.{HeadGrammar, HeadTooLong, BadFraming}
 use Rattle.relay_tasks.specs.declared.error.Error.{Error}
 use Rattle.relay_tasks.specs.declared.error.ErrorSource.{ErrorSource}
 use Rattle.relay_tasks.specs.declared.error.ErrorSource.TheVariants.{Upstream, Downstream}
@@ -17,7 +17,7 @@ use Rattle.relay_h1.specs.declared.verdict.RequestRead.{RequestRead}
 use Rattle.relay_h1.specs.declared.verdict.ResponseRead.{ResponseRead}
 use Rattle.relay_h1.specs.HeadEnd.{head_end}
 use Rattle.relay_h1.specs.Head.{most_bytes, ReadsRequest, ReadsResponse, RefusesRequest, RefusesResponse}
-use Rattle.relay_h1.specs.Framing.{is_http_10, request_framing, response_framing}
+use Rattle.relay_h1.specs.Framing.{request_framing, response_framing}
 
 -- no head ends yet, and one still may
 pub record IsOpen (bytes : List ℕ) : Type 0 where
@@ -40,39 +40,24 @@ abbrev pub fail_from : Fail → ErrorSource → Fail
 fail_from fail.OutOfMemory side = fail.OutOfMemory
 fail_from (fail.Error error) side = fail.Error (record error { esource = side })
 
--- a head of HTTP/1.1 names its host once
-abbrev pub has_host : RequestHead → Bool
-has_host head = is_http_10 head.version || length (get_all head.fields (codes "host")) == 1
-
 -- the first `len` bytes are the text of that request head
 pub record StartsWithRequest (bytes : List ℕ) (head : RequestHead) (len : ℕ) : Type 0 where
   pub ends : head_end bytes ≡ Some len
   pub reads : ReadsRequest (take len bytes) head
 
--- the head is let in, with that framing
-pub record IsLetIn (head : RequestHead) (framing : Framing) : Type 0 where
-  pub framed : request_framing head ≡ Some framing
-  pub hosted : has_host head ≡ true
-
--- the head is not let in, for that reason
-pub data IsTurnedAway (head : RequestHead) (why : Context) : Type 0 where
-  has_no_framing : request_framing head ≡ None → why ≡ BadFraming → IsTurnedAway head why
-  has_no_host : (framing : Framing) → request_framing head ≡ Some framing → has_host head ≡ false
-      → why ≡ HostCount → IsTurnedAway head why
-
--- the first `len` bytes are a request head that is let in, with its framing
+-- the first `len` bytes are a request head with that framing
 pub record HasRequest
     (bytes : List ℕ) (head : RequestHead) (framing : Framing) (len : ℕ) : Type 0 where
   pub starts : StartsWithRequest bytes head len
-  pub let_in : IsLetIn head framing
+  pub framed : request_framing head ≡ Some framing
 
--- the text is no request head that is let in
+-- the text is no request head that can be framed
 pub data IsRefusedText (text : List ℕ) (why : Context) : Type 0 where
   is_no_head : RefusesRequest text → why ≡ HeadGrammar → IsRefusedText text why
-  is_turned_away : (head : RequestHead) → ReadsRequest text head → IsTurnedAway head why
-      → IsRefusedText text why
+  has_no_framing : (head : RequestHead) → ReadsRequest text head → request_framing head ≡ None
+      → why ≡ BadFraming → IsRefusedText text why
 
--- the bytes begin with no request head that is let in, whatever follows them
+-- the bytes begin with no request head that can be framed, whatever follows them
 pub data IsRefusedRequest (bytes : List ℕ) (why : Context) : Type 0 where
   is_too_long : IsTooLong bytes → why ≡ HeadTooLong → IsRefusedRequest bytes why
   has_bad_text : (len : ℕ) → head_end bytes ≡ Some len → len ≤ most_bytes
@@ -82,15 +67,11 @@ pub data IsRefusedRequest (bytes : List ℕ) (why : Context) : Type 0 where
 abbrev pub refused_from : ErrorSource → Context → Error
 refused_from side why = record (refused why) { esource = side }
 
--- the answer on a head that was read, which has no side yet
-abbrev pub AdmitsHead : RequestHead → Result Framing Error → Type 0
-AdmitsHead head (Ok framing) = IsLetIn head framing
-AdmitsHead head (Err error) = (why : Context) × (error ≡ refused why) × IsTurnedAway head why
-
 -- the answer on the text of a request head
 abbrev pub AdmitsRequest : List ℕ → Result RequestRead Fail → Type 0
 AdmitsRequest text (Ok read) =
-    ReadsRequest text read.head × IsLetIn read.head read.framing × (read.len ≡ length text)
+    ReadsRequest text read.head × (request_framing read.head ≡ Some read.framing)
+    × (read.len ≡ length text)
 AdmitsRequest text (Err fail.OutOfMemory) = (head : RequestHead) × ReadsRequest text head
 AdmitsRequest text (Err (fail.Error error)) =
     (why : Context) × (error ≡ refused why) × IsRefusedText text why

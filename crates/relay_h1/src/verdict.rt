@@ -1,21 +1,21 @@
 //! What the bytes that were read so far are: not yet a head, a head, or refused for good
-//! (RFC 9112, sections 2, 3 and 6; RFC 9110, section 7.2).
+//! (RFC 9112, sections 2 and 6).
 ghost use Rattle.std.specs.Prelude.{◌≡◌, ◌≤◌, length};
 ghost use Rattle.relay_tasks.specs.Error.{refused};
 ghost use Rattle.relay_h1.specs.Head.{IsOneHead, most_bytes};
-ghost use Rattle.relay_h1.specs.Verdict.{JudgesRequest, JudgesResponse, LocatesHead, fail_from, AdmitsHead, AdmitsRequest, AdmitsResponse, has_host, settled};
+ghost use Rattle.relay_h1.specs.Verdict.{JudgesRequest, JudgesResponse, LocatesHead, fail_from, AdmitsRequest, AdmitsResponse, settled};
 
 use crate::ahead::Ahead;
-use crate::framing::{Framing, is_http_10, request_framing, response_framing};
+use crate::framing::{Framing, request_framing, response_framing};
 use crate::head::{MAX_HEAD, read_one_request, read_one_response};
 use http::Method;
-use http_header::{CONTENT_LENGTH, HOST};
+use http_header::CONTENT_LENGTH;
 use relay_tasks::{
     Context, Error, ErrorSource, ErrorType, Fail, RequestHeader, ResponseHeader, Result,
 };
 use std::alloc::Global;
 
-/// A request head that was read and let in.
+/// A request head that was read, with its framing.
 #[derive(Drop)]
 pub struct RequestRead {
     pub head: RequestHeader,
@@ -37,8 +37,8 @@ pub struct ResponseRead {
 /// bytes stay.
 ///
 /// `InvalidHTTPHeader` of the source `Downstream`, about `HeadTooLong` (no head ends in the first
-/// 65,536 bytes), `HeadGrammar` (the text up to the end is no request head), `BadFraming` (its
-/// framing fields are refused) or `HostCount` (HTTP/1.1 without just one Host).
+/// 65,536 bytes), `HeadGrammar` (the text up to the end is no request head) or `BadFraming` (its
+/// framing fields are refused). What the head says of its authority is not looked at here.
 pub fn judge_request(alloc: Global, ahead: &mut Ahead) -> Result<Option<RequestRead>>
     ensures verdict { JudgesRequest ahead.old result }
     ensures same { ahead.new ≡ ahead.old }
@@ -72,14 +72,14 @@ fn too_long() -> Error
     Error::explain(ErrorType::InvalidHTTPHeader, Context::HeadTooLong)
 }
 
-/// Reads the text of a request head, frames it and looks at its host.
+/// Reads the text of a request head and frames it.
 fn admit_request(alloc: Global, text: &[u8]) -> Result<RequestRead>
     requires short { length text.now ≤ most_bytes }
     requires ends { IsOneHead text.now }
     ensures { AdmitsRequest text.now result }
 {
     let head = read_one_request(alloc, text)?;
-    match admit_head(&head) {
+    match request_framing(&head) {
         Ok(framing) => Ok(RequestRead {
             head,
             framing,
@@ -87,22 +87,6 @@ fn admit_request(alloc: Global, text: &[u8]) -> Result<RequestRead>
         }),
         Err(error) => Err(Fail::Error(error)),
     }
-}
-
-fn admit_head(head: &RequestHeader) -> std::result::Result<Framing, Error>
-    ensures { AdmitsHead head.now result }
-{
-    let framing = request_framing(head)?;
-    if !has_host(head) {
-        return Err(Error::explain(ErrorType::InvalidHTTPHeader, Context::HostCount));
-    }
-    Ok(framing)
-}
-
-fn has_host(head: &RequestHeader) -> bool
-    ensures { result ≡ has_host head.now }
-{
-    is_http_10(head.version()) || head.headers().get_all(&HOST).iter().count() == 1
 }
 
 /// The failure, as one of that side.

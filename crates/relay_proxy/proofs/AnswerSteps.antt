@@ -77,22 +77,25 @@ moved_or_ended {L} {C} state start_at w x phase next did (inr is) moved =
 record Still {o : Origin} {p : Passed} {before link : LinkState} {start : LinkStart} {e : Error}
     (why : FailsFor o p before link start e) (after : LinkState) : Type 0 where
   again : FailsFor o p after link start e
-  same : owed_text (order_of again) e ≡ owed_text (order_of why) e
+  same : (x : Error) → owed_text (order_of again) x ≡ owed_text (order_of why) x
 
 still : (o : Origin) (p : Passed) (before after link : LinkState) (start : LinkStart) (e : Error)
     → WrittenTo before after → (why : FailsFor o p before link start e) → Still why after
 still o p before after link start e to (FailsFor.by_client order blames) = record {
   again = FailsFor.by_client order (blames_still o _ before after to e blames);
-  same = refl;
+  same = λ x. refl;
 }
 still o p before after link start e to (FailsFor.by_peer order lost blames) =
-    record { again = FailsFor.by_peer order lost blames; same = refl }
+    record { again = FailsFor.by_peer order lost blames; same = λ x. refl }
 still o p before after link start e to (FailsFor.by_refusal order refuses) =
-    record { again = FailsFor.by_refusal order refuses; same = refl }
+    record { again = FailsFor.by_refusal order refuses; same = λ x. refl }
 still o p before after link start e to (FailsFor.by_writer order batch unasked read refused) =
-    record { again = FailsFor.by_writer order batch unasked read refused; same = refl }
+    record {
+      again = FailsFor.by_writer order batch unasked read refused;
+      same = λ x. refl;
+    }
 still o p before after link start e to (FailsFor.by_cut at order unasked read refused) =
-    record { again = FailsFor.by_cut at order unasked read refused; same = refl }
+    record { again = FailsFor.by_cut at order unasked read refused; same = λ x. refl }
 
 -- an exchange that failed still did, and as much is owed
 record FailedOn {s : Start} {p : Passed} {before link : LinkState} {start : LinkStart} {e : Error}
@@ -106,7 +109,7 @@ failed_on : (s : Start) (p : Passed) (written : List ℕ) (before after link : L
     → WrittenTo before after → FailedOn failed written after
 failed_on s p written before after link start e failed to =
     let on = still (origin_of s failed.head failed.sent start.reused) (past_at p failed.before)
-    before after link start e to failed.why in
+    before after link start failed.raised to failed.why in
     record {
       again = record {
         head = failed.head;
@@ -114,9 +117,11 @@ failed_on s p written before after link start e failed to =
         relayable = failed.relayable;
         sends = failed.sends;
         before = failed.before;
+        raised = failed.raised;
+        treated = failed.treated;
         why = on.again;
       };
-      same = on.same;
+      same = on.same e;
     }
 
 -- an attempt that failed still did, and as much is owed
@@ -136,7 +141,9 @@ misses_on s p written before after link start keep e text to (Misses.ahead_of_it
         has = r.accepted.has;
         relayable = r.accepted.relayable;
       };
+      raised = r.raised;
       refused = r.refused;
+      treated = r.treated;
       fresh = r.fresh;
       unsent = record { got = r.unsent.got; sent = r.unsent.sent };
     }) is
@@ -147,7 +154,7 @@ pub failed_invalid : (s : Start) (p : Passed) (client link : LinkState) (start :
     → IsValid (origin_of s failed.head failed.sent start.reused) p client link start → ⊥
 failed_invalid s p client link start e failed valid =
     never_fails (origin_of s failed.head failed.sent start.reused) (past_at p failed.before) client
-    link start e failed.why (record {
+    link start failed.raised failed.why (record {
       asks = record {
         request = valid.asks.request;
         gives = valid.asks.gives;
@@ -253,8 +260,11 @@ module _ {L : Type 0} (state : L → LinkState) (start_at : L → LinkStart) whe
       → Owes state start_at s (past_at p written) x own owed text
   owes_on s p written w x [] (Refused error) text to same owes =
       (owes.0, record { got = owes.1.got; sent = owes.1.sent })
-  owes_on s p written w x [] (Ahead why) text to same owes =
-      (ahead_on s p written why text owes.0, record { got = owes.1.got; sent = owes.1.sent })
+  owes_on s p written w x [] (Ahead why) text to same owes = (
+    ahead_on s p written why text owes.0,
+    record { got = owes.1.got; sent = owes.1.sent },
+    owes.2,
+  )
   owes_on s p written w x [] (Served e) text to same owes = (
     record {
       fault = owes.0.fault;
@@ -313,10 +323,10 @@ module _ {L : Type 0} (state : L → LinkState) (start_at : L → LinkStart) whe
   owes_order s p w (r ∷ own) (Ahead why) text owes front = absurd owes
   owes_order s p w (r ∷ own) (Served e) text (Misses.in_exchange f is kept) front =
       IsInOrder.is_failure _ f.head f.sent _ _ f.before e f.relayable f.sends (order_of f.why)
-      (cut_next _ (past_at p f.before) w.client _ _ e f.why)
+      (cut_next _ (past_at p f.before) w.client _ _ f.raised f.why)
       (subst (λ (t : List ℕ). IsFrontOf p.written t) is front)
   owes_order s p w (r ∷ own) (Served e) text (Misses.ahead_of_it f is) front =
-      IsInOrder.is_unsent f.head r.keep e f.accepted f.refused
+      IsInOrder.is_unsent f.head r.keep f.raised e f.accepted f.refused f.treated
       (subst (λ (t : List ℕ). IsFrontOf p.written t) is front) f.unsent.sent
 
   -- the client's head is open no more
@@ -377,7 +387,14 @@ module _ {L : Type 0} (state : L → LinkState) (start_at : L → LinkStart) whe
       → EndsWith state start_at s p w own attempts (outcome.Served told false)
   ends_ahead s p w [] why None text attempts owes given made = (
     (
-      record { why = why; text = text; owed = owes.0; given = given; unsent = owes.1 },
+      record {
+        why = why;
+        text = text;
+        owed = owes.0;
+        given = given;
+        unsent = owes.1;
+        untreated = owes.2;
+      },
       refl,
     ),
     made,
@@ -389,6 +406,7 @@ module _ {L : Type 0} (state : L → LinkState) (start_at : L → LinkStart) whe
         owed = owes.0;
         given = given;
         unsent = owes.1;
+        untreated = owes.2;
       } in
       ((inr ends, refl), inr (made, ends))
   ends_ahead s p w (r ∷ own) why told text attempts owes given made = absurd owes

@@ -10,6 +10,8 @@
 --   within_link                   what was counted of an attempt that is given up
 use Rattle.std.specs.Global.{Box}
 use Rattle.std.proofs.Common.{◌≡◌, ◌⊎◌, ℕ, ◌+◌, ◌≤◌, Bool, true, false, List, [], ◌∷◌, length, Option, None, Some, true≢false, refl, sym, ap, subst, ◌∙◌, inl, inr, arith}
+use Rattle.relay_tasks.specs.declared.Error.{Error}
+use Rattle.relay_tasks.specs.declared.log.LogEntry.{LogEntry}
 use Rattle.relay_links.specs.Link.{LinkState, LinkStart}
 use Rattle.relay_links.specs.Told.{Since}
 use Rattle.relay_links.specs.declared.Returned.{Returned}
@@ -29,8 +31,8 @@ use Rattle.relay_attempt.specs.Bound as attempt
 use Rattle.relay_attempt.specs.Head.{link_of}
 use Rattle.relay_attempt.specs.Passed.{Passed}
 use Rattle.relay_attempt.proofs.BoundLemmas.{first_counted, counted_within}
-use Rattle.relay_proxy.specs.Bound.{AttemptCounts, CountsAnswer, CountsCall, CountsHead, CountsLink, CountsSend, IsBounded, IsWithin, LeavesLink, LinkGave, OwnGave, PhaseCounts, TurnedCounts, most_sides, sides_before}
-use Rattle.relay_proxy.specs.Passed.{World, Start, origin_of}
+use Rattle.relay_proxy.specs.Bound.{AttemptCounts, CountsAnswer, CountsCall, CountsHead, CountsLink, CountsSend, CountsTreat, IsBounded, IsWithin, LeavesLink, LinkGave, OwnGave, PhaseCounts, TurnedCounts, most_sides, sides_before}
+use Rattle.relay_proxy.specs.Passed.{World, Start, called_to, origin_of}
 use Rattle.relay_proxy.specs.Phases.{RunSoFar}
 use Rattle.relay_proxy.specs.Refusals.{attempts_in}
 use Rattle.relay_proxy.specs.Relaying.{TurnsWithin, is_closing, is_relaying, turned}
@@ -40,7 +42,7 @@ use Rattle.relay_proxy.specs.Uses.{Measured, work_by}
 use Rattle.relay_proxy.specs.declared.machine.Attempt.{Attempt}
 use Rattle.relay_proxy.specs.declared.machine.Lease.{Lease}
 use Rattle.relay_proxy.specs.declared.machine.Phase.{Phase}
-use Rattle.relay_proxy.specs.declared.machine.Phase.TheVariants.{ReadHead, Connect, Prepare, Relay, Fail, Close, Answer, Ended}
+use Rattle.relay_proxy.specs.declared.machine.Phase.TheVariants.{ReadHead, Connect, Prepare, Relay, Broken, Fail, Close, Answer, Ended}
 use Rattle.relay_proxy.specs.declared.record.AttemptRecord.{AttemptRecord}
 use Rattle.relay_proxy.specs.declared.record.RunRecord.{RunRecord}
 use Rattle.relay_proxy.specs.declared.work.Work.{Work}
@@ -146,6 +148,8 @@ module _ {L C : Type 0} (state : L → LinkState) (start_at : L → LinkStart) w
   open_counts tasks ends s client ahead own (Connect context session tries) shut counts = counts
   open_counts tasks ends s client ahead own (Prepare context session link lease) shut counts = counts
   open_counts tasks ends s client ahead own (Relay a) shut counts = counts
+  open_counts tasks ends s client ahead own (Broken context session link lease keep e) shut counts =
+      counts
   open_counts tasks ends s client ahead own (Fail link lease keep session e) shut counts =
       absurd (true≢false shut)
   open_counts tasks ends s client ahead own (Close link lease keep outcome) shut counts =
@@ -187,6 +191,8 @@ module _ {L C : Type 0} (state : L → LinkState) (start_at : L → LinkStart) w
   head_bounds s p w (Prepare context session link lease) work tasks ends run counts had =
       absurd counts
   head_bounds s p w (Relay a) work tasks ends run counts had = absurd counts
+  head_bounds s p w (Broken context session link lease keep e) work tasks ends run counts had =
+      absurd counts
   head_bounds s p w (Fail link lease keep session e) work tasks ends run counts had = absurd counts
   head_bounds s p w (Close link lease keep outcome) work tasks ends run counts had = absurd counts
   head_bounds s p w (Answer session owed attempts) work tasks ends run counts had = record {
@@ -222,7 +228,9 @@ module _ {L C : Type 0} (state : L → LinkState) (start_at : L → LinkStart) w
     omega (arith, counts.1, as_many counts.2, had.1),
   )
   link_bounds s p w (Relay a) work before tasks ends run counts had = absurd counts
-  link_bounds s p w (Fail link lease keep session e) work before tasks ends run counts
+  link_bounds s p w (Fail link lease keep session e) work before tasks ends run counts had =
+      absurd counts
+  link_bounds s p w (Broken context session link lease keep e) work before tasks ends run counts
       had = record {
         came = p.came;
         got = p.got;
@@ -277,7 +285,9 @@ module _ {L C : Type 0} (state : L → LinkState) (start_at : L → LinkStart) w
     tasks_are = omega (arith, counts.0, had.0);
     ends_are = omega (arith, counts.1, had.1, as_many counts.2);
   }
-  send_bounds s p w (Fail link lease keep session e) work before tasks ends run counts
+  send_bounds s p w (Fail link lease keep session e) work before tasks ends run counts had =
+      absurd counts
+  send_bounds s p w (Broken context session link lease keep e) work before tasks ends run counts
       had = record {
         came = p.came;
         got = p.got;
@@ -312,6 +322,8 @@ module _ {L C : Type 0} (state : L → LinkState) (start_at : L → LinkStart) w
   call_bounds s p w (Prepare context session link lease) work before tasks ends run counts had =
       absurd counts
   call_bounds s p w (Relay a) work before tasks ends run counts had = absurd counts
+  call_bounds s p w (Broken context session link lease keep e) work before tasks ends run counts had =
+      absurd counts
   call_bounds s p w (Fail link lease keep session e) work before tasks ends run counts had =
       absurd counts
   call_bounds s p w (Close link lease keep outcome) work before tasks ends run counts had =
@@ -335,6 +347,61 @@ module _ {L C : Type 0} (state : L → LinkState) (start_at : L → LinkStart) w
 
   -- ---- behind an exchange
 
+  -- a turn that has the error of an attempt treated
+  treat_bounds : (s : Start) (these those : List LogEntry) (client : LinkState) (ahead : List ℕ)
+      (own : List (Returned L)) (link : L) (lease : Lease) (next : Phase L C) (work : Work)
+      (tasks ends : ℕ) → CountsTreat (tries_in lease) next work → LeavesLink link lease next
+      → IsWithin tasks ends (sides_before (1 + length (tries_in lease))) (called_to s these) client
+      (LinkGave state start_at link)
+      → TurnedCounts state start_at (work.moved + tasks) (work.ended + ends) (called_to s those)
+      client ahead own next
+  treat_bounds s these those client ahead own link lease ReadHead work tasks ends counts leaves had =
+      absurd counts
+  treat_bounds s these those client ahead own link lease (Connect context session tries) work tasks
+      ends counts leaves had = absurd counts
+  treat_bounds s these those client ahead own link lease (Prepare context session l by) work tasks
+      ends counts leaves had = absurd counts
+  treat_bounds s these those client ahead own link lease (Relay a) work tasks ends counts leaves had
+      = absurd counts
+  treat_bounds s these those client ahead own link lease (Broken context session l by keep e) work
+      tasks ends counts leaves had = absurd counts
+  treat_bounds s these those client ahead own link lease (Fail l by keep session e) work tasks ends
+      counts leaves had = record {
+        came = had.came;
+        got = had.got;
+        client_gave = had.client_gave;
+        own_gave = subst (λ (k : L). LinkGave state start_at k had.got) (sym leaves.0) had.own_gave;
+        tasks_within = omega (arith, counts.0, had.tasks_within);
+        ends_within = omega (arith, counts.1, had.ends_within, same_tries leaves.1);
+      }
+  treat_bounds s these those client ahead own link lease (Close l by keep outcome) work tasks ends
+      counts leaves had = record {
+        came = had.came;
+        got = had.got;
+        client_gave = had.client_gave;
+        own_gave = subst (λ (k : L). LinkGave state start_at k had.got) (sym leaves.0) had.own_gave;
+        tasks_within = omega (arith, counts.0, had.tasks_within);
+        ends_within = omega (arith, counts.1, had.ends_within, same_tries leaves.1);
+      }
+  treat_bounds s these those client ahead own link lease (Answer session owed attempts) work tasks
+      ends counts leaves had = absurd counts
+  treat_bounds s these those client ahead own link lease (Ended outcome attempts) work tasks ends
+      counts leaves had = absurd counts
+
+  -- whatever links were handed back before
+  pub treat_turn_bounds : (s : Start) (these those : List LogEntry) (p : Passed) (w : World)
+      (own : List (Returned L)) (context : C) (session : Box HttpSession) (link : L) (lease : Lease)
+      (keep : Bool) (e : Error) (next : Phase L C) (work : Work) (tasks ends : ℕ)
+      → CountsTreat (tries_in lease) next work → LeavesLink link lease next
+      → PhaseCounts state start_at tasks ends (called_to s these) w.client w.ahead own
+      (Broken context session link lease keep e)
+      → TurnedCounts state start_at (work.moved + tasks) (work.ended + ends) (called_to s those)
+      w.client w.ahead own next
+  treat_turn_bounds s these those p w own context session link lease keep e next work tasks ends
+      counts leaves had =
+      treat_bounds s these those w.client w.ahead own link lease next work tasks ends counts leaves
+      had
+
   -- a turn that writes an answer
   pub answer_bounds : (s : Start) (client client' : LinkState) (ahead : List ℕ)
       (own : List (Returned L)) (next : Phase L C) (work : Work) (tasks ends : ℕ)
@@ -351,6 +418,8 @@ module _ {L C : Type 0} (state : L → LinkState) (start_at : L → LinkStart) w
       counts attempts is had = absurd counts
   answer_bounds s client client' ahead own (Relay a) work tasks ends same counts attempts is had =
       absurd counts
+  answer_bounds s client client' ahead own (Broken context session link lease keep e) work tasks ends
+      same counts attempts is had = absurd counts
   answer_bounds s client client' ahead own (Fail link lease keep session e) work tasks ends same
       counts attempts is had = absurd counts
   answer_bounds s client client' ahead own (Close link lease keep outcome) work tasks ends same
@@ -463,6 +532,14 @@ module _ {L C : Type 0} (state : L → LinkState) (start_at : L → LinkStart) w
       over_by w (Connect context session tries) leaves = absurd leaves
       over_by w (Prepare context session link lease) leaves = absurd leaves
       over_by w (Relay a) leaves = absurd leaves
+      over_by w (Broken context session link lease keep e) leaves = record {
+        came = w.came;
+        got = w.got;
+        client_gave = w.client_gave;
+        own_gave = subst (λ (l : L). LinkGave state start_at l w.got) (sym leaves.0) w.peer_gave;
+        tasks_within = omega (arith, w.tasks_within, before.tasks_are);
+        ends_within = omega (arith, w.ends_within, before.ends_are, same_tries leaves.1);
+      }
       over_by w (Fail link lease keep session e) leaves = record {
         came = w.came;
         got = w.got;
@@ -574,6 +651,9 @@ module _ {L C : Type 0} (state : L → LinkState) (start_at : L → LinkStart) w
   relay_turn_bounds s p w x [] (Relay k) next tasks ends a b is run turn had = turn had
   relay_turn_bounds s p w x (r ∷ own) (Relay k) next tasks ends a b is run turn had =
       absurd run.holds
+  relay_turn_bounds s p w x own (Broken context session link lease keep e) next tasks ends a b is run
+      turn had =
+      absurd (true≢false (sym is))
   relay_turn_bounds s p w x own (Fail link lease keep session e) next tasks ends a b is run turn
       had =
       absurd (true≢false (sym is))

@@ -1,26 +1,37 @@
 -- The calls of a request, by the phase that a turn leads to.
 --
 --   turn_allowed                   what the modules allow in a turn is allowed by modules
+--   breaks_more .. relays_more     an attempt goes out behind a call, or fails
 --   unopened_calls .. asked_calls  a turn that makes no call leaves the calls so far
---   begun_logged, left_calls       and so does one over a link
+--   relaying_calls                 and so does one of an exchange
 --   settled_calls                  and so does the settling of a phase
 use Rattle.std.specs.Global.{Box}
-use Rattle.std.proofs.Common.{◌≡◌, ℕ, ◌≤◌, true, false, List, [], ◌∷◌, ◌++◌, length, length-append, arith, Option, None, Some, refl, sym, ap, subst, ◌∙◌, true≢false}
-use Rattle.relay_tasks.specs.Head.{new_request}
+use Rattle.std.proofs.Common.{◌≡◌, ℕ, ◌+◌, ◌≤◌, Bool, true, false, ◌&&◌, List, [], ◌∷◌, ◌++◌, length, length-append, append-nil, arith, Option, None, Some, refl, sym, ap, subst, ◌∙◌, true≢false}
+use Rattle.std.specs.Prelude.{◌==◌, IsTrue, if◌then◌else◌, unwrap_or}
+use Rattle.relay_tasks.specs.Head.{RequestHead, new_request}
+use Rattle.relay_tasks.specs.Hooks.{number_of, same_hook}
+use Rattle.relay_tasks.specs.declared.Error.{Error}
+use Rattle.relay_tasks.specs.declared.Peer.{Peer}
 use Rattle.relay_tasks.specs.declared.hook.Hook.{Hook}
+use Rattle.relay_tasks.specs.declared.hook.Hook.TheVariants as hook
 use Rattle.relay_tasks.specs.declared.log.LogEntry.{LogEntry}
 use Rattle.relay_tasks.specs.declared.task.HttpTask.{HttpTask}
 use Rattle.relay_links.specs.Link.{LinkState, LinkStart}
 use Rattle.relay_links.specs.declared.Returned.{Returned}
+use Rattle.relay_session.specs.Reading.{head_of}
+use Rattle.relay_session.specs.Response.{has_head}
 use Rattle.relay_session.specs.declared.session.HttpSession.{HttpSession}
 use Rattle.relay_session.specs.declared.writing.Writing.{Writing}
 use Rattle.relay_modules.specs.Module.{ModuleCall}
 use Rattle.relay_modules.specs.declared.seen.Seen.{Seen}
 use Rattle.relay_hooks.specs.Session.{moment}
 use Rattle.relay_hooks.specs.Standing.{Standing, standing}
-use Rattle.relay_phases.specs.Order.{Station}
+use Rattle.relay_calls.specs.Log.{Views, Walk}
+use Rattle.relay_calls.proofs.LogLemmas.{Walk-append}
+use Rattle.relay_phases.specs.Order.{Accepts, Station, came, next, well}
 use Rattle.relay_phases.specs.Order.{Station as station}
 use Rattle.relay_phases.specs.Turns.{HasCalled, QueuesNothing, Turns}
+use Rattle.relay_phases.proofs.OrderLemmas.{Accepts-one}
 use Rattle.relay_phases.proofs.TurnLemmas.{HasCalled-more}
 use Rattle.relay_opening.specs.Place.{TurnAllows}
 use Rattle.relay_opening.specs.declared.place.Called.TheVariants as called
@@ -28,18 +39,21 @@ use Rattle.relay_opening.specs.declared.place.End.{End}
 use Rattle.relay_opening.specs.declared.place.End.TheVariants as end
 use Rattle.relay_opening.specs.declared.place.Place.{Place}
 use Rattle.relay_opening.specs.declared.place.Place.TheVariants as place
-use Rattle.relay_proxy.specs.Bound.{CountsAnswer, CountsCall, CountsHead, LeavesLink}
-use Rattle.relay_proxy.specs.Calls.{CallsSoFar, CountsCalls, GoesOn, HasBegun, IsLogged, IsOpening, TellsPeer, is_calling, log_of, seen_with, station_at}
+use Rattle.relay_trying.specs.Trying.{Treats, may_break, may_follow, treated_at}
+use Rattle.relay_proxy.specs.Bound.{CountsAnswer, CountsCall, CountsHead, CountsTreat}
+use Rattle.relay_proxy.specs.Calls.{BeginsCalls, CallsSoFar, CountsCalls, GoesOn, HasBegun, IsBreaking, IsLogged, IsOpening, IsRelayingCalls, KeepsCalls, TellsPeer, is_calling, log_of, seen_with, station_at}
 use Rattle.relay_proxy.specs.Closing.{Settles}
 use Rattle.relay_proxy.specs.Relaying.{is_relaying}
+use Rattle.relay_proxy.specs.Sent.{IsUntreated, is_of}
 use Rattle.relay_proxy.specs.Tries.{tries_in}
-use Rattle.relay_proxy.specs.Turn.{IsBegun, KeepsAsked, is_connecting, links_held}
+use Rattle.relay_proxy.specs.Turn.{KeepsAsked, is_connecting, links_held}
 use Rattle.relay_proxy.specs.declared.calls.At.{At}
 use Rattle.relay_proxy.specs.declared.calls.At.TheVariants as at
 use Rattle.relay_proxy.specs.declared.calls.Calls.{Calls}
+use Rattle.relay_proxy.specs.declared.machine.Attempt.{Attempt}
 use Rattle.relay_proxy.specs.declared.machine.Lease.{Lease}
 use Rattle.relay_proxy.specs.declared.machine.Phase.{Phase}
-use Rattle.relay_proxy.specs.declared.machine.Phase.TheVariants.{ReadHead, Connect, Prepare, Relay, Fail, Close, Answer, Ended}
+use Rattle.relay_proxy.specs.declared.machine.Phase.TheVariants.{ReadHead, Connect, Prepare, Relay, Broken, Fail, Close, Answer, Ended}
 use Rattle.relay_proxy.specs.declared.record.AttemptRecord.{AttemptRecord}
 use Rattle.relay_proxy.specs.declared.work.Work.{Work}
 
@@ -100,6 +114,12 @@ none_logged allows log none = (
   }),
 )
 
+-- the calls of a session that had none are its log
+pub all_entries : (first now : Seen) (entries : List LogEntry) → first.log ≡ []
+    → now.log ≡ first.log ++ entries → entries ≡ now.log
+all_entries first now entries none log =
+    sym (ap (λ (l : List LogEntry). l ++ entries) none) ∙ sym log
+
 -- the calls that were made of a session are one, up to where they lead
 pub called_stands : (allows : Standing → LogEntry → Type 0) (first now : Seen) (mark behind : ℕ)
     (to : Station) (queues : Writing → Writing → List HttpTask → Type 0) (log : List LogEntry)
@@ -122,6 +142,46 @@ pub called_logged : (allows : Standing → LogEntry → Type 0) (first now : See
     → (at : Station) × IsLogged allows log at
 called_logged allows first now mark behind to queues log none same h =
     (to, called_stands allows first now mark behind to queues log none same h)
+
+-- the first call is none in which an error is treated
+other_number : (n : ℕ) → (number_of hook.NewCtx == n) ≡ true
+    → (number_of hook.ErrorWhileProxy == n) ≡ false
+other_number n is = grind (arith, is)
+
+first_untreated : (e : LogEntry) → next station.accepted e ≡ Some station.made
+    → is_of hook.ErrorWhileProxy e ≡ false
+first_untreated e leads = by (same_hook hook.NewCtx e.hook) (came well e) refl leads
+  where
+    by : (a c : Bool) → same_hook hook.NewCtx e.hook ≡ a
+        → (if (a && c) then Some station.made else None) ≡ Some station.made
+        → is_of hook.ErrorWhileProxy e ≡ false
+    by true true same is = other_number (number_of e.hook) same
+    by true false same is = cc
+    by false c same is = cc
+
+made_untreated : (es : List LogEntry) → Accepts station.accepted es station.made
+    → length es ≡ 1 → IsUntreated es
+made_untreated [] order one = absurd (omega (arith, one))
+made_untreated (e ∷ []) order one = rw (first_untreated e order) refl
+made_untreated (e ∷ x ∷ es) order one = absurd (omega (arith, one))
+
+-- the calls of a log that had none are as many as it has
+entries_one : (before now entries : List LogEntry) → before ≡ [] → now ≡ before ++ entries
+    → length now ≡ length before + 1 → length entries ≡ 1
+entries_one before now entries none log one = omega (
+  arith,
+  one,
+  ap (λ (l : List LogEntry). length l) none,
+  ap (λ (l : List LogEntry). length l) log,
+  length-append before entries,
+)
+
+-- a walk ends as well where the standing may change to
+walk_further : (allows : Standing → LogEntry → Type 0) (es : List LogEntry)
+    (from mid to : Standing) → Walk allows from es mid → Views mid to → Walk allows from es to
+walk_further allows es from mid to walks views =
+    subst (λ (l : List LogEntry). Walk allows from l to) (append-nil es)
+    (Walk-append allows es [] from mid to walks views)
 
 -- ---- what is counted
 
@@ -148,6 +208,20 @@ none_called old new work none is =
 -- ---- up to the exchange
 
 module _ {C M K : Type 0} (allows : Standing → LogEntry → Type 0) (mark_of : C → ℕ) where
+  -- a call more was made
+  abbrev more_called : (c d : Calls M K) (context context' : C) (client left : HttpSession)
+      (tries : List AttemptRecord) (which : Hook) (to : Station)
+      → Turns allows which (station_at c.at) to QueuesNothing (seen_with c client) (mark_of context)
+      (seen_with d left) (mark_of context')
+      → (o : IsOpening allows mark_of c context client tries)
+      → HasCalled allows o.first o.mark station.accepted to (λ a b wrote. Unit {0})
+      (seen_with d left) (mark_of context')
+  more_called c d context context' client left tries which to turn o =
+      HasCalled-more allows QueuesNothing QueuesNothing (λ a b wrote. Unit {0})
+      (λ a b c v w first behind. tt) o.first o.mark which station.accepted (station_at c.at) to
+      (seen_with c client) (mark_of context) (seen_with d left) (mark_of context')
+      o.so_far turn
+
   -- up to the exchange the log is in order, up to where the hooks stand
   pub opening_stands : (calls : Calls M K) (context : C) (client : HttpSession)
       (tries : List AttemptRecord) → IsOpening allows mark_of calls context client tries
@@ -173,7 +247,7 @@ module _ {C M K : Type 0} (allows : Standing → LogEntry → Type 0) (mark_of :
       called_stands allows o.first (seen_with d left) o.mark (mark_of context') to
       (λ a b wrote. Unit {0}) (log_of d) o.none refl
       (HasCalled-more allows QueuesNothing queues (λ a b wrote. Unit {0})
-      (λ a b c v w first then. tt) o.first o.mark which station.accepted (station_at c.at) to
+      (λ a b c v w first behind. tt) o.first o.mark which station.accepted (station_at c.at) to
       (seen_with c client) (mark_of context) (seen_with d left) (mark_of context')
       o.so_far turn)
 
@@ -186,13 +260,119 @@ module _ {C M K : Type 0} (allows : Standing → LogEntry → Type 0) (mark_of :
       subst (λ (l : List LogEntry). (at : Station) × IsLogged allows l at) (sym same)
       (opening_logged c context client tries o)
 
+  -- behind one call more an attempt may have failed
+  pub breaks_more : (c d : Calls M K) (context context' : C) (client left : HttpSession)
+      (tries : List AttemptRecord) (which : Hook) (to : Station) → IsTrue (may_break to)
+      → Turns allows which (station_at c.at) to QueuesNothing (seen_with c client) (mark_of context)
+      (seen_with d left) (mark_of context')
+      → IsOpening allows mark_of c context client tries
+      → IsBreaking allows mark_of d context' left
+  breaks_more c d context context' client left tries which to may turn o =
+      let h = more_called c d context context' client left tries which to turn o in
+      record {
+        from = standing None false (moment o.first o.mark);
+        walks = subst (λ (l : List LogEntry). Walk allows
+            (standing None false (moment o.first o.mark)) l
+            (standing None false (moment (seen_with d left) (mark_of context'))))
+            (all_entries o.first (seen_with d left) h.entries o.none h.log) h.walks;
+        at = to;
+        order = subst (λ (l : List LogEntry). Accepts station.accepted l to)
+            (all_entries o.first (seen_with d left) h.entries o.none h.log) h.order;
+        breaks = may;
+      }
+
+  -- or it may behind none
+  pub breaks_same : (c d : Calls M K) (context context' : C) (client left : HttpSession)
+      (tries : List AttemptRecord) → d ≡ c → left ≡ client → mark_of context' ≡ mark_of context
+      → IsTrue (may_break (station_at c.at))
+      → IsOpening allows mark_of c context client tries
+      → IsBreaking allows mark_of d context' left
+  breaks_same c d context context' client left tries same stays still may o = record {
+    from = standing None false (moment o.first o.mark);
+    walks = subst (λ (x : Calls M K). Walk allows (standing None false (moment o.first o.mark))
+        (log_of x) (standing None false (moment (seen_with x left) (mark_of context')))) (sym same)
+        (subst (λ (x : HttpSession). Walk allows (standing None false (moment o.first o.mark))
+        (log_of c) (standing None false (moment (seen_with c x) (mark_of context')))) (sym stays)
+        (subst (λ (n : ℕ). Walk allows (standing None false (moment o.first o.mark))
+        (log_of c) (standing None false (moment (seen_with c client) n))) (sym still)
+        (subst (λ (l : List LogEntry). Walk allows (standing None false (moment o.first o.mark)) l
+        (standing None false (moment (seen_with c client) (mark_of context))))
+        (all_entries o.first (seen_with c client) o.so_far.entries o.none o.so_far.log)
+        o.so_far.walks)));
+    at = station_at c.at;
+    order = subst (λ (x : Calls M K). Accepts station.accepted (log_of x) (station_at c.at))
+        (sym same) (opening_stands c context client tries o).order;
+    breaks = may;
+  }
+
+  -- behind the call with which it goes out the exchange is under way
+  pub relays_more : {L : Type 0} (c d : Calls M K) (context context' : C) (client left : HttpSession)
+      (tries : List AttemptRecord) (which : Hook) (a : Attempt L C) → a.context ≡ context'
+      → a.exchange.exchange.down.session ≡ left
+      → Turns allows which (station_at c.at) station.sent QueuesNothing (seen_with c client)
+      (mark_of context) (seen_with d left) (mark_of context')
+      → IsOpening allows mark_of c context client tries → IsRelayingCalls allows mark_of d a
+  relays_more c d context context' client left tries which a same stays turn o =
+      let h = more_called c d context context' client left tries which station.sent turn o in
+      record {
+        first = left;
+        from = standing None false (moment o.first o.mark);
+        walks = subst (λ (x : C). Walk allows (standing None false (moment o.first o.mark))
+            (log_of d) (standing None false (moment (seen_with d left) (mark_of x)))) (sym same)
+            (subst (λ (l : List LogEntry). Walk allows
+            (standing None false (moment o.first o.mark)) l
+            (standing None false (moment (seen_with d left) (mark_of context'))))
+            (all_entries o.first (seen_with d left) h.entries o.none h.log) h.walks);
+        order = subst (λ (l : List LogEntry). Accepts station.accepted l station.sent)
+            (all_entries o.first (seen_with d left) h.entries o.none h.log) h.order;
+        head = ap (λ (x : HttpSession). head_of x.reading) (sym stays);
+        unanswered = ap (λ (x : Writing). has_head x.place) turn.queued.same ∙ o.unanswered;
+      }
+
+  -- the error of an attempt was treated, and the log is in order up to where that leads
+  pub treated_logged : (c d : Calls M K) (context context' : C) (client left : HttpSession)
+      (peer : Peer) (reused : Bool) (raised treated : Error)
+      → (b : IsBreaking allows mark_of c context client)
+      → Treats allows hook.ErrorWhileProxy peer reused b.at raised (seen_with c client)
+      (mark_of context) (seen_with d left) (mark_of context') treated
+      → (at : Station) × IsLogged allows (log_of d) at
+  treated_logged c d context context' client left peer reused raised treated b t = (
+    treated_at (may_follow treated (seen_with c client)),
+    record {
+      from = b.from;
+      to = standing None false (moment (seen_with d left) (mark_of context'));
+      walks = subst (λ (l : List LogEntry). Walk allows b.from l
+          (standing None false (moment (seen_with d left) (mark_of context'))))
+          (sym t.call.turn.calls.log)
+          (Walk-append allows (log_of c) (t.call.turn.e ∷ []) b.from
+          (standing None false (moment (seen_with c client) (mark_of context)))
+          (standing None false (moment (seen_with d left) (mark_of context'))) b.walks
+          t.call.turn.calls.walk);
+      order = subst (λ (l : List LogEntry). Accepts station.accepted l
+          (treated_at (may_follow treated (seen_with c client)))) (sym t.call.turn.calls.log)
+          (Accepts-one station.accepted b.at (treated_at (may_follow treated (seen_with c client)))
+          (log_of c) t.call.turn.e b.order t.call.turn.order);
+    },
+  )
+
+  -- memory was wanted for it, and the log is as it was
+  pub untreated_logged : (c d : Calls M K) (context : C) (client : HttpSession)
+      → log_of d ≡ log_of c → IsBreaking allows mark_of c context client
+      → (at : Station) × IsLogged allows (log_of d) at
+  untreated_logged c d context client same b = (
+    b.at,
+    subst (λ (l : List LogEntry). IsLogged allows l b.at) (sym same)
+        (record { from = b.from; to = _; walks = b.walks; order = b.order }),
+  )
+
   -- the context was made, and the calls so far are that one
   pub begun_calls : (c d : Calls M K) (client left : HttpSession) (context : C)
       (tries : List AttemptRecord) → log_of c ≡ [] → tries ≡ [] → HasBegun d.at
+      → has_head client.writing.place ≡ false → length (log_of d) ≡ length (log_of c) + 1
       → HasCalled allows (seen_with c client) (mark_of context) station.accepted station.made
       QueuesNothing (seen_with d left) (mark_of context)
       → IsOpening allows mark_of d context left tries
-  begun_calls c d client left context tries none untried begun called = record {
+  begun_calls c d client left context tries none untried begun open_to one called = record {
     first = seen_with c client;
     mark = mark_of context;
     none = none;
@@ -202,6 +382,26 @@ module _ {C M K : Type 0} (allows : Standing → LogEntry → Type 0) (mark_of :
     goes = subst (λ (a : At K). GoesOn a) (sym begun.1) tt;
     named = subst (λ (a : At K). TellsPeer a (log_of d)) (sym begun.1) tt;
     untried = λ still. untried;
+    untreated = subst (λ (l : List LogEntry). IsUntreated l)
+        (all_entries (seen_with c client) (seen_with d left) called.entries none called.log)
+        (made_untreated called.entries called.order
+        (entries_one (log_of c) (log_of d) called.entries none called.log one));
+    unanswered = ap (λ (x : Writing). has_head x.place) called.queued.same ∙ open_to;
+  }
+
+module _ {M K : Type 0} where
+  -- between two sessions of the same head the standing of a log may change, where no final head was
+  -- queued for the first
+  pub views_on : (calls : Calls M K) (mark behind : ℕ) (first now : HttpSession) → behind ≡ mark
+      → head_of now.reading ≡ head_of first.reading → has_head first.writing.place ≡ false
+      → Views (standing None false (moment (seen_with calls first) mark))
+      (standing None false (moment (seen_with calls now) behind))
+  views_on calls mark behind first now same head none = record {
+    mark = same;
+    head = ap (λ (h : Option RequestHead). unwrap_or h (new_request [] [])) head;
+    keepalive = refl;
+    final_head = λ is. absurd (true≢false (sym is ∙ none));
+    upgraded = λ is. absurd (true≢false (sym is));
   }
 
 module _ {L C M K : Type 0} (allows : Standing → LogEntry → Type 0) (mark_of : C → ℕ) where
@@ -213,6 +413,8 @@ module _ {L C M K : Type 0} (allows : Standing → LogEntry → Type 0) (mark_of
       absurd (true≢false shut)
   unopened_calls calls (Prepare context session link lease) work none shut counts = absurd counts
   unopened_calls calls (Relay a) work none shut counts = absurd counts
+  unopened_calls calls (Broken context session link lease keep error) work none shut counts =
+      absurd counts
   unopened_calls calls (Fail link lease keep session error) work none shut counts = absurd counts
   unopened_calls calls (Close link lease keep outcome) work none shut counts = absurd counts
   unopened_calls calls (Answer session owed attempts) work none shut counts =
@@ -228,50 +430,111 @@ module _ {L C M K : Type 0} (allows : Standing → LogEntry → Type 0) (mark_of
       opening_logged allows mark_of calls context session.value tries so_far
   calls_logged calls (Prepare context session link lease) so_far =
       opening_logged allows mark_of calls context session.value (tries_in lease) so_far.0
-  calls_logged calls (Relay a) so_far = (station.sent, so_far)
+  calls_logged calls (Relay a) so_far = (
+    station.sent,
+    record { from = so_far.from; to = _; walks = so_far.walks; order = so_far.order },
+  )
+  calls_logged calls (Broken context session link lease keep error) so_far = (
+    so_far.at,
+    record { from = so_far.from; to = _; walks = so_far.walks; order = so_far.order },
+  )
   calls_logged calls (Fail link lease keep session error) so_far = so_far
   calls_logged calls (Close link lease keep outcome) so_far = so_far
   calls_logged calls (Answer session owed attempts) so_far = so_far
   calls_logged calls (Ended outcome attempts) so_far = so_far
 
-  -- once the exchange has begun none of the hooks before it is called any more
-  pub begun_logged : (calls : Calls M K) (next : Phase L C) → IsBegun next
-      → IsLogged allows (log_of calls) station.sent → CallsSoFar allows mark_of calls next
-  begun_logged calls ReadHead begun logged = absurd begun
-  begun_logged calls (Connect context session tries) begun logged = absurd begun
-  begun_logged calls (Prepare context session link lease) begun logged = absurd begun
-  begun_logged calls (Relay a) begun logged = logged
-  begun_logged calls (Fail link lease keep session error) begun logged = (station.sent, logged)
-  begun_logged calls (Close link lease keep outcome) begun logged = (station.sent, logged)
-  begun_logged calls (Answer session owed attempts) begun logged = absurd begun
-  begun_logged calls (Ended outcome attempts) begun logged = absurd begun
+  -- the exchange has begun, for the calls so far, with that context and that session
+  pub begun_exchange : (calls : Calls M K) (context : C) (session : HttpSession) (next : Phase L C)
+      → BeginsCalls context session next
+      → ((a : Attempt L C) → a.context ≡ context → a.exchange.exchange.down.session ≡ session
+      → IsRelayingCalls allows mark_of calls a)
+      → (at : Station) × IsLogged allows (log_of calls) at → CallsSoFar allows mark_of calls next
+  begun_exchange calls context session ReadHead begins relays logged = absurd begins
+  begun_exchange calls context session (Connect other stays tries) begins relays logged =
+      absurd begins
+  begun_exchange calls context session (Prepare other stays link lease) begins relays logged =
+      absurd begins
+  begun_exchange calls context session (Relay a) begins relays logged =
+      relays a.value begins.0 begins.1
+  begun_exchange calls context session (Broken other stays link lease keep error) begins relays
+      logged = absurd begins
+  begun_exchange calls context session (Fail link lease keep stays error) begins relays logged =
+      absurd begins
+  begun_exchange calls context session (Close link lease keep outcome) begins relays logged = logged
+  begun_exchange calls context session (Answer stays owed attempts) begins relays logged =
+      absurd begins
+  begun_exchange calls context session (Ended outcome attempts) begins relays logged = absurd begins
 
-  -- while it goes on the log stands where it began
-  pub relaying_logged : (calls : Calls M K) (phase : Phase L C) → is_relaying phase ≡ true
-      → CallsSoFar allows mark_of calls phase → IsLogged allows (log_of calls) station.sent
-  relaying_logged calls ReadHead is so_far = absurd (true≢false (sym is))
-  relaying_logged calls (Connect context session tries) is so_far = absurd (true≢false (sym is))
-  relaying_logged calls (Prepare context session link lease) is so_far =
-      absurd (true≢false (sym is))
-  relaying_logged calls (Relay a) is so_far = so_far
-  relaying_logged calls (Fail link lease keep session error) is so_far =
-      absurd (true≢false (sym is))
-  relaying_logged calls (Close link lease keep outcome) is so_far = absurd (true≢false (sym is))
-  relaying_logged calls (Answer session owed attempts) is so_far = absurd (true≢false (sym is))
-  relaying_logged calls (Ended outcome attempts) is so_far = absurd (true≢false (sym is))
+  -- a turn of an exchange leaves the calls so far
+  kept_calls : (calls : Calls M K) (a : Attempt L C) (next : Phase L C) → KeepsCalls a next
+      → IsRelayingCalls allows mark_of calls a → CallsSoFar allows mark_of calls next
+  kept_calls calls a ReadHead keeps so_far = absurd keeps
+  kept_calls calls a (Connect context session tries) keeps so_far = absurd keeps
+  kept_calls calls a (Prepare context session link lease) keeps so_far = absurd keeps
+  kept_calls calls a (Relay b) keeps so_far = record {
+    first = so_far.first;
+    from = so_far.from;
+    walks = subst (λ (c : C). Walk allows so_far.from (log_of calls)
+        (standing None false (moment (seen_with calls so_far.first) (mark_of c)))) (sym keeps.0)
+        so_far.walks;
+    order = so_far.order;
+    head = so_far.head ∙ sym keeps.1;
+    unanswered = so_far.unanswered;
+  }
+  kept_calls calls a (Broken context session link lease keep error) keeps so_far = record {
+    from = so_far.from;
+    walks = walk_further allows (log_of calls) so_far.from
+        (standing None false (moment (seen_with calls so_far.first) (mark_of a.context)))
+        (standing None false (moment (seen_with calls session.value) (mark_of context)))
+        so_far.walks
+        (views_on calls (mark_of a.context) (mark_of context) so_far.first session.value
+        (ap mark_of keeps.0) (keeps.1 ∙ sym so_far.head) so_far.unanswered);
+    at = station.sent;
+    order = so_far.order;
+    breaks = refl;
+  }
+  kept_calls calls a (Fail link lease keep session error) keeps so_far = absurd keeps
+  kept_calls calls a (Close link lease keep outcome) keeps so_far = (
+    station.sent,
+    record { from = so_far.from; to = _; walks = so_far.walks; order = so_far.order },
+  )
+  kept_calls calls a (Answer session owed attempts) keeps so_far = absurd keeps
+  kept_calls calls a (Ended outcome attempts) keeps so_far = absurd keeps
 
-  -- nor in an attempt that left its link before
-  pub left_calls : (calls : Calls M K) (link : L) (lease : Lease) (next : Phase L C)
-      → LeavesLink link lease next → (at : Station) × IsLogged allows (log_of calls) at
-      → CallsSoFar allows mark_of calls next
-  left_calls calls link lease ReadHead left logged = absurd left
-  left_calls calls link lease (Connect context session tries) left logged = absurd left
-  left_calls calls link lease (Prepare context session other by) left logged = absurd left
-  left_calls calls link lease (Relay a) left logged = absurd left
-  left_calls calls link lease (Fail other by keep session error) left logged = logged
-  left_calls calls link lease (Close other by keep outcome) left logged = logged
-  left_calls calls link lease (Answer session owed attempts) left logged = absurd left
-  left_calls calls link lease (Ended outcome attempts) left logged = absurd left
+  pub relaying_calls : (calls : Calls M K) (phase next : Phase L C) → is_relaying phase ≡ true
+      → ((a : Box (Attempt L C)) → phase ≡ Relay a → KeepsCalls a.value next)
+      → CallsSoFar allows mark_of calls phase → CallsSoFar allows mark_of calls next
+  relaying_calls calls ReadHead next is keeps so_far = absurd (true≢false (sym is))
+  relaying_calls calls (Connect context session tries) next is keeps so_far =
+      absurd (true≢false (sym is))
+  relaying_calls calls (Prepare context session link lease) next is keeps so_far =
+      absurd (true≢false (sym is))
+  relaying_calls calls (Relay a) next is keeps so_far =
+      kept_calls calls a.value next (keeps a refl) so_far
+  relaying_calls calls (Broken context session link lease keep error) next is keeps so_far =
+      absurd (true≢false (sym is))
+  relaying_calls calls (Fail link lease keep session error) next is keeps so_far =
+      absurd (true≢false (sym is))
+  relaying_calls calls (Close link lease keep outcome) next is keeps so_far =
+      absurd (true≢false (sym is))
+  relaying_calls calls (Answer session owed attempts) next is keeps so_far =
+      absurd (true≢false (sym is))
+  relaying_calls calls (Ended outcome attempts) next is keeps so_far = absurd (true≢false (sym is))
+
+  -- the error of an attempt was treated, and its link is to go back
+  pub treated_calls : (calls : Calls M K) (before : List AttemptRecord) (next : Phase L C)
+      (work : Work) → CountsTreat before next work
+      → (at : Station) × IsLogged allows (log_of calls) at → CallsSoFar allows mark_of calls next
+  treated_calls calls before ReadHead work counts logged = absurd counts
+  treated_calls calls before (Connect context session tries) work counts logged = absurd counts
+  treated_calls calls before (Prepare context session link lease) work counts logged = absurd counts
+  treated_calls calls before (Relay a) work counts logged = absurd counts
+  treated_calls calls before (Broken context session link lease keep error) work counts logged =
+      absurd counts
+  treated_calls calls before (Fail link lease keep session error) work counts logged = logged
+  treated_calls calls before (Close link lease keep outcome) work counts logged = logged
+  treated_calls calls before (Answer session owed attempts) work counts logged = absurd counts
+  treated_calls calls before (Ended outcome attempts) work counts logged = absurd counts
 
   -- nor one that hooks ended
   pub ended_calls : (calls : Calls M K) (before : List AttemptRecord) (next : Phase L C)
@@ -282,6 +545,8 @@ module _ {L C M K : Type 0} (allows : Standing → LogEntry → Type 0) (mark_of
       absurd (true≢false shut)
   ended_calls calls before (Prepare context session link lease) work counts shut logged = absurd counts
   ended_calls calls before (Relay a) work counts shut logged = absurd counts
+  ended_calls calls before (Broken context session link lease keep error) work counts shut logged =
+      absurd counts
   ended_calls calls before (Fail link lease keep session error) work counts shut logged =
       absurd counts
   ended_calls calls before (Close link lease keep outcome) work counts shut logged =
@@ -297,6 +562,8 @@ module _ {L C M K : Type 0} (allows : Standing → LogEntry → Type 0) (mark_of
   answered_calls calls (Connect context session tries) work counts logged = absurd counts
   answered_calls calls (Prepare context session link lease) work counts logged = absurd counts
   answered_calls calls (Relay a) work counts logged = absurd counts
+  answered_calls calls (Broken context session link lease keep error) work counts logged =
+      absurd counts
   answered_calls calls (Fail link lease keep session error) work counts logged = absurd counts
   answered_calls calls (Close link lease keep outcome) work counts logged = absurd counts
   answered_calls calls (Answer session owed attempts) work counts logged = logged
@@ -325,10 +592,15 @@ module _ {L C M K : Type 0} (allows : Standing → LogEntry → Type 0) (mark_of
         goes = o.goes;
         named = o.named;
         untried = λ is. absurd (true≢false (sym is ∙ over));
+        untreated = o.untreated;
+        unanswered = subst (λ (b : Box HttpSession). has_head b.value.writing.place ≡ false)
+            (sym keeps.1) o.unanswered;
       }
   asked_calls calls context session tries (Prepare other stays link lease) state start_at over keeps
       none o = cc
   asked_calls calls context session tries (Relay a) state start_at over keeps none o = cc
+  asked_calls calls context session tries (Broken other stays link lease keep error) state start_at over
+      keeps none o = cc
   asked_calls calls context session tries (Fail link lease keep stays error) state start_at over
       keeps none o = cc
   asked_calls calls context session tries (Close link lease keep outcome) state start_at over keeps
@@ -349,6 +621,8 @@ module _ {L C M K : Type 0} (allows : Standing → LogEntry → Type 0) (mark_of
   settled_calls calls (Prepare context session link lease) settled before after does so_far =
       subst (λ (k : Phase L C). CallsSoFar allows mark_of calls k) (sym does.0) so_far
   settled_calls calls (Relay a) settled before after does so_far =
+      subst (λ (k : Phase L C). CallsSoFar allows mark_of calls k) (sym does.0) so_far
+  settled_calls calls (Broken context session link lease keep error) settled before after does so_far =
       subst (λ (k : Phase L C). CallsSoFar allows mark_of calls k) (sym does.0) so_far
   settled_calls calls (Fail link lease keep session error) settled before after does so_far =
       subst (λ (k : Phase L C). CallsSoFar allows mark_of calls k) (sym does.1) so_far

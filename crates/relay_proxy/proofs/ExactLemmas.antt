@@ -25,7 +25,7 @@ use Rattle.relay_valid.proofs.UnfitLemmas.{relayed_fit}
 use Rattle.relay_proxy.specs.Ahead.{IsOwedAhead, IsStoppedFor, LetsGo, goes_on}
 use Rattle.relay_proxy.specs.Answer.{past_at}
 use Rattle.relay_proxy.specs.Relayable.{IsAccepted, IsConnect, IsRelayable, NamesUpgrade}
-use Rattle.relay_proxy.specs.Sent.{Sends, RefusesToSend}
+use Rattle.relay_proxy.specs.Sent.{IsUntreated, Sends, RefusesToSend}
 use Rattle.relay_proxy.specs.Passed.{World, Start, origin_of, asked}
 use Rattle.relay_proxy.specs.Endings as endings
 use Rattle.relay_proxy.specs.Endings.{IsTurnedDown, IsLeftAlone, EndsUnlinked, EndsLinked, EndsAhead, IsEnded}
@@ -35,6 +35,7 @@ use Rattle.relay_proxy.specs.declared.outcome.Outcome.TheVariants.{NoRequest, Re
 use Rattle.relay_proxy.specs.declared.record.AttemptRecord.{AttemptRecord}
 use Rattle.relay_proxy.proofs.AnswerSteps.{owed_head}
 use Rattle.relay_proxy.proofs.OpenHead.{turns_down_open}
+use Rattle.relay_proxy.proofs.TreatLemmas.{LetsAt, lets_at}
 
 -- no bytes are an open head
 open_nothing : IsOpen []
@@ -403,20 +404,25 @@ not_there a b stops goes same =
     true≢false (sym goes ∙ ap (λ (x : Station). goes_on x) (sym same) ∙ stops)
 
 -- hooks that let the request go did not end it
-ahead_or_goes : (s : Start) (p : Passed) (why : Option Error) (text : List ℕ)
-    → IsOwedAhead s p why text → LetsGo s.called → ⊥
-ahead_or_goes s p why text
+ahead_or_at : (s : Start) (p : Passed) (why : Option Error) (text : List ℕ)
+    → IsOwedAhead s p why text → LetsAt s.called → ⊥
+ahead_or_at s p why text
     (IsOwedAhead.by_answer head tasks t has order is_answer is) lets =
-    one_station s.called station.answered lets.0 order lets.1
-    (not_there station.answered lets.0 refl lets.2)
-ahead_or_goes s p why text
+    one_station s.called station.answered lets.at order lets.order
+    (not_there station.answered lets.at refl lets.goes)
+ahead_or_at s p why text
     (IsOwedAhead.by_error head e t has (IsStoppedFor.by_hook order last) is) lets =
-    one_station s.called station.failing lets.0 order lets.1
-    (not_there station.failing lets.0 refl lets.2)
-ahead_or_goes s p why text
+    one_station s.called station.failing lets.at order lets.order
+    (not_there station.failing lets.at refl lets.goes)
+ahead_or_at s p why text
     (IsOwedAhead.by_error head e t has (IsStoppedFor.is_purge order same) is) lets =
-    one_station s.called station.purging lets.0 order lets.1
-    (not_there station.purging lets.0 refl lets.2)
+    one_station s.called station.purging lets.at order lets.order
+    (not_there station.purging lets.at refl lets.goes)
+
+ahead_or_goes : (s : Start) (p : Passed) (why : Option Error) (text : List ℕ)
+    → IsOwedAhead s p why text → IsUntreated s.called → LetsGo s.called → ⊥
+ahead_or_goes s p why text owes untreated lets =
+    ahead_or_at s p why text owes (lets_at s.called lets untreated)
 
 -- a valid request that had no link is served, where it is finished and no fault was met
 whole_unlinked : (s : Start) (p : Passed) (w : World) (outcome : Outcome)
@@ -435,11 +441,11 @@ whole_unlinked s p w (Refused error) ends head relayable lets asks client connec
       ]
     ])
 whole_unlinked s p w (Served None reuse) ends head relayable lets asks client connector =
-    absurd (ahead_or_goes s p ends.0.why ends.0.text ends.0.owed lets)
+    absurd (ahead_or_goes s p ends.0.why ends.0.text ends.0.owed ends.0.untreated lets)
 whole_unlinked s p w (Served (Some e) reuse) ends head relayable lets asks client connector =
     absurd (elim ends.0 as (λ _. ⊥) [
       | inl missed ↦ connector missed.unconnected.rose
-      | inr ahead ↦ ahead_or_goes s p ahead.why ahead.text ahead.owed lets
+      | inr ahead ↦ ahead_or_goes s p ahead.why ahead.text ahead.owed ahead.untreated lets
     ])
 whole_unlinked s p w TurnLimit ends head relayable lets asks client connector = inl (inl refl)
 whole_unlinked s p w OutOfMemory ends head relayable lets asks client connector = inl (inr refl)
@@ -491,7 +497,7 @@ whole_linked s p w link start keep told (Served (Some e) reuse) (inl ends) head 
 whole_linked s p w link start keep told (Served (Some e) reuse) (inr ends) head goes agree asks
     answers client faults =
     let r = ends.refused in
-    absurd (goes keep e (subst (λ (h : RequestHead). RefusesToSend s.called h keep e)
+    absurd (goes keep r.raised (subst (λ (h : RequestHead). RefusesToSend s.called h keep r.raised)
     (asks_head (origin_of s head head false) p w.client r.head r.accepted.framing r.accepted.len
     asks
     r.accepted.has) r.refused))

@@ -7,8 +7,9 @@
 --   stopped                    hooks stopped it with an error
 --   counts_called ..           what is counted of the call
 --   stop_text                  what answers such an error
-use Rattle.std.proofs.Common.{◌≡◌, ℕ, ◌≤◌, true, false, List, [], ◌∷◌, ◌++◌, Ok, Some, None, refl, sym, ap, subst, ◌∙◌, inl, arith}
+use Rattle.std.proofs.Common.{◌≡◌, ℕ, ◌≤◌, true, false, List, [], ◌∷◌, ◌++◌, Ok, Some, None, Bool, is_some, refl, sym, ap, subst, ◌∙◌, inl, arith}
 use Rattle.relay_tasks.specs.Head.{RequestHead}
+use Rattle.relay_tasks.specs.Hooks.{same_hook}
 use Rattle.relay_tasks.specs.declared.Error.{Error}
 use Rattle.relay_tasks.specs.declared.ErrorSource.TheVariants.{Internal}
 use Rattle.relay_tasks.specs.declared.Peer.{Peer}
@@ -17,7 +18,7 @@ use Rattle.relay_tasks.specs.declared.hook.Hook.TheVariants as hook
 use Rattle.relay_tasks.specs.declared.log.LogEntry.{LogEntry}
 use Rattle.relay_tasks.specs.declared.task.HttpTask.{HttpTask}
 use Rattle.relay_session.specs.Asked.{request_of}
-use Rattle.relay_session.specs.Response.{IsOpen}
+use Rattle.relay_session.specs.Response.{IsOpen, has_head}
 use Rattle.relay_session.specs.declared.session.HttpSession.{HttpSession}
 use Rattle.relay_session.specs.declared.task_text.Place as stage
 use Rattle.relay_session.specs.declared.task_text.Place.TheVariants as stands
@@ -32,7 +33,9 @@ use Rattle.relay_phases.specs.Turns.{QueuesNothing, Turns}
 use Rattle.relay_phases.proofs.OrderLemmas.{Accepts-one}
 use Rattle.relay_phases.proofs.TurnLemmas.{HasCalled-more}
 use Rattle.relay_opening.specs.Opens.{TurnsTo}
-use Rattle.relay_opening.specs.Place.{end_station}
+use Rattle.relay_opening.specs.Place.{end_station, next_hook}
+use Rattle.relay_opening.specs.declared.place.Called.{Called}
+use Rattle.relay_opening.specs.declared.place.Called.TheVariants as called
 use Rattle.relay_opening.specs.declared.place.Place.{Place}
 use Rattle.relay_opening.specs.declared.place.Place.TheVariants as place
 use Rattle.relay_opening.specs.declared.place.End.{End}
@@ -42,11 +45,12 @@ use Rattle.relay_trying.specs.Trying.{NamesPeer}
 use Rattle.relay_attempt.specs.Passed.{Passed}
 use Rattle.relay_proxy.specs.Ahead.{IsOwedAhead, IsStoppedFor, unrelayed}
 use Rattle.relay_proxy.specs.Answer.{QueuesAnswer, answer_for}
-use Rattle.relay_proxy.specs.Calls.{CallsNext, CountsCalls, GoesOn, IsLogged, IsOpening, TakesNext, TellsPeer, is_calling, leads_at, leads_to, log_of, seen_with, station_at}
+use Rattle.relay_proxy.specs.Calls.{CallsNext, CountsCalls, GoesOn, IsLogged, IsOpening, TakesNext, TellsPeer, comes_next, is_calling, leads_at, leads_to, log_of, seen_with, station_at}
 use Rattle.relay_proxy.specs.Named.{IsNamed, peer_in}
 use Rattle.relay_proxy.specs.Passed.{Start, World, called_to}
 use Rattle.relay_proxy.specs.Phases.{IsConnecting}
 use Rattle.relay_proxy.specs.Relayable.{IsAccepted}
+use Rattle.relay_proxy.specs.Sent.{IsUntreated}
 use Rattle.relay_proxy.specs.declared.calls.At.{At}
 use Rattle.relay_proxy.specs.declared.calls.At.TheVariants as at
 use Rattle.relay_proxy.specs.declared.calls.Calls.{Calls}
@@ -57,6 +61,7 @@ use Rattle.relay_proxy.specs.declared.work.Work.{Work}
 use Rattle.relay_proxy.proofs.CallLemmas.{logged_more, logged_same, none_called, one_called, opening_stands}
 use Rattle.relay_proxy.proofs.NamedLemmas.{names_one, peer_last}
 use Rattle.relay_proxy.proofs.OpenSteps.{AnswersAs, called_accepted, hooks_answer, stands_first, stays_connecting}
+use Rattle.relay_proxy.proofs.TreatLemmas.{untreated_more}
 
 -- one error stops a request
 same_stop : (a b : Error) → led.Stopped a ≡ led.Stopped b → a ≡ b
@@ -126,6 +131,40 @@ same_place p q same = ap (λ (a : At _). place_in a) same
 pub same_peer : {K : Type 0} (p q : Peer) → ◌≡◌ {A = At K} (at.Named p) (at.Named q) → p ≡ q
 same_peer p q same = cc
 
+-- the hook that comes next is none in which an error is treated
+opens_behind : {K : Type 0} (last : Called K) (has_modules : Bool)
+    → same_hook hook.ErrorWhileProxy (next_hook last has_modules) ≡ false
+opens_behind (called.Made None) has_modules = refl
+opens_behind (called.Made (Some kept)) has_modules = refl
+opens_behind called.Handed has_modules = refl
+opens_behind called.Early has_modules = refl
+opens_behind called.Spawning true = refl
+opens_behind called.Spawning false = refl
+opens_behind called.Headed has_modules = refl
+opens_behind called.Filtered has_modules = refl
+opens_behind called.Sending has_modules = refl
+
+-- where hooks come one behind the other, that is the one
+same_next : (a b : Hook) → Some a ≡ Some b → same_hook hook.ErrorWhileProxy a ≡ false
+    → same_hook hook.ErrorWhileProxy b ≡ false
+same_next a b is other = let same : a ≡ b = cc in subst (λ (h : Hook). same_hook hook.ErrorWhileProxy h ≡ false) same other
+
+opens_by : {K : Type 0} (a : At K) (has_modules : Bool) (which : Hook)
+    → comes_next a has_modules ≡ Some which → same_hook hook.ErrorWhileProxy which ≡ false
+opens_by (at.Kept kept) has_modules which is = cc
+opens_by (at.Opening (place.Behind last)) has_modules which is =
+    same_next (next_hook last has_modules) which is (opens_behind last has_modules)
+opens_by (at.Opening (place.Ended end.Attempts)) has_modules which is =
+    same_next hook.UpstreamPeer which is refl
+opens_by (at.Opening (place.Ended end.Answered)) has_modules which is = cc
+opens_by (at.Opening (place.Ended end.Purge)) has_modules which is = cc
+opens_by (at.Opening (place.Ended end.Declined)) has_modules which is = cc
+opens_by (at.Opening (place.Ended (end.Unwritten why))) has_modules which is = cc
+opens_by (at.Opening (place.Ended (end.Failed error))) has_modules which is = cc
+opens_by (at.Opening place.Lost) has_modules which is = cc
+opens_by (at.Named peer) has_modules which is = cc
+opens_by at.Linked has_modules which is = cc
+
 -- nothing was queued twice
 pub quiet_twice : (a b c : Writing) (v w : List HttpTask) → QueuesNothing a b v
     → QueuesNothing b c w → QueuesNothing a c (v ++ w)
@@ -189,6 +228,26 @@ module _ {C M K : Type 0} (allows : Standing → LogEntry → Type 0) (mark_of :
     unlinked_by (TakesNext.lost to same) is =
         let clash : at.Opening place.Lost ≡ at.Linked = sym to ∙ is in cc
 
+    -- no call of these treats an error
+    untreated_by : CallsNext allows old client (mark_of context) new left (mark_of context')
+        → IsUntreated (log_of old) → IsUntreated (log_of new)
+    untreated_by (TakesNext.leads which comes (place.Behind last) to turn) none =
+        untreated_more (log_of old) (log_of new) turn.e which turn.calls.log turn.hook
+        (opens_by old.at (is_some old.session.modules) which comes) none
+    untreated_by (TakesNext.leads which comes (place.Ended how) to turn) none =
+        untreated_more (log_of old) (log_of new) turn.0.e which turn.0.calls.log turn.0.hook
+        (opens_by old.at (is_some old.session.modules) which comes) none
+    untreated_by (TakesNext.leads which comes place.Lost to turn) none =
+        subst (λ (l : List LogEntry). IsUntreated l) (sym turn) none
+    untreated_by (TakesNext.names was peer to names) none =
+        untreated_more (log_of old) (log_of new) names.turn.e hook.UpstreamPeer names.turn.calls.log
+        names.turn.hook refl none
+    untreated_by (TakesNext.lost to same) none =
+        subst (λ (l : List LogEntry). IsUntreated l) (sym same) none
+
+    pub untreated : IsUntreated (log_of old) → IsUntreated (log_of new)
+    untreated none = untreated_by turns none
+
     -- ---- the request goes on
 
     -- a hook was called that queued nothing, behind which the request goes on
@@ -248,6 +307,8 @@ module _ {C M K : Type 0} (allows : Standing → LogEntry → Type 0) (mark_of :
           goes = g.goes;
           named = g.tells;
           untried = λ still. o.untried due;
+          untreated = untreated o.untreated;
+          unanswered = ap (λ (x : Writing). has_head x.place) g.turn.queued.same ∙ o.unanswered;
         }
 
     pub goes_connecting : leads_at new.at ≡ led.GoesOn → (s : Start) (q : Passed)

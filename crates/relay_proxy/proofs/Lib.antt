@@ -13,6 +13,7 @@ pub mod NamedLemmas
 pub mod HookSteps
 pub mod PrepareSteps
 pub mod RelaySteps
+pub mod TreatLemmas
 pub mod BoundLemmas
 pub mod StepLemmas
 mod TakenLemmas

@@ -54,6 +54,7 @@ use Rattle.relay_proxy.specs.Passed.{World, Start, asked, called_to, origin_of, 
 use Rattle.relay_proxy.specs.Phases.{IsConnecting, RunSoFar}
 use Rattle.relay_proxy.specs.Relayable.{IsAccepted, IsRelayable}
 use Rattle.relay_proxy.specs.Named.{peer_in}
+use Rattle.relay_proxy.specs.Sent.{IsUntreated}
 use Rattle.relay_proxy.specs.Tries.{AreTries, IsTry}
 use Rattle.relay_proxy.specs.Turn.{Advances}
 use Rattle.relay_proxy.specs.declared.calls.Calls.{Calls}
@@ -342,10 +343,10 @@ hooks_answer allows c d client left mark behind which from how s p w tries waiti
 
 -- how one ends that is owed nothing
 owed_nothing : (s : Start) (p : Passed) (w : World) (why : Option Error)
-    (tries : List AttemptRecord) → IsOwedAhead s p why [] → p.written ≡ [] → IsUnsent p
-    → tries ≡ [] → EndsUnlinked s p w (outcome.Served why false)
+    (tries : List AttemptRecord) → IsOwedAhead s p why [] → IsUntreated s.called
+    → p.written ≡ [] → IsUnsent p → tries ≡ [] → EndsUnlinked s p w (outcome.Served why false)
     × AttemptsUnlinked s p w tries (outcome.Served why false)
-owed_nothing s p w None tries owes written unsent none = (
+owed_nothing s p w None tries owes untreated written unsent none = (
   (
     record {
       why = None;
@@ -353,18 +354,20 @@ owed_nothing s p w None tries owes written unsent none = (
       owed = owes;
       given = inl (refl, written);
       unsent = unsent;
+      untreated = untreated;
     },
     refl,
   ),
   none,
 )
-owed_nothing s p w (Some e) tries owes written unsent none =
+owed_nothing s p w (Some e) tries owes untreated written unsent none =
     let ends : EndsAhead s p w (Some e) = record {
       why = Some e;
       text = [];
       owed = owes;
       given = (refl, inl written);
       unsent = unsent;
+      untreated = untreated;
     } in
     ((inr ends, refl), inr (none, ends))
 
@@ -391,14 +394,19 @@ module _ {L C : Type 0} (state : L → LinkState) (start_at : L → LinkStart) w
   pub hooks_owe : (these those : List LogEntry) (s : Start) (p : Passed) (w : World) (context : C)
       (client left : Box HttpSession) (tries : List AttemptRecord) (why : Option Error)
       (text : List ℕ) → left.value.writing.output ≡ outgoing.Open text → 0 < length text
-      → IsOwedAhead (called_to s those) p why text → tries ≡ []
+      → IsOwedAhead (called_to s those) p why text → IsUntreated those → tries ≡ []
       → RunSoFar {C = C} state start_at (called_to s these) p w [] (Connect context client tries)
       → Advances {C = C} state start_at (called_to s those) w (Answer left (owed.Ahead why) tries)
-  hooks_owe these those s p w context client left tries why text waits some owes none run =
+  hooks_owe these those s p w context client left tries why text waits some owes untreated none
+      run =
       answer_on state start_at (called_to s those) p w [] left (owed.Ahead why) tries
       (called_tells s these those p w run.tells) (record {
         text = text;
-        owes = (owes, record { got = run.holds.unsent.got; sent = run.holds.unsent.sent });
+        owes = (
+          owes,
+          record { got = run.holds.unsent.got; sent = run.holds.unsent.sent },
+          untreated,
+        );
         waits = record {
           left = text;
           is_open = waits;
@@ -411,11 +419,11 @@ module _ {L C : Type 0} (state : L → LinkState) (start_at : L → LinkStart) w
   -- one that is owed nothing has ended
   pub hooks_end : (these those : List LogEntry) (s : Start) (p : Passed) (w : World) (context : C)
       (client : Box HttpSession) (tries : List AttemptRecord) (why : Option Error)
-      → IsOwedAhead (called_to s those) p why [] → tries ≡ []
+      → IsOwedAhead (called_to s those) p why [] → IsUntreated those → tries ≡ []
       → RunSoFar {C = C} state start_at (called_to s these) p w [] (Connect context client tries)
       → Advances {C = C} state start_at (called_to s those) w
       (Ended (outcome.Served why false) tries)
-  hooks_end these those s p w context client tries why owes none run = record {
+  hooks_end these those s p w context client tries why owes untreated none run = record {
     passed = p;
     run = record {
       tells = called_tells s these those p w run.tells;
@@ -423,7 +431,7 @@ module _ {L C : Type 0} (state : L → LinkState) (start_at : L → LinkStart) w
       untouched = run.untouched;
       going = λ limit. cc;
       calm = tt;
-      holds = owed_nothing (called_to s those) p w why tries owes run.holds.written
+      holds = owed_nothing (called_to s those) p w why tries owes untreated run.holds.written
           (record { got = run.holds.unsent.got; sent = run.holds.unsent.sent }) none;
     };
   }
@@ -435,22 +443,22 @@ module _ {L C : Type 0} (state : L → LinkState) (start_at : L → LinkStart) w
       → left.value.writing.output ≡ outgoing.Open text
       → (0 < length (pending left.value.writing.output) → next ≡ Answer left (owed.Ahead why) tries)
       → (pending left.value.writing.output ≡ [] → next ≡ Ended (outcome.Served why false) tries)
-      → IsOwedAhead (called_to s those) p why text → tries ≡ []
+      → IsOwedAhead (called_to s those) p why text → IsUntreated those → tries ≡ []
       → RunSoFar {C = C} state start_at (called_to s these) p w [] (Connect context client tries)
       → Advances {C = C} state start_at (called_to s those) w next
-  hooks_leave these those s p w context client left tries why [] next is more none owes untried
-      run =
+  hooks_leave these those s p w context client left tries why [] next is more none owes
+      untreated untried run =
       subst (λ (k : Phase L C). Advances {C = C} state start_at (called_to s those) w k)
       (sym (none (ap pending is)))
-      (hooks_end these those s p w context client tries why owes untried run)
+      (hooks_end these those s p w context client tries why owes untreated untried run)
   hooks_leave these those s p w context client left tries why (b ∷ bs) next is more none owes
-      untried run =
+      untreated untried run =
       let long : 0 < length (pending left.value.writing.output) =
       omega (arith, ap (λ (o : Outgoing). length (pending o)) is) in
       subst (λ (k : Phase L C). Advances {C = C} state start_at (called_to s those) w k)
       (sym (more long))
       (hooks_owe these those s p w context client left tries why (b ∷ bs) is (omega arith) owes
-      untried run)
+      untreated untried run)
 
   -- one that was out of memory
   pub hooks_lost : (these those : List LogEntry) (s : Start) (p : Passed) (w : World) (context : C)

@@ -4,11 +4,11 @@
 --   linked_on, prepared_on     a hook was called, and the request stands as it stood
 --   told_badly                 the application failed as it was told of the link
 --   sends_by, refuses_by       what became of the head
---   failed_ahead .. link_lost  an attempt that ends ahead of its exchange
+--   link_lost .. ahead_broken  an attempt that ends ahead of its exchange
 --   begun .. not_begun         its exchange
 use Rattle.std.proofs.Common.{◌≡◌, ℕ, ◌<◌, Bool, false, true, List, [], ◌++◌, length, Option, Some, None, refl, sym, ap, subst, ◌∙◌, inl, inr, arith, true≢false}
 use Rattle.std.specs.Global.{Box}
-use Rattle.std.specs.Prelude.{Result, Ok, Err}
+use Rattle.std.specs.Prelude.{IsTrue, Result, Ok, Err}
 use Rattle.relay_tasks.specs.declared.error.Error.{Error}
 use Rattle.relay_tasks.specs.declared.error.ErrorSource.TheVariants.{Internal}
 use Rattle.relay_tasks.specs.declared.error.Fail.{Fail}
@@ -28,11 +28,8 @@ use Rattle.relay_h1.specs.Framing.{request_framing}
 use Rattle.relay_h1.specs.Verdict.{refused_from}
 use Rattle.relay_h1.specs.declared.framing.Framing.{Framing}
 use Rattle.relay_authority.specs.Stage.{Makes}
-use Rattle.relay_session.specs.Asked.{request_of}
 use Rattle.relay_session.specs.Reading.{is_body_done}
-use Rattle.relay_session.specs.Response.{pending}
-use Rattle.relay_session.specs.declared.writing.Outgoing.{Outgoing}
-use Rattle.relay_session.specs.declared.writing.Outgoing.TheVariants as outgoing
+use Rattle.relay_session.specs.Response.{has_head}
 use Rattle.relay_session.specs.declared.writing.Writing.{Writing}
 use Rattle.relay_session.specs.declared.session.HttpSession.{HttpSession}
 use Rattle.relay_modules.specs.declared.seen.Seen.{Seen}
@@ -42,23 +39,21 @@ use Rattle.relay_phases.specs.Order.{Station as station}
 use Rattle.relay_phases.specs.Turns.{HasCalled, QueuesNothing, Turns}
 use Rattle.relay_phases.proofs.TurnLemmas.{HasCalled-more}
 use Rattle.relay_opening.specs.Told.{head_behind}
-use Rattle.relay_trying.specs.Trying.{FiltersHead, TellsConnected}
+use Rattle.relay_trying.specs.Trying.{FiltersHead, TellsConnected, may_break}
 use Rattle.relay_sides.specs.Client.{BeginsBehind}
 use Rattle.relay_core.specs.Past.{Origin}
 use Rattle.relay_attempt.specs.Exchange.{IsUnderWay, UpHolds}
 use Rattle.relay_attempt.specs.Passed.{Passed}
 use Rattle.relay_attempt.specs.declared.h1_exchange.H1Exchange.{H1Exchange}
 use Rattle.relay_attempt.specs.Head.{link_of}
-use Rattle.relay_proxy.specs.Answer.{QueuesAnswer}
-use Rattle.relay_proxy.specs.Calls.{CountsCalls, GoesOn, IsLogged, IsOpening, TellsPeer, is_calling, log_of, seen_with, station_at}
+use Rattle.relay_proxy.specs.Calls.{CountsCalls, GoesOn, IsBreaking, IsLogged, IsOpening, IsRelayingCalls, TellsPeer, is_calling, log_of, seen_with, station_at}
 use Rattle.relay_proxy.specs.Named.{IsNamed, peer_in}
 use Rattle.relay_proxy.specs.Preparing.{FiltersReady, MakesHead, Prepares, Settles, Unprepared}
 use Rattle.relay_proxy.specs.Sent.{Filters, Sends, RefusesToSend, SettlesFramed, asked_in, client_in, client_of}
-use Rattle.relay_proxy.specs.Endings.{IsInOrder, IsRefusedAhead, Misses, EndsLinked, answer_to, error_of, outcome_of}
-use Rattle.relay_proxy.specs.Leaving.{LeavesAhead}
+use Rattle.relay_proxy.specs.Endings.{IsInOrder, EndsLinked, error_of, outcome_of}
 use Rattle.relay_proxy.specs.Tries.{AreTries, tries_in}
 use Rattle.relay_proxy.specs.Passed.{World, Start, called_to, origin_of, TellsClient, IsUnsent, IsUntouched}
-use Rattle.relay_proxy.specs.Phases.{IsConnecting, IsLeased, IsRelaying, PhaseHolds, RunSoFar}
+use Rattle.relay_proxy.specs.Phases.{IsBroken, IsConnecting, IsLeased, IsRelaying, LeavesAhead, PhaseHolds, RunSoFar}
 use Rattle.relay_proxy.specs.Turn.{Advances}
 use Rattle.relay_proxy.specs.declared.calls.At.{At}
 use Rattle.relay_proxy.specs.declared.calls.At.TheVariants as at
@@ -72,12 +67,13 @@ use Rattle.relay_proxy.specs.declared.outcome.Outcome.{Outcome}
 use Rattle.relay_proxy.specs.declared.outcome.Outcome.TheVariants as outcome
 use Rattle.relay_proxy.specs.declared.work.Work.{Work}
 use Rattle.relay_proxy.proofs.ConnectSteps.{no_limit, part_relayed}
-use Rattle.relay_proxy.proofs.CallLemmas.{logged_more, logged_same, none_called, one_called}
-use Rattle.relay_proxy.proofs.HookSteps.{quiet_twice, stop_text}
+use Rattle.relay_proxy.proofs.CallLemmas.{breaks_more, breaks_same, logged_more, logged_same, none_called, one_called, relays_more}
+use Rattle.relay_proxy.proofs.HookSteps.{quiet_twice}
 use Rattle.relay_proxy.proofs.NamedLemmas.{names_none, peer_still}
 use Rattle.relay_proxy.proofs.OpenHead.{exchange_open}
-use Rattle.relay_proxy.proofs.OpenSteps.{called_tells, called_tries, stands_first, stays_connecting}
+use Rattle.relay_proxy.proofs.OpenSteps.{called_tells, called_tries, stays_connecting}
 use Rattle.relay_proxy.proofs.SentLemmas.{client_is, never_unready}
+use Rattle.relay_proxy.proofs.TreatLemmas.{untreated_more}
 
 -- ---- the calls
 
@@ -129,7 +125,7 @@ client_asked : (s : Start) (p : Passed) (w : World) (session : HttpSession)
 client_asked s p w session tries k =
     let b = k.begins k.head false in
     let framed : request_framing k.head ≡ Some b.framing =
-    subst (λ (h : RequestHead). request_framing h ≡ Some b.framing) b.own b.has.let_in.framed in
+    subst (λ (h : RequestHead). request_framing h ≡ Some b.framing) b.own b.has.framed in
     client_is k.head b.framing (is_body_done session.reading) framed b.done
 
 module _ {M K : Type 0} (allows : Standing → LogEntry → Type 0) (c d : Calls M K)
@@ -205,6 +201,8 @@ module _ {M K : Type 0} (allows : Standing → LogEntry → Type 0) (c d : Calls
           why = RefusesToSend.unfiltered (record {
             before = log_of c;
             last = call.call.turn.e;
+            after = [];
+            treats = refl;
             called_are = call.call.turn.calls.log;
             is_of_it = call.call.turn.hook;
             error = call.call.error;
@@ -239,32 +237,6 @@ memory_alone error (fail.Error e) found framing causes refused framed =
     absurd (not_missing framing found (refused (ap (λ (x : Error). fail.Error x) causes)) framed)
 
 -- ---- an attempt that ends ahead of its exchange
-
--- the answer to its error is all that waits
-ahead_text : (s : Start) (p : Passed) (w : World) (session : HttpSession) (new : Writing)
-    (tries : List AttemptRecord) (e : Error) → (k : IsConnecting s p w session tries)
-    → QueuesAnswer session.writing.output e session.writing new
-    → new.output ≡ outgoing.Open (answer_to k.head e)
-ahead_text s p w session new tries e k queues =
-    let b = k.begins k.head false in
-    stop_text session.writing new k.head e b.output
-    (b.answers ∙ ap (λ (h : RequestHead). request_of h) b.own)
-    (stands_first session.writing b.response b.output) queues
-
-module _ {L : Type 0} (state : L → LinkState) (start_at : L → LinkStart) where
-  -- the attempt was refused ahead of its exchange
-  abbrev pub refused_of : (s : Start) (p : Passed) (w : World) (session : HttpSession) (link : L)
-      (lease : Lease) (keep : Bool) (e : Error)
-      → (l : LeavesAhead s p w (state link) (start_at link) session lease keep e)
-      → IsRefusedAhead s p (state link) (start_at link) keep e
-  refused_of s p w session link lease keep e l = record {
-    head = l.connecting.head;
-    accepted = l.connecting.accepted;
-    refused = l.why;
-    fresh = subst (λ (b : Bool). IsHandedOut (state link) (start_at link) b) (sym l.fresh.marked)
-        l.fresh;
-    unsent = l.connecting.unsent;
-  }
 
 module _ {L C : Type 0} (state : L → LinkState) (start_at : L → LinkStart) where
   -- the link is to go back, not kept, where memory was wanted
@@ -339,89 +311,22 @@ module _ {L C : Type 0} (state : L → LinkState) (start_at : L → LinkStart) w
     );
   }
 
-  module _ (s : Start) (p : Passed) (w : World) (session : Box HttpSession) (link : L)
-      (lease : Lease) (keep : Bool) (e : Error) (tells : TellsClient s p w)
-      (untouched : IsUntouched s p w)
-      (l : LeavesAhead s p w (state link) (start_at link) session.value lease keep e)
-    where
-      -- memory was wanted for its answer
-      pub ahead_lost : Advances {C = C} state start_at s w
-          (Close link lease false outcome.OutOfMemory)
-      ahead_lost = record {
-        passed = p;
-        run = record {
-          tells = tells;
-          order = IsInOrder.is_nothing l.connecting.written l.connecting.unsent.sent;
-          untouched = untouched;
-          going = no_limit;
-          calm = tt;
-          holds = (l.leased, (inr (l.connecting.written, l.connecting.unsent), refl));
-        };
-      }
-
-      -- its error has no answer
-      pub ahead_over : (new : Writing)
-          → QueuesAnswer session.value.writing.output e session.value.writing new
-          → pending new.output ≡ [] → Advances {C = C} state start_at s w
-          (Close link lease keep (outcome.Served (Some e) false))
-      ahead_over new queues none = record {
-        passed = p;
-        run = record {
-          tells = tells;
-          order = IsInOrder.is_nothing l.connecting.written l.connecting.unsent.sent;
-          untouched = untouched;
-          going = λ limit. cc;
-          calm = tt;
-          holds = (
-            l.leased,
-            inr (record {
-              refused = refused_of state start_at s p w session.value link lease keep e l;
-              answered = inl (l.connecting.written ∙ sym empty);
-              stays = refl;
-            }),
-          );
-        };
-      }
-        where
-          empty : answer_to l.connecting.head e ≡ []
-          empty = sym (ap (λ (o : Outgoing). pending o)
-              (ahead_text s p w session.value new (tries_in lease) e l.connecting queues)) ∙ none
-
-      -- the client is owed it
-      pub ahead_owing : (session' : Box HttpSession)
-          → QueuesAnswer session.value.writing.output e session.value.writing
-          session'.value.writing → 0 < length (pending session'.value.writing.output)
-          → Advances {C = C} state start_at s w (phase.Fail link lease keep session' e)
-      ahead_owing session' queues some = record {
-        passed = p;
-        run = record {
-          tells = tells;
-          order = IsInOrder.is_nothing l.connecting.written l.connecting.unsent.sent;
-          untouched = untouched;
-          going = tt;
-          calm = tt;
-          holds = (
-            l.leased,
-            record {
-              text = answer_to l.connecting.head e;
-              misses = Misses.ahead_of_it
-                  (refused_of state start_at s p w session.value link lease keep e l) refl;
-              waits = record {
-                left = answer_to l.connecting.head e;
-                is_open = text;
-                some = subst (λ (xs : List ℕ). 0 < length xs)
-                    (ap (λ (o : Outgoing). pending o) text) some;
-                joined = ap (λ (xs : List ℕ). xs ++ answer_to l.connecting.head e)
-                    l.connecting.written;
-              };
-            },
-          );
-        };
-      }
-        where
-          text : session'.value.writing.output ≡ outgoing.Open (answer_to l.connecting.head e)
-          text = ahead_text s p w session.value session'.value.writing (tries_in lease) e
-              l.connecting queues
+  -- it failed, and its error is to be treated
+  pub ahead_broken : (s : Start) (p : Passed) (w : World) (context : C) (session : Box HttpSession)
+      (link : L) (lease : Lease) (keep : Bool) (e : Error) → TellsClient s p w → IsUntouched s p w
+      → LeavesAhead s p w (state link) (start_at link) session.value lease keep e
+      → Advances {C = C} state start_at s w (phase.Broken context session link lease keep e)
+  ahead_broken s p w context session link lease keep e tells untouched l = record {
+    passed = p;
+    run = record {
+      tells = tells;
+      order = IsInOrder.is_nothing l.connecting.written l.connecting.unsent.sent;
+      untouched = untouched;
+      going = tt;
+      calm = tt;
+      holds = (l.leased, IsBroken.ahead_of_it l);
+    };
+  }
 
 -- ---- the application is told of a link
 
@@ -504,6 +409,8 @@ module _ {L C M K : Type 0} (state : L → LinkState) (start_at : L → LinkStar
       why = RefusesToSend.untold (record {
         before = log_of c;
         last = turn.e;
+        after = [];
+        treats = refl;
         called_are = turn.calls.log;
         is_of_it = turn.hook;
         error = fails;
@@ -646,17 +553,29 @@ module _ {C M K : Type 0} (allows : Standing → LogEntry → Type 0) (mark_of :
       named = subst (λ (a : At K). TellsPeer a (log_of d)) (sym is) tt;
       untried = λ still.
           absurd (true≢false (sym still ∙ ap (λ (a : At K). is_calling a) is));
+      untreated = untreated_more (log_of c) (log_of d) turn.e hook.ConnectedToUpstream
+          turn.calls.log turn.hook refl o.untreated;
+      unanswered = ap (λ (x : Writing). has_head x.place) turn.queued.same ∙ o.unanswered;
     }
 
-    pub told_logged : (peer : Peer) → c.at ≡ at.Named peer
+    -- a call behind which the attempt may have failed
+    breaks_at : (from : Station) → station_at c.at ≡ from → (which : Hook) (to : Station)
+        → IsTrue (may_break to)
+        → Turns allows which from to QueuesNothing (seen_with c client) (mark_of context)
+        (seen_with d left) (mark_of context') → IsBreaking allows mark_of d context' left
+    breaks_at from is which to may turn =
+        breaks_more allows mark_of c d context context' client left tries which to may
+        (subst (λ (a : Station). Turns allows which a to QueuesNothing (seen_with c client)
+        (mark_of context) (seen_with d left) (mark_of context')) (sym is) turn) o
+
+    -- the application failed as it was told of the link
+    pub told_breaks : (peer : Peer) → c.at ≡ at.Named peer
         → Turns allows hook.ConnectedToUpstream station.named station.broken QueuesNothing
         (seen_with c client) (mark_of context) (seen_with d left) (mark_of context')
-        → (at : Station) × IsLogged allows (log_of d) at
-    told_logged peer was turn = (
-      station.broken,
-      logged_at station.named (ap (λ (a : At K). station_at a) was) hook.ConnectedToUpstream
-          station.broken turn,
-    )
+        → IsBreaking allows mark_of d context' left
+    told_breaks peer was turn =
+        breaks_at station.named (ap (λ (a : At K). station_at a) was) hook.ConnectedToUpstream
+        station.broken refl turn
 
     -- the filter was called
     pub filtered_logged : c.at ≡ at.Linked → (filtered : RequestHead)
@@ -666,19 +585,31 @@ module _ {C M K : Type 0} (allows : Standing → LogEntry → Type 0) (mark_of :
         logged_at station.linked (ap (λ (a : At K). station_at a) was) hook.UpstreamRequestFilter
         station.sent f.call.turn
 
-    pub unsent_logged : c.at ≡ at.Linked → (e : Error)
+    -- no head is sent
+    pub unsent_breaks : c.at ≡ at.Linked → (e : Error)
         → Unprepared allows c client (mark_of context) d left (mark_of context') e
-        → (at : Station) × IsLogged allows (log_of d) at
-    unsent_logged was e (Unprepared.unready same stays still readies) =
-        logged_same allows mark_of c d context client tries
-        (ap (λ (x : Calls M K). log_of x) same) o
-    unsent_logged was e (Unprepared.unfiltered ready call) = (
-      station.broken,
-      logged_at station.linked (ap (λ (a : At K). station_at a) was)
-          hook.UpstreamRequestFilter station.broken call.call.turn,
-    )
-    unsent_logged was e (Unprepared.unsettled filtered f settles) =
-        (station.sent, filtered_logged was filtered f)
+        → IsBreaking allows mark_of d context' left
+    unsent_breaks was e (Unprepared.unready same stays still readies) =
+        breaks_same allows mark_of c d context context' client left tries same stays still
+        (ap (λ (a : At K). may_break (station_at a)) was) o
+    unsent_breaks was e (Unprepared.unfiltered ready call) =
+        breaks_at station.linked (ap (λ (a : At K). station_at a) was)
+        hook.UpstreamRequestFilter station.broken refl call.call.turn
+    unsent_breaks was e (Unprepared.unsettled filtered f settles) =
+        breaks_at station.linked (ap (λ (a : At K). station_at a) was)
+        hook.UpstreamRequestFilter station.sent refl f.call.turn
+
+    -- the head goes out
+    pub filtered_relays : {L : Type 0} → c.at ≡ at.Linked → (filtered : RequestHead)
+        → FiltersReady allows c client (mark_of context) d left (mark_of context') filtered
+        → (a : Attempt L C) → a.context ≡ context' → a.exchange.exchange.down.session ≡ left
+        → IsRelayingCalls allows mark_of d a
+    filtered_relays was filtered f a same stays =
+        relays_more allows mark_of c d context context' client left tries
+        hook.UpstreamRequestFilter a same stays
+        (subst (λ (x : Station). Turns allows hook.UpstreamRequestFilter x station.sent
+        QueuesNothing (seen_with c client) (mark_of context) (seen_with d left)
+        (mark_of context')) (sym (ap (λ (a : At K). station_at a) was)) f.call.turn) o
 
     pub lost_logged : c.at ≡ at.Linked
         → MakesHead allows c client (mark_of context) d left (mark_of context')

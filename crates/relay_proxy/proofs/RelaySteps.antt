@@ -18,7 +18,8 @@ use Rattle.relay_links.specs.Link.{LinkState, LinkStart}
 use Rattle.relay_h1.specs.Options.{closes}
 use Rattle.relay_h1.specs.Verdict.{IsOpen}
 use Rattle.relay_session.specs.Asked.{is_http_11, is_version_11, lets_ask, request_of}
-use Rattle.relay_session.specs.Reading.{is_body_done}
+use Rattle.relay_session.specs.Reading.{head_of, is_body_done}
+use Rattle.relay_session.specs.declared.session.HttpSession.{HttpSession}
 use Rattle.relay_session.specs.declared.task_text.Request.{Request}
 use Rattle.relay_core.specs.Asked.{WaitRose}
 use Rattle.relay_core.specs.Causes.{says_failed}
@@ -34,6 +35,7 @@ use Rattle.relay_attempt.specs.Order as exchange
 use Rattle.relay_attempt.specs.Order.{Leaves}
 use Rattle.relay_attempt.specs.Passed.{Passed}
 use Rattle.relay_attempt.specs.declared.h1_exchange.H1Exchange.{H1Exchange}
+use Rattle.relay_proxy.specs.Calls.{BreaksOff, KeepsCalls}
 use Rattle.relay_proxy.specs.Relayable.{IsRelayable}
 use Rattle.relay_proxy.specs.Endings.{IsClientReusable, IsRelayedEarly, IsRelayedWhole, IsInOrder, EndsLinked, error_of}
 use Rattle.relay_proxy.specs.Leaving.{LeavesBy}
@@ -51,7 +53,8 @@ use Rattle.relay_proxy.proofs.UseLemmas.{moved_uses, turned_uses}
 use Rattle.relay_proxy.specs.declared.machine.Attempt.{Attempt}
 use Rattle.relay_proxy.specs.declared.machine.Lease.{Lease}
 use Rattle.relay_proxy.specs.declared.machine.Phase.{Phase}
-use Rattle.relay_proxy.specs.declared.machine.Phase.TheVariants.{Relay, Close}
+use Rattle.relay_proxy.specs.declared.machine.Phase.TheVariants.{ReadHead, Connect, Prepare, Relay, Broken, Close, Answer, Ended}
+use Rattle.relay_proxy.specs.declared.machine.Phase.TheVariants as stage
 use Rattle.relay_proxy.specs.declared.outcome.Outcome.{Outcome}
 use Rattle.relay_proxy.specs.declared.outcome.Outcome.TheVariants.{Served, TurnLimit}
 use Rattle.relay_valid.proofs.UnshortLemmas.{never_short}
@@ -427,6 +430,22 @@ pub of_attempt : {L C : Type 0} (P : Box (Attempt L C) → Type 0) (phase : Phas
 of_attempt P phase own is holds a same =
     subst P (same_attempt own a (sym is ∙ same)) holds
 
+-- an attempt that broke off left its context, and a session of the same head
+off_keeps : {L C : Type 0} (a b : Attempt L C) (next : Phase L C) → b.context ≡ a.context
+    → head_of b.exchange.exchange.down.session.reading
+    ≡ head_of a.exchange.exchange.down.session.reading
+    → BreaksOff b.context b.exchange.exchange.down.session next → KeepsCalls a next
+off_keeps a b ReadHead same head off = absurd off
+off_keeps a b (Connect context session tries) same head off = absurd off
+off_keeps a b (Prepare context session link lease) same head off = absurd off
+off_keeps a b (Relay k) same head off = absurd off
+off_keeps a b (Broken context session link lease keep error) same head off =
+    (off.0 ∙ same, ap (λ (h : HttpSession). head_of h.reading) off.1 ∙ head)
+off_keeps a b (stage.Fail link lease keep session error) same head off = absurd off
+off_keeps a b (Close link lease keep outcome) same head off = tt
+off_keeps a b (Answer session owed attempts) same head off = absurd off
+off_keeps a b (Ended outcome attempts) same head off = absurd off
+
 module _ {L C : Type 0} (state : L → LinkState) (start_at : L → LinkStart)
     (w x : World) (phase next : Phase L C) (did : Turn) (asked : Bool)
     (within : TurnsWithin state start_at w.client x.client w.ahead x.ahead phase next did asked)
@@ -452,6 +471,35 @@ module _ {L C : Type 0} (state : L → LinkState) (start_at : L → LinkStart)
         → Advances {C = C} state start_at s x next
     stands_next s advances =
         subst (λ (k : Phase L C). Advances state start_at s x k) (sym within.stands) advances
+
+    -- it leaves the context, and a session of the same head
+    pub kept_within : (a : Box (Attempt L C)) → phase ≡ Relay a → KeepsCalls a.value next
+    kept_within a is =
+        subst (λ (b : Box (Attempt L C)). KeepsCalls b.value next)
+        (same_attempt within.attempt a (sym within.was ∙ is))
+        (subst (λ (k : Phase L C). KeepsCalls within.attempt.value k) (sym within.stands)
+        (refl, within.turns.same_head))
+
+    -- so does one that failed
+    pub failed_keeps : (end : Phase L C)
+        → ((b : Box (Attempt L C)) → next ≡ Relay b
+        → BreaksOff b.value.context b.value.exchange.exchange.down.session end)
+        → (a : Box (Attempt L C)) → phase ≡ Relay a → KeepsCalls a.value end
+    failed_keeps end off a is =
+        subst (λ (b : Box (Attempt L C)). KeepsCalls b.value end)
+        (same_attempt within.attempt a (sym within.was ∙ is))
+        (off_keeps within.attempt.value (turned within.attempt within.exchange).value end refl
+        within.turns.same_head (off (turned within.attempt within.exchange) within.stands))
+
+    -- and one that finished
+    pub finished_keeps : (end : Phase L C)
+        → ((a : Box (Attempt L C)) → next ≡ Relay a
+        → end ≡ Close (link_of a.value.exchange) a.value.lease (may_keep a.value.exchange)
+        (Served None (client_reusable a.value.exchange x.ahead)))
+        → (a : Box (Attempt L C)) → phase ≡ Relay a → KeepsCalls a.value end
+    finished_keeps end closes a is =
+        subst (λ (k : Phase L C). KeepsCalls a.value k)
+        (sym (closes (turned within.attempt within.exchange) within.stands)) tt
 
     -- a turn that moved
     pub moved_within : did.step ≡ step.Moved → x.connect_faults ≡ w.connect_faults → (s : Start)

@@ -28,6 +28,7 @@ use Rattle.relay_proxy.specs.Turn.{Advances, HasMoved, HasCause, HandsOn, IsStal
 use Rattle.relay_proxy.specs.Uses.{LinkUses, OwesAnswer, OwnUses, PhaseUses, TurnCounts}
 use Rattle.relay_proxy.specs.Work.{added_work}
 use Rattle.relay_proxy.specs.Closing.{Hands, HandsBack, Settles, GivesUp, GivesFailedUp, AnswersOn, Finishes, IsQuietExchange, IsQuiet, Rests, TurnOf, Ends}
+use Rattle.relay_proxy.proofs.FailSteps.{broken_part}
 use Rattle.relay_proxy.proofs.TakenLemmas.{offers_are}
 use Rattle.relay_proxy.proofs.TryLemmas.{no_tries, tries_before}
 use Rattle.relay_proxy.proofs.BoundLemmas.{open_counts, within_link}
@@ -39,7 +40,7 @@ use Rattle.relay_proxy.specs.declared.finish.Ending.{Ending}
 use Rattle.relay_proxy.specs.declared.machine.Attempt.{Attempt}
 use Rattle.relay_proxy.specs.declared.machine.Lease.{Lease}
 use Rattle.relay_proxy.specs.declared.machine.Phase.{Phase}
-use Rattle.relay_proxy.specs.declared.machine.Phase.TheVariants.{ReadHead, Connect, Prepare, Relay, Fail, Close, Answer, Ended}
+use Rattle.relay_proxy.specs.declared.machine.Phase.TheVariants.{ReadHead, Connect, Prepare, Relay, Broken, Fail, Close, Answer, Ended}
 use Rattle.relay_proxy.specs.declared.machine.RunStep.{RunStep}
 use Rattle.relay_proxy.specs.declared.machine.RunStep.TheVariants as step
 use Rattle.relay_proxy.specs.declared.outcome.Outcome.{Outcome}
@@ -248,6 +249,8 @@ module _ {L C : Type 0} (state : L → LinkState) (start_at : L → LinkStart) w
       stays s p w ReadHead settled before after does.0 does.1 refl run
   settle_run s p w (Answer session owed attempts) settled before after does run =
       stays s p w (Answer session owed attempts) settled before after does.0 does.1 refl run
+  settle_run s p w (Broken context session link lease keep e) settled before after does run =
+      stays s p w (Broken context session link lease keep e) settled before after does.0 does.1 refl run
   settle_run s p w (Fail link lease keep session e) settled before after does run = record {
     handed = does.2.entry ∷ [];
     gained = does.2.gained;
@@ -323,6 +326,7 @@ module _ {L C : Type 0} (state : L → LinkState) (start_at : L → LinkStart) w
   settles_same (Connect context session tries) settled before after does shut = does
   settles_same (Prepare context session link lease) settled before after does shut = does
   settles_same (Relay a) settled before after does shut = does
+  settles_same (Broken context session link lease keep e) settled before after does shut = does
   settles_same (Fail link lease keep session e) settled before after does shut =
       absurd (true≢false shut)
   settles_same (Close link lease keep outcome) settled before after does shut =
@@ -338,6 +342,8 @@ module _ {L C : Type 0} (state : L → LinkState) (start_at : L → LinkStart) w
   settles_live (Connect context session tries) settled before after does going = inl does.0
   settles_live (Prepare context session link lease) settled before after does going = inl does.0
   settles_live (Relay a) settled before after does going = inl does.0
+  settles_live (Broken context session link lease keep e) settled before after does going =
+      inl does.0
   settles_live (Fail link lease keep session e) settled before after does going =
       inr (
         tt,
@@ -361,6 +367,7 @@ module _ {L C : Type 0} (state : L → LinkState) (start_at : L → LinkStart) w
       owing (Connect context session tries) o = refl
       owing (Prepare context session link lease) o = refl
       owing (Relay a) o = refl
+      owing (Broken context session link lease keep e) o = refl
       owing (Fail link lease keep session e) o = refl
       owing (Close link lease keep outcome) o = refl
       owing (Answer session owed attempts) o = refl
@@ -369,6 +376,7 @@ module _ {L C : Type 0} (state : L → LinkState) (start_at : L → LinkStart) w
       inr (inr (inr owes'))
   owes_moved w x (Prepare context session link lease) next settled owes owes' moved = inr owes'
   owes_moved w x (Relay a) next settled owes owes' moved = inr owes'
+  owes_moved w x (Broken context session link lease keep e) next settled owes owes' moved = owes'
   owes_moved w x (Fail link lease keep session e) next settled owes owes' moved = owes'
   owes_moved w x (Close link lease keep outcome) next settled owes owes' moved = absurd moved
   owes_moved w x (Answer session owed attempts) next settled owes owes' moved = moved
@@ -671,6 +679,10 @@ module _ {L C : Type 0} (state : L → LinkState) (start_at : L → LinkStart) w
       turn same rests kept does told takes carries tells run c i j o m adds uses bounds =
       live_on s s' p x (Relay a) next settled before mid after t u h k refl
       (turn run) kept does told takes (carries refl) (tells refl) c i j o m adds uses bounds
+  step_on s s' p [] w x (Broken context session link lease keep e) next settled did before mid after t u
+      h k turn same rests kept does told takes carries tells run c i j o m adds uses bounds =
+      live_on s s' p x (Broken context session link lease keep e) next settled before mid after t u h k
+      refl (turn run) kept does told takes (carries refl) (tells refl) c i j o m adds uses bounds
   step_on s s' p [] w x (Fail link lease keep session e) next settled did before mid after t u h k
       turn same rests kept does told takes carries tells run c i j o m adds uses bounds =
       live_on s s' p x (Fail link lease keep session e) next settled before mid after t u h k refl
@@ -692,6 +704,9 @@ module _ {L C : Type 0} (state : L → LinkState) (start_at : L → LinkStart) w
       absurd run.holds
   step_on s s' p (r ∷ own) w x (Relay a) next settled did before mid after t u
       h k turn same rests kept does told takes carries tells run c i j o m adds uses bounds =
+      absurd run.holds
+  step_on s s' p (r ∷ own) w x (Broken context session link lease keep e) next settled did before mid
+      after t u h k turn same rests kept does told takes carries tells run c i j o m adds uses bounds =
       absurd run.holds
   step_on s s' p (r ∷ own) w x (Fail link lease keep session e) next settled did before mid after t u
       h k turn same rests kept does told takes carries tells run c i j o m adds uses bounds =
@@ -1011,6 +1026,13 @@ module _ {L C : Type 0} (state : L → LinkState) (start_at : L → LinkStart) w
       linked_end s p w (Close link lease keep outcome) link lease keep before after ending outcome
       does.0 does.1 run run.holds.0 run.holds.1 (λ h. absurd h) refl refl (λ n asked. asked)
       (λ tasks ends counted. absurd counted)
+  end_of s p [] w (Broken context session link lease keep e) before after ending does run =
+      linked_end s p w (Broken context session link lease keep e) link lease false before after ending
+      TurnLimit does.limit does.back run run.holds.0
+      (broken_part s p w (state link) (start_at link) session.value lease keep e run.holds.1, refl)
+      (λ h. absurd h) refl refl (λ n asked. asked)
+      (λ tasks ends counted. more_room tasks ends (1 + length (tries_in lease)) s w.client
+      (LinkGave state start_at link) counted)
   end_of s p [] w (Fail link lease keep session e) before after ending does run =
       failed_end s p w link lease keep session e before after ending does run
   end_of s p [] w (Ended outcome attempts) before after ending does run =
@@ -1018,6 +1040,8 @@ module _ {L C : Type 0} (state : L → LinkState) (start_at : L → LinkStart) w
   end_of s p own w (Answer session owes attempts) before after ending does run =
       answered_end s p w own session owes attempts before after ending does run
   end_of s p (r ∷ own) w ReadHead before after ending does run = absurd run.holds
+  end_of s p (r ∷ own) w (Broken context session link lease keep e) before after ending does run =
+      absurd run.holds
   end_of s p (r ∷ own) w (Fail link lease keep session e) before after ending does run =
       absurd run.holds
   end_of s p (r ∷ own) w (Connect context session tries) before after ending does run =
@@ -1036,6 +1060,8 @@ module _ {L C : Type 0} (state : L → LinkState) (start_at : L → LinkStart) w
       → IsGoing state start_at phase → Finishes phase before after ending → is_over phase ≡ true
       → ending.outcome ≢ TurnLimit
   over_end ReadHead before after ending going does over = absurd (true≢false (sym over))
+  over_end (Broken context session link lease keep e) before after ending going does over =
+      absurd (true≢false (sym over))
   over_end (Fail link lease keep session e) before after ending going does over =
       absurd (true≢false (sym over))
   over_end (Answer session owes attempts) before after ending going does over =

@@ -1,6 +1,7 @@
 -- What a turn of a phase that relays is, of the phase as it stands.
-use Rattle.std.proofs.Common.{◌≡◌, ℕ, ◌+◌, ◌∷◌, subst, arith, true, false, List, [], ◌++◌, map, Ok, Err, Option, true≢false, refl, sym, ap, ◌∙◌, append-nil}
+use Rattle.std.proofs.Common.{◌≡◌, ℕ, ◌+◌, ◌∷◌, subst, arith, Bool, true, false, List, [], ◌++◌, map, Ok, Err, Option, true≢false, refl, sym, ap, ◌∙◌, append-nil}
 use Rattle.std.specs.Global.{Box}
+use Rattle.relay_tasks.specs.declared.Error.{Error}
 use Rattle.relay_tasks.specs.declared.Fault.{Fault}
 use Rattle.relay_links.specs.Connector.{Offer}
 use Rattle.relay_links.specs.Link.{LinkState, LinkStart, LinkItems}
@@ -25,7 +26,7 @@ use Rattle.relay_proxy.proofs.UseLemmas.{relaying_of}
 use Rattle.relay_proxy.specs.declared.machine.Attempt.{Attempt}
 use Rattle.relay_proxy.specs.declared.machine.Lease.{Lease}
 use Rattle.relay_proxy.specs.declared.machine.Phase.{Phase}
-use Rattle.relay_proxy.specs.declared.machine.Phase.TheVariants.{ReadHead, Connect, Prepare, Relay, Fail, Close, Answer, Ended}
+use Rattle.relay_proxy.specs.declared.machine.Phase.TheVariants.{ReadHead, Connect, Prepare, Relay, Broken, Fail, Close, Answer, Ended}
 use Rattle.relay_proxy.specs.declared.machine.RunStep.{RunStep}
 use Rattle.relay_proxy.specs.declared.owed.Owed.{Owed}
 use Rattle.relay_proxy.specs.declared.record.AttemptRecord.{AttemptRecord}
@@ -45,6 +46,8 @@ module _ {L C : Type 0} (state : L → LinkState) (start_at : L → LinkStart) w
       absurd (true≢false (sym is))
   relaying_turn s p w x [] (Relay a) next is run turn = turn run
   relaying_turn s p w x (r ∷ own) (Relay a) next is run turn = absurd run.holds
+  relaying_turn s p w x own (Broken context session link lease keep error) next is run turn =
+      absurd (true≢false (sym is))
   relaying_turn s p w x own (Fail link lease keep session error) next is run turn =
       absurd (true≢false (sym is))
   relaying_turn s p w x own (Close link lease keep outcome) next is run turn =
@@ -82,10 +85,24 @@ module _ {L C : Type 0} (state : L → LinkState) (start_at : L → LinkStart) w
   prepare_turn s s' p w x [] context session link lease next run turn = turn run
   prepare_turn s s' p w x (r ∷ own) context session link lease next run turn = absurd run.holds
 
+  -- and one that has the error of an attempt treated
+  pub broken_turn : (s s' : Start) (p : Passed) (w x : World) (own : List (Returned L))
+      (context : C) (session : Box HttpSession) (link : L) (lease : Lease) (keep : Bool) (e : Error)
+      (next : Phase L C)
+      → RunSoFar state start_at s p w own (Broken context session link lease keep e)
+      → (RunSoFar state start_at s p w [] (Broken context session link lease keep e)
+      → Advances state start_at s' x next)
+      → AdvancesOn state start_at s' x own next
+  broken_turn s s' p w x [] context session link lease keep e next run turn = turn run
+  broken_turn s s' p w x (r ∷ own) context session link lease keep e next run turn =
+      absurd run.holds
+
   -- it had not ended before
   pub relaying_rests : (w x : World) (phase next : Phase L C) (did : RunStep)
       → is_relaying phase ≡ true → Rests {L = L} {C = C} w x phase next did
   relaying_rests w x ReadHead next did is = absurd (true≢false (sym is))
+  relaying_rests w x (Broken context session link lease keep error) next did is =
+      absurd (true≢false (sym is))
   relaying_rests w x (Fail link lease keep session error) next did is = absurd (true≢false (sym is))
   relaying_rests w x (Answer session owed attempts) next did is = absurd (true≢false (sym is))
   relaying_rests w x (Connect context session tries) next did is = absurd (true≢false (sym is))
@@ -98,6 +115,8 @@ module _ {L C : Type 0} (state : L → LinkState) (start_at : L → LinkStart) w
   pub relaying_unrefused : (phase next : Phase L C) → is_relaying phase ≡ true
       → faults_of_turn phase next ≡ []
   relaying_unrefused ReadHead next is = absurd (true≢false (sym is))
+  relaying_unrefused (Broken context session link lease keep error) next is =
+      absurd (true≢false (sym is))
   relaying_unrefused (Fail link lease keep session error) next is = absurd (true≢false (sym is))
   relaying_unrefused (Answer session owed attempts) next is = absurd (true≢false (sym is))
   relaying_unrefused (Connect context session tries) next is = absurd (true≢false (sym is))
@@ -119,6 +138,8 @@ module _ {L C : Type 0} (state : L → LinkState) (start_at : L → LinkStart) w
   pub relaying_takes : (phase next : Phase L C) → is_relaying phase ≡ true
       → offers_of_turn start_at phase next ≡ []
   relaying_takes ReadHead next is = absurd (true≢false (sym is))
+  relaying_takes (Broken context session link lease keep error) next is =
+      absurd (true≢false (sym is))
   relaying_takes (Fail link lease keep session error) next is = absurd (true≢false (sym is))
   relaying_takes (Answer session owed attempts) next is = absurd (true≢false (sym is))
   relaying_takes (Connect context session tries) next is = absurd (true≢false (sym is))
@@ -148,6 +169,8 @@ module _ {L C : Type 0} (state : L → LinkState) (start_at : L → LinkStart) w
       → ((o : Origin) (q : Passed) (a : Box (Attempt L C)) → phase ≡ Relay a
       → IsUnderWay state start_at o q w.client w.ahead a.value.exchange → T) → T
   relaying_uses s p own w ReadHead T is run uses = absurd (true≢false (sym is))
+  relaying_uses s p own w (Broken context session link lease keep error) T is run uses =
+      absurd (true≢false (sym is))
   relaying_uses s p own w (Fail link lease keep session error) T is run uses =
       absurd (true≢false (sym is))
   relaying_uses s p own w (Answer session owed attempts) T is run uses =
@@ -174,6 +197,9 @@ module _ {L C : Type 0} (state : L → LinkState) (start_at : L → LinkStart) w
       → TurnCounts state start_at n w.client client' used own next
   relaying_counts s p own w client' n used ReadHead next is run had counts =
       absurd (true≢false (sym is))
+  relaying_counts s p own w client' n used (Broken context session link lease keep error) next is run
+      had counts =
+      absurd (true≢false (sym is))
   relaying_counts s p own w client' n used (Fail link lease keep session error) next is run had
       counts =
       absurd (true≢false (sym is))
@@ -198,6 +224,7 @@ module _ {L C : Type 0} (state : L → LinkState) (start_at : L → LinkStart) w
       → links_held state start_at next ≡ 0 → OwnUses state start_at n own
       → PhaseUses state start_at n own next
   unlinked_asked n own ReadHead none had = had
+  unlinked_asked n own (Broken context session link lease keep error) none had = cc
   unlinked_asked n own (Fail link lease keep session error) none had = cc
   unlinked_asked n own (Answer session owed attempts) none had = had
   unlinked_asked n own (Connect context session tries) none had = had
@@ -261,6 +288,19 @@ module _ {L C : Type 0} (state : L → LinkState) (start_at : L → LinkStart) w
   prepare_counts s p (r ∷ own) w context session link lease n used client next run had none asked =
       absurd run.holds
 
+  -- the turn that has the error of an attempt treated
+  pub broken_counts : (s : Start) (p : Passed) (own : List (Returned L)) (w : World) (context : C)
+      (session : Box HttpSession) (link : L) (lease : Lease) (keep : Bool) (e : Error) (n used : ℕ)
+      (client : LinkState) (next : Phase L C)
+      → RunSoFar state start_at s p w own (Broken context session link lease keep e)
+      → LinkUses state start_at n link → used ≡ 0
+      → ((k : ℕ) → LinkUses state start_at k link → PhaseUses state start_at k [] next)
+      → TurnCounts state start_at n client client used own next
+  broken_counts s p [] w context session link lease keep e n used client next run had none asked =
+      still_counts n used client [] next none (asked n had)
+  broken_counts s p (r ∷ own) w context session link lease keep e n used client next run had none
+      asked = absurd run.holds
+
   -- what was taken before it was, before the next phase
   pub prepare_offers : (context : C) (session : Box HttpSession) (link : L) (lease : Lease)
       (next : Phase L C) → attempts_in next ≡ tries_in lease
@@ -268,6 +308,19 @@ module _ {L C : Type 0} (state : L → LinkState) (start_at : L → LinkStart) w
       → offers_before {C = C} start_at [] (Prepare context session link lease)
       ≡ offers_before start_at [] next
   prepare_offers context session link lease next same items = rw (items, same) refl
+
+  pub broken_offers : (context : C) (session : Box HttpSession) (link : L) (lease : Lease)
+      (keep : Bool) (e : Error) (next : Phase L C) → attempts_in next ≡ tries_in lease
+      → items_held start_at next ≡ (start_at link).items ∷ []
+      → offers_before {C = C} start_at [] (Broken context session link lease keep e)
+      ≡ offers_before start_at [] next
+  broken_offers context session link lease keep e next same items = rw (items, same) refl
+
+  pub broken_faults : (context : C) (session : Box HttpSession) (link : L) (lease : Lease)
+      (keep : Bool) (e : Error) (next : Phase L C) → attempts_in next ≡ tries_in lease
+      → faults_before {L = L} {C = C} [] (Broken context session link lease keep e)
+      ≡ faults_before [] next
+  broken_faults context session link lease keep e next same = rw same refl
 
   pub prepare_faults : (context : C) (session : Box HttpSession) (link : L) (lease : Lease)
       (next : Phase L C) → attempts_in next ≡ tries_in lease
@@ -285,6 +338,8 @@ not_relaying {L = L} {C = C} phase a not_so is =
 pub relaying_works : {L C : Type 0} (phase : Phase L C) (did : RunStep) (work : Work)
     → is_relaying phase ≡ true → DoesWork did work → WorksIn phase did work
 relaying_works ReadHead did work is does = absurd (true≢false (sym is))
+relaying_works (Broken context session link lease keep error) did work is does =
+    absurd (true≢false (sym is))
 relaying_works (Fail link lease keep session error) did work is does = absurd (true≢false (sym is))
 relaying_works (Answer session owed attempts) did work is does = absurd (true≢false (sym is))
 relaying_works (Connect context session tries) did work is does = absurd (true≢false (sym is))
@@ -297,6 +352,7 @@ relaying_works (Ended outcome attempts) did work is does = absurd (true≢false 
 pub open_settles : {L C : Type 0} (phase : Phase L C) (told : Option (List (Returned L)))
     → is_closing phase ≡ false → Settles phase told told phase
 open_settles ReadHead told is = (refl, refl)
+open_settles (Broken context session link lease keep error) told is = (refl, refl)
 open_settles (Fail link lease keep session error) told is = absurd (true≢false is)
 open_settles (Answer session owed attempts) told is = (refl, refl)
 open_settles (Connect context session tries) told is = (refl, refl)
@@ -312,6 +368,7 @@ unlinked_open state start_at ReadHead none = refl
 unlinked_open state start_at (Connect context session tries) none = refl
 unlinked_open state start_at (Prepare context session link lease) none = refl
 unlinked_open state start_at (Relay a) none = refl
+unlinked_open state start_at (Broken context session link lease keep error) none = refl
 unlinked_open state start_at (Fail link lease keep session error) none = cc
 unlinked_open state start_at (Close link lease keep outcome) none = cc
 unlinked_open state start_at (Answer session owed attempts) none = refl
@@ -324,6 +381,7 @@ relaying_open ReadHead is = refl
 relaying_open (Connect context session tries) is = refl
 relaying_open (Prepare context session link lease) is = refl
 relaying_open (Relay a) is = refl
+relaying_open (Broken context session link lease keep error) is = refl
 relaying_open (Fail link lease keep session error) is = absurd (true≢false (sym is))
 relaying_open (Close link lease keep outcome) is = absurd (true≢false (sym is))
 relaying_open (Answer session owed attempts) is = refl
@@ -336,6 +394,7 @@ unlinked_items state start_at ReadHead none = refl
 unlinked_items state start_at (Connect context session tries) none = refl
 unlinked_items state start_at (Prepare context session link lease) none = cc
 unlinked_items state start_at (Relay a) none = cc
+unlinked_items state start_at (Broken context session link lease keep error) none = cc
 unlinked_items state start_at (Fail link lease keep session error) none = cc
 unlinked_items state start_at (Close link lease keep outcome) none = cc
 unlinked_items state start_at (Answer session owed attempts) none = refl

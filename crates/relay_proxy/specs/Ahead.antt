@@ -23,6 +23,7 @@ use Rattle.relay_attempt.specs.Passed.{Passed}
 use Rattle.relay_proxy.specs.Answer.{answer_for}
 use Rattle.relay_proxy.specs.Passed.{Start}
 use Rattle.relay_proxy.specs.Relayable.{IsAccepted}
+use Rattle.relay_proxy.specs.Sent.{only_treats}
 
 -- the error of a request that is not relayed
 abbrev pub unrelayed : ErrorSource → Error
@@ -36,9 +37,16 @@ goes_on station.linked = true
 goes_on station.sent = true
 goes_on other = false
 
--- hooks let the request go to an upstream, by their log
-abbrev pub LetsGo : List LogEntry → Type 0
-LetsGo called = (at : Station) × Accepts accepted called at × (goes_on at ≡ true)
+-- hooks let the request go to an upstream, by their log up to where the error of an attempt was
+-- treated
+pub record LetsGo (called : List LogEntry) : Type 0 where
+  pub before : List LogEntry
+  pub after : List LogEntry
+  pub called_are : called ≡ before ++ after
+  pub treats : only_treats after ≡ true
+  pub at : Station
+  pub order : Accepts accepted before at
+  pub goes : goes_on at ≡ true
 
 -- what the client is given where hooks queued these tasks to answer a request: them; and the relay's
 -- own 502 behind them, where no final head is among them

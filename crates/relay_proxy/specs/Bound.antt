@@ -11,7 +11,7 @@ use Rattle.relay_proxy.specs.Tries.{tries_in}
 use Rattle.relay_proxy.specs.declared.machine.Attempt.{Attempt}
 use Rattle.relay_proxy.specs.declared.machine.Lease.{Lease}
 use Rattle.relay_proxy.specs.declared.machine.Phase.{Phase}
-use Rattle.relay_proxy.specs.declared.machine.Phase.TheVariants.{ReadHead, Connect, Prepare, Relay, Fail, Close, Answer, Ended}
+use Rattle.relay_proxy.specs.declared.machine.Phase.TheVariants.{ReadHead, Connect, Prepare, Relay, Broken, Fail, Close, Answer, Ended}
 use Rattle.relay_proxy.specs.declared.record.AttemptRecord.{AttemptRecord}
 use Rattle.relay_proxy.specs.declared.record.RunRecord.{RunRecord}
 use Rattle.relay_proxy.specs.declared.work.Work.{Work}
@@ -80,6 +80,9 @@ module _ {L C : Type 0} (state : L → LinkState) (start_at : L → LinkStart) w
       (tasks ≡ 0) × (ends ≡ 1 + length (tries_in lease))
   PhaseCounts tasks ends s client ahead own (Relay a) =
       AttemptCounts tasks ends s client ahead a.value
+  PhaseCounts tasks ends s client ahead own (Broken context session link lease keep error) =
+      IsWithin tasks ends (sides_before (1 + length (tries_in lease))) s client
+      (LinkGave state start_at link)
   PhaseCounts tasks ends s client ahead own (Fail link lease keep session error) = ⊥
   PhaseCounts tasks ends s client ahead own (Close link lease keep outcome) = ⊥
   PhaseCounts tasks ends s client ahead own (Answer session owed attempts) =
@@ -98,6 +101,8 @@ module _ {L C : Type 0} (state : L → LinkState) (start_at : L → LinkStart) w
       PhaseCounts tasks ends s client ahead own (Prepare context session link lease)
   TurnedCounts tasks ends s client ahead own (Relay a) =
       PhaseCounts tasks ends s client ahead own (Relay a)
+  TurnedCounts tasks ends s client ahead own (Broken context session link lease keep error) =
+      PhaseCounts tasks ends s client ahead own (Broken context session link lease keep error)
   TurnedCounts tasks ends s client ahead own (Fail link lease keep session error) =
       IsWithin tasks ends (sides_before (1 + length (tries_in lease))) s client
       (LinkGave state start_at link)
@@ -116,6 +121,7 @@ CountsHead (Connect context session tries) work =
     (work.moved ≡ 0) × (work.ended ≡ 1) × (tries ≡ [])
 CountsHead (Prepare context session link lease) work = ⊥
 CountsHead (Relay a) work = ⊥
+CountsHead (Broken context session link lease keep error) work = ⊥
 CountsHead (Fail link lease keep session error) work = ⊥
 CountsHead (Close link lease keep outcome) work = ⊥
 CountsHead (Answer session owed attempts) work = (work.moved ≡ 0) × (work.ended ≡ 1)
@@ -129,6 +135,7 @@ CountsCall before (Connect context session tries) work =
     (work.moved ≡ 0) × (work.ended ≡ 0) × (tries ≡ before)
 CountsCall before (Prepare context session link lease) work = ⊥
 CountsCall before (Relay a) work = ⊥
+CountsCall before (Broken context session link lease keep error) work = ⊥
 CountsCall before (Fail link lease keep session error) work = ⊥
 CountsCall before (Close link lease keep outcome) work = ⊥
 CountsCall before (Answer session owed attempts) work =
@@ -145,8 +152,9 @@ CountsLink before (Connect context session tries) work =
 CountsLink before (Prepare context session link lease) work =
     (work.moved ≡ 0) × (work.ended ≡ 0) × (tries_in lease ≡ before)
 CountsLink before (Relay a) work = ⊥
-CountsLink before (Fail link lease keep session error) work =
+CountsLink before (Broken context session link lease keep error) work =
     (work.moved ≡ 0) × (work.ended ≡ 1) × (tries_in lease ≡ before)
+CountsLink before (Fail link lease keep session error) work = ⊥
 CountsLink before (Close link lease keep outcome) work =
     (work.moved ≡ 0) × (work.ended ≡ 1) × (tries_in lease ≡ before)
 CountsLink before (Answer session owed attempts) work =
@@ -162,12 +170,28 @@ CountsSend before (Connect context session tries) work = ⊥
 CountsSend before (Prepare context session link lease) work = ⊥
 CountsSend before (Relay a) work =
     (work.moved ≡ 1) × (work.ended ≡ 0) × (tries_in a.value.lease ≡ before)
-CountsSend before (Fail link lease keep session error) work =
+CountsSend before (Broken context session link lease keep error) work =
     (work.moved ≡ 0) × (work.ended ≡ 1) × (tries_in lease ≡ before)
+CountsSend before (Fail link lease keep session error) work = ⊥
 CountsSend before (Close link lease keep outcome) work =
     (work.moved ≡ 0) × (work.ended ≡ 1) × (tries_in lease ≡ before)
 CountsSend before (Answer session owed attempts) work = ⊥
 CountsSend before (Ended outcome attempts) work = ⊥
+
+-- what a turn counts that has the error of an attempt treated behind those: no task, and one end
+-- where memory was wanted
+abbrev pub CountsTreat : {L C : Type 0} → List AttemptRecord → Phase L C → Work → Type 0
+CountsTreat before ReadHead work = ⊥
+CountsTreat before (Connect context session tries) work = ⊥
+CountsTreat before (Prepare context session link lease) work = ⊥
+CountsTreat before (Relay a) work = ⊥
+CountsTreat before (Broken context session link lease keep error) work = ⊥
+CountsTreat before (Fail link lease keep session error) work =
+    (work.moved ≡ 0) × (work.ended ≡ 0) × (tries_in lease ≡ before)
+CountsTreat before (Close link lease keep outcome) work =
+    (work.moved ≡ 0) × (work.ended ≤ 1) × (tries_in lease ≡ before)
+CountsTreat before (Answer session owed attempts) work = ⊥
+CountsTreat before (Ended outcome attempts) work = ⊥
 
 -- what a turn counts that writes an answer: nothing, or one end at most
 abbrev pub CountsAnswer : {L C : Type 0} → Phase L C → Work → Type 0
@@ -175,6 +199,7 @@ CountsAnswer ReadHead work = ⊥
 CountsAnswer (Connect context session tries) work = ⊥
 CountsAnswer (Prepare context session link lease) work = ⊥
 CountsAnswer (Relay a) work = ⊥
+CountsAnswer (Broken context session link lease keep error) work = ⊥
 CountsAnswer (Fail link lease keep session error) work = ⊥
 CountsAnswer (Close link lease keep outcome) work = ⊥
 CountsAnswer (Answer session owed attempts) work = (work.moved ≡ 0) × (work.ended ≡ 0)
@@ -186,6 +211,7 @@ LeavesLink link lease ReadHead = ⊥
 LeavesLink link lease (Connect context session tries) = ⊥
 LeavesLink link lease (Prepare context session left by) = ⊥
 LeavesLink link lease (Relay a) = ⊥
+LeavesLink link lease (Broken context session left by keep error) = (left ≡ link) × (by ≡ lease)
 LeavesLink link lease (Fail left by keep session error) = (left ≡ link) × (by ≡ lease)
 LeavesLink link lease (Close left by keep outcome) = (left ≡ link) × (by ≡ lease)
 LeavesLink link lease (Answer session owed attempts) = ⊥

@@ -1,15 +1,18 @@
 -- The calls of an application for one request: what its hooks are shown, their log, and where they
 -- stand (RFC 9110, section 3.7).
-use Rattle.std.specs.Prelude.{◌≡◌, ℕ, ◌+◌, ◌≤◌, Bool, true, false, is_some, length, List, [], Option, Some, None, Ok}
+use Rattle.std.specs.Prelude.{◌≡◌, ℕ, ◌+◌, ◌≤◌, Bool, IsTrue, true, false, is_some, length, List, [], Option, Some, None, Ok}
 use Rattle.relay_tasks.specs.declared.ErrorSource.TheVariants.{Internal}
 use Rattle.relay_tasks.specs.declared.Peer.{Peer}
 use Rattle.relay_tasks.specs.declared.hook.Hook.{Hook}
 use Rattle.relay_tasks.specs.declared.hook.Hook.TheVariants as hook
 use Rattle.relay_tasks.specs.declared.log.LogEntry.{LogEntry}
+use Rattle.relay_session.specs.Reading.{head_of}
+use Rattle.relay_session.specs.Response.{has_head}
 use Rattle.relay_session.specs.declared.session.HttpSession.{HttpSession}
 use Rattle.relay_modules.specs.Module.{ModuleCall}
 use Rattle.relay_modules.specs.declared.seen.Seen.{Seen}
-use Rattle.relay_hooks.specs.Standing.{Standing}
+use Rattle.relay_hooks.specs.Session.{moment}
+use Rattle.relay_hooks.specs.Standing.{Standing, standing}
 use Rattle.relay_calls.specs.Log.{IsAllowed, Walk}
 use Rattle.relay_phases.specs.Order.{Accepts, Station, accepted, sent}
 use Rattle.relay_phases.specs.Order.{Station as station}
@@ -20,9 +23,10 @@ use Rattle.relay_opening.specs.declared.place.Called.TheVariants as called
 use Rattle.relay_opening.specs.declared.place.End.TheVariants as end
 use Rattle.relay_opening.specs.declared.place.Place.{Place}
 use Rattle.relay_opening.specs.declared.place.Place.TheVariants as place
-use Rattle.relay_trying.specs.Trying.{NamesPeer}
+use Rattle.relay_trying.specs.Trying.{NamesPeer, may_break}
 use Rattle.relay_proxy.specs.Ahead.{unrelayed}
 use Rattle.relay_proxy.specs.Named.{IsNamed}
+use Rattle.relay_proxy.specs.Sent.{IsUntreated}
 use Rattle.relay_proxy.specs.Tries.{tries_in}
 use Rattle.relay_proxy.specs.declared.calls.At.{At}
 use Rattle.relay_proxy.specs.declared.calls.At.TheVariants as at
@@ -31,8 +35,9 @@ use Rattle.relay_proxy.specs.declared.calls.Opened.{Opened}
 use Rattle.relay_proxy.specs.declared.calls.Opened.TheVariants as led
 use Rattle.relay_proxy.specs.declared.work.Work.{Work}
 use Rattle.relay_proxy.specs.declared.record.AttemptRecord.{AttemptRecord}
+use Rattle.relay_proxy.specs.declared.machine.Attempt.{Attempt}
 use Rattle.relay_proxy.specs.declared.machine.Phase.{Phase}
-use Rattle.relay_proxy.specs.declared.machine.Phase.TheVariants.{ReadHead, Connect, Prepare, Relay, Fail, Close, Answer, Ended}
+use Rattle.relay_proxy.specs.declared.machine.Phase.TheVariants.{ReadHead, Connect, Prepare, Relay, Broken, Fail, Close, Answer, Ended}
 
 -- the log
 abbrev pub log_of : {M K : Type 0} → Calls M K → List LogEntry
@@ -172,8 +177,33 @@ module _ {C M K : Type 0} (allows : Standing → LogEntry → Type 0) (mark_of :
     pub named : TellsPeer calls.at (log_of calls)
     -- until a peer is named no attempt was made
     pub untried : is_calling calls.at ≡ true → tries ≡ []
+    -- none of an attempt that had a link has failed
+    pub untreated : IsUntreated (log_of calls)
+    -- no final head was queued for the client
+    pub unanswered : has_head client.writing.place ≡ false
+
+  -- the calls so far of an attempt that failed: the log walks to where the session and the context
+  -- stand, and the error may be treated there
+  pub record IsBreaking (calls : Calls M K) (context : C) (client : HttpSession) : Type 0 where
+    pub from : Standing
+    pub walks : Walk allows from (log_of calls)
+        (standing None false (moment (seen_with calls client) (mark_of context)))
+    pub at : Station
+    pub order : Accepts accepted (log_of calls) at
+    pub breaks : IsTrue (may_break at)
 
 module _ {L C M K : Type 0} (allows : Standing → LogEntry → Type 0) (mark_of : C → ℕ) where
+  -- the calls so far of an attempt whose exchange is under way: they ended as it began, with a
+  -- session that had the same head, and of which no final head was queued
+  pub record IsRelayingCalls (calls : Calls M K) (a : Attempt L C) : Type 0 where
+    pub first : HttpSession
+    pub from : Standing
+    pub walks : Walk allows from (log_of calls)
+        (standing None false (moment (seen_with calls first) (mark_of a.context)))
+    pub order : Accepts accepted (log_of calls) sent
+    pub head : head_of first.reading ≡ head_of a.exchange.exchange.down.session.reading
+    pub unanswered : has_head first.writing.place ≡ false
+
   -- the calls so far, by the phase in which the request stands
   abbrev pub CallsSoFar : Calls M K → Phase L C → Type 0
   CallsSoFar calls ReadHead = log_of calls ≡ []
@@ -182,7 +212,9 @@ module _ {L C M K : Type 0} (allows : Standing → LogEntry → Type 0) (mark_of
   CallsSoFar calls (Prepare context session link lease) =
       IsOpening allows mark_of calls context session.value (tries_in lease)
       × (calls.at ≡ at.Linked)
-  CallsSoFar calls (Relay a) = IsLogged allows (log_of calls) sent
+  CallsSoFar calls (Relay a) = IsRelayingCalls calls a.value
+  CallsSoFar calls (Broken context session link lease keep error) =
+      IsBreaking allows mark_of calls context session.value
   CallsSoFar calls (Fail link lease keep session error) =
       (at : Station) × IsLogged allows (log_of calls) at
   CallsSoFar calls (Close link lease keep outcome) =
@@ -191,6 +223,50 @@ module _ {L C M K : Type 0} (allows : Standing → LogEntry → Type 0) (mark_of
       (at : Station) × IsLogged allows (log_of calls) at
   CallsSoFar calls (Ended outcome attempts) =
       (at : Station) × IsLogged allows (log_of calls) at
+
+-- a turn of an exchange left that context, and a session with the same head; or the request has ended
+abbrev pub KeepsCalls : {L C : Type 0} → Attempt L C → Phase L C → Type 0
+KeepsCalls a ReadHead = ⊥
+KeepsCalls a (Connect context session tries) = ⊥
+KeepsCalls a (Prepare context session link lease) = ⊥
+KeepsCalls a (Relay b) =
+    (b.value.context ≡ a.context)
+    × (head_of b.value.exchange.exchange.down.session.reading
+    ≡ head_of a.exchange.exchange.down.session.reading)
+KeepsCalls a (Broken context session link lease keep error) =
+    (context ≡ a.context)
+    × (head_of session.value.reading ≡ head_of a.exchange.exchange.down.session.reading)
+KeepsCalls a (Fail link lease keep session error) = ⊥
+KeepsCalls a (Close link lease keep outcome) = Unit {0}
+KeepsCalls a (Answer session owed attempts) = ⊥
+KeepsCalls a (Ended outcome attempts) = ⊥
+
+-- an exchange has begun, with that context and that session; or the request has ended
+abbrev pub BeginsCalls : {L C : Type 0} → C → HttpSession → Phase L C → Type 0
+BeginsCalls context session ReadHead = ⊥
+BeginsCalls context session (Connect other stays tries) = ⊥
+BeginsCalls context session (Prepare other stays link lease) = ⊥
+BeginsCalls context session (Relay a) =
+    (a.value.context ≡ context) × (a.value.exchange.exchange.down.session ≡ session)
+BeginsCalls context session (Broken other stays link lease keep error) = ⊥
+BeginsCalls context session (Fail link lease keep stays error) = ⊥
+BeginsCalls context session (Close link lease keep outcome) = Unit {0}
+BeginsCalls context session (Answer stays owed attempts) = ⊥
+BeginsCalls context session (Ended outcome attempts) = ⊥
+
+-- what a failed exchange left: the attempt is broken, with that context and that session; or the
+-- request has ended
+abbrev pub BreaksOff : {L C : Type 0} → C → HttpSession → Phase L C → Type 0
+BreaksOff context session ReadHead = ⊥
+BreaksOff context session (Connect other stays tries) = ⊥
+BreaksOff context session (Prepare other stays link lease) = ⊥
+BreaksOff context session (Relay a) = ⊥
+BreaksOff context session (Broken other stays link lease keep error) =
+    (other ≡ context) × (stays.value ≡ session)
+BreaksOff context session (Fail link lease keep stays error) = ⊥
+BreaksOff context session (Close link lease keep outcome) = Unit {0}
+BreaksOff context session (Answer stays owed attempts) = ⊥
+BreaksOff context session (Ended outcome attempts) = ⊥
 
 -- what a turn counts of calls: the entries that it added to the log, of which there is one at most;
 -- a call that is out of memory has none

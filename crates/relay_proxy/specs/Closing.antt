@@ -24,7 +24,7 @@ use Rattle.relay_proxy.specs.Uses.{PhaseUses, OwnUses}
 use Rattle.relay_proxy.specs.declared.finish.Ending.{Ending}
 use Rattle.relay_proxy.specs.declared.machine.Lease.{Lease}
 use Rattle.relay_proxy.specs.declared.machine.Phase.{Phase}
-use Rattle.relay_proxy.specs.declared.machine.Phase.TheVariants.{ReadHead, Connect, Prepare, Relay, Fail, Close, Answer, Ended}
+use Rattle.relay_proxy.specs.declared.machine.Phase.TheVariants.{ReadHead, Connect, Prepare, Relay, Broken, Fail, Close, Answer, Ended}
 use Rattle.relay_proxy.specs.declared.machine.RunStep.{RunStep}
 use Rattle.relay_proxy.specs.declared.machine.RunStep.TheVariants as step
 use Rattle.relay_proxy.specs.declared.outcome.Outcome.{Outcome}
@@ -65,6 +65,8 @@ Settles (Connect context session tries) before after next =
 Settles (Prepare context session link lease) before after next =
     (next ≡ Prepare context session link lease) × (after ≡ before)
 Settles (Relay a) before after next = (next ≡ Relay a) × (after ≡ before)
+Settles (Broken context session link lease keep error) before after next =
+    (next ≡ Broken context session link lease keep error) × (after ≡ before)
 Settles (Fail link lease keep session error) before after next =
     (attempts : List AttemptRecord) × (next ≡ Answer session (Served error) attempts)
     × HandsBack link lease keep (outcome.Served (Some error) false) before after attempts
@@ -108,6 +110,8 @@ Finishes (Prepare context session link lease) before after ending =
     GivesLinkUp link lease before after ending
 Finishes (Relay a) before after ending =
     GivesLinkUp (link_of a.value.exchange) a.value.lease before after ending
+Finishes (Broken context session link lease keep error) before after ending =
+    GivesLinkUp link lease before after ending
 Finishes (Fail link lease keep session error) before after ending =
     GivesFailedUp link lease keep error before after ending
 Finishes (Answer session owed attempts) before after ending =
@@ -123,6 +127,7 @@ Rests w x ReadHead next did = Unit {0}
 Rests w x (Connect context session tries) next did = Unit {0}
 Rests w x (Prepare context session link lease) next did = Unit {0}
 Rests w x (Relay a) next did = Unit {0}
+Rests w x (Broken context session link lease keep error) next did = Unit {0}
 Rests w x (Fail link lease keep session error) next did = Unit {0}
 Rests w x (Answer session owed attempts) next did = Unit {0}
 Rests w x (Close link lease keep outcome) next did =
@@ -168,6 +173,8 @@ module _ {L C : Type 0} (state : L → LinkState) (start_at : L → LinkStart) w
   TurnOf s x own (Connect context session tries) next = AdvancesOn state start_at s x own next
   TurnOf s x own (Prepare context session link lease) next = AdvancesOn state start_at s x own next
   TurnOf s x own (Relay a) next = AdvancesOn state start_at s x own next
+  TurnOf s x own (Broken context session link lease keep error) next =
+      AdvancesOn state start_at s x own next
   TurnOf s x own (Fail link lease keep session error) next = AdvancesOn state start_at s x own next
   TurnOf s x own (Close link lease keep outcome) next = Unit {0}
   TurnOf s x own (Answer session owed attempts) next = AnswersOn s x own attempts next

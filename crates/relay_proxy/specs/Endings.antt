@@ -40,7 +40,7 @@ use Rattle.relay_proxy.specs.Answer.{answer_for, owed_text, past_at}
 use Rattle.relay_proxy.specs.Named.{IsNamed}
 use Rattle.relay_proxy.specs.Relayable.{IsAccepted, IsConnect, IsRelayable, NamesUpgrade}
 use Rattle.relay_proxy.specs.Passed.{World, Start, origin_of, asked, TellsClient, TellsLink, IsUnsent, IsUntouched}
-use Rattle.relay_proxy.specs.Sent.{Sends, RefusesToSend}
+use Rattle.relay_proxy.specs.Sent.{Sends, RefusesToSend, IsTreated, IsUntreated}
 use Rattle.relay_proxy.specs.Tries.{AreTries, EndsTrying, fault_error}
 use Rattle.relay_proxy.specs.declared.outcome.Outcome.{Outcome}
 use Rattle.relay_proxy.specs.declared.outcome.Outcome.TheVariants.{NoRequest, Refused, Served, TurnLimit, OutOfMemory}
@@ -88,9 +88,9 @@ pub data IsInOrder (s : Start) (p : Passed) : Type 0 where
       → IsInOrder s p
   is_unlinked : (head : RequestHead) → IsAccepted s p head
       → IsFrontOf p.written (generated 502) → p.sent ≡ [] → IsInOrder s p
-  is_unsent : (head : RequestHead) (keep : Bool) (e : Error) → IsAccepted s p head
-      → RefusesToSend s.called head keep e → IsFrontOf p.written (answer_to head e) → p.sent ≡ []
-      → IsInOrder s p
+  is_unsent : (head : RequestHead) (keep : Bool) (raised e : Error) → IsAccepted s p head
+      → RefusesToSend s.called head keep raised → IsTreated s.called raised e
+      → IsFrontOf p.written (answer_to head e) → p.sent ≡ [] → IsInOrder s p
   is_failure : (cut : Option HttpTask) (head sent : RequestHead) (reused closed : Bool)
       (before : List ℕ) (e : Error) → IsRelayable head → Sends s.called head sent
       → (order : IsInOrderWith cut (origin_of s head sent reused) (past_at p before) closed)
@@ -226,6 +226,8 @@ pub record EndsAhead (s : Start) (p : Passed) (w : World) (told : Option Error) 
   pub owed : IsOwedAhead s p why text
   pub given : IsGivenAhead s p w why text told
   pub unsent : IsUnsent p
+  -- no attempt failed, whose error was treated
+  pub untreated : IsUntreated s.called
 
 -- how it ends where the client ended with these bytes of its head
 abbrev pub ended_outcome : List ℕ → Outcome
@@ -304,7 +306,8 @@ pub record IsRelayedEarly
   pub behind : HasEnded early.order
       → IsWhole (asked s p) (body_of early.order.pieces) w.ahead
 
--- an exchange failed with that error, when a part of what was queued had been written
+-- an exchange failed, when a part of what was queued had been written, and its error was treated:
+-- that is what was made of it
 pub record HasFailed
     (s : Start) (p : Passed) (client link : LinkState) (start : LinkStart) (e : Error)
     : Type 0 where
@@ -313,21 +316,26 @@ pub record HasFailed
   pub relayable : IsRelayable head
   pub sends : Sends s.called head sent
   pub before : List ℕ
-  pub why : FailsFor (origin_of s head sent start.reused) (past_at p before) client link start e
+  pub raised : Error
+  pub treated : IsTreated s.called raised e
+  pub why : FailsFor (origin_of s head sent start.reused) (past_at p before) client link start
+      raised
 
 -- what was queued for the client in it, and then the answer to its error
 abbrev pub owed_by : {s : Start} {p : Passed} {client link : LinkState} {start : LinkStart}
     {e : Error} → HasFailed s p client link start e → List ℕ
 owed_by {e = e} failed = owed_text (order_of failed.why) e
 
--- an attempt failed with that error before its head was sent, and before anything was asked of the
--- link, which stands as it was handed out and is kept or not
+-- an attempt failed before its head was sent, and before anything was asked of the link, which
+-- stands as it was handed out and is kept or not; that is what was made of its error
 pub record IsRefusedAhead (s : Start) (p : Passed) (link : LinkState) (start : LinkStart)
     (keep : Bool) (e : Error)
     : Type 0 where
   pub head : RequestHead
   pub accepted : IsAccepted s p head
-  pub refused : RefusesToSend s.called head keep e
+  pub raised : Error
+  pub refused : RefusesToSend s.called head keep raised
+  pub treated : IsTreated s.called raised e
   pub fresh : IsHandedOut link start start.reused
   pub unsent : IsUnsent p
 

@@ -1,39 +1,22 @@
--- What a failed exchange leaves of its client's session, and what a failure before it does.
-use Rattle.std.specs.Prelude.{◌≡◌, Bool}
-use Rattle.relay_tasks.specs.Head.{RequestHead}
+-- What a failed exchange leaves, and what an attempt comes to whose error was treated.
+use Rattle.std.specs.Prelude.{◌≡◌, ℕ, ◌<◌, Bool, false, [], length, Some}
+use Rattle.std.specs.Global.{Box}
 use Rattle.relay_tasks.specs.declared.Error.{Error}
 use Rattle.relay_tasks.specs.declared.error.Fail.{Fail}
 use Rattle.relay_tasks.specs.declared.error.Fail.TheVariants as fail
-use Rattle.relay_tasks.specs.declared.Fault.{Fault}
-use Rattle.relay_links.specs.Link.{LinkState, LinkStart, IsHandedOut}
-use Rattle.relay_session.specs.Asked.{request_of}
-use Rattle.relay_session.specs.Response.{Holds}
+use Rattle.relay_links.specs.Link.{LinkState, LinkStart}
+use Rattle.relay_session.specs.Response.{pending}
 use Rattle.relay_session.specs.declared.session.HttpSession.{HttpSession}
-use Rattle.relay_session.specs.declared.writing.Outgoing.TheVariants as outgoing
-use Rattle.relay_attempt.specs.Order.{FailsFor, order_of, queued_in}
+use Rattle.relay_session.specs.declared.writing.Writing.{Writing}
 use Rattle.relay_attempt.specs.Passed.{Passed}
-use Rattle.relay_proxy.specs.Endings.{FailsToWrite, IsPartRelayed}
-use Rattle.relay_proxy.specs.Passed.{World, Start, origin_of}
-use Rattle.relay_proxy.specs.Phases.{IsConnecting, IsLeased}
-use Rattle.relay_proxy.specs.Relayable.{IsRelayable}
-use Rattle.relay_proxy.specs.Sent.{Sends, RefusesToSend}
-use Rattle.relay_proxy.specs.Tries.{tries_in}
+use Rattle.relay_proxy.specs.Answer.{QueuesAnswer}
+use Rattle.relay_proxy.specs.Endings.{IsPartRelayed}
+use Rattle.relay_proxy.specs.Passed.{Start}
+use Rattle.relay_proxy.specs.Phases.{LeavesSession}
 use Rattle.relay_proxy.specs.declared.machine.Lease.{Lease}
-
--- an exchange failed with that error, and left that session: it answers the request, with the tasks
--- that were queued, of whose text so much was written; where it keeps the fault of a write, a write
--- of the client's link failed
-pub record LeavesSession (s : Start) (p : Passed) (client link : LinkState) (start : LinkStart)
-    (session : HttpSession) (e : Error) : Type 0 where
-  pub head : RequestHead
-  pub sent : RequestHead
-  pub relayable : IsRelayable head
-  pub sends : Sends s.called head sent
-  pub why : FailsFor (origin_of s head sent start.reused) p client link start e
-  pub answers : session.writing.request ≡ request_of head
-  pub holds : Holds session.writing (queued_in (order_of why)) p.written
-  pub broken : (fault : Fault) → session.writing.output ≡ outgoing.Broken fault
-      → FailsToWrite s client
+use Rattle.relay_proxy.specs.declared.machine.Phase.{Phase}
+use Rattle.relay_proxy.specs.declared.machine.Phase.TheVariants as phase
+use Rattle.relay_proxy.specs.declared.outcome.Outcome.TheVariants as outcome
 
 -- what a failure leaves: a part of the exchange where memory was wanted, or that
 abbrev pub LeavesBy : Start → Passed → LinkState → LinkState → LinkStart → HttpSession → Fail
@@ -42,11 +25,15 @@ LeavesBy s p client link start session fail.OutOfMemory = IsPartRelayed s p link
 LeavesBy s p client link start session (fail.Error e) =
     LeavesSession s p client link start session e
 
--- an attempt failed with that error ahead of its exchange, over a link that was handed out and is
--- kept or not: the session has nothing queued yet
-pub record LeavesAhead (s : Start) (p : Passed) (w : World) (link : LinkState) (start : LinkStart)
-    (session : HttpSession) (lease : Lease) (keep : Bool) (e : Error) : Type 0 where
-  pub connecting : IsConnecting s p w session (tries_in lease)
-  pub leased : IsLeased s p link start lease
-  pub fresh : IsHandedOut link start lease.reused
-  pub why : RefusesToSend s.called connecting.head keep e
+-- what an attempt comes to whose error is that now, of a client that was answered so before: the
+-- answer to the error was queued and waits, or nothing does; or memory was wanted
+pub data Answers {L C : Type 0} (old : Writing) (link : L) (lease : Lease) (keep : Bool) (e : Error)
+    (next : Phase L C) : Type 0 where
+  waits : (session : Box HttpSession)
+      → QueuesAnswer old.output e old session.value.writing
+      → 0 < length (pending session.value.writing.output)
+      → next ≡ phase.Fail link lease keep session e → Answers old link lease keep e next
+  is_over : (new : Writing) → QueuesAnswer old.output e old new → pending new.output ≡ []
+      → next ≡ phase.Close link lease keep (outcome.Served (Some e) false)
+      → Answers old link lease keep e next
+  is_lost : next ≡ phase.Close link lease false outcome.OutOfMemory → Answers old link lease keep e next

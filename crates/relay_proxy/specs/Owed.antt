@@ -14,6 +14,7 @@ use Rattle.relay_proxy.specs.Answer.{WaitsOf}
 use Rattle.relay_proxy.specs.Endings.{IsTurnedDown, IsUnconnected, Misses, IsRecordOf}
 use Rattle.relay_proxy.specs.Passed.{World, Start, asked, TellsLink, IsUnsent}
 use Rattle.relay_proxy.specs.Named.{IsNamed}
+use Rattle.relay_proxy.specs.Sent.{IsUntreated}
 use Rattle.relay_proxy.specs.Tries.{AreTries, EndsTrying, fault_error}
 use Rattle.relay_proxy.specs.declared.outcome.Outcome.{Outcome}
 use Rattle.relay_proxy.specs.declared.outcome.Outcome.TheVariants as outcome
@@ -40,7 +41,8 @@ module _ {L : Type 0} (state : L → LinkState) (start_at : L → LinkStart) whe
   -- link failed
   abbrev pub Owes : Start → Passed → World → List (Returned L) → Owed → List ℕ → Type 0
   Owes s p w [] (Refused error) text = IsTurnedDown (asked s p) text error × IsUnsent p
-  Owes s p w [] (Ahead why) text = IsOwedAhead s p why text × IsUnsent p
+  Owes s p w [] (Ahead why) text =
+      IsOwedAhead s p why text × IsUnsent p × IsUntreated s.called
   Owes s p w [] (Served e) text = IsUnconnected s p w e × (text ≡ generated 502)
   Owes s p w (r ∷ own) (Refused error) text = ⊥
   Owes s p w (r ∷ own) (Ahead why) text = ⊥

@@ -1,22 +1,27 @@
 -- The phases of a request: what has passed when it stands in each of them, and what is left to do.
-use Rattle.std.specs.Prelude.{◌≡◌, ◌≢◌, Bool, ℕ, List, [], ◌∷◌, Some}
+use Rattle.std.specs.Prelude.{◌≡◌, ◌≢◌, Bool, false, ℕ, List, [], ◌∷◌, Some}
 use Rattle.relay_tasks.specs.Head.{RequestHead}
 use Rattle.relay_tasks.specs.declared.Error.{Error}
+use Rattle.relay_tasks.specs.declared.Fault.{Fault}
 use Rattle.relay_links.specs.Link.{LinkState, LinkStart, IsHandedOut}
 use Rattle.relay_links.specs.declared.Returned.{Returned}
 use Rattle.relay_opening.specs.Told.{head_behind}
 use Rattle.relay_phases.specs.Turns.{wrote_in}
+use Rattle.relay_session.specs.Asked.{request_of}
 use Rattle.relay_session.specs.Reading.{head_of}
+use Rattle.relay_session.specs.Response.{Holds}
 use Rattle.relay_session.specs.declared.session.HttpSession.{HttpSession}
+use Rattle.relay_session.specs.declared.writing.Outgoing.TheVariants as outgoing
 use Rattle.relay_sides.specs.Client.{BeginsBehind}
 use Rattle.relay_attempt.specs.Exchange.{IsUnderWay}
+use Rattle.relay_attempt.specs.Order.{FailsFor, order_of, queued_in}
 use Rattle.relay_attempt.specs.Passed.{Passed}
 use Rattle.relay_attempt.specs.Head.{link_of}
 use Rattle.relay_proxy.specs.Relayable.{IsAccepted, IsRelayable}
 use Rattle.relay_proxy.specs.Passed.{World, Start, origin_of, asked, TellsClient, TellsLink, IsUnsent, IsUntouched}
-use Rattle.relay_proxy.specs.Sent.{Sends}
+use Rattle.relay_proxy.specs.Sent.{Sends, RefusesToSend}
 use Rattle.relay_proxy.specs.Answer.{WaitsOf}
-use Rattle.relay_proxy.specs.Endings.{IsInOrder, Misses, error_of, EndsUnlinked, EndsLinked, EndsWith, AttemptsUnlinked}
+use Rattle.relay_proxy.specs.Endings.{FailsToWrite, IsInOrder, Misses, error_of, EndsUnlinked, EndsLinked, EndsWith, AttemptsUnlinked}
 use Rattle.relay_proxy.specs.Owed.{IsAnswering}
 use Rattle.relay_proxy.specs.Named.{IsNamed}
 use Rattle.relay_proxy.specs.Tries.{AreTries, tries_in}
@@ -25,7 +30,7 @@ use Rattle.relay_proxy.specs.declared.machine.Attempt.{Attempt}
 use Rattle.relay_proxy.specs.declared.machine.Lease.{Lease}
 use Rattle.relay_proxy.specs.declared.machine.Phase.{Phase}
 use Rattle.relay_proxy.specs.declared.record.AttemptRecord.{AttemptRecord}
-use Rattle.relay_proxy.specs.declared.machine.Phase.TheVariants.{ReadHead, Connect, Prepare, Relay, Fail, Close, Answer, Ended}
+use Rattle.relay_proxy.specs.declared.machine.Phase.TheVariants.{ReadHead, Connect, Prepare, Relay, Broken, Fail, Close, Answer, Ended}
 
 -- the client's head is read: nothing was taken from what is ahead
 pub record IsReadingHead (s : Start) (p : Passed) (ahead : List ℕ) : Type 0 where
@@ -64,8 +69,41 @@ pub record IsPreparing (s : Start) (p : Passed) (w : World) (link : LinkState) (
   pub connecting : IsConnecting s p w session (tries_in lease)
   pub fresh : IsHandedOut link start lease.reused
 
+-- an exchange failed with that error, and left that session: it answers the request, with the tasks
+-- that were queued, of whose text so much was written; where it keeps the fault of a write, a write
+-- of the client's link failed
+pub record LeavesSession (s : Start) (p : Passed) (client link : LinkState) (start : LinkStart)
+    (session : HttpSession) (e : Error) : Type 0 where
+  pub head : RequestHead
+  pub sent : RequestHead
+  pub relayable : IsRelayable head
+  pub sends : Sends s.called head sent
+  pub why : FailsFor (origin_of s head sent start.reused) p client link start e
+  pub answers : session.writing.request ≡ request_of head
+  pub holds : Holds session.writing (queued_in (order_of why)) p.written
+  pub broken : (fault : Fault) → session.writing.output ≡ outgoing.Broken fault
+      → FailsToWrite s client
+
+-- an attempt failed with that error ahead of its exchange, over a link that was handed out and is
+-- kept or not: the session has nothing queued yet
+pub record LeavesAhead (s : Start) (p : Passed) (w : World) (link : LinkState) (start : LinkStart)
+    (session : HttpSession) (lease : Lease) (keep : Bool) (e : Error) : Type 0 where
+  pub connecting : IsConnecting s p w session (tries_in lease)
+  pub leased : IsLeased s p link start lease
+  pub fresh : IsHandedOut link start lease.reused
+  pub why : RefusesToSend s.called connecting.head keep e
+
+-- an attempt failed with that error, which is to be treated, over a link that is kept then or not: in
+-- its exchange, or ahead of it
+pub data IsBroken (s : Start) (p : Passed) (w : World) (link : LinkState) (start : LinkStart)
+    (session : HttpSession) (lease : Lease) (keep : Bool) (e : Error) : Type 0 where
+  in_exchange : LeavesSession s p w.client link start session e → keep ≡ false
+      → IsBroken s p w link start session lease keep e
+  ahead_of_it : LeavesAhead s p w link start session lease keep e
+      → IsBroken s p w link start session lease keep e
+
 module _ {L : Type 0} (state : L → LinkState) (start_at : L → LinkStart) where
-  -- an attempt failed, and its client is owed an answer, or what was queued for it
+  -- the error of an attempt was treated, and its client is owed an answer, or what was queued for it
   pub record IsFailing (s : Start) (p : Passed) (w : World) (link : L) (keep : Bool)
       (session : HttpSession) (e : Error) : Type 0 where
     pub text : List ℕ
@@ -92,6 +130,9 @@ module _ {L C : Type 0} (state : L → LinkState) (start_at : L → LinkStart) w
       IsLeased s p (state link) (start_at link) lease
       × IsPreparing s p w (state link) (start_at link) session.value lease
   IsAt s p w (Relay a) = IsRelaying s p w a.value
+  IsAt s p w (Broken context session link lease keep error) =
+      IsLeased s p (state link) (start_at link) lease
+      × IsBroken s p w (state link) (start_at link) session.value lease keep error
   IsAt s p w (Fail link lease keep session error) =
       IsLeased s p (state link) (start_at link) lease
       × IsFailing state start_at s p w link keep session.value error
@@ -111,6 +152,7 @@ module _ {L C : Type 0} (state : L → LinkState) (start_at : L → LinkStart) w
   PhaseHolds s p w (r ∷ own) (Connect context session tries) = ⊥
   PhaseHolds s p w (r ∷ own) (Prepare context session link lease) = ⊥
   PhaseHolds s p w (r ∷ own) (Relay a) = ⊥
+  PhaseHolds s p w (r ∷ own) (Broken context session link lease keep error) = ⊥
   PhaseHolds s p w (r ∷ own) (Fail link lease keep session error) = ⊥
   PhaseHolds s p w (r ∷ own) (Close link lease keep outcome) = ⊥
   PhaseHolds s p w (r ∷ own) (Answer session owed attempts) =
@@ -124,6 +166,7 @@ module _ {L C : Type 0} (state : L → LinkState) (start_at : L → LinkStart) w
   IsGoing (Connect context session tries) = Unit {0}
   IsGoing (Prepare context session link lease) = Unit {0}
   IsGoing (Relay a) = Unit {0}
+  IsGoing (Broken context session link lease keep error) = Unit {0}
   IsGoing (Fail link lease keep session error) = Unit {0}
   IsGoing (Answer session owed attempts) = Unit {0}
   IsGoing (Close link lease keep outcome) = outcome ≢ TurnLimit
@@ -135,6 +178,7 @@ module _ {L C : Type 0} (state : L → LinkState) (start_at : L → LinkStart) w
   IsCalm s w (Connect context session tries) = w.client.faults ≡ s.faults
   IsCalm s w (Prepare context session link lease) = w.client.faults ≡ s.faults
   IsCalm s w (Relay a) = w.client.faults ≡ s.faults
+  IsCalm s w (Broken context session link lease keep error) = Unit {0}
   IsCalm s w (Fail link lease keep session error) = Unit {0}
   IsCalm s w (Answer session owed attempts) = Unit {0}
   IsCalm s w (Close link lease keep outcome) = Unit {0}

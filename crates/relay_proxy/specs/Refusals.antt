@@ -7,7 +7,7 @@ use Rattle.relay_links.specs.Told.{Gains}
 use Rattle.relay_links.specs.declared.Returned.{Returned}
 use Rattle.relay_proxy.specs.Tries.{tries_in, tries_of}
 use Rattle.relay_proxy.specs.declared.machine.Phase.{Phase}
-use Rattle.relay_proxy.specs.declared.machine.Phase.TheVariants.{ReadHead, Connect, Prepare, Relay, Fail, Close, Answer, Ended}
+use Rattle.relay_proxy.specs.declared.machine.Phase.TheVariants.{ReadHead, Connect, Prepare, Relay, Broken, Fail, Close, Answer, Ended}
 use Rattle.relay_proxy.specs.declared.record.AttemptRecord.{AttemptRecord}
 
 -- the fault of which the error of a record tells, where it is the connector's: it has the error's
@@ -33,6 +33,7 @@ attempts_in ReadHead = []
 attempts_in (Connect context session tries) = tries
 attempts_in (Prepare context session link lease) = tries_in lease
 attempts_in (Relay a) = tries_in a.value.lease
+attempts_in (Broken context session link lease keep error) = tries_in lease
 attempts_in (Fail link lease keep session error) = tries_in lease
 attempts_in (Close link lease keep outcome) = tries_in lease
 attempts_in (Answer session owed attempts) = attempts
@@ -49,6 +50,7 @@ faults_of_turn (Connect context session tries) next =
     drop (length (faults_told tries)) (faults_before [] next)
 faults_of_turn (Prepare context session link lease) next = []
 faults_of_turn (Relay a) next = []
+faults_of_turn (Broken context session link lease keep error) next = []
 faults_of_turn (Fail link lease keep session error) next = []
 faults_of_turn (Close link lease keep outcome) next = []
 faults_of_turn (Answer session owed attempts) next = []

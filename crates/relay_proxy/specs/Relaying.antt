@@ -4,6 +4,7 @@ use Rattle.std.specs.Box.{with_value}
 use Rattle.std.specs.Global.{Box}
 use Rattle.relay_tasks.specs.declared.took.Pause.TheVariants.{NotReady, Silent}
 use Rattle.relay_links.specs.Link.{LinkState, LinkStart}
+use Rattle.relay_session.specs.Reading.{head_of}
 use Rattle.relay_core.specs.Asked.{WaitRose}
 use Rattle.relay_core.specs.Causes.{says_failed}
 use Rattle.relay_core.specs.Past.{Origin}
@@ -17,7 +18,7 @@ use Rattle.relay_attempt.specs.declared.h1_exchange.H1Exchange.{H1Exchange}
 use Rattle.relay_proxy.specs.Uses.{Measured}
 use Rattle.relay_proxy.specs.declared.machine.Attempt.{Attempt}
 use Rattle.relay_proxy.specs.declared.machine.Phase.{Phase}
-use Rattle.relay_proxy.specs.declared.machine.Phase.TheVariants.{ReadHead, Connect, Prepare, Relay, Fail, Close, Answer, Ended}
+use Rattle.relay_proxy.specs.declared.machine.Phase.TheVariants.{ReadHead, Connect, Prepare, Relay, Broken, Fail, Close, Answer, Ended}
 
 -- the exchange of an attempt is under way
 abbrev pub is_relaying : {L C : Type 0} → Phase L C → Bool
@@ -25,6 +26,7 @@ is_relaying ReadHead = false
 is_relaying (Connect context session tries) = false
 is_relaying (Prepare context session link lease) = false
 is_relaying (Relay a) = true
+is_relaying (Broken context session link lease keep error) = false
 is_relaying (Fail link lease keep session error) = false
 is_relaying (Close link lease keep outcome) = false
 is_relaying (Answer session owed attempts) = false
@@ -36,6 +38,7 @@ is_closing ReadHead = false
 is_closing (Connect context session tries) = false
 is_closing (Prepare context session link lease) = false
 is_closing (Relay a) = false
+is_closing (Broken context session link lease keep error) = false
 is_closing (Fail link lease keep session error) = true
 is_closing (Close link lease keep outcome) = true
 is_closing (Answer session owed attempts) = false
@@ -65,6 +68,8 @@ module _ {L : Type 0} (state : L → LinkState) (start_at : L → LinkStart) whe
         → CountsOn state start_at tasks ends s after left x y did.step
     pub calm : says_failed did.step ≡ false → after.faults ≡ before.faults
     pub same_start : start_at (link_of y) ≡ start_at (link_of x)
+    pub same_head : head_of y.exchange.down.session.reading
+        ≡ head_of x.exchange.down.session.reading
     pub measured : Measured before after (state (link_of x)) (state (link_of y)) asked
 
 module _ {L C : Type 0} (state : L → LinkState) (start_at : L → LinkStart) where

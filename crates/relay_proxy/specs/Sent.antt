@@ -1,6 +1,6 @@
 -- The head that an attempt sends of the client's (RFC 9110, section 7.6; RFC 9112, sections 3.2 and
 -- 6).
-use Rattle.std.specs.Prelude.{◌≡◌, ◌⊎◌, Bool, true, false, not, List, [], ◌∷◌, ◌++◌, Option, Some, None, Result, Ok, Err}
+use Rattle.std.specs.Prelude.{◌≡◌, ◌⊎◌, Bool, true, false, not, ◌&&◌, List, [], ◌∷◌, ◌++◌, Option, Some, None, Result, Ok, Err}
 use Rattle.std.specs.List.{list_any}
 use Rattle.relay_tasks.specs.Head.{RequestHead}
 use Rattle.relay_tasks.specs.declared.Context.TheVariants.{BadFraming}
@@ -62,6 +62,27 @@ SettlesFramed client asked filtered (Err e) =
 abbrev pub is_of : Hook → LogEntry → Bool
 is_of which e = same_hook which e.hook
 
+-- these are calls alone in which the error of an attempt was treated
+abbrev pub only_treats : List LogEntry → Bool
+only_treats [] = true
+only_treats (e ∷ es) = is_of hook.ErrorWhileProxy e && only_treats es
+
+-- none of these calls is one
+abbrev pub IsUntreated : List LogEntry → Type 0
+IsUntreated called = list_any (is_of hook.ErrorWhileProxy) called ≡ false
+
+-- the last of these calls in which the error of an attempt was treated was told the one error, and
+-- answered the other
+pub record IsTreated (called : List LogEntry) (raised treated : Error) : Type 0 where
+  pub before : List LogEntry
+  pub e : LogEntry
+  pub after : List LogEntry
+  pub called_are : called ≡ before ++ e ∷ after
+  pub is_last : list_any (is_of hook.ErrorWhileProxy) after ≡ false
+  pub is_treatment : e.hook ≡ hook.ErrorWhileProxy
+  pub told : e.input ≡ item.Failure raised
+  pub answered : e.output ≡ item.Failure treated
+
 -- the last of these calls of the filter of the head that is sent was given the client's head, made
 -- ready as hooks had left it before that call, and it left this one
 pub record Filters (called : List LogEntry) (head filtered : RequestHead) : Type 0 where
@@ -88,11 +109,14 @@ pub record Sends (called : List LogEntry) (head sent : RequestHead) : Type 0 whe
   pub filters : Filters called head filtered
   pub settles : SettlesFramed (client_of head) (asked_in filters) filtered (Ok sent)
 
--- the last of these calls is one of that hook, and failed with that error
+-- the last of these calls, but for the treatment of its error, is one of that hook, and failed with
+-- that error
 pub record FailsAt (which : Hook) (called : List LogEntry) (e : Error) : Type 0 where
   pub before : List LogEntry
   pub last : LogEntry
-  pub called_are : called ≡ before ++ last ∷ []
+  pub after : List LogEntry
+  pub called_are : called ≡ before ++ last ∷ after
+  pub treats : only_treats after ≡ true
   pub is_of_it : last.hook ≡ which
   pub error : last.error ≡ Some e
 

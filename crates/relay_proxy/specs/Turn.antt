@@ -18,7 +18,7 @@ use Rattle.relay_proxy.specs.Relaying.{is_closing, is_relaying}
 use Rattle.relay_proxy.specs.Uses.{ExchangeMoved, OwesAnswer}
 use Rattle.relay_proxy.specs.Work.{total_work}
 use Rattle.relay_proxy.specs.declared.machine.Phase.{Phase}
-use Rattle.relay_proxy.specs.declared.machine.Phase.TheVariants.{ReadHead, Connect, Prepare, Relay, Fail, Close, Answer, Ended}
+use Rattle.relay_proxy.specs.declared.machine.Phase.TheVariants.{ReadHead, Connect, Prepare, Relay, Broken, Fail, Close, Answer, Ended}
 use Rattle.relay_proxy.specs.declared.machine.RunStep.{RunStep}
 use Rattle.relay_proxy.specs.declared.machine.RunStep.TheVariants as step
 use Rattle.relay_proxy.specs.declared.record.AttemptRecord.{AttemptRecord}
@@ -47,6 +47,7 @@ is_reading_head ReadHead = true
 is_reading_head (Connect context session tries) = false
 is_reading_head (Prepare context session link lease) = false
 is_reading_head (Relay a) = false
+is_reading_head (Broken context session link lease keep error) = false
 is_reading_head (Fail link lease keep session error) = false
 is_reading_head (Close link lease keep outcome) = false
 is_reading_head (Answer session owed attempts) = false
@@ -58,21 +59,11 @@ is_connecting ReadHead = false
 is_connecting (Connect context session tries) = true
 is_connecting (Prepare context session link lease) = false
 is_connecting (Relay a) = false
+is_connecting (Broken context session link lease keep error) = false
 is_connecting (Fail link lease keep session error) = false
 is_connecting (Close link lease keep outcome) = false
 is_connecting (Answer session owed attempts) = false
 is_connecting (Ended outcome attempts) = false
-
--- the exchange has begun: it is under way, or it left its link, which is to be handed back
-abbrev pub IsBegun : {L C : Type 0} → Phase L C → Type 0
-IsBegun ReadHead = ⊥
-IsBegun (Connect context session tries) = ⊥
-IsBegun (Prepare context session link lease) = ⊥
-IsBegun (Relay a) = Unit {0}
-IsBegun (Fail link lease keep session error) = Unit {0}
-IsBegun (Close link lease keep outcome) = Unit {0}
-IsBegun (Answer session owed attempts) = ⊥
-IsBegun (Ended outcome attempts) = ⊥
 
 -- where a link is wanted still, it is for that session and that context
 abbrev pub KeepsAsked : {L C : Type 0} → C → Box HttpSession → Phase L C → Type 0
@@ -80,6 +71,7 @@ KeepsAsked context session ReadHead = ⊥
 KeepsAsked context session (Connect other stays tries) = (other ≡ context) × (stays ≡ session)
 KeepsAsked context session (Prepare other stays link lease) = Unit {0}
 KeepsAsked context session (Relay a) = Unit {0}
+KeepsAsked context session (Broken other stays link lease keep error) = Unit {0}
 KeepsAsked context session (Fail link lease keep stays error) = Unit {0}
 KeepsAsked context session (Close link lease keep outcome) = Unit {0}
 KeepsAsked context session (Answer stays owed attempts) = Unit {0}
@@ -91,6 +83,7 @@ held_state state ReadHead = None
 held_state state (Connect context session tries) = None
 held_state state (Prepare context session link lease) = Some (state link)
 held_state state (Relay a) = Some (state (link_of a.value.exchange))
+held_state state (Broken context session link lease keep error) = Some (state link)
 held_state state (Fail link lease keep session error) = Some (state link)
 held_state state (Close link lease keep outcome) = Some (state link)
 held_state state (Answer session owed attempts) = None
@@ -117,6 +110,7 @@ module _ {L C : Type 0} (state : L → LinkState) (start_at : L → LinkStart) w
   links_held (Connect context session tries) = 0
   links_held (Prepare context session link lease) = 1
   links_held (Relay a) = 1
+  links_held (Broken context session link lease keep error) = 1
   links_held (Fail link lease keep session error) = 1
   links_held (Close link lease keep outcome) = 1
   links_held (Answer session owed attempts) = 0
@@ -141,6 +135,7 @@ module _ {L C : Type 0} (state : L → LinkState) (start_at : L → LinkStart) w
   IsStalled w (Prepare context session link lease) = ⊥
   IsStalled w (Relay a) =
       SilentIn state start_at w.client a.value.exchange
+  IsStalled w (Broken context session link lease keep error) = ⊥
   IsStalled w (Fail link lease keep session error) = ⊥
   IsStalled w (Close link lease keep outcome) = ⊥
   IsStalled w (Answer session owed attempts) = w.client.silent_on_write ≡ true
@@ -162,7 +157,7 @@ module _ {L C : Type 0} (state : L → LinkState) (start_at : L → LinkStart) w
   -- what a turn moved: bytes of the client's head came, or it was judged; a hook was called; a link
   -- was given, or none and another is asked for; the exchange over that link began; the client is
   -- owed an answer for one of these; a branch of the exchange moved, or it failed and the client is
-  -- owed an answer; or bytes of that were taken
+  -- owed an answer, which the treatment of an attempt's error leads to; or bytes of that were taken
   abbrev pub HasMoved : World → World → Phase L C → Phase L C → Type 0
   HasMoved w x ReadHead next = HasGiven w.client x.client ⊎ (is_reading_head next ≡ false)
   HasMoved w x (Connect context session tries) next =
@@ -172,6 +167,7 @@ module _ {L C : Type 0} (state : L → LinkState) (start_at : L → LinkStart) w
   HasMoved w x (Relay a) next =
       ((branch : Option Branch) × ExchangeMoved state start_at branch w x a.value.exchange next)
       ⊎ OwesAnswer next
+  HasMoved w x (Broken context session link lease keep error) next = OwesAnswer next
   HasMoved w x (Fail link lease keep session error) next = OwesAnswer next
   HasMoved w x (Answer session owed attempts) next = HasTaken w.client x.client
   HasMoved w x (Close link lease keep outcome) next = ⊥
@@ -206,6 +202,7 @@ WorksIn ReadHead did work = DoesWork did work
 WorksIn (Connect context session tries) did work = DoesWork did work
 WorksIn (Prepare context session link lease) did work = DoesWork did work
 WorksIn (Relay a) did work = DoesWork did work
+WorksIn (Broken context session link lease keep error) did work = DoesWork did work
 WorksIn (Fail link lease keep session error) did work = DoesWork did work
 WorksIn (Answer session owed attempts) did work = DoesWork did work
 WorksIn (Close link lease keep outcome) did work = (total_work work ≡ 0) × (did ≡ step.Ended)
@@ -217,6 +214,7 @@ is_over ReadHead = false
 is_over (Connect context session tries) = false
 is_over (Prepare context session link lease) = false
 is_over (Relay a) = false
+is_over (Broken context session link lease keep error) = false
 is_over (Fail link lease keep session error) = false
 is_over (Close link lease keep outcome) = true
 is_over (Answer session owed attempts) = false

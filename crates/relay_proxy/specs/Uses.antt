@@ -17,7 +17,7 @@ use Rattle.relay_proxy.specs.Passed.{World}
 use Rattle.relay_proxy.specs.Work.{added_work}
 use Rattle.relay_proxy.specs.declared.machine.Attempt.{Attempt}
 use Rattle.relay_proxy.specs.declared.machine.Phase.{Phase}
-use Rattle.relay_proxy.specs.declared.machine.Phase.TheVariants.{ReadHead, Connect, Prepare, Relay, Fail, Close, Answer, Ended}
+use Rattle.relay_proxy.specs.declared.machine.Phase.TheVariants.{ReadHead, Connect, Prepare, Relay, Broken, Fail, Close, Answer, Ended}
 use Rattle.relay_proxy.specs.declared.owed.Owed.TheVariants.{Refused, Ahead, Served}
 use Rattle.relay_proxy.specs.declared.work.Work.{Work}
 
@@ -94,6 +94,7 @@ module _ {L C : Type 0} (state : L → LinkState) (start_at : L → LinkStart) w
   PhaseUses n own (Connect context session tries) = OwnUses state start_at n own
   PhaseUses n own (Prepare context session link lease) = LinkUses state start_at n link
   PhaseUses n own (Relay a) = LinkUses state start_at n (link_of a.value.exchange)
+  PhaseUses n own (Broken context session link lease keep error) = LinkUses state start_at n link
   PhaseUses n own (Fail link lease keep session error) = LinkUses state start_at n link
   PhaseUses n own (Close link lease keep outcome) = LinkUses state start_at n link
   PhaseUses n own (Answer session owed attempts) = OwnUses state start_at n own
@@ -124,6 +125,7 @@ OwesAnswer ReadHead = ⊥
 OwesAnswer (Connect context session tries) = ⊥
 OwesAnswer (Prepare context session link lease) = ⊥
 OwesAnswer (Relay a) = ⊥
+OwesAnswer (Broken context session link lease keep error) = Unit {0}
 OwesAnswer (Fail link lease keep session error) = Unit {0}
 OwesAnswer (Close link lease keep outcome) = ⊥
 OwesAnswer (Answer session (Refused error) attempts) = ⊥

@@ -7,14 +7,16 @@ ghost use Rattle.relay_session.specs.Response.{has_head};
 ghost use Rattle.relay_opening.specs.Place.{is_open};
 ghost use Rattle.relay_phases.specs.Order.{accepted, made};
 ghost use Rattle.relay_phases.specs.Turns.{HasCalled, QueuesNothing};
-ghost use Rattle.relay_trying.specs.Trying.{FiltersHead, TellsConnected};
+ghost use Rattle.relay_phases.specs.Order.{Station};
+ghost use Rattle.relay_tasks.specs.declared.hook.Hook.{Hook};
+ghost use Rattle.relay_trying.specs.Trying.{FiltersHead, TellsConnected, Treats, may_break};
 ghost use Rattle.relay_proxy.specs.Calls.{CallsNext, HasBegun, TakesNext, allowed_by, is_calling, leads_at, leads_to, log_of, seen_with};
 
 use relay_hooks::{HttpModule, ProxyHttp, Session};
 use relay_opening::{End, Place, begin_opening, take_turn};
 use relay_session::HttpSession;
 use relay_tasks::{Error, ErrorType, Fail, Peer, PhaseLog, RequestHeader, Result};
-use relay_trying::{filter_head, name_peer, tell_connected};
+use relay_trying::{filter_head, name_peer, tell_connected, treat_failure};
 use std::alloc::Global;
 use std::mem;
 
@@ -270,4 +272,35 @@ pub(crate) fn filter<SV: ProxyHttp>(
     let filtered = filter_head(app, &mut calls.session, context, ready);
     mem::swap(client, &mut calls.session.seen.downstream);
     filtered
+}
+
+/// Has the application treat the error of an attempt that had its link, and answers the error as it
+/// made it. The attempt is at that peer, and its link had been used before or not.
+///
+/// Out of memory alone, where no entry is new; also where the client's head was not read, which
+/// cannot be where this is called.
+pub(crate) fn treat<SV: ProxyHttp>(
+    app: &SV,
+    calls: &mut Calls<SV::Modules, SV::Kept>,
+    context: &mut SV::CTX,
+    client: &mut HttpSession,
+    peer: &Peer,
+    error: Error,
+    reused: bool,
+) -> Result<Error>
+    ensures treats { (from : Station) → IsTrue (may_break from) → IfOk result (λ treated.
+        Treats (allowed_by (SV.allows app.now) SV.Modules.allows) Hook.ErrorWhileProxy peer.now
+        reused from error (seen_with calls.old client.old) (SV.mark_of app.now context.old)
+        (seen_with calls.new client.new) (SV.mark_of app.now context.new) treated) }
+    ensures memory { IsOkUnless result Fail.OutOfMemory }
+    ensures lost { OnErr result (log_of calls.new ≡ log_of calls.old) }
+    ensures at { calls.new.at ≡ calls.old.at }
+{
+    if !client.has_head() {
+        return Err(Fail::OutOfMemory);
+    }
+    mem::swap(client, &mut calls.session.seen.downstream);
+    let treated = treat_failure(app, &mut calls.session, context, peer, error, reused);
+    mem::swap(client, &mut calls.session.seen.downstream);
+    treated
 }

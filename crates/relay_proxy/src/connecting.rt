@@ -181,7 +181,7 @@ fn tell<SV: ProxyHttp, L: ByteLink>(
             step: RunStep::Moved,
             work: Work::CALLED,
         },
-        Err(Fail::Error(error)) => fail_ahead(session, link, lease, false, error),
+        Err(Fail::Error(error)) => fail_ahead(context, session, link, lease, false, error),
         Err(Fail::OutOfMemory) => closed(link, lease, false, Outcome::OutOfMemory),
     }
 }

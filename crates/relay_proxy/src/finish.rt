@@ -107,6 +107,7 @@ fn close<K: Connector, C: Drop>(connector: &mut K, phase: &mut Phase<K::Byte, C>
         Phase::Connect(_context, _session, _tries) => unreachable!(),
         Phase::Prepare(_context, _session, _link, _lease) => unreachable!(),
         Phase::Relay(_attempt) => unreachable!(),
+        Phase::Broken(_context, _session, _link, _lease, _keep, _error) => unreachable!(),
         Phase::Answer(_session, _owed, _attempts) => unreachable!(),
         Phase::Ended(_outcome, _attempts) => unreachable!(),
     }
@@ -171,6 +172,9 @@ pub(crate) fn finish<K: Connector, C: Drop>(
                 context: _,
             } = Box::into_inner(attempt);
             give_link_up(connector, exchange.into_link(), lease)
+        }
+        Phase::Broken(_context, _session, link, lease, _keep, _error) => {
+            give_link_up(connector, link, lease)
         }
         Phase::Fail(link, lease, keep, _session, error) => Ending {
             outcome: Outcome::TurnLimit,

@@ -5,6 +5,7 @@ mod answering;
 mod calls;
 mod client_head;
 mod connecting;
+mod failing;
 mod finish;
 mod machine;
 mod opening;

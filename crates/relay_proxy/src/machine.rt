@@ -3,10 +3,11 @@
 //! ```text
 //! ReadHead -> Connect -> Prepare -> Relay -> Close -> Ended (relayed)
 //!    |         |    |        |        |
-//!    |         | (a hook,    |        +-> Fail -> Answer -> Ended (the exchange failed)
-//!    |         |  or again)  +-> Fail -> Answer -> Ended (no head was sent)
+//!    |         | (a hook,    |        +-> Broken (the exchange failed)
+//!    |         |  or again)  +-> Broken (no head was sent)
 //!    |         +-> Answer -> Ended (hooks ended it, or no link was given)
-//!    |         +-> Fail -> Answer -> Ended (a hook failed that was told of the link)
+//!    |         +-> Broken (a hook failed that was told of the link)
+//!    |                 +-> Fail -> Answer -> Ended (the application treated the error)
 //!    +-> Answer -> Ended (the head was turned down)
 //!    +-> Ended (nothing asked, nothing relayed)
 //! ```
@@ -66,8 +67,11 @@ pub(crate) enum Phase<L, C> {
     Prepare(C, Box<HttpSession>, L, Lease),
     /// The request is sent, and the response comes back, over the attempt's link.
     Relay(Box<Attempt<L, C>>),
-    /// The attempt failed with that error: its link is to be handed back with that mark, and what
-    /// waits in the session is to be written.
+    /// The attempt failed with that error, which the application is to treat. Its link is held, and
+    /// is kept then or not.
+    Broken(C, Box<HttpSession>, L, Lease, bool, Error),
+    /// The error of the attempt was treated, and is that one: its link is to be handed back with
+    /// that mark, and what waits in the session is to be written.
     Fail(L, Lease, bool, Box<HttpSession>, Error),
     /// The request has ended, and its link is to be handed back.
     Close(L, Lease, bool, Outcome),
@@ -106,6 +110,7 @@ impl<L, C> Phase<L, C> {
         match self {
             Phase::ReadHead => true,
             Phase::Connect(_, _, _) | Phase::Prepare(_, _, _, _) | Phase::Relay(_) => false,
+            Phase::Broken(_, _, _, _, _, _) => false,
             Phase::Fail(_, _, _, _, _) | Phase::Close(_, _, _, _) => false,
             Phase::Answer(_, _, _) | Phase::Ended(_, _) => false,
         }
@@ -118,6 +123,7 @@ impl<L, C> Phase<L, C> {
         match self {
             Phase::Relay(_) => true,
             Phase::ReadHead | Phase::Connect(_, _, _) | Phase::Prepare(_, _, _, _) => false,
+            Phase::Broken(_, _, _, _, _, _) => false,
             Phase::Fail(_, _, _, _, _) | Phase::Close(_, _, _, _) => false,
             Phase::Answer(_, _, _) | Phase::Ended(_, _) => false,
         }
@@ -130,7 +136,7 @@ impl<L, C> Phase<L, C> {
         match self {
             Phase::Fail(_, _, _, _, _) | Phase::Close(_, _, _, _) => true,
             Phase::ReadHead | Phase::Connect(_, _, _) | Phase::Prepare(_, _, _, _) => false,
-            Phase::Relay(_) => false,
+            Phase::Relay(_) | Phase::Broken(_, _, _, _, _, _) => false,
             Phase::Answer(_, _, _) | Phase::Ended(_, _) => false,
         }
     }
@@ -146,6 +152,7 @@ impl<L, C> Phase<L, C> {
             Phase::ReadHead => unreachable!(),
             Phase::Connect(_context, _session, _tries) => unreachable!(),
             Phase::Prepare(_context, _session, _link, _lease) => unreachable!(),
+            Phase::Broken(_context, _session, _link, _lease, _keep, _error) => unreachable!(),
             Phase::Fail(_link, _lease, _keep, _session, _error) => unreachable!(),
             Phase::Close(_link, _lease, _keep, _outcome) => unreachable!(),
             Phase::Answer(_session, _owed, _attempts) => unreachable!(),
@@ -163,6 +170,7 @@ impl<L, C> Phase<L, C> {
             Phase::Connect(_context, _session, _tries) => unreachable!(),
             Phase::Prepare(_context, _session, _link, _lease) => unreachable!(),
             Phase::Relay(_attempt) => unreachable!(),
+            Phase::Broken(_context, _session, _link, _lease, _keep, _error) => unreachable!(),
             Phase::Fail(_link, _lease, _keep, _session, _error) => unreachable!(),
             Phase::Close(_link, _lease, _keep, _outcome) => unreachable!(),
             Phase::Answer(_session, _owed, _attempts) => unreachable!(),

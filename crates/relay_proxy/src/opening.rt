@@ -15,6 +15,7 @@ ghost use Rattle.relay_proxy.specs.Bound.{CountsCall, CountsLink};
 ghost use Rattle.relay_proxy.specs.Calls.{CallsSoFar, CountsCalls, allowed_by, is_calling, log_of};
 ghost use Rattle.relay_proxy.specs.Passed.{World, Start, called_to};
 ghost use Rattle.relay_proxy.specs.Phases.{RunSoFar};
+ghost use Rattle.relay_proxy.specs.Sent.{IsUntreated};
 ghost use Rattle.relay_proxy.specs.Stock.{items_held};
 ghost use Rattle.relay_proxy.specs.Relayable.{IsAccepted};
 ghost use Rattle.relay_proxy.specs.Refusals.{attempts_in, faults_before, faults_told};
@@ -136,7 +137,7 @@ fn stop<L: ByteLink, C>(session: Box<HttpSession>, tries: AttemptList, error: Er
         → session.value.writing.output ≡ Outgoing.Open []
         → session.value.writing.request ≡ request_of head
         → session.value.writing.place ≡ Place.NoHead → IsAccepted (called_to s those) p head
-        → IsStoppedFor those error → tries ≡ []
+        → IsStoppedFor those error → IsUntreated those → tries ≡ []
         → RunSoFar {C = C} L.state L.start (called_to s these) p w []
         (Phase.Connect context client tries)
         → Advances {C = C} L.state L.start (called_to s those) w result.phase }

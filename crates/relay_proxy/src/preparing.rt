@@ -12,10 +12,9 @@ ghost use Rattle.relay_authority.specs.declared.upstream.Upstream.TheVariants as
 ghost use Rattle.relay_h1.specs.Framing.{request_framing};
 ghost use Rattle.relay_links.specs.Link.{IsHandedOut};
 ghost use Rattle.relay_session.specs.Reading.{head_of};
-ghost use Rattle.relay_proxy.specs.Bound.{CountsSend, LeavesLink};
-ghost use Rattle.relay_proxy.specs.Calls.{CallsSoFar, CountsCalls, allowed_by, log_of};
+ghost use Rattle.relay_proxy.specs.Bound.{CountsSend};
+ghost use Rattle.relay_proxy.specs.Calls.{BeginsCalls, CallsSoFar, CountsCalls, allowed_by, log_of};
 ghost use Rattle.relay_proxy.specs.Endings.{IsInOrder, outcome_of};
-ghost use Rattle.relay_proxy.specs.Leaving.{LeavesAhead};
 ghost use Rattle.relay_proxy.specs.Passed.{World, Start, called_to, IsUntouched, TellsClient};
 ghost use Rattle.relay_proxy.specs.Phases.{IsConnecting, IsRelaying, RunSoFar};
 ghost use Rattle.relay_proxy.specs.Preparing.{MakesHead, Readies, Settles};
@@ -24,12 +23,11 @@ ghost use Rattle.relay_proxy.specs.Refusals.{attempts_in};
 ghost use Rattle.relay_proxy.specs.Stock.{items_held};
 ghost use Rattle.relay_proxy.specs.Tries.{tries_in};
 ghost use Rattle.relay_proxy.specs.Uses.{LinkUses, OwesAnswer, PhaseUses};
-ghost use Rattle.relay_proxy.specs.Turn.{DoesWork, held_state, is_over, is_end, links_held, Advances, HasCause, IsBegun};
+ghost use Rattle.relay_proxy.specs.Turn.{DoesWork, held_state, is_over, is_end, links_held, Advances, HasCause};
 
 use crate::calls::{Calls, filter};
 use crate::machine::{Attempt, Lease, Next, Phase, RunStep};
 use crate::outcome::Outcome;
-use crate::owed::{Owed, queue_answer};
 use crate::work::Work;
 use relay_attempt::{H1Exchange, Unbegun};
 use relay_authority::{Client, Upstream, ready_head, sent_head};
@@ -78,7 +76,7 @@ pub(crate) fn prepare<SV: ProxyHttp, L: ByteLink>(
     let mut session = session;
     match sent_of(alloc, app, calls, &mut context, &mut session) {
         Ok(sent) => begin(alloc, context, session, sent, link, lease),
-        Err(Fail::Error(error)) => fail_ahead(session, link, lease, true, error),
+        Err(Fail::Error(error)) => fail_ahead(context, session, link, lease, true, error),
         Err(Fail::OutOfMemory) => closed(link, lease, false, Outcome::OutOfMemory),
     }
 }
@@ -144,39 +142,22 @@ fn framed(sent: RequestHeader) -> Result<RequestHeader>
     }
 }
 
-/// An attempt that failed with that error before its head was sent: its link, which nobody asked, is
-/// to go back, kept or not, and the client is owed the answer to the error, where it has one.
+/// An attempt that failed with that error before its head was sent, whose link nobody asked, and
+/// which is kept then or not: the application is to treat the error.
 pub(crate) fn fail_ahead<L: ByteLink, C>(
+    context: C,
     session: Box<HttpSession>,
     link: L,
     lease: Lease,
     keep: bool,
     error: Error,
 ) -> Next<L, C>
-    ensures run { (s : Start) (p : Passed) (w : World) → TellsClient s p w → IsUntouched s p w
-        → LeavesAhead s p w (L.state link) (L.start link) session.value lease keep error
-        → Advances {C = C} L.state L.start s w result.phase }
-    ensures owes { result.step ≡ RunStep.Moved → OwesAnswer result.phase }
-    ensures step { (result.step ≡ RunStep.Moved) ⊎ (result.step ≡ RunStep.Ended) }
-    ensures leaves { LeavesLink link lease result.phase }
-    ensures over { is_over result.phase ≡ is_end result.step }
-    ensures held { held_state L.state result.phase ≡ Some (L.state link) }
-    ensures tries { attempts_in result.phase ≡ tries_in lease }
-    ensures linked { links_held L.state L.start result.phase ≡ 1 }
-    ensures items { items_held L.start result.phase ≡ (L.start link).items ∷ [] }
-    ensures asked { (n : ℕ) → LinkUses L.state L.start n link
-        → PhaseUses L.state L.start n [] result.phase }
+    ensures phase { result.phase ≡ Phase.Broken context session link lease keep error }
+    ensures step { result.step ≡ RunStep.Moved }
     ensures work { result.work ≡ Work.ENDED }
 {
-    let mut session = session;
-    let Ok(()) = queue_answer(&mut session, error) else {
-        return closed(link, lease, false, Outcome::OutOfMemory);
-    };
-    if !session.has_pending() {
-        return closed(link, lease, keep, Owed::Served(error).outcome());
-    }
     Next {
-        phase: Phase::Fail(link, lease, keep, session, error),
+        phase: Phase::Broken(context, session, link, lease, keep, error),
         step: RunStep::Moved,
         work: Work::ENDED,
     }
@@ -209,12 +190,12 @@ fn begin<L: ByteLink, C: Drop>(
         (Phase.Prepare context session link lease))
         → Sends s.called run.holds.1.connecting.head head
         → Advances {C = C} L.state L.start s w result.phase }
+    ensures calls { BeginsCalls context session.value result.phase }
     ensures cause { (w x : World) (context : C) (session : Box HttpSession)
         → HasCause L.state L.start w x (Phase.Prepare context session link lease) result.phase
         result.step }
     ensures work { DoesWork result.step result.work }
     ensures called { result.work.called ≤ 1 }
-    ensures begun { IsBegun result.phase }
     ensures counts { CountsSend (tries_in lease) result.phase result.work }
     ensures unused { result.work.used ≡ 0 }
     ensures step { (result.step ≡ RunStep.Moved) ⊎ (result.step ≡ RunStep.Ended) }
@@ -245,12 +226,13 @@ fn hold<L: ByteLink, C: Drop>(alloc: Global, attempt: Attempt<L, C>) -> Next<L, 
     ensures run { (s : Start) (p : Passed) (w : World) → TellsClient s p w → IsInOrder s p
         → w.client.faults ≡ s.faults → IsRelaying L.state L.start s p w attempt
         → Advances {C = C} L.state L.start s w result.phase }
+    ensures calls { BeginsCalls attempt.context attempt.exchange.exchange.down.session
+        result.phase }
     ensures cause { (w x : World) (context : C) (session : Box HttpSession) (link : L)
         → HasCause L.state L.start w x (Phase.Prepare context session link attempt.lease)
         result.phase result.step }
     ensures work { DoesWork result.step result.work }
     ensures called { result.work.called ≤ 1 }
-    ensures begun { IsBegun result.phase }
     ensures counts { CountsSend (tries_in attempt.lease) result.phase result.work }
     ensures unused { result.work.used ≡ 0 }
     ensures step { (result.step ≡ RunStep.Moved) ⊎ (result.step ≡ RunStep.Ended) }

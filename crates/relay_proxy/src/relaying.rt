@@ -5,20 +5,22 @@ ghost use Rattle.std.specs.Global.{Box};
 ghost use Rattle.relay_links.specs.Link.{LinkState};
 ghost use Rattle.relay_core.specs.Asked.{WaitRose};
 ghost use Rattle.relay_core.specs.Causes.{says_failed};
+ghost use Rattle.relay_session.specs.Reading.{head_of};
 ghost use Rattle.relay_core.specs.Past.{Origin};
 ghost use Rattle.relay_attempt.specs.Bound.{CountsOn, HasCounted};
 ghost use Rattle.relay_attempt.specs.Exchange.{IsUnderWay, Turns, MeetsSilence, Asks, HasMoved};
 ghost use Rattle.relay_attempt.specs.Head.{link_of, may_keep};
 ghost use Rattle.relay_attempt.specs.Passed.{Passed};
 ghost use Rattle.relay_proxy.specs.Bound.{LeavesLink, PhaseCounts, TurnedCounts};
-ghost use Rattle.relay_proxy.specs.Leaving.{LeavesBy, LeavesSession};
+ghost use Rattle.relay_proxy.specs.Leaving.{LeavesBy};
+ghost use Rattle.relay_proxy.specs.Calls.{BreaksOff, KeepsCalls};
 ghost use Rattle.relay_proxy.specs.Passed.{World, Start, TellsClient};
-ghost use Rattle.relay_proxy.specs.Phases.{IsLeased, RunSoFar};
+ghost use Rattle.relay_proxy.specs.Phases.{IsLeased, LeavesSession, RunSoFar};
 ghost use Rattle.relay_proxy.specs.Refusals.{attempts_in};
 ghost use Rattle.relay_proxy.specs.Relaying.{is_relaying, TurnsOver, TurnsWithin};
 ghost use Rattle.relay_proxy.specs.Reuse.{client_reusable};
 ghost use Rattle.relay_proxy.specs.Stock.{items_held};
-ghost use Rattle.relay_proxy.specs.Turn.{world_of, DoesWork, is_over, is_end, held_state, links_held, Advances, HandsOn, HasCause, IsBegun};
+ghost use Rattle.relay_proxy.specs.Turn.{world_of, DoesWork, is_over, is_end, held_state, links_held, Advances, HandsOn, HasCause};
 ghost use Rattle.relay_proxy.specs.Uses.{LinkUses, MovedBy, OwesAnswer, PhaseUses, TurnCounts, TurnUses};
 ghost use Rattle.relay_proxy.specs.Work.{total_work};
 
@@ -85,7 +87,8 @@ pub(crate) fn relay<D: ByteLink, U: Drop, L: ByteLink, H: Schedule, C: Drop>(
     ensures linked { links_held L.state L.start phase.new ≡ links_held L.state L.start phase.old }
     ensures items { items_held L.start phase.new ≡ items_held L.start phase.old }
     ensures tries { attempts_in phase.new ≡ attempts_in phase.old }
-    ensures begun { IsBegun phase.new }
+    ensures calls { (a : Box (Attempt L C)) → phase.old ≡ Phase.Relay a
+        → KeepsCalls a.value phase.new }
     ensures kept { client.new.kept ≡ client.old.kept }
     ensures client_start { D.start client.new.link ≡ D.start client.old.link }
 {
@@ -120,7 +123,6 @@ fn close_finished<D, U, L: ByteLink, C: Drop>(
     ensures leaves { (a : Box (Attempt L C)) → phase.old ≡ Phase.Relay a
         → LeavesLink (link_of a.value.exchange) a.value.lease phase.new }
     ensures over { is_over phase.new ≡ true }
-    ensures begun { IsBegun phase.new }
     ensures linked { links_held L.state L.start phase.new ≡ links_held L.state L.start phase.old }
     ensures items { items_held L.start phase.new ≡ items_held L.start phase.old }
     ensures step { result.step ≡ RunStep.Ended }
@@ -141,8 +143,8 @@ fn close_finished<D, U, L: ByteLink, C: Drop>(
     }
 }
 
-/// The end of an attempt whose exchange failed, a link having been asked in that turn or not: its
-/// link is to go back, not kept, and the client is given what it is owed.
+/// The end of an attempt whose exchange failed, a link having been asked in that turn or not: the
+/// application is to treat its error, and its link is not kept.
 fn leave_failed<L: ByteLink, C: Drop>(
     alloc: Global,
     phase: &mut Phase<L, C>,
@@ -156,6 +158,8 @@ fn leave_failed<L: ByteLink, C: Drop>(
         IsLeased s p (L.state link) (L.start link) a.value.lease
         → LeavesBy s p w.client (L.state link) (L.start link) a.value.exchange.exchange.down.session
         why → Advances {C = C} L.state L.start s w phase.new }
+    ensures calls { (a : Box (Attempt L C)) → phase.old ≡ Phase.Relay a
+        → BreaksOff a.value.context a.value.exchange.exchange.down.session phase.new }
     ensures owes { result.step ≡ RunStep.Moved → OwesAnswer phase.new }
     ensures step { (result.step ≡ RunStep.Moved) ⊎ (result.step ≡ RunStep.Ended) }
     ensures held { (a : Box (Attempt L C)) → phase.old ≡ Phase.Relay a
@@ -164,7 +168,6 @@ fn leave_failed<L: ByteLink, C: Drop>(
         → LinkUses L.state L.start n (link_of a.value.exchange)
         → PhaseUses L.state L.start n [] phase.new }
     ensures over { is_over phase.new ≡ is_end result.step }
-    ensures begun { IsBegun phase.new }
     ensures linked { links_held L.state L.start phase.new ≡ links_held L.state L.start phase.old }
     ensures items { items_held L.start phase.new ≡ items_held L.start phase.old }
     ensures work { 0 < total_work result.work }
@@ -178,17 +181,17 @@ fn leave_failed<L: ByteLink, C: Drop>(
     let Attempt {
         exchange,
         lease,
-        context: _,
+        context,
     } = Box::into_inner(phase.take_attempt());
     let (session, link) = exchange.into_parts();
     let work = work_of_failure(asked);
-    phase.go_on(leave(alloc, session, link, lease, why, work))
+    phase.go_on(leave(alloc, context, session, link, lease, why, work))
 }
 
-/// What a failed exchange leaves: its link is to go back, not kept, and its client is owed an
-/// answer, or what was queued for it. Where nothing waits then, the request ends.
-fn leave<L: ByteLink, C>(
+/// What a failed exchange leaves: its error is to be treated; out of memory the request ends.
+fn leave<L: ByteLink, C: Drop>(
     alloc: Global,
+    context: C,
     session: HttpSession,
     link: L,
     lease: Lease,
@@ -199,6 +202,7 @@ fn leave<L: ByteLink, C>(
         → IsLeased s p (L.state link) (L.start link) lease
         → LeavesBy s p w.client (L.state link) (L.start link) session why
         → Advances {C = C} L.state L.start s w result.phase }
+    ensures calls { BreaksOff context session result.phase }
     ensures owes { result.step ≡ RunStep.Moved → OwesAnswer result.phase }
     ensures step { (result.step ≡ RunStep.Moved) ⊎ (result.step ≡ RunStep.Ended) }
     ensures held { held_state L.state result.phase ≡ Some (L.state link) }
@@ -206,20 +210,21 @@ fn leave<L: ByteLink, C>(
     ensures last { (n : ℕ) → LinkUses L.state L.start n link
         → PhaseUses L.state L.start n [] result.phase }
     ensures over { is_over result.phase ≡ is_end result.step }
-    ensures begun { IsBegun result.phase }
     ensures linked { links_held L.state L.start result.phase ≡ 1 }
     ensures items { items_held L.start result.phase ≡ (L.start link).items ∷ [] }
     ensures work { result.work ≡ work }
 {
     match why {
-        Fail::OutOfMemory => closed(link, lease, Outcome::OutOfMemory, work),
-        Fail::Error(error) => owe(alloc, session, link, lease, error, work),
+        Fail::OutOfMemory => closed(link, lease, work),
+        Fail::Error(error) => break_off(alloc, context, session, link, lease, error, work),
     }
 }
 
-/// The same of an exchange that failed with that error: the answer to it is queued.
-fn owe<L: ByteLink, C>(
+/// The same of an exchange that failed with that error. Where there is no memory for the session, the
+/// request ends.
+fn break_off<L: ByteLink, C: Drop>(
     alloc: Global,
+    context: C,
     session: HttpSession,
     link: L,
     lease: Lease,
@@ -230,6 +235,7 @@ fn owe<L: ByteLink, C>(
         → IsLeased s p (L.state link) (L.start link) lease
         → LeavesSession s p w.client (L.state link) (L.start link) session error
         → Advances {C = C} L.state L.start s w result.phase }
+    ensures calls { BreaksOff context session result.phase }
     ensures owes { result.step ≡ RunStep.Moved → OwesAnswer result.phase }
     ensures step { (result.step ≡ RunStep.Moved) ⊎ (result.step ≡ RunStep.Ended) }
     ensures held { held_state L.state result.phase ≡ Some (L.state link) }
@@ -237,36 +243,28 @@ fn owe<L: ByteLink, C>(
     ensures last { (n : ℕ) → LinkUses L.state L.start n link
         → PhaseUses L.state L.start n [] result.phase }
     ensures over { is_over result.phase ≡ is_end result.step }
-    ensures begun { IsBegun result.phase }
     ensures linked { links_held L.state L.start result.phase ≡ 1 }
     ensures items { items_held L.start result.phase ≡ (L.start link).items ∷ [] }
     ensures work { result.work ≡ work }
 {
-    let mut session = session;
-    let Ok(()) = queue_answer(&mut session, error) else {
-        return closed(link, lease, Outcome::OutOfMemory, work);
-    };
-    if !session.has_pending() {
-        return closed(link, lease, Owed::Served(error).outcome(), work);
-    }
-    let Ok(session) = Box::new(alloc, session) else {
-        return closed(link, lease, Outcome::OutOfMemory, work);
-    };
-    Next {
-        phase: Phase::Fail(link, lease, false, session, error),
-        step: RunStep::Moved,
-        work,
+    match Box::new(alloc, session) {
+        Ok(session) => Next {
+            phase: Phase::Broken(context, session, link, lease, false, error),
+            step: RunStep::Moved,
+            work,
+        },
+        Err(_failed) => closed(link, lease, work),
     }
 }
 
-/// A request that ended over a link that is to go back, not kept.
-fn closed<L, C>(link: L, lease: Lease, outcome: Outcome, work: Work) -> Next<L, C>
-    ensures phase { result.phase ≡ Phase.Close link lease false outcome }
+/// A request that ended out of memory over a link that is to go back, not kept.
+fn closed<L, C>(link: L, lease: Lease, work: Work) -> Next<L, C>
+    ensures phase { result.phase ≡ Phase.Close link lease false Outcome.OutOfMemory }
     ensures step { result.step ≡ RunStep.Ended }
     ensures work { result.work ≡ work }
 {
     Next {
-        phase: Phase::Close(link, lease, false, outcome),
+        phase: Phase::Close(link, lease, false, Outcome::OutOfMemory),
         step: RunStep::Ended,
         work,
     }
@@ -282,7 +280,6 @@ fn turn_within<D: ByteLink, U: Drop, L: ByteLink, H: Schedule, C>(
     ensures turns { TurnsWithin L.state L.start (D.state client.old.link) (D.state client.new.link)
         client.old.ahead client.new.ahead phase.old phase.new result.turn result.asked }
     ensures relaying { is_relaying phase.new ≡ true }
-    ensures begun { IsBegun phase.new }
     ensures going { is_over phase.new ≡ false }
     ensures linked { links_held L.state L.start phase.new ≡ links_held L.state L.start phase.old }
     ensures items { items_held L.start phase.new ≡ items_held L.start phase.old }
@@ -294,6 +291,7 @@ fn turn_within<D: ByteLink, U: Drop, L: ByteLink, H: Schedule, C>(
         Phase::ReadHead => unreachable!(),
         Phase::Connect(_, _, _) => unreachable!(),
         Phase::Prepare(_, _, _, _) => unreachable!(),
+        Phase::Broken(_, _, _, _, _, _) => unreachable!(),
         Phase::Fail(_, _, _, _, _) => unreachable!(),
         Phase::Close(_, _, _, _) => unreachable!(),
         Phase::Answer(_, _, _) => unreachable!(),
@@ -351,6 +349,8 @@ fn turn_over<D: ByteLink, U: Drop, L: ByteLink, H: Schedule>(
         → (D.state client.new.link).faults ≡ (D.state client.old.link).faults }
     ensures peer_start { L.start (link_of exchange.new)
         ≡ L.start (link_of exchange.old) }
+    ensures head { head_of exchange.new.exchange.down.session.reading
+        ≡ head_of exchange.old.exchange.down.session.reading }
     ensures kept { client.new.kept ≡ client.old.kept }
     ensures client_start { D.start client.new.link ≡ D.start client.old.link }
 {

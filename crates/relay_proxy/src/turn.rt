@@ -19,6 +19,7 @@ ghost use Rattle.relay_proxy.specs.Uses.{MovedBy, OwesAnswer, PhaseUses, TurnCou
 use crate::answering::write_answer;
 use crate::calls::Calls;
 use crate::client_head::read_head;
+use crate::failing::fail;
 use crate::machine::{Did, Next, Phase, RunStep};
 use crate::opening::reach;
 use crate::preparing::prepare;
@@ -213,6 +214,9 @@ fn move_on<SV: ProxyHttp, K: Connector, D: ByteLink, U: Drop>(
             phase.go_on(prepare(alloc, hooks, calls, context, session, link, lease))
         }
         Phase::Relay(_attempt) => unreachable!(),
+        Phase::Broken(context, session, link, lease, keep, error) => {
+            phase.go_on(fail(hooks, calls, context, session, link, lease, keep, error))
+        }
         Phase::Fail(link, lease, keep, session, error) => phase.go_on(Next {
             phase: Phase::Fail(link, lease, keep, session, error),
             step: RunStep::Moved,

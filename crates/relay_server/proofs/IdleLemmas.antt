@@ -12,7 +12,7 @@ use Rattle.relay_proxy.specs.Phases.{RunSoFar}
 use Rattle.relay_proxy.specs.Turn.{is_reading_head, is_over}
 use Rattle.relay_proxy.specs.declared.calls.Calls.{Calls}
 use Rattle.relay_proxy.specs.declared.machine.Phase.{Phase}
-use Rattle.relay_proxy.specs.declared.machine.Phase.TheVariants.{ReadHead, Connect, Prepare, Relay, Fail, Close, Answer, Ended}
+use Rattle.relay_proxy.specs.declared.machine.Phase.TheVariants.{ReadHead, Connect, Prepare, Relay, Broken, Fail, Close, Answer, Ended}
 use Rattle.relay_server.specs.Idle.{is_idle, HasNotBegun}
 use Rattle.relay_server.specs.Serving.{Visit}
 
@@ -24,6 +24,8 @@ reads_on (Fail l lease keep session error) empty idle = absurd (true≢false (sy
 reads_on (Connect context session tries) empty idle = absurd (true≢false (sym idle))
 reads_on (Prepare context session l lease) empty idle = absurd (true≢false (sym idle))
 reads_on (Relay a) empty idle = absurd (true≢false (sym idle))
+reads_on (Broken context session l lease keep error) empty idle =
+    absurd (true≢false (sym idle))
 reads_on (Close l lease keep outcome) empty idle = absurd (true≢false (sym idle))
 reads_on (Answer session owed attempts) empty idle = absurd (true≢false (sym idle))
 reads_on (Ended outcome attempts) empty idle = absurd (true≢false (sym idle))
@@ -44,6 +46,8 @@ none_logged allows mark_of calls (Connect context session tries) empty idle so_f
 none_logged allows mark_of calls (Prepare context session l lease) empty idle so_far =
     absurd (true≢false (sym idle))
 none_logged allows mark_of calls (Relay a) empty idle so_far = absurd (true≢false (sym idle))
+none_logged allows mark_of calls (Broken context session l lease keep error) empty idle so_far =
+    absurd (true≢false (sym idle))
 none_logged allows mark_of calls (Fail l lease keep session error) empty idle so_far =
     absurd (true≢false (sym idle))
 none_logged allows mark_of calls (Close l lease keep outcome) empty idle so_far =
@@ -84,6 +88,8 @@ not_begun state start_at s p w own (Connect context session tries) idle run =
 not_begun state start_at s p w own (Prepare context session l lease) idle run =
     absurd (true≢false (sym idle))
 not_begun state start_at s p w own (Relay a) idle run = absurd (true≢false (sym idle))
+not_begun state start_at s p w own (Broken context session l lease keep error) idle run =
+    absurd (true≢false (sym idle))
 not_begun state start_at s p w own (Fail l lease keep session error) idle run =
     absurd (true≢false (sym idle))
 not_begun state start_at s p w own (Close l lease keep outcome) idle run =

@@ -1,10 +1,11 @@
 -- Requests under way, and what one turn, one end and one new client make of them.
-use Rattle.std.proofs.Common.{◌≡◌, ℕ, zero, suc, ◌+◌, ◌≤◌, true, false, true≢false, List, [], ◌∷◌, ◌++◌, length, Option, Some, None, refl, sym, ap, subst, ◌∙◌, arith}
+use Rattle.std.proofs.Common.{◌≡◌, ℕ, Bool, zero, suc, ◌+◌, ◌≤◌, true, false, true≢false, List, [], ◌∷◌, ◌++◌, length, Option, Some, None, refl, sym, ap, subst, ◌∙◌, arith}
 use Rattle.std.specs.List.{insert}
 use Rattle.std.specs.List.Sorted.{IsPermutation}
 use Rattle.std.proofs.lemmas.List.{append-nil, append_assoc}
 use Rattle.std.proofs.lemmas.List.Edits.{insert_end}
 use Rattle.std.proofs.lemmas.List.Sorted.{IsPermutation-refl, IsPermutation-sym, IsPermutation-trans, IsPermutation-append_comm, IsPermutation-append_left, IsPermutation-append_right}
+use Rattle.relay_tasks.specs.declared.Error.{Error}
 use Rattle.relay_tasks.specs.declared.Fault.{Fault}
 use Rattle.relay_tasks.specs.declared.log.LogEntry.{LogEntry}
 use Rattle.relay_links.specs.Connector.{Offer}
@@ -19,12 +20,13 @@ use Rattle.relay_session.specs.declared.writing.Outgoing.{Outgoing}
 use Rattle.relay_proxy.specs.Calls.{CallsSoFar, allowed_by, log_of}
 use Rattle.relay_proxy.specs.Owed.{Owes, IsAnswering}
 use Rattle.relay_proxy.specs.Passed.{World, Start, called_to}
-use Rattle.relay_proxy.specs.Phases.{RunSoFar, IsCalm, IsConnecting, PhaseHolds, IsAt}
+use Rattle.relay_proxy.specs.Phases.{RunSoFar, IsBroken, IsCalm, IsConnecting, PhaseHolds, IsAt}
 use Rattle.relay_proxy.specs.Request.{StepsOn, ComesToEnd, ended_after}
 use Rattle.relay_proxy.specs.Tries.{tries_in}
 use Rattle.relay_proxy.specs.Turn.{world_with, world_of, is_over, links_held}
+use Rattle.relay_proxy.specs.declared.machine.Lease.{Lease}
 use Rattle.relay_proxy.specs.declared.machine.Phase.{Phase}
-use Rattle.relay_proxy.specs.declared.machine.Phase.TheVariants.{ReadHead, Connect, Prepare, Relay, Fail, Close, Answer, Ended}
+use Rattle.relay_proxy.specs.declared.machine.Phase.TheVariants.{ReadHead, Connect, Prepare, Relay, Broken, Fail, Close, Answer, Ended}
 use Rattle.relay_proxy.specs.declared.outcome.Outcome.{Outcome}
 use Rattle.relay_proxy.specs.declared.work.Work.{Work}
 use Rattle.relay_proxy.specs.declared.outcome.Outcome.TheVariants.{NoRequest, Refused, Served, TurnLimit, OutOfMemory}
@@ -96,6 +98,23 @@ connecting_later s p link ahead f g session tries at = record {
   are_tries = at.are_tries;
 }
 
+-- an attempt failed at a higher count too
+broken_later : (s : Start) (p : Passed) (client : LinkState) (ahead : List ℕ) (f g : ℕ)
+    (link : LinkState) (start : LinkStart) (session : HttpSession) (lease : Lease) (keep : Bool)
+    (e : Error) → IsBroken s p (world_with client ahead f) link start session lease keep e
+    → IsBroken s p (world_with client ahead g) link start session lease keep e
+unfolding connecting_later
+broken_later s p client ahead f g link start session lease keep e
+    (IsBroken.in_exchange leaves unkept) = IsBroken.in_exchange leaves unkept
+broken_later s p client ahead f g link start session lease keep e (IsBroken.ahead_of_it leaves) =
+    IsBroken.ahead_of_it (record {
+      connecting = connecting_later s p client ahead f g session (tries_in lease)
+          leaves.connecting;
+      leased = leaves.leased;
+      fresh = leaves.fresh;
+      why = leaves.why;
+    })
+
 module _ {L : Type 0} (state : L → LinkState) (start_at : L → LinkStart) where
   -- a client is owed an answer at a higher count too
   owes_later : (s : Start) (p : Passed) (link : LinkState) (ahead : List ℕ) (f g : ℕ)
@@ -158,6 +177,10 @@ module _ {L C : Type 0} (state : L → LinkState) (start_at : L → LinkStart) w
     sends = at.sends;
     under_way = at.under_way;
   }
+  at_later s p link ahead f g (Broken context session l lease keep error) going more_faults at = (
+    at.0,
+    broken_later s p link ahead f g (state l) (start_at l) session.value lease keep error at.1,
+  )
   at_later s p link ahead f g (Fail l lease keep session error) going more_faults at = (
     at.0,
     record { text = at.1.text; misses = at.1.misses; waits = at.1.waits },
@@ -178,6 +201,7 @@ module _ {L C : Type 0} (state : L → LinkState) (start_at : L → LinkStart) w
   calm_later s link ahead f g (Connect context session tries) calm = calm
   calm_later s link ahead f g (Prepare context session l lease) calm = calm
   calm_later s link ahead f g (Relay a) calm = calm
+  calm_later s link ahead f g (Broken context session l lease keep error) calm = calm
   calm_later s link ahead f g (Fail l lease keep session error) calm = calm
   calm_later s link ahead f g (Close l lease keep outcome) calm = calm
   calm_later s link ahead f g (Answer session owed attempts) calm = calm
@@ -196,6 +220,8 @@ module _ {L C : Type 0} (state : L → LinkState) (start_at : L → LinkStart) w
   holds_later s p link ahead f g (r ∷ own) (Prepare context session l lease) going more_faults
       holds = absurd holds
   holds_later s p link ahead f g (r ∷ own) (Relay a) going more_faults holds = absurd holds
+  holds_later s p link ahead f g (r ∷ own) (Broken context session l lease keep error) going
+      more_faults holds = absurd holds
   holds_later s p link ahead f g (r ∷ own) (Fail l lease keep session error) going more_faults
       holds = absurd holds
   holds_later s p link ahead f g (r ∷ own) (Close l lease keep outcome) going more_faults holds =

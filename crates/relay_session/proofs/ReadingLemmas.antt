@@ -496,7 +496,7 @@ never_by_close : (given body ahead : List ℕ) (old : BegunRequest) → IsInBody
     → ¬ ((f : Framing) → is_of f old.body ≡ true → may_end f ≡ true)
 never_by_close given body ahead old begins reads may =
     let f = old.framing in
-    let empty = request_ends begins.head f begins.has.let_in.framed
+    let empty = request_ends begins.head f begins.has.framed
     (may f begins.so_far.of_framing) in
     let done = no_place old.body
     (subst (λ (g : Framing). is_of g old.body ≡ true) empty begins.so_far.of_framing) in

@@ -1,7 +1,9 @@
 -- What passed through the client's side: how it begins, and how lists of tasks join.
 use Rattle.std.proofs.Common.{◌≡◌, ℕ, ◌≤◌, Bool, true, false, List, [], ◌∷◌, ◌++◌, Option, None, refl, sym, ◌∙◌, ap, append_assoc, inr, arith}
 use Rattle.std.specs.Prelude.{IsSome, IsTrue}
+use Rattle.std.specs.List.{list_any}
 use Rattle.relay_tasks.specs.declared.task.HttpTask.{HttpTask}
+use Rattle.relay_tasks.specs.Task.{is_end}
 use Rattle.relay_links.specs.Count.{Rose}
 use Rattle.relay_links.specs.Link.{LinkState}
 use Rattle.relay_session.specs.Reading.{RequestSoFar, IsWhole, head_of, is_body_done}
@@ -18,7 +20,7 @@ use Rattle.relay_session.proofs.ReadingLemmas.{body_whole}
 use Rattle.relay_tasks.specs.declared.fault.Fault.{Fault}
 use Rattle.relay_core.specs.Past.{Origin, DownPast}
 use Rattle.relay_peer.specs.Body.{bytes_of, body_of}
-use Rattle.relay_sides.specs.Client.{HasPassed, FailsWrite, BeginsBehind, begun_past}
+use Rattle.relay_sides.specs.Client.{HasPassed, HaveSome, FailsWrite, BeginsBehind, begun_past, end_put}
 use Rattle.relay_peer.proofs.FaultLemmas.{Grew, among_still}
 
 -- an output that is open has no fault
@@ -34,10 +36,26 @@ stands_at now (outgoing.Open queue) tasks taken holds =
 stands_at now (outgoing.Broken fault) tasks taken holds =
     ap (λ (t : Sent). t.place) holds.1.wire.is
 
+-- an end that is put first is put exactly where the body has ended
+pub end_is : (done : Bool) → list_any is_end (end_put done) ≡ done
+end_is true = refl
+end_is false = refl
+
+-- it brings no bytes
+end_empty : (done : Bool) → body_of (end_put done) ≡ []
+end_empty true = refl
+end_empty false = refl
+
+-- and it is an end
+end_some : (done : Bool) → HaveSome (end_put done)
+end_some true = (inr refl, tt)
+end_some false = tt
+
 -- a side that begins behind the bytes that came
 pub begins : (s : Origin) (came : List ℕ) (link : LinkState) (ahead : List ℕ)
     (session : HttpSession) → BeginsBehind s came link ahead session
-    → HasPassed s (begun_past came) link ahead session false false None
+    → HasPassed s (begun_past came (end_put (is_body_done session.reading))) link ahead session false
+    false None
 begins s came link ahead session b = record {
   client = record {
     came = b.gave;
@@ -52,10 +70,10 @@ begins s came link ahead session b = record {
     answers = b.answers;
     body = [];
     request = b.request;
-    joined = refl;
-    some = tt;
-    ended = λ none. absurd (cc);
-    whole = λ done. inr (refl, sym b.done ∙ done);
+    joined = end_empty (is_body_done session.reading);
+    some = end_some (is_body_done session.reading);
+    ended = λ is. sym (end_is (is_body_done session.reading)) ∙ is;
+    whole = λ done. end_is (is_body_done session.reading) ∙ done;
     headed = λ has_none. b.done ∙ has_none;
     told_whole = b.whole;
     response = b.response;

@@ -19,7 +19,7 @@ use Rattle.relay_links.proofs.SinceLemmas.{Since-kept, Since-grows}
 use Rattle.relay_h1.proofs.VerdictLemmas.{HasRequest-append}
 use Rattle.relay_h1.specs.Verdict.{HasRequest}
 use Rattle.relay_session.specs.Front as front
-use Rattle.relay_session.specs.Front.{Watches, ends_with_head}
+use Rattle.relay_session.specs.Front.{Watches}
 use Rattle.relay_session.specs.Reading as says
 use Rattle.relay_session.specs.Reading.{RequestSoFar, SaysBody, IsWhole, ReadsRest, ReadsLink, EndsBy, RefusesRest, piece_of, head_of, is_body_done}
 use Rattle.relay_session.specs.Response.{Holds, is_over}
@@ -320,15 +320,13 @@ module _
       ]
 
   -- it is put where the body has ended
-  whole_on : is_body_done new.reading ≡ true
-      → (list_any is_end (p.put ++ put) ≡ true)
-      ⊎ ((p.put ++ put ≡ []) × (ends_with_head h.framing ≡ true))
+  whole_on : is_body_done new.reading ≡ true → list_any is_end (p.put ++ put) ≡ true
   whole_on done =
       elim (cases_Bool (is_body_done old.reading)) [
         | inl was ↦ rw (puts.none was, append-nil) (h.whole was)
-        | inr open_still ↦ inl (list_any-append is_end p.put put
+        | inr open_still ↦ list_any-append is_end p.put put
             ∙ ap (λ (b : Bool). list_any is_end p.put || b) (puts.ended open_still done)
-            ∙ end_behind (list_any is_end p.put))
+            ∙ end_behind (list_any is_end p.put)
       ]
 
   -- what passed goes on with the read

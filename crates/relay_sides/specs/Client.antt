@@ -98,12 +98,12 @@ pub record IsClient
   pub answers : session.writing.request ≡ request_of head
   pub body : List ℕ
   pub request : RequestSoFar (given_to s p) body ahead session.reading
-  -- the pieces, joined, are the body that was given out; an end among them is the body's
+  -- the pieces, joined, are the body that was given out; an end among them is the body's, and one
+  -- is among them where the body has ended
   pub joined : body_of p.put ≡ body
   pub some : HaveSome p.put
   pub ended : list_any is_end p.put ≡ true → is_body_done session.reading ≡ true
-  pub whole : is_body_done session.reading ≡ true
-      → (list_any is_end p.put ≡ true) ⊎ ((p.put ≡ []) × (ends_with_head framing ≡ true))
+  pub whole : is_body_done session.reading ≡ true → list_any is_end p.put ≡ true
   -- a request without a body has ended from its head on
   pub headed : ends_with_head framing ≡ true → is_body_done session.reading ≡ true
   pub told_whole : is_body_done session.reading ≡ true → IsWhole (given_to s p) body ahead
@@ -180,9 +180,15 @@ pub record BeginsBehind
   pub output : session.writing.output ≡ outgoing.Open []
   pub tells : TellsSince s.read_faults s.write_faults link
 
--- the past of a side that begins behind these bytes
-abbrev pub begun_past : List ℕ → DownPast
-begun_past came = record { came = came; written = []; put = []; batched = []; closing = [] }
+-- what is put before anything is read of a body: its end, where its head ended it
+abbrev pub end_put : Bool → List HttpTask
+end_put true = task.Body None true ∷ []
+end_put false = []
+
+-- the past of a side that begins behind these bytes, when these pieces were put
+abbrev pub begun_past : List ℕ → List HttpTask → DownPast
+begun_past came put =
+    record { came = came; written = []; put = put; batched = []; closing = [] }
 
 -- the response is not over behind the tasks that were queued
 abbrev pub IsUnanswered : Origin → DownPast → Type 0

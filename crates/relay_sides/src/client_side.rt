@@ -3,9 +3,10 @@
 ghost use Rattle.std.specs.Prelude.{◌≡◌, ◌&&◌, ◌||◌, ◌⊎◌, not, List, ℕ};
 ghost use Rattle.relay_links.specs.Link.{LinkState};
 ghost use Rattle.relay_core.specs.Past.{Origin};
+ghost use Rattle.relay_session.specs.Reading.{head_of, is_body_done};
 ghost use Rattle.relay_session.specs.Response.{is_over};
 ghost use Rattle.relay_session.specs.TaskWire.{ends_short};
-ghost use Rattle.relay_sides.specs.Client.{IsSide, BeginsBehind, begun_past, ClientBlames, ClientRefuses, CannotEnd, Queues, state_of, fault_in, piece_answer, told_read, failure_in_front};
+ghost use Rattle.relay_sides.specs.Client.{IsSide, BeginsBehind, begun_past, end_put, ClientBlames, ClientRefuses, CannotEnd, Queues, state_of, fault_in, piece_answer, told_read, failure_in_front};
 
 use bytes::Bytes;
 use relay_core::{Down, Piece, Told, UpKind};
@@ -34,14 +35,15 @@ pub struct ClientSide {
 
 impl ClientSide {
     /// The side over that session, whose head was read, with nothing told. Where the session begins
-    /// behind the bytes that came, so does the side.
+    /// behind the bytes that came, so does the side, and the end of a body that its head ended was
+    /// put.
     pub fn new(alloc: Global, session: HttpSession) -> ClientSide
         ensures session { result.session ≡ session }
         ensures told { result.told ≡ Told.NOTHING }
         ensures begins { (s : Origin) (came : List ℕ) (link : LinkState) (ahead : List ℕ)
             → BeginsBehind s came link ahead session
-            → IsSide s (begun_past came) link ahead result.session result.told result.done
-            result.finished result.broken }
+            → IsSide s (begun_past came (end_put (is_body_done session.reading))) link ahead
+            result.session result.told result.done result.finished result.broken }
     {
         ClientSide {
             alloc,
@@ -182,6 +184,8 @@ impl<F: Front> Down<F> for ClientSide {
     ghost link = { F.state };
 
     ghost start = { F.start };
+
+    ghost head = { λ side. head_of side.session.reading };
 
     fn may_read(&self) -> bool {
         !(self.session.is_body_done() && either(self.done, self.finished))

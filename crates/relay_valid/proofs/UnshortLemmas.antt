@@ -81,7 +81,7 @@ request_unshort s agrees p closed order front pieces first found joined =
     let whole = said.whole (subst (λ (l : List HttpTask). list_any is_end l ≡ true) same found) in
     let bytes = drop order.asks.len (asked s p) in
     ap (λ (f : Framing). is_short (after_pieces f pieces))
-    (framing_is s.sent order.asks.framing (agrees.framing ∙ order.asks.has.let_in.framed))
+    (framing_is s.sent order.asks.framing (agrees.framing ∙ order.asks.has.framed))
     ∙ whole_unshort order.asks.framing bytes (body_of order.pieces) whole.0 pieces
     (subst (λ (t : BodyText). Body order.asks.framing bytes t) whole.1 said.says)
     (joined ∙ ap body_of same)

@@ -143,7 +143,7 @@ fn taken(alloc: Global, hooks: &str) -> Result<Result<usize, ScriptError>, Fail>
     Ok(read_script(alloc, text.as_bytes()).map(|script| script.rules.as_slice().len()))
 }
 
-const TAKEN: [(&str, usize); 5] = [
+const TAKEN: [(&str, usize); 6] = [
     ("[]", 0),
     (
         r#"[{"hook":"early_request_filter","do":"error","type":"ReadError"}]"#,
@@ -163,6 +163,10 @@ const TAKEN: [(&str, usize); 5] = [
       {\"hook\":\"connected_to_upstream\",\"do\":\"error\",\"type\":\"Custom(8)\"},\
       {\"hook\":\"upstream_request_filter\",\"do\":\"remove\",\"name\":\"a\"}]",
         3,
+    ),
+    (
+        r#"[{"hook":"error_while_proxy","do":"retry","on":"reused"}]"#,
+        1,
     ),
 ];
 
@@ -202,6 +206,8 @@ fn takes_rules_on_hooks_that_are_called(rt: HostRuntime) -> Result<(), Fail> {
     }
     let later = r#"[{"hook":"response_filter","do":"status","code":418}]"#;
     assert_eq!(rt; taken(alloc, later)?, Err(ScriptError::HookNotCalled));
+    let unlinked = r#"[{"hook":"fail_to_connect","do":"retry","on":true}]"#;
+    assert_eq!(rt; taken(alloc, unlinked)?, Err(ScriptError::HookNotCalled));
     Ok(())
 }
 
@@ -231,7 +237,8 @@ const PRINTED: &[u8] = b"request 1\noutcome Served\nerror -\nreuse yes\nwritten 
     log early_request_filter err HTTPStatus(403)\n\
     log allow_spawning_subrequest false\n\
     log module_request_header err ReadError\n\
-    log proxy_upstream_filter true\n";
+    log proxy_upstream_filter true\n\
+    log error_while_proxy ok\n";
 
 #[test]
 fn prints_a_log_behind_the_attempts(rt: HostRuntime) -> Result<(), Fail> {
@@ -249,6 +256,8 @@ fn prints_a_log_behind_the_attempts(rt: HostRuntime) -> Result<(), Fail> {
     ))?;
     log.push(entry(alloc, Hook::ModuleRequestHeader, Item::Nothing, broken))?;
     log.push(entry(alloc, Hook::ProxyUpstreamFilter, Item::Answer(true), None))?;
+    let treated = Item::Failure(Error::new_up(ErrorType::ReadError));
+    log.push(entry(alloc, Hook::ErrorWhileProxy, treated, None))?;
     let mut requests = Vec::new(alloc);
     requests.push(RequestReport {
         outcome: Outcome::Served {

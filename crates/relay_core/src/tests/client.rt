@@ -121,6 +121,8 @@ impl Down<()> for Client {
 
     ghost start = { λ _. mute_start (record { ended = false; used = 0; reused = false }) };
 
+    ghost head = { λ side. None };
+
     fn may_read(&self) -> bool {
         !(self.ended && self.finished)
     }

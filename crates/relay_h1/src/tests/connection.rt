@@ -98,10 +98,9 @@ fn settles_a_chunked_response(rt: HostRuntime) -> Checked {
 #[test]
 fn refuses_heads_for_their_reasons(rt: HostRuntime) -> Checked {
     for (text, want) in [
-        (b"GET / HTTP/1.1\r\n\r\n".as_slice(), Context::HostCount),
         (
-            b"GET / HTTP/1.1\r\nHost: a\r\nHost: b\r\n\r\n".as_slice(),
-            Context::HostCount,
+            b"GET / HTTP/1.0\r\nTransfer-Encoding: chunked\r\n\r\n".as_slice(),
+            Context::BadFraming,
         ),
         (
             b"GET / HTTP/1.1\r\nHost: a\r\nContent-Length: x\r\n\r\n".as_slice(),

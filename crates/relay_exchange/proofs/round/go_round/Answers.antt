@@ -55,6 +55,7 @@ loop-turn-init g c =
           (told_on first at
           (core t.new.self (g.D.Down.state t.new.down) (g.U.Up.state t.new.up)) t.result
           t.ensures.exact),
+      t.ensures.head,
     )
 
 -- a branch that cannot be taken is passed
@@ -82,6 +83,7 @@ loop-turn-preserved-then-not-enabled g c =
       i.10,
       i.11,
       i.12,
+      i.13,
     )
 
 -- the first branch that met no silence goes on from those before it
@@ -141,6 +143,7 @@ loop-turn-preserved g c =
           (g.U.Up.state c.loop-turn.up))
           (core t.new.self (g.D.Down.state t.new.down) (g.U.Up.state t.new.up)) t.result
           t.ensures.exact) ∙ i.12,
+      t.ensures.head ∙ i.13,
     )
 
 -- all branches were passed: each that can be taken asks a silent link

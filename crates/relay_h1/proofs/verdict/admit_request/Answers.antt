@@ -1,6 +1,8 @@
-use Rattle.std.proofs.Common.{sym, subst}
-use Rattle.relay_h1.specs.Verdict.{AdmitsRequest, is_turned_away}
-use Rattle.relay_h1.proofs.JudgeLemmas.{err_is, admits_refusal}
+use Rattle.std.proofs.Common.{refl, sym, subst}
+use Rattle.relay_tasks.specs.declared.context.Context.TheVariants.{BadFraming}
+use Rattle.relay_h1.specs.Verdict.{AdmitsRequest}
+use Rattle.relay_h1.specs.Verdict as verdict
+use Rattle.relay_h1.proofs.JudgeLemmas.{err_is, admits_refusal, not_framed}
 use Rattle.relay_h1.proofs.verdict.admit_request.Goals as goal
 
 pub returns-in_err-head : goal.returns-in_err-head
@@ -16,8 +18,8 @@ returns-in_err-head c =
 
 pub returns-in-Err : goal.returns-in-Err
 returns-in-Err c =
-    let away = c.in-Err.ensures in (
-      away.0,
-      away.1,
-      is_turned_away c.in_ok-head.head c.in_ok-head.ensures.ok away.2,
+    let none = not_framed _ _ c.in-Err.ensures in (
+      BadFraming,
+      none.1,
+      verdict.IsRefusedText.has_no_framing c.in_ok-head.head c.in_ok-head.ensures.ok none.0 refl,
     )

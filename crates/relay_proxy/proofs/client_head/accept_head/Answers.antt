@@ -1,12 +1,14 @@
 -- The head names no Upgrade, and a session is made that stands behind it, for which a context is
 -- made.
 use Rattle.std.proofs.Common.{ap, refl, ◌∙◌}
+use Rattle.relay_session.specs.Response.{has_head}
+use Rattle.relay_session.specs.declared.task_text.Place.{Place}
 use Rattle.relay_proxy.specs.Calls.{allowed_by, log_of}
 use Rattle.relay_proxy.specs.Passed.{World, called_to}
 use Rattle.relay_proxy.specs.Turn.{world_of}
 use Rattle.relay_proxy.proofs.CallLemmas.{begun_calls, called_logged, none_logged}
 use Rattle.relay_proxy.proofs.HeadSteps.{head_upgrades}
-use Rattle.relay_proxy.proofs.OpenSteps.{head_accepted}
+use Rattle.relay_proxy.proofs.OpenSteps.{head_accepted, stands_first}
 use Rattle.relay_proxy.proofs.client_head.accept_head.Goals as goal
 
 -- a head that names Upgrade is left alone
@@ -63,5 +65,8 @@ returns-clause-run g c = λ s p faults none run has entered no_connect.
 -- its calls are the one that made its context
 pub returns-clause-calls : goal.returns-clause-calls
 returns-clause-calls g c = λ none.
+    let made = c.begun_http1-session.ensures in
     begun_calls _ _ c.args.calls.now c.begin_calls.new.calls c.begun_http1-session.result _ _ _ none
-    c.new-3.ensures c.in-Ok.ensures.at (rw c.in-Ok-new.ensures.ok c.in-Ok.ensures.begins)
+    c.new-3.ensures c.in-Ok.ensures.at (ap (λ (p : Place). has_head p)
+    (stands_first c.begun_http1-session.result.writing made.response made.output))
+    c.in-Ok.ensures.once (rw c.in-Ok-new.ensures.ok c.in-Ok.ensures.begins)

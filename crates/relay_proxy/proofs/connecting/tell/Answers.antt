@@ -1,10 +1,10 @@
 -- The application is told of the link, and the head comes next; or the attempt fails.
-use Rattle.std.proofs.Common.{arith, refl}
+use Rattle.std.proofs.Common.{arith, false, refl}
 use Rattle.relay_tasks.specs.declared.error.Fail.TheVariants as fail
 use Rattle.relay_proxy.specs.Calls.{log_of}
-use Rattle.relay_proxy.proofs.CallLemmas.{left_calls, logged_same, none_called, one_called}
+use Rattle.relay_proxy.proofs.CallLemmas.{logged_same, none_called, one_called}
 use Rattle.relay_proxy.proofs.OpenSteps.{called_tells}
-use Rattle.relay_proxy.proofs.PrepareSteps.{told_badly, told_error, told_calls, told_logged, told_lost, told_well}
+use Rattle.relay_proxy.proofs.PrepareSteps.{ahead_broken, told_badly, told_breaks, told_error, told_calls, told_lost, told_well}
 use Rattle.relay_proxy.proofs.connecting.tell.Goals as goal
 
 -- the head comes next
@@ -34,20 +34,21 @@ pub returns-in-Err-Error-clause-run : goal.returns-in-Err-Error-clause-run
 returns-in-Err-Error-clause-run g c = λ s p w o run was same handed.
     let call = rw c.deref_mut.ensures.value at (told_error _ _ _ _ _ _ _ _
     (fail.Error c.in-Err-Error.error) c.in-Err-Error.field-0-is c.in-Err-Error.ensures.told) in
-    c.fail_ahead.ensures.run _ p w
+    rw c.fail_ahead.ensures.phase
+    (ahead_broken g.L.ByteLink.state g.L.ByteLink.start _ p w _ _ c.args.link c.args.lease false
+    c.in-Err-Error.error
     (called_tells s (log_of c.args.calls.now) (log_of c.tell_link.new.calls) p w run.tells)
     run.untouched
     (told_badly g.L.ByteLink.state g.L.ByteLink.start _ c.args.calls.now
     c.tell_link.new.calls _ _ s p w c.args.context c.args.session _ c.args.link c.args.lease handed
-    was same o.named run c.in-Err-Error.error call.turn call.error)
+    was same o.named run c.in-Err-Error.error call.turn call.error))
 
 pub returns-in-Err-Error-clause-calls : goal.returns-in-Err-Error-clause-calls
 returns-in-Err-Error-clause-calls g c = λ was o.
     let call = rw c.deref_mut.ensures.value at (told_error _ _ _ _ _ _ _ _
     (fail.Error c.in-Err-Error.error) c.in-Err-Error.field-0-is c.in-Err-Error.ensures.told) in
-    left_calls _ _ c.tell_link.new.calls c.args.link c.args.lease c.fail_ahead.result.phase
-    c.fail_ahead.ensures.leaves
-    (told_logged _ (g.SV.ProxyHttp.mark_of c.args.app.now) c.args.calls.now
+    rw c.fail_ahead.ensures.phase
+    (told_breaks _ (g.SV.ProxyHttp.mark_of c.args.app.now) c.args.calls.now
     c.tell_link.new.calls c.args.context c.tell_link.new.context c.args.session.value
     c.tell_link.new.client _ o c.args.lease.peer was call.turn)
 
@@ -59,23 +60,23 @@ returns-in-Err-Error-clause-called g c =
     call.turn.e call.turn.calls.log
 
 -- memory was wanted
-pub returns-clause-run : goal.returns-clause-run
-returns-clause-run g c = λ s p w o run was same handed.
+pub returns-in-Err-OutOfMemory-clause-run : goal.returns-in-Err-OutOfMemory-clause-run
+returns-in-Err-OutOfMemory-clause-run g c = λ s p w o run was same handed.
     rw c.closed.ensures.phase
     (told_lost g.L.ByteLink.state g.L.ByteLink.start c.args.calls.now s p w c.args.context
     c.args.session c.args.link c.args.lease handed was same o.named run c.tell_link.new.calls
     (told_error _ _ _ _ _ _ _ _ fail.OutOfMemory c.in-Err-OutOfMemory.field-0-is
     c.in-Err-OutOfMemory.ensures.told))
 
-pub returns-clause-calls : goal.returns-clause-calls
-returns-clause-calls g c = λ was o.
+pub returns-in-Err-OutOfMemory-clause-calls : goal.returns-in-Err-OutOfMemory-clause-calls
+returns-in-Err-OutOfMemory-clause-calls g c = λ was o.
     rw c.closed.ensures.phase
     (logged_same _ _ c.args.calls.now c.tell_link.new.calls c.args.context c.args.session.value _
     (told_error _ _ _ _ _ _ _ _ fail.OutOfMemory c.in-Err-OutOfMemory.field-0-is
     c.in-Err-OutOfMemory.ensures.told) o)
 
-pub returns-clause-called : goal.returns-clause-called
-returns-clause-called g c =
+pub returns-in-Err-OutOfMemory-clause-called : goal.returns-in-Err-OutOfMemory-clause-called
+returns-in-Err-OutOfMemory-clause-called g c =
     none_called _ _ c.closed.result.work (rw c.closed.ensures.work refl)
     (told_error _ _ _ _ _ _ _ _ fail.OutOfMemory c.in-Err-OutOfMemory.field-0-is
     c.in-Err-OutOfMemory.ensures.told)

@@ -2,7 +2,7 @@
 use Rattle.std.proofs.Common.{arith, refl, sym}
 use Rattle.relay_proxy.specs.Calls.{log_of}
 use Rattle.relay_proxy.proofs.CallLemmas.{ended_calls}
-use Rattle.relay_proxy.proofs.HookSteps.{answered, counts_called, goes_connecting, known_at, memory_called, memory_logged, opening_on, stopped}
+use Rattle.relay_proxy.proofs.HookSteps.{answered, counts_called, goes_connecting, known_at, memory_called, memory_logged, opening_on, stopped, untreated}
 use Rattle.relay_proxy.proofs.OpenSteps.{hooks_leave, hooks_lost, opened_on}
 use Rattle.relay_proxy.proofs.opening.open.Goals as goal
 
@@ -41,7 +41,11 @@ returns-in-Answered-clause-run g c = λ s p w o run.
     hooks_leave g.L.ByteLink.state g.L.ByteLink.start (log_of c.args.calls.now)
     (log_of c.call_next.new.calls) s p w c.args.context c.args.session _ c.args.tries _ done.text
     c.owe.result.phase done.is_open (λ some. (c.owe.ensures.some some).0)
-    (λ none. (c.owe.ensures.none none).0) done.owed (o.untried c.requires) run
+    (λ none. (c.owe.ensures.none none).0) done.owed
+    (untreated _ (g.SV.ProxyHttp.mark_of c.args.app.now) c.args.calls.now c.call_next.new.calls
+    c.args.context c.call_next.new.context c.args.session.value c.call_next.new.client
+    (rw c.deref_mut.ensures.value at c.in-Answered.ensures.turns) o.untreated)
+    (o.untried c.requires) run
 
 pub returns-in-Answered-clause-calls : goal.returns-in-Answered-clause-calls
 returns-in-Answered-clause-calls g c = λ o.
@@ -67,7 +71,11 @@ returns-in-Stopped-clause-run g c = λ s p w o run.
     (sym c.in-Stopped.ensures.shown) s p w c.args.tries o run.holds in
     c.stop.ensures.run s (log_of c.args.calls.now) (log_of c.call_next.new.calls) p w
     c.args.context c.args.session done.head done.is_open done.request done.place done.accepted
-    done.why (o.untried c.requires) run
+    done.why
+    (untreated _ (g.SV.ProxyHttp.mark_of c.args.app.now) c.args.calls.now c.call_next.new.calls
+    c.args.context c.call_next.new.context c.args.session.value c.call_next.new.client
+    (rw c.deref_mut.ensures.value at c.in-Stopped.ensures.turns) o.untreated)
+    (o.untried c.requires) run
 
 pub returns-in-Stopped-clause-calls : goal.returns-in-Stopped-clause-calls
 returns-in-Stopped-clause-calls g c = λ o.

@@ -8,18 +8,19 @@ use Rattle.relay_proxy.proofs.opening.stop.Goals as goal
 -- the answer is owed, where there is one
 pub returns-clause-run : goal.returns-clause-run
 returns-clause-run g c =
-    λ s these those p w context client head is request place accepted why untried run.
+    λ s these those p w context client head is request place accepted why untreated untried run.
     hooks_leave g.L.ByteLink.state g.L.ByteLink.start these those s p w context client _ c.args.tries
     _ _ c.owe.result.phase
     (stop_text c.args.session.value.writing _ head c.args.error is request place
     (rw c.deref_mut.ensures.value at c.in-Ok.ensures.queued))
     (λ some. (c.owe.ensures.some some).0) (λ none. (c.owe.ensures.none none).0)
-    (IsOwedAhead.by_error head c.args.error _ accepted why refl) untried run
+    (IsOwedAhead.by_error head c.args.error _ accepted why refl) untreated
+    untried run
 
 -- memory was wanted for it
 pub returns-in_default-clause-run : goal.returns-in_default-clause-run
 returns-in_default-clause-run g c =
-    λ s these those p w context client head is request place accepted why untried run.
+    λ s these those p w context client head is request place accepted why untreated untried run.
     rw c.lacks_memory.ensures.phase
     (hooks_lost g.L.ByteLink.state g.L.ByteLink.start these those s p w context client c.args.tries
     untried run)

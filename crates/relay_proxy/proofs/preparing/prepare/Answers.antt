@@ -1,10 +1,11 @@
 -- The head is made, and the exchange begins with it; or the attempt fails.
-use Rattle.std.proofs.Common.{refl}
+use Rattle.std.proofs.Common.{true, refl}
 use Rattle.relay_tasks.specs.declared.error.Fail.TheVariants as fail
+use Rattle.relay_phases.specs.Order.{Station as station}
 use Rattle.relay_proxy.specs.Calls.{log_of}
-use Rattle.relay_proxy.proofs.CallLemmas.{begun_logged, left_calls, one_called}
+use Rattle.relay_proxy.proofs.CallLemmas.{begun_exchange, one_called}
 use Rattle.relay_proxy.proofs.OpenSteps.{called_tells}
-use Rattle.relay_proxy.proofs.PrepareSteps.{filtered_badly, filtered_logged, filtered_lost, filtered_well, lost_counts, lost_logged, makes_error, unsent_counts, unsent_logged}
+use Rattle.relay_proxy.proofs.PrepareSteps.{ahead_broken, filtered_badly, filtered_logged, filtered_lost, filtered_relays, filtered_well, lost_counts, lost_logged, makes_error, unsent_breaks, unsent_counts}
 use Rattle.relay_proxy.proofs.preparing.prepare.Goals as goal
 
 -- the exchange begins
@@ -19,10 +20,16 @@ returns-in-Ok-clause-run g c = λ s p w run.
 pub returns-in-Ok-clause-calls : goal.returns-in-Ok-clause-calls
 returns-in-Ok-clause-calls g c = λ o.
     let made = rw c.deref_mut.ensures.value at c.in-Ok.ensures.makes in
-    begun_logged _ _ c.sent_of.new.calls c.begin.result.phase c.begin.ensures.begun
-    (filtered_logged _ (g.SV.ProxyHttp.mark_of c.args.app.now) c.args.calls.now
+    begun_exchange _ _ c.sent_of.new.calls c.sent_of.new.context _ c.begin.result.phase
+    c.begin.ensures.calls
+    (filtered_relays _ (g.SV.ProxyHttp.mark_of c.args.app.now) c.args.calls.now
     c.sent_of.new.calls c.args.context c.sent_of.new.context c.args.session.value
-    c.sent_of.new.client _ o.0 o.1 made.filtered made.filters)
+    c.sent_of.new.client _ o.0 o.1 made.filtered made.filters) (
+      station.sent,
+      filtered_logged _ (g.SV.ProxyHttp.mark_of c.args.app.now) c.args.calls.now
+          c.sent_of.new.calls c.args.context c.sent_of.new.context c.args.session.value
+          c.sent_of.new.client _ o.0 o.1 made.filtered made.filters,
+    )
 
 pub returns-in-Ok-clause-called : goal.returns-in-Ok-clause-called
 returns-in-Ok-clause-called g c =
@@ -35,19 +42,21 @@ pub returns-in-Err-Error-clause-run : goal.returns-in-Err-Error-clause-run
 returns-in-Err-Error-clause-run g c = λ s p w run.
     let refused = rw c.deref_mut.ensures.value at (makes_error _ _ _ _ _ _ _ _
     (fail.Error c.in-Err-Error.error) c.in-Err-Error.field-0-is c.in-Err-Error.ensures.makes) in
-    c.fail_ahead.ensures.run _ p w
+    rw (c.fail_ahead.ensures.phase, c.in-Err-Error.field-0-is)
+    (ahead_broken g.L.ByteLink.state g.L.ByteLink.start _ p w _ _ c.args.link c.args.lease true
+    c.in-Err-Error.error
     (called_tells s (log_of c.args.calls.now) (log_of c.sent_of.new.calls) p w run.tells)
     run.untouched
-    (rw (← c.in-Err-Error.error-is) at (filtered_badly g.L.ByteLink.state g.L.ByteLink.start _ c.args.calls.now c.sent_of.new.calls _ _
-    s p w c.args.context c.args.session _ c.args.link c.args.lease run c.in-Err-Error.error refused))
+    (filtered_badly g.L.ByteLink.state g.L.ByteLink.start _ c.args.calls.now c.sent_of.new.calls _ _
+    s p w c.args.context c.args.session _ c.args.link c.args.lease run c.in-Err-Error.error
+    refused))
 
 pub returns-in-Err-Error-clause-calls : goal.returns-in-Err-Error-clause-calls
 returns-in-Err-Error-clause-calls g c = λ o.
     let refused = rw c.deref_mut.ensures.value at (makes_error _ _ _ _ _ _ _ _
     (fail.Error c.in-Err-Error.error) c.in-Err-Error.field-0-is c.in-Err-Error.ensures.makes) in
-    left_calls _ _ c.sent_of.new.calls c.args.link c.args.lease c.fail_ahead.result.phase
-    c.fail_ahead.ensures.leaves
-    (unsent_logged _ (g.SV.ProxyHttp.mark_of c.args.app.now) c.args.calls.now
+    rw c.fail_ahead.ensures.phase
+    (unsent_breaks _ (g.SV.ProxyHttp.mark_of c.args.app.now) c.args.calls.now
     c.sent_of.new.calls c.args.context c.sent_of.new.context c.args.session.value
     c.sent_of.new.client _ o.0 o.1 c.in-Err-Error.error refused)
 
@@ -60,16 +69,16 @@ returns-in-Err-Error-clause-called g c =
     c.in-Err-Error.error refused
 
 -- memory was wanted
-pub returns-clause-run : goal.returns-clause-run
-returns-clause-run g c = λ s p w run.
+pub returns-in-Err-OutOfMemory-clause-run : goal.returns-in-Err-OutOfMemory-clause-run
+returns-in-Err-OutOfMemory-clause-run g c = λ s p w run.
     let lost = rw c.deref_mut.ensures.value at (makes_error _ _ _ _ _ _ _ _
     fail.OutOfMemory c.in-Err-OutOfMemory.field-0-is c.in-Err-OutOfMemory.ensures.makes) in
     rw c.closed.ensures.phase
     (filtered_lost g.L.ByteLink.state g.L.ByteLink.start _ c.args.calls.now c.sent_of.new.calls _ _
     s p w c.args.context c.args.session _ c.args.link c.args.lease run lost)
 
-pub returns-clause-calls : goal.returns-clause-calls
-returns-clause-calls g c = λ o.
+pub returns-in-Err-OutOfMemory-clause-calls : goal.returns-in-Err-OutOfMemory-clause-calls
+returns-in-Err-OutOfMemory-clause-calls g c = λ o.
     let lost = rw c.deref_mut.ensures.value at (makes_error _ _ _ _ _ _ _ _
     fail.OutOfMemory c.in-Err-OutOfMemory.field-0-is c.in-Err-OutOfMemory.ensures.makes) in
     rw c.closed.ensures.phase
@@ -77,8 +86,8 @@ returns-clause-calls g c = λ o.
     c.sent_of.new.calls c.args.context c.sent_of.new.context c.args.session.value
     c.sent_of.new.client _ o.0 o.1 lost)
 
-pub returns-clause-called : goal.returns-clause-called
-returns-clause-called g c =
+pub returns-in-Err-OutOfMemory-clause-called : goal.returns-in-Err-OutOfMemory-clause-called
+returns-in-Err-OutOfMemory-clause-called g c =
     let lost = rw c.deref_mut.ensures.value at (makes_error _ _ _ _ _ _ _ _
     fail.OutOfMemory c.in-Err-OutOfMemory.field-0-is c.in-Err-OutOfMemory.ensures.makes) in
     lost_counts _ c.args.calls.now c.sent_of.new.calls c.args.session.value

@@ -1,4 +1,4 @@
--- The link goes back with what the failed exchange left.
+-- The error of a failed exchange is to be treated, or memory was wanted.
 use Rattle.relay_proxy.proofs.FailSteps.{left_memory}
 use Rattle.relay_proxy.proofs.relaying.leave.Goals as goal
 
@@ -12,4 +12,4 @@ returns-in-OutOfMemory-clause-run g c = λ s p w tells leased left.
 -- the exchange failed with an error
 pub returns-in-Error-clause-run : goal.returns-in-Error-clause-run
 returns-in-Error-clause-run g c = λ s p w tells leased left.
-    c.owe.ensures.run s p w tells leased (rw c.in-Error.is at left)
+    c.break_off.ensures.run s p w tells leased (rw c.in-Error.is at left)

@@ -5,7 +5,7 @@ use Rattle.relay_core.specs.declared.step.Step.TheVariants as step
 use Rattle.relay_proxy.specs.Turn.{world_of}
 use Rattle.relay_proxy.proofs.AnswerSteps.{moved_or_ended}
 use Rattle.relay_proxy.proofs.BoundLemmas.{relay_moved, relay_waited, relay_finished, relay_failed}
-use Rattle.relay_proxy.proofs.RelaySteps.{moved_within, waited_within, finished_within, failed_within, moved_by, moved_cause, failed_cause, waited_cause, silent_cause, moved_uses_within, waited_uses_within, silent_uses_within, finished_uses_within, failed_uses_within, moved_counts_within, waited_counts_within, silent_counts_within, finished_counts_within, failed_counts_within}
+use Rattle.relay_proxy.proofs.RelaySteps.{kept_within, failed_keeps, finished_keeps, moved_within, waited_within, finished_within, failed_within, moved_by, moved_cause, failed_cause, waited_cause, silent_cause, moved_uses_within, waited_uses_within, silent_uses_within, finished_uses_within, failed_uses_within, moved_counts_within, waited_counts_within, silent_counts_within, finished_counts_within, failed_counts_within}
 use Rattle.relay_proxy.proofs.relaying.relay.Goals as goal
 
 -- the exchange moved
@@ -76,6 +76,42 @@ returns-in-Failed-clause-run g c = λ s p faults run.
     (world_of g.D.ByteLink.state c.args.client.now faults)
     (world_of g.D.ByteLink.state c.turn_within-asked.new.client faults) _ _ _ _
     c.turn_within-asked.ensures.turns _ c.in-Failed.is refl _ c.leave_failed.ensures.run s p run
+
+-- the calls so far stay those that they are
+pub returns-in-Moved-clause-calls : goal.returns-in-Moved-clause-calls
+returns-in-Moved-clause-calls g c =
+    kept_within g.L.ByteLink.state g.L.ByteLink.start
+    (world_of g.D.ByteLink.state c.args.client.now 0)
+    (world_of g.D.ByteLink.state c.turn_within-asked.new.client 0) _ _ _ _
+    c.turn_within-asked.ensures.turns
+
+pub returns-in-Waited-NotReady-clause-calls : goal.returns-in-Waited-NotReady-clause-calls
+returns-in-Waited-NotReady-clause-calls g c =
+    kept_within g.L.ByteLink.state g.L.ByteLink.start
+    (world_of g.D.ByteLink.state c.args.client.now 0)
+    (world_of g.D.ByteLink.state c.turn_within-asked.new.client 0) _ _ _ _
+    c.turn_within-asked.ensures.turns
+
+pub returns-in-Waited-Silent-clause-calls : goal.returns-in-Waited-Silent-clause-calls
+returns-in-Waited-Silent-clause-calls g c =
+    kept_within g.L.ByteLink.state g.L.ByteLink.start
+    (world_of g.D.ByteLink.state c.args.client.now 0)
+    (world_of g.D.ByteLink.state c.turn_within-asked.new.client 0) _ _ _ _
+    c.turn_within-asked.ensures.turns
+
+pub returns-in-Finished-clause-calls : goal.returns-in-Finished-clause-calls
+returns-in-Finished-clause-calls g c =
+    finished_keeps g.L.ByteLink.state g.L.ByteLink.start
+    (world_of g.D.ByteLink.state c.args.client.now 0)
+    (world_of g.D.ByteLink.state c.turn_within-asked.new.client 0) _ _ _ _
+    c.turn_within-asked.ensures.turns _ c.close_finished.ensures.closes
+
+pub returns-in-Failed-clause-calls : goal.returns-in-Failed-clause-calls
+returns-in-Failed-clause-calls g c =
+    failed_keeps g.L.ByteLink.state g.L.ByteLink.start
+    (world_of g.D.ByteLink.state c.args.client.now 0)
+    (world_of g.D.ByteLink.state c.turn_within-asked.new.client 0) _ _ _ _
+    c.turn_within-asked.ensures.turns _ c.leave_failed.ensures.calls
 
 -- and its work is that of the branch
 pub returns-in-Moved-clause-moves : goal.returns-in-Moved-clause-moves

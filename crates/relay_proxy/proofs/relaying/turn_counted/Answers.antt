@@ -14,6 +14,7 @@ returns-clause-turns g c = record {
   counts = c.turn_over-turn.ensures.counts;
   calm = c.turn_over-turn.ensures.calm;
   same_start = c.turn_over-turn.ensures.peer_start;
+  same_head = c.turn_over-turn.ensures.head;
   measured = measured (g.D.ByteLink.state c.args.client.now.link)
       (g.D.ByteLink.state c.turn_over-turn.new.client.link)
       (g.L.ByteLink.state (link_of c.args.exchange.now))

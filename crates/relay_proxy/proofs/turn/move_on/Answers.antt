@@ -8,10 +8,10 @@ use Rattle.relay_proxy.specs.declared.record.AttemptRecord.{AttemptRecord}
 use Rattle.relay_proxy.specs.Calls.{log_of}
 use Rattle.relay_proxy.specs.Passed.{called_to}
 use Rattle.relay_proxy.specs.Turn.{world_of}
-use Rattle.relay_proxy.proofs.BoundLemmas.{answer_bounds, head_turn_bounds, link_turn_bounds, send_turn_bounds}
+use Rattle.relay_proxy.proofs.BoundLemmas.{answer_bounds, head_turn_bounds, link_turn_bounds, send_turn_bounds, treat_turn_bounds}
 use Rattle.relay_proxy.proofs.RefusalLemmas.{none_added, none_unmade, others_told}
 use Rattle.relay_proxy.proofs.TakenLemmas.{takes_nothing, takes_more, took_more, one_out, no_offers}
-use Rattle.relay_proxy.proofs.TurnLemmas.{head_turn, connect_turn, prepare_turn, head_counts, still_counts, connect_counts, prepare_counts, prepare_faults, prepare_offers, unlinked_open, answer_offers}
+use Rattle.relay_proxy.proofs.TurnLemmas.{broken_counts, broken_faults, broken_offers, broken_turn, head_turn, connect_turn, prepare_turn, head_counts, still_counts, connect_counts, prepare_counts, prepare_faults, prepare_offers, unlinked_open, answer_offers}
 use Rattle.relay_proxy.proofs.turn.move_on.Goals as goal
 
 -- a turn that reads the head is a turn
@@ -441,3 +441,89 @@ returns-in-Prepare-clause-tells g c =
     append-nil _ ∙ prepare_faults g.K.Byte.ByteLink.state g.K.Byte.ByteLink.start
     c.in-Prepare.context c.in-Prepare.session c.in-Prepare.link c.in-Prepare.lease
     c.prepare.result.phase c.prepare.ensures.tries)
+
+-- a turn that has the error of an attempt treated is a turn
+pub returns-in-Broken-clause-turn : goal.returns-in-Broken-clause-turn
+returns-in-Broken-clause-turn g c =
+    rw (c.go_on-in-Broken.ensures.phase, sym c.replace.ensures.value ∙ c.in-Broken.is)
+    (λ s p own most calls run. broken_turn g.K.Byte.ByteLink.state g.K.Byte.ByteLink.start
+    (called_to s (log_of c.args.calls.now)) (called_to s (log_of c.fail.new.calls)) p
+    (world_of g.D.ByteLink.state c.args.client.now
+    (g.K.Connector.fault_count c.args.connector.now))
+    (world_of g.D.ByteLink.state c.args.client.now
+    (g.K.Connector.fault_count c.args.connector.now)) own _ _ _ _ _ _ c.fail.result.phase run
+    (λ first. c.fail.ensures.run s p
+    (world_of g.D.ByteLink.state c.args.client.now
+    (g.K.Connector.fault_count c.args.connector.now)) first))
+
+-- its cause
+pub returns-in-Broken-clause-cause : goal.returns-in-Broken-clause-cause
+returns-in-Broken-clause-cause g c =
+    rw (
+      c.go_on-in-Broken.ensures.phase,
+      c.go_on-in-Broken.ensures.step,
+      sym c.replace.ensures.value ∙ c.in-Broken.is,
+    )
+    (c.fail.ensures.cause
+    (world_of g.D.ByteLink.state c.args.client.now
+    (g.K.Connector.fault_count c.args.connector.now))
+    (world_of g.D.ByteLink.state c.args.client.now
+    (g.K.Connector.fault_count c.args.connector.now)))
+
+-- it asks no link
+pub returns-in-Broken-clause-uses : goal.returns-in-Broken-clause-uses
+returns-in-Broken-clause-uses g c =
+    rw (
+      c.go_on-in-Broken.ensures.phase,
+      c.go_on-in-Broken.ensures.work,
+      sym c.replace.ensures.value ∙ c.in-Broken.is,
+      c.fail.ensures.unused,
+    )
+    (λ s p own run. (
+      g.K.Byte.ByteLink.state c.in-Broken.link,
+      c.fail.ensures.held,
+      inr (refl, record { client_same = refl; upstream_same = refl }),
+    ))
+
+-- and counts no use
+pub returns-in-Broken-clause-counts : goal.returns-in-Broken-clause-counts
+returns-in-Broken-clause-counts g c =
+    rw (
+      c.go_on-in-Broken.ensures.phase,
+      c.go_on-in-Broken.ensures.work,
+      sym c.replace.ensures.value ∙ c.in-Broken.is,
+    )
+    (λ s p own n run had. broken_counts g.K.Byte.ByteLink.state g.K.Byte.ByteLink.start s p own
+    _ _ _ _ _ _ _ n c.fail.result.work.used _ c.fail.result.phase run had
+    c.fail.ensures.unused c.fail.ensures.asked)
+
+-- but one end at most
+pub returns-in-Broken-clause-bounds : goal.returns-in-Broken-clause-bounds
+returns-in-Broken-clause-bounds g c =
+    rw (
+      c.go_on-in-Broken.ensures.phase,
+      c.go_on-in-Broken.ensures.work,
+      sym c.replace.ensures.value ∙ c.in-Broken.is,
+    )
+    (λ s p own tasks ends most calls run had. treat_turn_bounds g.K.Byte.ByteLink.state
+    g.K.Byte.ByteLink.start s (log_of c.args.calls.now) (log_of c.fail.new.calls) p
+    (world_of g.D.ByteLink.state c.args.client.now
+    (g.K.Connector.fault_count c.args.connector.now)) own c.in-Broken.context c.in-Broken.session
+    c.in-Broken.link c.in-Broken.lease c.in-Broken.keep c.in-Broken.error c.fail.result.phase
+    c.fail.result.work tasks ends c.fail.ensures.counts c.fail.ensures.leaves had)
+
+-- it holds the link that it held
+pub returns-in-Broken-clause-carries : goal.returns-in-Broken-clause-carries
+returns-in-Broken-clause-carries g c =
+    rw (c.go_on-in-Broken.ensures.phase, sym c.replace.ensures.value ∙ c.in-Broken.is) (λ live.
+    append-nil _ ∙ broken_offers g.K.Byte.ByteLink.state g.K.Byte.ByteLink.start
+    c.in-Broken.context c.in-Broken.session c.in-Broken.link c.in-Broken.lease c.in-Broken.keep
+    c.in-Broken.error c.fail.result.phase c.fail.ensures.tries c.fail.ensures.items)
+
+-- and the attempts before it
+pub returns-in-Broken-clause-tells : goal.returns-in-Broken-clause-tells
+returns-in-Broken-clause-tells g c =
+    rw (c.go_on-in-Broken.ensures.phase, sym c.replace.ensures.value ∙ c.in-Broken.is) (λ live.
+    append-nil _ ∙ broken_faults g.K.Byte.ByteLink.state g.K.Byte.ByteLink.start
+    c.in-Broken.context c.in-Broken.session c.in-Broken.link c.in-Broken.lease c.in-Broken.keep
+    c.in-Broken.error c.fail.result.phase c.fail.ensures.tries)

@@ -4,7 +4,7 @@ use Rattle.relay_proxy.specs.Calls.{log_of}
 use Rattle.relay_proxy.specs.Passed.{called_to}
 use Rattle.relay_proxy.specs.Turn.{world_of}
 use Rattle.relay_proxy.proofs.BoundLemmas.{relay_turn_bounds}
-use Rattle.relay_proxy.proofs.CallLemmas.{begun_logged, relaying_logged}
+use Rattle.relay_proxy.proofs.CallLemmas.{relaying_calls}
 use Rattle.relay_proxy.proofs.RefusalLemmas.{none_added}
 use Rattle.relay_proxy.proofs.TakenLemmas.{takes_nothing}
 use Rattle.relay_proxy.proofs.TurnLemmas.{relaying_turn, relaying_rests, relaying_uses, relaying_counts, relaying_works, relaying_tells, relaying_unrefused, relaying_takes, relaying_carries, not_relaying}
@@ -118,6 +118,5 @@ returns-then-is_relaying-clause-counts g c = λ s p own n run had.
 -- it calls no hook
 pub returns-then-is_relaying-clause-calls : goal.returns-then-is_relaying-clause-calls
 returns-then-is_relaying-clause-calls g c = λ so_far.
-    begun_logged _ _ c.args.calls.now c.relay.new.phase c.relay.ensures.begun
-    (relaying_logged _ _ c.args.calls.now c.args.phase.now
-    (sym c.is_relaying.ensures ∙ c.if-is_relaying.true) so_far)
+    relaying_calls _ _ c.args.calls.now c.args.phase.now c.relay.new.phase
+    (sym c.is_relaying.ensures ∙ c.if-is_relaying.true) c.relay.ensures.calls so_far

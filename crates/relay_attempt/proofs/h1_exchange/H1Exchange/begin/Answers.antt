@@ -6,7 +6,8 @@ use Rattle.relay_links.specs.Link.{IsHandedOut}
 use Rattle.relay_session.specs.Reading.{is_body_done}
 use Rattle.relay_session.specs.declared.session.HttpSession.{HttpSession}
 use Rattle.relay_sides.specs.Client as client
-use Rattle.relay_sides.specs.Client.{begun_past}
+use Rattle.relay_sides.specs.Client.{begun_past, end_put}
+use Rattle.relay_sides.proofs.ClientPast.{end_is}
 use Rattle.relay_peer.specs.Peer as peer
 use Rattle.relay_peer.specs.Peer.{none_passed}
 use Rattle.relay_sides.specs.declared.client_side.ClientSide.{ClientSide}
@@ -15,6 +16,7 @@ use Rattle.relay_sides.specs.declared.filtered.Filtered.{Filtered}
 use Rattle.relay_peer.specs.declared.peer_side.PeerSide.{PeerSide}
 use Rattle.relay_exchange.specs.declared.exchange.Exchange.{Exchange}
 use Rattle.relay_exchange.specs.declared.exchange.Stage.TheVariants as stage
+use Rattle.relay_exchange.specs.Exchange.{put_first}
 use Rattle.relay_core.specs.declared.told.Told.{Told}
 use Rattle.relay_exchange.proofs.TurnLemmas.{begun}
 use Rattle.relay_attempt.specs.Exchange.{Blames, DownHolds, IsUnderWay, UpHolds}
@@ -28,14 +30,16 @@ returns-in-Ok-clause-begins g c =
     let start_at = g.L.ByteLink.start in
     let down = c.new-client.result in
     let up = c.new-upstream.result in
+    let value = c.is_body_done-body_done.ensures.value in
     let done = ap (λ (x : HttpSession). is_body_done x.reading) c.new-client.ensures.session
-    ∙ sym c.is_body_done-body_done.ensures.value in
+    ∙ sym value in
+    let put = end_put (is_body_done c.args.session.reading) in
     λ s came link ahead reused own none behind out used.
     let Begun : Exchange ClientSide (Filtered (PeerSide g.row.L.Denot)) → Type 0 = λ x.
     IsUnderWay state start_at s (record { came = came; written = []; got = []; sent = [] }) link
     ahead (record { exchange = x }) in
     subst Begun (sym c.begin-exchange.ensures.exact)
-    (under_way state start_at s (begun_past came) none_passed link ahead
+    (under_way state start_at s (begun_past came put) none_passed link ahead
     (record {
       exchange = record {
         down = down;
@@ -45,10 +49,10 @@ returns-in-Ok-clause-begins g c =
       };
     })
     (begun (DownHolds link ahead down s) (UpHolds state start_at up s) (Blames state start_at up s)
-    c.is_body_done-body_done.result
+    c.is_body_done-body_done.result (put_first c.end_in-end.result)
     (client.state_of down.session down.told down.done down.finished down.broken)
     (state_over (peer.state_of up.inner) up.upgraded up.stopped up.told)
-    (begun_past came) none_passed
+    (begun_past came put) none_passed
     (record {
       down_holds = c.new-client.ensures.begins s came link ahead behind;
       up_holds = subst
@@ -69,7 +73,8 @@ returns-in-Ok-clause-begins g c =
             closes = refl;
             quiet = λ still. still;
           });
-      none_put = refl;
+      first_put = sym (c.end_in-end.ensures ∙ ap end_put value);
+      end_put = end_is (is_body_done c.args.session.reading) ∙ sym value;
       none_batched = refl;
       none_closing = refl;
       none_read = refl;

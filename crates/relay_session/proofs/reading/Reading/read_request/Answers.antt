@@ -15,7 +15,7 @@ returns-in-Item-clause-goes g c =
     let gives = c.in-Item.ensures.answer in
     rw is (λ given body so_far.
     head_came _ _ given body (g.F.Front.ahead c.args.client.now) _ c.in-Item.head c.in-Item._ends
-    c.begun.result so_far gives (c.begun.ensures gives.framing gives.has.let_in.framed))
+    c.begun.result so_far gives (c.begun.ensures gives.framing gives.has.framed))
 
 pub returns-in-Failed-clause-goes : goal.returns-in-Failed-clause-goes
 returns-in-Failed-clause-goes g c =

@@ -1,0 +1,168 @@
+-- Logs behind the treatment of an attempt's error: what they told before they tell still.
+--
+--   other_call         a call of another hook is none of that one
+--   untreated_more     no error was treated by a call of another hook
+--   lets_at            where none was treated the whole log lets the request go
+--   filters_on .. refuses_on, sends_on
+--                      what the log told of the head that is sent, behind one treatment more
+--   treats_last        the last call treated that error
+use Rattle.std.proofs.Common.{◌≡◌, ◌⊎◌, Bool, true, false, ◌||◌, ◌&&◌, List, [], ◌∷◌, ◌++◌, Option, Some, refl, sym, ap, subst, ◌∙◌, true≢false, append-nil, append_assoc}
+use Rattle.std.proofs.lemmas.List.Folds.{list_any-append}
+use Rattle.std.specs.List.{list_any}
+use Rattle.relay_tasks.specs.Head.{RequestHead}
+use Rattle.relay_tasks.specs.Hooks.{same_hook}
+use Rattle.relay_tasks.specs.declared.Error.{Error}
+use Rattle.relay_tasks.specs.declared.hook.Hook.{Hook}
+use Rattle.relay_tasks.specs.declared.hook.Hook.TheVariants as hook
+use Rattle.relay_tasks.specs.declared.log.Item.TheVariants as item
+use Rattle.relay_tasks.specs.declared.log.LogEntry.{LogEntry}
+use Rattle.relay_authority.specs.declared.upstream.Upstream.TheVariants as over
+use Rattle.relay_phases.specs.Order.{Station, Accepts, accepted}
+use Rattle.relay_proxy.specs.Ahead.{LetsGo, goes_on}
+use Rattle.relay_proxy.specs.Sent.{FailsAt, Filters, IsTreated, IsUntreated, RefusesToSend, Sends, is_of, only_treats}
+
+-- a call of another hook is none of that one
+pub other_call : (asked : Hook) (e : LogEntry) (which : Hook) → e.hook ≡ which
+    → same_hook asked which ≡ false → is_of asked e ≡ false
+other_call asked e which is other = ap (λ (h : Hook). same_hook asked h) is ∙ other
+
+-- a list with one call more that is none of a hook's has one exactly where it had
+pub any_more : (asked : Hook) (es : List LogEntry) (e : LogEntry) → is_of asked e ≡ false
+    → list_any (is_of asked) es ≡ false → list_any (is_of asked) (es ++ e ∷ []) ≡ false
+any_more asked [] e other none = rw other refl
+any_more asked (x ∷ es) e other none =
+    list_any-append (is_of asked) (x ∷ es) (e ∷ [])
+    ∙ rw (none, other) refl
+
+-- no error was treated by a call of another hook
+pub untreated_more : (these those : List LogEntry) (e : LogEntry) (which : Hook)
+    → those ≡ these ++ e ∷ [] → e.hook ≡ which → same_hook hook.ErrorWhileProxy which ≡ false
+    → IsUntreated these → IsUntreated those
+untreated_more these those e which more is other none =
+    subst (λ (l : List LogEntry). IsUntreated l) (sym more)
+    (any_more hook.ErrorWhileProxy these e (other_call hook.ErrorWhileProxy e which is other) none)
+
+-- where none was treated, the whole log lets the request go
+pub record LetsAt (called : List LogEntry) : Type 0 where
+  pub at : Station
+  pub order : Accepts accepted called at
+  pub goes : goes_on at ≡ true
+
+only_none : (es : List LogEntry) → only_treats es ≡ true
+    → list_any (is_of hook.ErrorWhileProxy) es ≡ false → es ≡ []
+only_none [] only none = refl
+only_none (e ∷ es) only none = absurd (first (is_of hook.ErrorWhileProxy e) only none)
+  where
+    first : (b : Bool) → (b && only_treats es) ≡ true
+        → (b || list_any (is_of hook.ErrorWhileProxy) es) ≡ false → ⊥
+    first true is none = true≢false none
+    first false is none = true≢false (sym is)
+
+pub lets_at : (called : List LogEntry) → LetsGo called → IsUntreated called → LetsAt called
+lets_at called lets none =
+    let parts : (list_any (is_of hook.ErrorWhileProxy) lets.before
+    || list_any (is_of hook.ErrorWhileProxy) lets.after) ≡ false =
+    sym (list_any-append (is_of hook.ErrorWhileProxy) lets.before lets.after)
+    ∙ ap (λ (l : List LogEntry). list_any (is_of hook.ErrorWhileProxy) l) (sym lets.called_are)
+    ∙ none in
+    let bare : lets.after ≡ [] =
+    only_none lets.after lets.treats (second _ _ parts) in
+    record {
+      at = lets.at;
+      order = subst (λ (l : List LogEntry). Accepts accepted l lets.at)
+          (sym (append-nil lets.before)
+          ∙ ap (λ (l : List LogEntry). lets.before ++ l) (sym bare) ∙ sym lets.called_are)
+          lets.order;
+      goes = lets.goes;
+    }
+  where
+    second : (a b : Bool) → (a || b) ≡ false → b ≡ false
+    second true b is = absurd (true≢false is)
+    second false b is = is
+
+-- ---- behind one treatment more
+
+module _ (these those : List LogEntry) (e : LogEntry) (more : those ≡ these ++ e ∷ [])
+    (is : e.hook ≡ hook.ErrorWhileProxy)
+  where
+    -- the calls behind one of them are one more
+    pub further : (before after : List LogEntry) (x : LogEntry) → these ≡ before ++ x ∷ after
+        → those ≡ before ++ x ∷ (after ++ e ∷ [])
+    further before after x are =
+        more
+        ∙ ap (λ (l : List LogEntry). l ++ e ∷ []) are
+        ∙ append_assoc before (x ∷ after) (e ∷ [])
+
+    -- those that treat an error alone are so still
+    only_more : (es : List LogEntry) → only_treats es ≡ true → only_treats (es ++ e ∷ []) ≡ true
+    only_more [] only = rw is refl
+    only_more (x ∷ es) only = both (is_of hook.ErrorWhileProxy x) only (only_more es)
+      where
+        both : (b : Bool) → (b && only_treats es) ≡ true
+            → (only_treats es ≡ true → only_treats (es ++ e ∷ []) ≡ true)
+            → (b && only_treats (es ++ e ∷ [])) ≡ true
+        both true so rest = rest so
+        both false so rest = absurd (true≢false (sym so))
+
+    -- the head was filtered
+    abbrev pub filters_on : {head filtered : RequestHead} → Filters these head filtered
+        → Filters those head filtered
+    filters_on f = record {
+      before = f.before;
+      e = f.e;
+      after = f.after ++ e ∷ [];
+      called_are = further f.before f.after f.e f.called_are;
+      is_last = any_more hook.UpstreamRequestFilter f.after e
+          (other_call hook.UpstreamRequestFilter e hook.ErrorWhileProxy is refl) f.is_last;
+      is_filter = f.is_filter;
+      ready = f.ready;
+      readies = f.readies;
+      given = f.given;
+      left = f.left;
+      passes = f.passes;
+    }
+
+    -- the head is sent
+    pub sends_on : {head sent : RequestHead} → Sends these head sent → Sends those head sent
+    sends_on s = record {
+      filtered = s.filtered;
+      filters = filters_on s.filters;
+      settles = s.settles;
+    }
+
+    -- a hook failed
+    fails_on : (which : Hook) (error : Error) → FailsAt which these error
+        → FailsAt which those error
+    fails_on which error f = record {
+      before = f.before;
+      last = f.last;
+      after = f.after ++ e ∷ [];
+      called_are = further f.before f.after f.last f.called_are;
+      treats = only_more f.after f.treats;
+      is_of_it = f.is_of_it;
+      error = f.error;
+    }
+
+    -- no head is sent
+    pub refuses_on : {head : RequestHead} {keep : Bool} {error : Error}
+        → RefusesToSend these head keep error → RefusesToSend those head keep error
+    refuses_on (RefusesToSend.untold fails kept) =
+        RefusesToSend.untold (fails_on hook.ConnectedToUpstream _ fails) kept
+    refuses_on (RefusesToSend.unfiltered fails kept) =
+        RefusesToSend.unfiltered (fails_on hook.UpstreamRequestFilter _ fails) kept
+    refuses_on (RefusesToSend.unsettled filtered filters settles kept) =
+        RefusesToSend.unsettled filtered (filters_on filters) settles kept
+
+    -- the last call treated that error
+    pub treats_last : (raised treated : Error) → e.input ≡ item.Failure raised
+        → e.output ≡ item.Failure treated → IsTreated those raised treated
+    treats_last raised treated told answered = record {
+      before = these;
+      e = e;
+      after = [];
+      called_are = more;
+      is_last = refl;
+      is_treatment = is;
+      told = told;
+      answered = answered;
+    }
