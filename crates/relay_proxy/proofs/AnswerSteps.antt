@@ -322,8 +322,8 @@ module _ {L : Type 0} (state : L → LinkState) (start_at : L → LinkStart) whe
   owes_order s p w (r ∷ own) (Refused error) text owes front = absurd owes
   owes_order s p w (r ∷ own) (Ahead why) text owes front = absurd owes
   owes_order s p w (r ∷ own) (Served e) text (Misses.in_exchange f is kept) front =
-      IsInOrder.is_failure _ f.head f.sent _ _ f.before e f.relayable f.sends (order_of f.why)
-      (cut_next _ (past_at p f.before) w.client _ _ f.raised f.why)
+      IsInOrder.is_failure _ f.head f.sent _ _ f.before f.raised e f.relayable f.sends
+      (order_of f.why) (cut_next _ (past_at p f.before) w.client _ _ f.raised f.why) f.treated
       (subst (λ (t : List ℕ). IsFrontOf p.written t) is front)
   owes_order s p w (r ∷ own) (Served e) text (Misses.ahead_of_it f is) front =
       IsInOrder.is_unsent f.head r.keep f.raised e f.accepted f.refused f.treated
@@ -378,6 +378,19 @@ module _ {L : Type 0} (state : L → LinkState) (start_at : L → LinkStart) whe
   }
   ends_served s p w (r ∷ q ∷ own) e text attempts owes given made = absurd made
 
+  -- what hooks answered, as its end is told
+  ended_ahead : (s : Start) (p : Passed) (w : World) (why told : Option Error) (text : List ℕ)
+      → Owes state start_at s p w [] (Ahead why) text → IsGivenAhead s p w why text told
+      → EndsAhead s p w told
+  ended_ahead s p w why told text owes given = record {
+    why = why;
+    text = text;
+    owed = owes.0;
+    given = given;
+    unsent = owes.1;
+    untreated = owes.2;
+  }
+
   -- hooks ended the request, for an error or for none, and its client was given what it is owed, or a
   -- write failed
   pub ends_ahead : (s : Start) (p : Passed) (w : World) (own : List (Returned L))
@@ -385,29 +398,10 @@ module _ {L : Type 0} (state : L → LinkState) (start_at : L → LinkStart) whe
       → Owes state start_at s p w own (Ahead why) text → IsGivenAhead s p w why text told
       → HasAttempts state start_at s p own (Ahead why) attempts
       → EndsWith state start_at s p w own attempts (outcome.Served told false)
-  ends_ahead s p w [] why None text attempts owes given made = (
-    (
-      record {
-        why = why;
-        text = text;
-        owed = owes.0;
-        given = given;
-        unsent = owes.1;
-        untreated = owes.2;
-      },
-      refl,
-    ),
-    made,
-  )
+  ends_ahead s p w [] why None text attempts owes given made =
+      ((ended_ahead s p w why None text owes given, refl), made)
   ends_ahead s p w [] why (Some e) text attempts owes given made =
-      let ends : EndsAhead s p w (Some e) = record {
-        why = why;
-        text = text;
-        owed = owes.0;
-        given = given;
-        unsent = owes.1;
-        untreated = owes.2;
-      } in
+      let ends = ended_ahead s p w why (Some e) text owes given in
       ((inr ends, refl), inr (made, ends))
   ends_ahead s p w (r ∷ own) why told text attempts owes given made = absurd owes
 

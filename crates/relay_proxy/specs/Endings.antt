@@ -75,7 +75,7 @@ answer_to head e = answer_for (request_of head) place.NoHead e
 -- what was sent and what was written, whatever the outcome: nothing; the front of a generated
 -- answer, or of what hooks answered, with nothing sent; those of one exchange, whose request is of a
 -- form that is relayed; or those of one that failed when a part had been written: the front of what
--- was queued, with the answer to its error behind it
+-- was queued, with the answer to its error, as it was treated, behind it
 pub data IsInOrder (s : Start) (p : Passed) : Type 0 where
   is_nothing : p.written ≡ [] → p.sent ≡ [] → IsInOrder s p
   is_refusal : (answer : List ℕ) (error : Option Error) → IsTurnedDown (asked s p) answer error
@@ -92,9 +92,10 @@ pub data IsInOrder (s : Start) (p : Passed) : Type 0 where
       → RefusesToSend s.called head keep raised → IsTreated s.called raised e
       → IsFrontOf p.written (answer_to head e) → p.sent ≡ [] → IsInOrder s p
   is_failure : (cut : Option HttpTask) (head sent : RequestHead) (reused closed : Bool)
-      (before : List ℕ) (e : Error) → IsRelayable head → Sends s.called head sent
+      (before : List ℕ) (raised e : Error) → IsRelayable head → Sends s.called head sent
       → (order : IsInOrderWith cut (origin_of s head sent reused) (past_at p before) closed)
-      → IsNext cut order → IsFrontOf p.written (owed_text order e) → IsInOrder s p
+      → IsNext cut order → IsTreated s.called raised e
+      → IsFrontOf p.written (owed_text order e) → IsInOrder s p
 
 -- the error of a client that ended inside its head
 abbrev pub left_early : Error
