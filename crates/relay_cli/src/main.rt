@@ -2,25 +2,10 @@
 //! port for a peer at another.
 #![tactic(auto)]
 
-mod announcer;
-mod exchange;
-mod log;
-mod names;
-mod report;
-mod retries;
-mod rules;
-mod run;
-mod script;
-mod serve;
 #[cfg(test)]
 mod tests;
-mod transfer;
-mod values;
-mod words;
 
-use crate::run::{Status, run_command};
-use crate::serve::serve;
-use crate::words::{Command, parse_words};
+use relay_command::{Command, Status, parse_words, run_command, serve};
 use relay_links::{StdSink, StdSource};
 use std::process::ExitCode;
 use std::rt::Env;

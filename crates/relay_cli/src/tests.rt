@@ -1,7 +1,6 @@
 //! What no script of `examples/` can show: the words, an input past the limit, faults of the source
 //! and of the sink, and what a script is read as.
-use crate::run::{run_command, run_script};
-use crate::words::{Command, parse_words};
+use relay_command::{Command, parse_words, run_command, run_script};
 use relay_links::{SliceSource, VecSink};
 use std::alloc::{AllocError, Global};
 

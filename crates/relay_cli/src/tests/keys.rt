@@ -1,6 +1,6 @@
 //! What a script is read as where no report shows it: its turns, each branch of its schedule, and
 //! how many peers, requests and attempts it may have.
-use crate::script::{ScriptError, read_script};
+use relay_json::{ScriptError, read_script};
 use relay_links::{BRANCHES, Branch};
 use std::alloc::{AllocError, Global};
 

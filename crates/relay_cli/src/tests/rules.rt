@@ -1,10 +1,8 @@
 //! What the rules of a script are read as and which are refused, and how a log is printed.
-use crate::log::log_lines;
-use crate::report::{RequestReport, report};
-use crate::rules::listed;
-use crate::script::{ScriptError, read_script};
 use bytes::Bytes;
 use http_header::{HOST, HeaderName};
+use relay_command::{RequestReport, log_lines, report_text};
+use relay_json::{ScriptError, listed, read_script};
 use relay_proxy::Outcome;
 use relay_script::{Action, Rule};
 use relay_tasks::{Error, ErrorType, Hook, Item, LogEntry, PhaseLog, RetryType, TaskList, View};
@@ -268,6 +266,6 @@ fn prints_a_log_behind_the_attempts(rt: HostRuntime) -> Result<(), Fail> {
         attempts: Vec::new(alloc),
         log: log_lines(alloc, &log)?,
     })?;
-    assert_eq!(rt; report(alloc, &requests)?.as_slice(), PRINTED);
+    assert_eq!(rt; report_text(alloc, &requests)?.as_slice(), PRINTED);
     Ok(())
 }

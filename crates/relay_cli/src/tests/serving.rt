@@ -1,6 +1,6 @@
 //! Serving over TCP on this host: a client and a peer on threads of their own, and the relay
 //! between them.
-use crate::serve::serve;
+use relay_command::serve;
 use std::io::{Read, Write};
 use std::net::{Ipv4Addr, Net, SocketAddr, TcpListener, TcpStream};
 use std::test::Fail;

@@ -1,0 +1,11 @@
+-- What was read, and then what the values that are left are, is what all are.
+use Rattle.std.proofs.Common.{◌≡◌, drop}
+use Rattle.serde_json.specs.View.{items_view}
+use Rattle.relay_json.specs.Values.{each_of, text_of}
+use Rattle.relay_json.proofs.ScriptLemmas.{with_front}
+use Rattle.relay_json.proofs.rules.each_message.Given as goal
+
+abbrev pub invariant-loop-value : goal.invariant-loop-value
+invariant-loop-value l =
+    with_front l.messages (each_of text_of (items_view (drop l.value-index l.values)))
+    ≡ each_of text_of (items_view l.values)

@@ -1,0 +1,5 @@
+pub mod Names
+pub mod Number
+pub mod Rules
+pub mod Script
+pub mod Values
