@@ -1,10 +1,13 @@
-//! Two uses of the library, by the first word: `memory` relays one request over links in memory,
-//! `serve PORT PEER` serves a port for a peer.
+//! Uses of the library, by the words: `memory` relays one request over links in memory, `context`
+//! two by an application that keeps something for each, and `serve PORT PEER` serves a port for a
+//! peer.
 #![tactic(auto)]
 
+mod context;
 mod memory;
 mod serving;
 
+use crate::context::relay_two;
 use crate::memory::relay_one;
 use crate::serving::serve_port;
 use bytes::Bytes;
@@ -20,7 +23,7 @@ use std::{env, io};
 /// How the proxy of each use is set up: one attempt for a request.
 const CONF: ServerConf = ServerConf { max_retries: 1 };
 
-/// The application of each use: what each hook does by default, and one peer.
+/// The application that decides nothing: what each hook does by default, and one peer.
 fn application() -> Defaults {
     Defaults::new(Peer {
         address: Bytes::new(),
@@ -47,14 +50,25 @@ fn run<R: Env + Print + Net + Wait + AllocGlobal + Clone + Drop>(rt: &R) -> io::
         words.push(word)?;
     }
     match words.as_slice() {
-        [word] if word.as_str() == "memory" => {
-            relay_one(rt, alloc)?;
-            Ok(0)
-        }
         [word, port, peer] if word.as_str() == "serve" => match (port.parse(), peer.parse()) {
             (Ok(port), Ok(peer)) => serve_port(rt, alloc, port, peer),
             (Err(_), _) | (_, Err(_)) => Err(io::Error::from(ErrorKind::InvalidInput)),
         },
+        [] => Err(io::Error::from(ErrorKind::InvalidInput)),
+        uses => {
+            for word in uses {
+                show(rt, alloc, word.as_str())?;
+            }
+            Ok(0)
+        }
+    }
+}
+
+/// Runs a use in memory.
+fn show<R: Print>(rt: &R, alloc: Global, word: &str) -> io::Result<()> {
+    match word {
+        "memory" => relay_one(rt, alloc),
+        "context" => relay_two(rt, alloc),
         _ => Err(io::Error::from(ErrorKind::InvalidInput)),
     }
 }
