@@ -1,18 +1,21 @@
-//! Uses of the library, by the words: `memory` relays one request over links in memory, `context`
-//! two by an application that keeps something for each, and `serve PORT PEER` serves a port for a
-//! peer.
+//! Uses of the library, by the words: `memory`, `context` and `gateway` relay requests over links in
+//! memory by an application each, and `serve PORT PEER` serves a port for a peer.
 #![tactic(auto)]
 
 mod context;
+mod gateway;
 mod memory;
 mod serving;
 
-use crate::context::relay_two;
-use crate::memory::relay_one;
+use crate::context::{ASKS_FOR_NEW, Versions};
+use crate::gateway::{ASKS, Gateway};
+use crate::memory::{REQUEST, relay_each};
 use crate::serving::serve_port;
 use bytes::Bytes;
+use relay_hooks::App;
 use relay_proxy::{Defaults, ServerConf};
 use relay_tasks::Peer;
+use std::alloc::Global;
 use std::io::ErrorKind;
 use std::net::Net;
 use std::process::ExitCode;
@@ -64,11 +67,12 @@ fn run<R: Env + Print + Net + Wait + AllocGlobal + Clone + Drop>(rt: &R) -> io::
     }
 }
 
-/// Runs a use in memory.
+/// Relays the requests of a use in memory by its application.
 fn show<R: Print>(rt: &R, alloc: Global, word: &str) -> io::Result<()> {
     match word {
-        "memory" => relay_one(rt, alloc),
-        "context" => relay_two(rt, alloc),
+        "memory" => relay_each(rt, alloc, application(), &[REQUEST]),
+        "context" => relay_each(rt, alloc, App::new(Versions), &[REQUEST, ASKS_FOR_NEW]),
+        "gateway" => relay_each(rt, alloc, App::new(Gateway), &[REQUEST, ASKS[0], ASKS[1]]),
         _ => Err(io::Error::from(ErrorKind::InvalidInput)),
     }
 }

@@ -1,71 +1,81 @@
-//! One request between a client and a peer in memory, and what the uses in memory share.
+//! Requests between clients and peers in memory.
 
-use crate::{CONF, application};
+use crate::CONF;
 use bytes::Bytes;
 use relay_h1::Connection;
+use relay_hooks::ProxyHttp;
 use relay_links::{
     CountDelay, MemoryPurger, PeerScript, ReadItem, RoundRobin, ScriptConnector, ScriptLink,
     ShutdownAt,
 };
-use relay_proxy::{HttpProxy, Outside};
+use relay_proxy::{HttpProxy, Outside, RunRecord};
 use relay_tasks::Purged;
 use std::alloc::{AllocError, Global};
 use std::{io, str};
 
-/// What the client sends.
-const REQUEST: &str = "GET /a HTTP/1.1\r\nHost: h.example\r\n\r\n";
+/// A request that asks for nothing but a target.
+pub(crate) const REQUEST: &str = "GET /a HTTP/1.1\r\nHost: h.example\r\n\r\n";
 
-/// What the peer answers.
+/// What each peer answers.
 const RESPONSE: &str = "HTTP/1.1 200 OK\r\nContent-Length: 2\r\n\r\nhi";
 
 /// The most turns that a request may take.
-pub(crate) const TURNS: u64 = 1_000;
+const TURNS: u64 = 1_000;
 
-/// Relays one request, and prints its outcome, what the client was written and what the peer was
+/// Relays requests, each of a client of its own, to peers that answer all alike. Prints the outcome
+/// of each, the peers of its attempts and what its client was written, and then what each peer was
 /// sent.
-pub fn relay_one<R: Print>(rt: &R, alloc: Global) -> io::Result<()> {
-    let mut links = Vec::new(alloc);
-    links.push(link_of(alloc, RESPONSE)?)?;
-    let connector = connector_to(alloc, links)?;
+pub fn relay_each<R: Print, SV: ProxyHttp>(
+    rt: &R,
+    alloc: Global,
+    application: SV,
+    requests: &[&'static str],
+) -> io::Result<()> {
+    let connector = connector_to(alloc, requests.len())?;
     let purger = MemoryPurger::new(alloc, Purged::NotFound);
-    let mut proxy = HttpProxy::new(alloc, application(), CONF, connector, purger);
-    let mut client = Connection::new(alloc, link_of(alloc, REQUEST)?);
-    let mut outside = outside();
-    let processed = proxy.process_new_http(&mut client, &mut outside, TURNS);
-    println!(rt; "outcome {:?}", processed.outcome)?;
-    println!(rt; "written {:?}", text_of(client.link().taken()))?;
+    let mut proxy = HttpProxy::new(alloc, application, CONF, connector, purger);
+    for request in requests {
+        let mut client = Connection::new(alloc, link_of(alloc, request)?);
+        let mut outside = Outside {
+            schedule: RoundRobin::new(),
+            shutdown: ShutdownAt::new(None),
+            delay: CountDelay::new(),
+        };
+        let processed = proxy.process_new_http(&mut client, &mut outside, TURNS);
+        println!(rt; "outcome {:?}", processed.outcome)?;
+        print_peers(rt, &processed.history)?;
+        println!(rt; "written {:?}", text_of(client.link().taken()))?;
+    }
     for returned in proxy.connector().returned() {
         println!(rt; "sent {:?}", text_of(returned.link.taken()))?;
     }
     Ok(())
 }
 
-/// What a request meets beside its links: each branch in its turn, no shutdown, and no clock.
-pub(crate) fn outside() -> Outside<RoundRobin, ShutdownAt, CountDelay> {
-    Outside {
-        schedule: RoundRobin::new(),
-        shutdown: ShutdownAt::new(None),
-        delay: CountDelay::new(),
+/// Prints which peer each attempt was to reach.
+fn print_peers<R: Print>(rt: &R, history: &RunRecord) -> io::Result<()> {
+    for at in 0..history.attempts.len() {
+        if let Some(attempt) = history.attempts.get(at) {
+            println!(rt; "peer {:?}", text_of(&attempt.peer.address))?;
+        }
     }
+    Ok(())
 }
 
 /// A link that gives a text, and then is silent. It takes all that it is written.
-pub(crate) fn link_of(alloc: Global, text: &'static str) -> Result<ScriptLink, AllocError> {
+fn link_of(alloc: Global, text: &'static str) -> Result<ScriptLink, AllocError> {
     let mut items = Vec::new(alloc);
     items.push(ReadItem::Bytes(Bytes::from_static(text.as_bytes())))?;
     Ok(ScriptLink::new(alloc, items, Vec::new(alloc)))
 }
 
-/// A connector that hands out these links, in order.
-pub(crate) fn connector_to(
-    alloc: Global,
-    links: Vec<ScriptLink>,
-) -> Result<ScriptConnector, AllocError> {
+/// A connector that hands out so many links, each to a peer that answers.
+fn connector_to(alloc: Global, count: usize) -> Result<ScriptConnector, AllocError> {
     let mut peers = Vec::new(alloc);
-    for link in links {
+    for _ in 0..count {
         peers.push(PeerScript {
             name: Bytes::from_static(b"a"),
-            link,
+            link: link_of(alloc, RESPONSE)?,
             connect: None,
         })?;
     }
@@ -73,6 +83,6 @@ pub(crate) fn connector_to(
 }
 
 /// The bytes as a text.
-pub(crate) fn text_of(bytes: &[u8]) -> &str {
+fn text_of(bytes: &[u8]) -> &str {
     str::from_utf8(bytes).unwrap_or("no text")
 }
