@@ -29,7 +29,7 @@ use Rattle.relay_proxy.specs.Sent.{IsUntreated, Sends, RefusesToSend}
 use Rattle.relay_proxy.specs.Passed.{World, Start, origin_of, asked}
 use Rattle.relay_proxy.specs.Endings as endings
 use Rattle.relay_proxy.specs.Endings.{IsTurnedDown, IsLeftAlone, EndsUnlinked, EndsLinked, EndsAhead, IsEnded}
-use Rattle.relay_proxy.specs.Exact.{IsUnfinished, IsRefusal, IsLeft, IsMissed, IsExact}
+use Rattle.relay_proxy.specs.Exact.{IsUnfinished, IsRefusal, IsLeft, IsMissed, IsExact, PassesHooks}
 use Rattle.relay_proxy.specs.declared.outcome.Outcome.{Outcome}
 use Rattle.relay_proxy.specs.declared.outcome.Outcome.TheVariants.{NoRequest, Refused, Served, TurnLimit, OutOfMemory}
 use Rattle.relay_proxy.specs.declared.record.AttemptRecord.{AttemptRecord}
@@ -419,20 +419,19 @@ ahead_or_at s p why text
     one_station s.called station.purging lets.at order lets.order
     (not_there station.purging lets.at refl lets.goes)
 
-ahead_or_goes : (s : Start) (p : Passed) (why : Option Error) (text : List ℕ)
-    → IsOwedAhead s p why text → IsUntreated s.called → LetsGo s.called → ⊥
-ahead_or_goes s p why text owes untreated lets =
-    ahead_or_at s p why text owes (lets_at s.called lets untreated)
+pub lets_pass : (s : Start) (p : Passed) (w : World) → LetsGo s.called → PassesHooks s p w
+lets_pass s p w lets told ahead =
+    ahead_or_at s p ahead.why ahead.text ahead.owed (lets_at s.called lets ahead.untreated)
 
 -- a valid request that had no link is served, where it is finished and no fault was met
 whole_unlinked : (s : Start) (p : Passed) (w : World) (outcome : Outcome)
     → EndsUnlinked s p w outcome → (head : RequestHead) → IsRelayable head
-    → LetsGo s.called → AsksFor (origin_of s head head false) p w.client
+    → PassesHooks s p w → AsksFor (origin_of s head head false) p w.client
     → ¬ (Rose s.faults w.client.faults) → ¬ (Rose s.connect_faults w.connect_faults)
     → IsUnfinished outcome ⊎ ((reuse : Bool) × (outcome ≡ Served None reuse))
-whole_unlinked s p w NoRequest ends head relayable lets asks client connector =
+whole_unlinked s p w NoRequest ends head relayable passes asks client connector =
     absurd (not_both ends.ended asks.stays)
-whole_unlinked s p w (Refused error) ends head relayable lets asks client connector =
+whole_unlinked s p w (Refused error) ends head relayable passes asks client connector =
     absurd (elim ends as (λ _. ⊥) [
       | inl answered ↦ asks_not_refused s p w head relayable asks answered.turned_down
       | inr other ↦ elim other as (λ _. ⊥) [
@@ -440,15 +439,15 @@ whole_unlinked s p w (Refused error) ends head relayable lets asks client connec
         | inr fault ↦ client fault.rose
       ]
     ])
-whole_unlinked s p w (Served None reuse) ends head relayable lets asks client connector =
-    absurd (ahead_or_goes s p ends.0.why ends.0.text ends.0.owed ends.0.untreated lets)
-whole_unlinked s p w (Served (Some e) reuse) ends head relayable lets asks client connector =
+whole_unlinked s p w (Served None reuse) ends head relayable passes asks client connector =
+    absurd (passes None ends.0)
+whole_unlinked s p w (Served (Some e) reuse) ends head relayable passes asks client connector =
     absurd (elim ends.0 as (λ _. ⊥) [
       | inl missed ↦ connector missed.unconnected.rose
-      | inr ahead ↦ ahead_or_goes s p ahead.why ahead.text ahead.owed ahead.untreated lets
+      | inr ahead ↦ passes (Some e) ahead
     ])
-whole_unlinked s p w TurnLimit ends head relayable lets asks client connector = inl (inl refl)
-whole_unlinked s p w OutOfMemory ends head relayable lets asks client connector = inl (inr refl)
+whole_unlinked s p w TurnLimit ends head relayable passes asks client connector = inl (inl refl)
+whole_unlinked s p w OutOfMemory ends head relayable passes asks client connector = inl (inr refl)
 
 -- what the client asks for does not depend on what is sent of it
 asks_still : (s : Start) (p : Passed) (w : World) (head sent : RequestHead)

@@ -10,10 +10,9 @@ use Rattle.relay_attempt.specs.Passed.{Passed}
 use Rattle.relay_valid.specs.Unfit.{IsUnfit}
 use Rattle.relay_valid.specs.Valid.{AsksFor, AnswersWith}
 use Rattle.relay_proxy.specs.Relayable.{IsAccepted, IsRelayable}
-use Rattle.relay_proxy.specs.Ahead.{LetsGo}
 use Rattle.relay_proxy.specs.Passed.{World, Start, origin_of, asked}
 use Rattle.relay_proxy.specs.Sent.{Sends, RefusesToSend}
-use Rattle.relay_proxy.specs.Endings.{IsTurnedDown, IsLeftAlone}
+use Rattle.relay_proxy.specs.Endings.{EndsAhead, IsTurnedDown, IsLeftAlone}
 use Rattle.relay_proxy.specs.declared.outcome.Outcome.{Outcome}
 use Rattle.relay_proxy.specs.declared.outcome.Outcome.TheVariants.{NoRequest, Refused, Served, TurnLimit, OutOfMemory}
 
@@ -33,6 +32,10 @@ pub record IsLeft (s : Start) (p : Passed) (w : World) (outcome : Outcome) : Typ
   pub e : Error
   pub why : IsLeftAlone s p w e
   pub is : outcome ≡ Refused (Some e)
+
+-- the hooks before the attempts did not end the request: none of them answered or stopped it
+abbrev pub PassesHooks : Start → Passed → World → Type 0
+PassesHooks s p w = (told : Option Error) → ¬ (EndsAhead s p w told)
 
 -- the attempt failed; the error has its cause by the outcome's own clause
 abbrev pub IsMissed : Outcome → Type 0
@@ -68,9 +71,9 @@ module _ {L : Type 0} (state : L → LinkState) (start_at : L → LinkStart) whe
         → ((sent : RequestHead) → Sends s.called head sent
         → IsUnfit sent.method false p.got (state r.link).ended)
         → IsUnfinished outcome ⊎ IsMissed outcome
-    -- a valid request of a form that is relayed, which hooks let go, and of which a head can be sent
-    -- that agrees with it; and a valid response to whatever head is sent of it, with no fault
-    pub whole : (head : RequestHead) → IsRelayable head → LetsGo s.called
+    -- a valid request of a form that is relayed, which hooks let pass, and of which a head can be
+    -- sent that agrees with it; and a valid response to whatever head is sent of it, with no fault
+    pub whole : (head : RequestHead) → IsRelayable head → PassesHooks s p w
         → ((keep : Bool) (e : Error) → ¬ (RefusesToSend s.called head keep e))
         → ((sent : RequestHead) → Sends s.called head sent → Agrees head sent)
         → AsksFor (origin_of s head head false) p w.client
