@@ -136,21 +136,6 @@ module _ (client client' upstream upstream' : LinkState) (asked : Bool)
     counts_as (Some branch.MessageDown) old new (inl asks) = absurd asks
     counts_as (Some branch.MessageDown) old new (inr between) = absurd between.moves
 
--- what a link gave that a turn leaves as it is
-left_within : {L : Type 0} (state : L → LinkState) (start_at : L → LinkStart)
-    {tasks ends most tasks' ends' most' : ℕ} (s : Start) (client : LinkState) (link left : L)
-    → left ≡ link → (had : IsWithin tasks ends most s client (LinkGave state start_at link))
-    → tasks' ≤ most_tasks (length s.ahead + length had.came) (length had.got) → ends' ≤ most'
-    → IsWithin tasks' ends' most' s client (LinkGave state start_at left)
-left_within {L} state start_at s client link left same had tasks_fit ends_fit = record {
-  came = had.came;
-  got = had.got;
-  client_gave = had.client_gave;
-  own_gave = subst (λ (k : L). LinkGave state start_at k had.got) (sym same) had.own_gave;
-  tasks_within = tasks_fit;
-  ends_within = ends_fit;
-}
-
 module _ {L C : Type 0} (state : L → LinkState) (start_at : L → LinkStart) where
   -- ---- phases
 
@@ -381,15 +366,23 @@ module _ {L C : Type 0} (state : L → LinkState) (start_at : L → LinkStart) w
   treat_bounds s these those client ahead own link lease (Broken context session l by keep e) work
       tasks ends counts leaves had = absurd counts
   treat_bounds s these those client ahead own link lease (Fail l by keep session e) work tasks ends
-      counts leaves had =
-      left_within state start_at s client link l leaves.0 had
-      (omega (arith, counts.0, had.tasks_within))
-      (omega (arith, counts.1, had.ends_within, same_tries leaves.1))
+      counts leaves had = record {
+        came = had.came;
+        got = had.got;
+        client_gave = had.client_gave;
+        own_gave = subst (λ (k : L). LinkGave state start_at k had.got) (sym leaves.0) had.own_gave;
+        tasks_within = omega (arith, counts.0, had.tasks_within);
+        ends_within = omega (arith, counts.1, had.ends_within, same_tries leaves.1);
+      }
   treat_bounds s these those client ahead own link lease (Close l by keep outcome) work tasks ends
-      counts leaves had =
-      left_within state start_at s client link l leaves.0 had
-      (omega (arith, counts.0, had.tasks_within))
-      (omega (arith, counts.1, had.ends_within, same_tries leaves.1))
+      counts leaves had = record {
+        came = had.came;
+        got = had.got;
+        client_gave = had.client_gave;
+        own_gave = subst (λ (k : L). LinkGave state start_at k had.got) (sym leaves.0) had.own_gave;
+        tasks_within = omega (arith, counts.0, had.tasks_within);
+        ends_within = omega (arith, counts.1, had.ends_within, same_tries leaves.1);
+      }
   treat_bounds s these those client ahead own link lease (Answer session owed attempts) work tasks
       ends counts leaves had = absurd counts
   treat_bounds s these those client ahead own link lease (Ended outcome attempts) work tasks ends
