@@ -1,0 +1,125 @@
+-- A request whose calls changed nothing: what is sent of its head, and how it ends.
+--
+--   neutral_passes     no hook ended it before its attempts
+--   neutral_sends      the head that is sent is made of the client's as it came
+--   whole              a valid one is served, or unfinished
+use Rattle.std.proofs.Common.{◌≡◌, Bool, false, List, [], ◌∷◌, ◌++◌, Option, None, Some, ℕ, refl, sym, ◌∙◌, subst}
+use Rattle.std.specs.Prelude.{All, Ok, Err}
+use Rattle.std.proofs.lemmas.List.Elements.{All-append, All-cons, All-nil}
+use Rattle.http.specs.declared.version.TheConstants.Version.{HTTP_11}
+use Rattle.relay_tasks.specs.Head.{RequestHead}
+use Rattle.relay_tasks.specs.declared.Error.{Error}
+use Rattle.relay_tasks.specs.declared.hook.Hook.TheVariants as hook
+use Rattle.relay_tasks.specs.declared.log.Item.TheVariants as item
+use Rattle.relay_tasks.specs.declared.log.LogEntry.{LogEntry}
+use Rattle.relay_links.specs.Link.{LinkState, LinkStart}
+use Rattle.relay_authority.specs.Upstream.{ReadyHead}
+use Rattle.relay_authority.specs.declared.upstream.Upstream.TheVariants as over
+use Rattle.relay_authority.proofs.KeptLemmas.{readied}
+use Rattle.relay_h1.specs.Framing.{request_framing}
+use Rattle.relay_h1.specs.declared.framing.Framing.{Framing}
+use Rattle.relay_opening.specs.Told.{head_behind}
+use Rattle.relay_phases.specs.Order.{Station as station}
+use Rattle.relay_attempt.specs.Agrees.{Agrees}
+use Rattle.relay_attempt.specs.Passed.{Passed}
+use Rattle.relay_proxy.specs.Ahead.{IsOwedAhead, IsStoppedFor}
+use Rattle.relay_proxy.specs.Endings.{EndsAhead}
+use Rattle.relay_proxy.specs.Passed.{Start, World}
+use Rattle.relay_proxy.specs.Sent.{Filters, RefusesToSend, Sends, SettlesFramed, asked_in, client_of}
+use Rattle.relay_proxy.proofs.SentLemmas.{sends_agrees}
+use Rattle.relay_neutral.specs.Neutral.{CanBeSent, IsNeutral, NeutralIsWhole}
+use Rattle.relay_neutral.proofs.LogLemmas.{before_one, never_ends, never_fails, neutral_head, one_of}
+
+-- ---- before the attempts
+
+-- the last call is one of the log
+last_neutral : (called before : List LogEntry) (last : LogEntry) → called ≡ before ++ last ∷ []
+    → All IsNeutral called → IsNeutral last
+last_neutral called before last is all = one_of called before [] last is all
+
+-- hooks owe the client nothing
+never_owed : (s : Start) (p : Passed) (why : Option Error) (text : List ℕ)
+    → IsOwedAhead s p why text → All IsNeutral s.called → ⊥
+never_owed s p why text (IsOwedAhead.by_answer head tasks t has order is_answer is) all =
+    never_ends s.called station.answered all order refl
+never_owed s p why text
+    (IsOwedAhead.by_error head e t has (IsStoppedFor.by_hook order last) is) all =
+    absurd (
+    let clash : None ≡ Some e =
+    sym (last_neutral s.called last.before last.last last.is_last all).passes ∙ last.error in
+    cc
+    )
+never_owed s p why text
+    (IsOwedAhead.by_error head e t has (IsStoppedFor.is_purge order same) is) all =
+    never_ends s.called station.purging all order refl
+
+-- no hook ended the request before its attempts
+pub neutral_passes : (s : Start) (p : Passed) (w : World) (told : Option Error)
+    → EndsAhead s p w told → All IsNeutral s.called → ⊥
+neutral_passes s p w told ahead all = never_owed s p ahead.why ahead.text ahead.owed all
+
+-- ---- what is sent of the head
+
+-- the filter of the head left what it was given
+filtered_same : {called : List LogEntry} {head filtered : RequestHead}
+    (f : Filters called head filtered) → All IsNeutral called → filtered ≡ f.ready
+filtered_same {called} {head} {filtered} f all =
+    let n = one_of called f.before f.after f.e f.called_are all in
+    let same : item.Request filtered ≡ item.Request f.ready =
+    sym f.left ∙ n.sends f.is_filter ∙ f.given in
+    cc
+
+-- the client's head before that call is as it came
+before_same : {called : List LogEntry} {head filtered : RequestHead}
+    (f : Filters called head filtered) → All IsNeutral called → head_behind head f.before ≡ head
+before_same {called} {head} f all =
+    neutral_head head f.before (before_one called f.before (f.e ∷ f.after) f.called_are all)
+
+-- and so it is behind it
+asked_same : {called : List LogEntry} {head filtered : RequestHead}
+    (f : Filters called head filtered) → All IsNeutral called → asked_in f ≡ head
+asked_same {called} {head} f all =
+    neutral_head head (f.before ++ f.e ∷ [])
+    (All-append IsNeutral f.before (f.e ∷ [])
+    (before_one called f.before (f.e ∷ f.after) f.called_are all)
+    (All-cons IsNeutral f.e [] (one_of called f.before f.after f.e f.called_are all)
+    (All-nil IsNeutral)))
+
+-- the head that is sent agrees with the client's
+pub neutral_agrees : (called : List LogEntry) (head sent : RequestHead) (framing : Framing)
+    → Sends called head sent → All IsNeutral called → request_framing head ≡ Some framing
+    → Agrees head sent
+neutral_agrees called head sent framing sends all framed =
+    sends_agrees called head sent framing sends (before_same sends.filters all)
+    (filtered_same sends.filters all) framed
+
+-- a head that can be sent is not refused
+pub neutral_refuses : (called : List LogEntry) (head : RequestHead) (keep : Bool) (e : Error)
+    → RefusesToSend called head keep e → All IsNeutral called → CanBeSent head → ⊥
+neutral_refuses called head keep e (RefusesToSend.untold fails kept) all can =
+    never_fails hook.ConnectedToUpstream called e fails all
+neutral_refuses called head keep e (RefusesToSend.unfiltered fails kept) all can =
+    never_fails hook.UpstreamRequestFilter called e fails all
+neutral_refuses called head keep e (RefusesToSend.unsettled filtered f settles kept) all can =
+    let ready : f.ready ≡ record head { version = HTTP_11 } =
+    readied head f.ready
+    (subst (λ (h : RequestHead). ReadyHead over.H1 false h (Ok f.ready)) (before_same f all)
+    f.readies) in
+    can e
+    (subst (λ (h : RequestHead). SettlesFramed (client_of head) head h (Err e))
+    (filtered_same f all ∙ ready)
+    (subst (λ (h : RequestHead). SettlesFramed (client_of head) h filtered (Err e))
+    (asked_same f all) settles))
+
+-- ---- how it ends
+
+module _ {L : Type 0} (state : L → LinkState) (start_at : L → LinkStart) where
+  -- a valid one is served without an error, or unfinished
+  pub whole : NeutralIsWhole state start_at
+  whole s w before after told_before told_after had has client turns processed run all head relayable can asks answers faultless =
+      run.exact.whole head relayable
+      (λ told ahead. neutral_passes s run.passed w told ahead all)
+      (λ keep e refuses. neutral_refuses s.called head keep e refuses all can)
+      (λ sent sends. neutral_agrees s.called head sent asks.is_request.framing sends all
+      asks.is_request.has.framed)
+      asks (λ r sent one sends. answers r sent one sends) faultless
