@@ -25,7 +25,7 @@ const TURNS: u64 = 1_000;
 /// Relays requests, each of a client of its own, to peers that answer all alike. Prints the outcome
 /// of each, the peers of its attempts and what its client was written, and then what each peer was
 /// sent.
-pub fn relay_each<R: Print, SV: ProxyHttp>(
+pub fn relay_each<R: Print, SV: ProxyHttp + Drop>(
     rt: &R,
     alloc: Global,
     application: SV,
