@@ -22,42 +22,48 @@ use Rattle.relay_neutral.specs.Neutral.{IsNeutral}
 -- ---- each call
 
 -- the head behind calls that left it as it was
-pub neutral_head : (head : RequestHead) (es : List LogEntry) → All IsNeutral es
+pub neutral_head : (head : RequestHead) (es : List LogEntry) → All (IsNeutral head) es
     → head_behind head es ≡ head
 neutral_head head [] all = refl
 neutral_head head (e ∷ es) all =
-    rw (All-head IsNeutral e es all).head (neutral_head head es (All-tail IsNeutral e es all))
+    rw (All-head (IsNeutral head) e es all).leaves
+    (neutral_head head es (All-tail (IsNeutral head) e es all))
 
 -- the calls from one on
-from_one : (before after : List LogEntry) (e : LogEntry) → All IsNeutral (before ++ e ∷ after)
-    → IsNeutral e
-from_one [] after e all = All-head IsNeutral e after all
-from_one (x ∷ before) after e all =
-    from_one before after e (All-tail IsNeutral x (before ++ e ∷ after) all)
+from_one : {head : RequestHead} (before after : List LogEntry) (e : LogEntry)
+    → All (IsNeutral head) (before ++ e ∷ after)
+    → IsNeutral head e
+from_one {head} [] after e all = All-head (IsNeutral head) e after all
+from_one {head} (x ∷ before) after e all =
+    from_one before after e (All-tail (IsNeutral head) x (before ++ e ∷ after) all)
 
 -- the calls up to one
-up_to_one : (before after : List LogEntry) → All IsNeutral (before ++ after) → All IsNeutral before
-up_to_one [] after all = All-nil IsNeutral
-up_to_one (x ∷ before) after all =
-    All-cons IsNeutral x before (All-head IsNeutral x (before ++ after) all)
-    (up_to_one before after (All-tail IsNeutral x (before ++ after) all))
+up_to_one : {head : RequestHead} (before after : List LogEntry)
+    → All (IsNeutral head) (before ++ after) → All (IsNeutral head) before
+up_to_one {head} [] after all = All-nil (IsNeutral head)
+up_to_one {head} (x ∷ before) after all =
+    All-cons (IsNeutral head) x before (All-head (IsNeutral head) x (before ++ after) all)
+    (up_to_one before after (All-tail (IsNeutral head) x (before ++ after) all))
 
 -- a call of the log is neutral
-pub one_of : (called before after : List LogEntry) (e : LogEntry) → called ≡ before ++ e ∷ after
-    → All IsNeutral called → IsNeutral e
-one_of called before after e is all =
-    from_one before after e (subst (λ (l : List LogEntry). All IsNeutral l) is all)
+pub one_of : {head : RequestHead} (called before after : List LogEntry) (e : LogEntry)
+    → called ≡ before ++ e ∷ after
+    → All (IsNeutral head) called → IsNeutral head e
+one_of {head} called before after e is all =
+    from_one before after e (subst (λ (l : List LogEntry). All (IsNeutral head) l) is all)
 
 -- so are those before one
-pub before_one : (called before after : List LogEntry) → called ≡ before ++ after
-    → All IsNeutral called → All IsNeutral before
-before_one called before after is all =
-    up_to_one before after (subst (λ (l : List LogEntry). All IsNeutral l) is all)
+pub before_one : {head : RequestHead} (called before after : List LogEntry)
+    → called ≡ before ++ after
+    → All (IsNeutral head) called → All (IsNeutral head) before
+before_one {head} called before after is all =
+    up_to_one before after (subst (λ (l : List LogEntry). All (IsNeutral head) l) is all)
 
 -- no call of it failed
-pub never_fails : (which : Hook) (called : List LogEntry) (e : Error) → FailsAt which called e
-    → All IsNeutral called → ⊥
-never_fails which called e fails all =
+pub never_fails : {head : RequestHead} (which : Hook) (called : List LogEntry) (e : Error)
+    → FailsAt which called e
+    → All (IsNeutral head) called → ⊥
+never_fails {head} which called e fails all =
     absurd (
     let clash : None ≡ Some e =
     sym (one_of called fails.before fails.after fails.last fails.called_are all).passes
@@ -94,24 +100,25 @@ first_safe e (m ∷ ms) to all is =
       | inl told ↦
           let same : Some m.to ≡ Some to = rw told at is in
           subst (λ (x : Station). safe x ≡ true) (let it : m.to ≡ to = cc in it) (all.0 told)
-      | inr other ↦ first_safe e ms to all.1 (let it : first_told ms e ≡ Some to = rw other at is in it)
+      | inr other ↦
+          first_safe e ms to all.1
+          (let it : first_told ms e ≡ Some to = rw other at is in it)
     ]
 
--- so does the first of calls that all do
+-- so do calls that all lead to one
+tells_plain : (e : LogEntry) (ms : List Move) → list_all (λ m. safe m.to) ms ≡ true
+    → TellsSafe e ms
+tells_plain e [] all = tt
+tells_plain e (m ∷ ms) all =
+    let parts = and_parts (safe m.to) (list_all (λ m. safe m.to) ms) all in
+    ((λ _. parts.0), tells_plain e ms parts.1)
+
 plain_safe : (e : LogEntry) (ms : List Move) (to : Station)
     → list_all (λ m. safe m.to) ms ≡ true → first_told ms e ≡ Some to → safe to ≡ true
-plain_safe e [] to all is = absurd (let clash : None ≡ Some to = is in cc)
-plain_safe e (m ∷ ms) to all is =
-    let parts = and_parts (safe m.to) (list_all (λ m. safe m.to) ms) all in
-    elim (cases_Bool (is_told m e)) [
-      | inl told ↦
-          let same : Some m.to ≡ Some to = rw told at is in
-          subst (λ (x : Station). safe x ≡ true) (let it : m.to ≡ to = cc in it) parts.0
-      | inr other ↦ plain_safe e ms to parts.1 (let it : first_told ms e ≡ Some to = rw other at is in it)
-    ]
+plain_safe e ms to all is = first_safe e ms to (tells_plain e ms all) is
 
 -- the calls that end a request before its attempts are none of a neutral entry
-module _ (e : LogEntry) (n : IsNeutral e) where
+module _ {head : RequestHead} (e : LogEntry) (n : IsNeutral head e) where
   parts : (is_of hook.RequestFilter e && is_answer true e.output ≡ false)
       × ((is_of hook.IsPurge e && is_answer true e.output ≡ false)
       × (is_of hook.ProxyUpstreamFilter e && is_answer false e.output ≡ false))
@@ -177,19 +184,21 @@ module _ (e : LogEntry) (n : IsNeutral e) where
   next_safe station.kept to is leads = plain_safe e (moves station.kept) to refl leads
 
 -- the calls of such a log lead from a safe place, or from none, to a safe one
-safe_behind : (es : List LogEntry) (found : Option Station) (to : Station) → All IsNeutral es
+safe_behind : {head : RequestHead} (es : List LogEntry) (found : Option Station) (to : Station)
+    → All (IsNeutral head) es
     → ((at : Station) → found ≡ Some at → safe at ≡ true) → next_behind found es ≡ Some to
     → safe to ≡ true
-safe_behind [] found to all is leads = is to leads
-safe_behind (e ∷ es) None to all is leads = absurd (let clash : None ≡ Some to = leads in cc)
-safe_behind (e ∷ es) (Some at) to all is leads =
-    safe_behind es (next at e) to (All-tail IsNeutral e es all)
-    (λ mid here. next_safe e (All-head IsNeutral e es all) at mid (is at refl) here) leads
+safe_behind {head} [] found to all is leads = is to leads
+safe_behind {head} (e ∷ es) None to all is leads = absurd (let clash : None ≡ Some to = leads in cc)
+safe_behind {head} (e ∷ es) (Some at) to all is leads =
+    safe_behind es (next at e) to (All-tail (IsNeutral head) e es all)
+    (λ mid here. next_safe e (All-head (IsNeutral head) e es all) at mid (is at refl) here) leads
 
 -- they do not lead to where hooks end a request before its attempts
-pub never_ends : (es : List LogEntry) (to : Station) → All IsNeutral es → Accepts accepted es to
+pub never_ends : {head : RequestHead} (es : List LogEntry) (to : Station)
+    → All (IsNeutral head) es → Accepts accepted es to
     → safe to ≡ false → ⊥
-never_ends es to all leads ends =
+never_ends {head} es to all leads ends =
     true≢false
     (sym (safe_behind es (Some accepted) to all
     (λ at here. let same : accepted ≡ at = cc in subst (λ (x : Station). safe x ≡ true) same refl)

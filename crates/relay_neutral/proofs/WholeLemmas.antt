@@ -1,7 +1,8 @@
 -- A request whose calls changed nothing: what is sent of its head, and how it ends.
 --
 --   neutral_passes     no hook ended it before its attempts
---   neutral_sends      the head that is sent is made of the client's as it came
+--   neutral_agrees     the head that is sent agrees with the client's, which no call changed
+--   neutral_refuses    it is not refused
 --   whole              a valid one is served, or unfinished
 use Rattle.std.proofs.Common.{◌≡◌, Bool, false, List, [], ◌∷◌, ◌++◌, Option, None, Some, ℕ, refl, sym, ◌∙◌, subst}
 use Rattle.std.specs.Prelude.{All, Ok, Err}
@@ -33,13 +34,13 @@ use Rattle.relay_neutral.proofs.LogLemmas.{before_one, never_ends, never_fails, 
 -- ---- before the attempts
 
 -- the last call is one of the log
-last_neutral : (called before : List LogEntry) (last : LogEntry) → called ≡ before ++ last ∷ []
-    → All IsNeutral called → IsNeutral last
+last_neutral : {head : RequestHead} (called before : List LogEntry) (last : LogEntry) → called ≡ before ++ last ∷ []
+    → All (IsNeutral head) called → IsNeutral head last
 last_neutral called before last is all = one_of called before [] last is all
 
 -- hooks owe the client nothing
-never_owed : (s : Start) (p : Passed) (why : Option Error) (text : List ℕ)
-    → IsOwedAhead s p why text → All IsNeutral s.called → ⊥
+never_owed : {head : RequestHead} (s : Start) (p : Passed) (why : Option Error) (text : List ℕ)
+    → IsOwedAhead s p why text → All (IsNeutral head) s.called → ⊥
 never_owed s p why text (IsOwedAhead.by_answer head tasks t has order is_answer is) all =
     never_ends s.called station.answered all order refl
 never_owed s p why text
@@ -54,15 +55,15 @@ never_owed s p why text
     never_ends s.called station.purging all order refl
 
 -- no hook ended the request before its attempts
-pub neutral_passes : (s : Start) (p : Passed) (w : World) (told : Option Error)
-    → EndsAhead s p w told → All IsNeutral s.called → ⊥
+pub neutral_passes : {head : RequestHead} (s : Start) (p : Passed) (w : World) (told : Option Error)
+    → EndsAhead s p w told → All (IsNeutral head) s.called → ⊥
 neutral_passes s p w told ahead all = never_owed s p ahead.why ahead.text ahead.owed all
 
 -- ---- what is sent of the head
 
 -- the filter of the head left what it was given
 filtered_same : {called : List LogEntry} {head filtered : RequestHead}
-    (f : Filters called head filtered) → All IsNeutral called → filtered ≡ f.ready
+    (f : Filters called head filtered) → All (IsNeutral head) called → filtered ≡ f.ready
 filtered_same {called} {head} {filtered} f all =
     let n = one_of called f.before f.after f.e f.called_are all in
     let same : item.Request filtered ≡ item.Request f.ready =
@@ -71,23 +72,23 @@ filtered_same {called} {head} {filtered} f all =
 
 -- the client's head before that call is as it came
 before_same : {called : List LogEntry} {head filtered : RequestHead}
-    (f : Filters called head filtered) → All IsNeutral called → head_behind head f.before ≡ head
+    (f : Filters called head filtered) → All (IsNeutral head) called → head_behind head f.before ≡ head
 before_same {called} {head} f all =
     neutral_head head f.before (before_one called f.before (f.e ∷ f.after) f.called_are all)
 
 -- and so it is behind it
 asked_same : {called : List LogEntry} {head filtered : RequestHead}
-    (f : Filters called head filtered) → All IsNeutral called → asked_in f ≡ head
+    (f : Filters called head filtered) → All (IsNeutral head) called → asked_in f ≡ head
 asked_same {called} {head} f all =
     neutral_head head (f.before ++ f.e ∷ [])
-    (All-append IsNeutral f.before (f.e ∷ [])
+    (All-append (IsNeutral head) f.before (f.e ∷ [])
     (before_one called f.before (f.e ∷ f.after) f.called_are all)
-    (All-cons IsNeutral f.e [] (one_of called f.before f.after f.e f.called_are all)
-    (All-nil IsNeutral)))
+    (All-cons (IsNeutral head) f.e [] (one_of called f.before f.after f.e f.called_are all)
+    (All-nil (IsNeutral head))))
 
 -- the head that is sent agrees with the client's
 pub neutral_agrees : (called : List LogEntry) (head sent : RequestHead) (framing : Framing)
-    → Sends called head sent → All IsNeutral called → request_framing head ≡ Some framing
+    → Sends called head sent → All (IsNeutral head) called → request_framing head ≡ Some framing
     → Agrees head sent
 neutral_agrees called head sent framing sends all framed =
     sends_agrees called head sent framing sends (before_same sends.filters all)
@@ -95,7 +96,7 @@ neutral_agrees called head sent framing sends all framed =
 
 -- a head that can be sent is not refused
 pub neutral_refuses : (called : List LogEntry) (head : RequestHead) (keep : Bool) (e : Error)
-    → RefusesToSend called head keep e → All IsNeutral called → CanBeSent head → ⊥
+    → RefusesToSend called head keep e → All (IsNeutral head) called → CanBeSent head → ⊥
 neutral_refuses called head keep e (RefusesToSend.untold fails kept) all can =
     never_fails hook.ConnectedToUpstream called e fails all
 neutral_refuses called head keep e (RefusesToSend.unfiltered fails kept) all can =
@@ -116,7 +117,7 @@ neutral_refuses called head keep e (RefusesToSend.unsettled filtered f settles k
 module _ {L : Type 0} (state : L → LinkState) (start_at : L → LinkStart) where
   -- a valid one is served without an error, or unfinished
   pub whole : NeutralIsWhole state start_at
-  whole s w before after told_before told_after had has client turns processed run all head relayable can asks answers faultless =
+  whole s w before after told_before told_after had has client turns processed run head all relayable can asks answers faultless =
       run.exact.whole head relayable
       (λ told ahead. neutral_passes s run.passed w told ahead all)
       (λ keep e refuses. neutral_refuses s.called head keep e refuses all can)

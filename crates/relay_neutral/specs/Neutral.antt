@@ -1,6 +1,6 @@
 -- Calls of hooks that change nothing, and what a request comes to that has no others (RFC 9110,
 -- section 3.7).
-use Rattle.std.specs.Prelude.{◌≡◌, ◌⊎◌, ◌&&◌, ◌||◌, ℕ, Bool, true, false, List, [], ◌∷◌, All, Option, None, Err}
+use Rattle.std.specs.Prelude.{◌≡◌, ◌⊎◌, ◌&&◌, ◌||◌, ℕ, Bool, true, false, List, [], ◌∷◌, All, Option, None, Err, unwrap_or}
 use Rattle.http.specs.declared.version.TheConstants.Version.{HTTP_11}
 use Rattle.relay_tasks.specs.Head.{RequestHead}
 use Rattle.relay_tasks.specs.declared.Error.{Error}
@@ -28,11 +28,12 @@ ends_it e =
     || ((is_of hook.IsPurge e && is_answer true e.output)
     || (is_of hook.ProxyUpstreamFilter e && is_answer false e.output))
 
--- the call changed nothing: it did not fail, it left the head of the request as it was, it let the
--- request go on, and of the head that is sent it left what it was given
-pub record IsNeutral (e : LogEntry) : Type 0 where
+-- the call changed nothing of a request with that head: it did not fail, it left the head as it was
+-- where it was lent that to be changed, it let the request go on, and of the head that is sent it
+-- left what it was given
+pub record IsNeutral (head : RequestHead) (e : LogEntry) : Type 0 where
   pub passes : e.error ≡ None
-  pub head : e.head ≡ None
+  pub leaves : unwrap_or e.head head ≡ head
   pub goes_on : ends_it e ≡ false
   pub sends : e.hook ≡ hook.UpstreamRequestFilter → e.output ≡ e.input
 
@@ -53,7 +54,7 @@ module _ {L : Type 0} (state : L → LinkState) (start_at : L → LinkStart) whe
       (client : LinkState) (turns : ℕ) (processed : Processed)
       → (run : Processes state start_at s w before after told_before told_after had has client turns
       processed)
-      → All IsNeutral s.called → (head : RequestHead) → IsRelayable head → CanBeSent head
+      → (head : RequestHead) → All (IsNeutral head) s.called → IsRelayable head → CanBeSent head
       → AsksFor (origin_of s head head false) run.passed w.client
       → ((r : Returned L) (sent : RequestHead) → run.own ≡ r ∷ [] → Sends s.called head sent
       → AnswersWith sent.method false run.passed (state r.link))
