@@ -34,7 +34,8 @@ use Rattle.relay_neutral.proofs.LogLemmas.{before_one, never_ends, never_fails, 
 -- ---- before the attempts
 
 -- the last call is one of the log
-last_neutral : {head : RequestHead} (called before : List LogEntry) (last : LogEntry) → called ≡ before ++ last ∷ []
+last_neutral : {head : RequestHead} (called before : List LogEntry) (last : LogEntry)
+    → called ≡ before ++ last ∷ []
     → All (IsNeutral head) called → IsNeutral head last
 last_neutral called before last is all = one_of called before [] last is all
 
@@ -72,7 +73,8 @@ filtered_same {called} {head} {filtered} f all =
 
 -- the client's head before that call is as it came
 before_same : {called : List LogEntry} {head filtered : RequestHead}
-    (f : Filters called head filtered) → All (IsNeutral head) called → head_behind head f.before ≡ head
+    (f : Filters called head filtered) → All (IsNeutral head) called
+    → head_behind head f.before ≡ head
 before_same {called} {head} f all =
     neutral_head head f.before (before_one called f.before (f.e ∷ f.after) f.called_are all)
 
@@ -117,7 +119,8 @@ neutral_refuses called head keep e (RefusesToSend.unsettled filtered f settles k
 module _ {L : Type 0} (state : L → LinkState) (start_at : L → LinkStart) where
   -- a valid one is served without an error, or unfinished
   pub whole : NeutralIsWhole state start_at
-  whole s w before after told_before told_after had has client turns processed run head all relayable can asks answers faultless =
+  whole s w before after told_before told_after had has client turns processed run head all
+      relayable can asks answers faultless =
       run.exact.whole head relayable
       (λ told ahead. neutral_passes s run.passed w told ahead all)
       (λ keep e refuses. neutral_refuses s.called head keep e refuses all can)

@@ -7,6 +7,9 @@ use Rattle.relay_tasks.specs.declared.Error.{Error}
 use Rattle.relay_tasks.specs.declared.Fault.{Fault}
 use Rattle.relay_tasks.specs.declared.hook.Hook.TheVariants as hook
 use Rattle.relay_tasks.specs.declared.log.LogEntry.{LogEntry}
+use Rattle.relay_tasks.specs.declared.peer.Peer.{Peer}
+use Rattle.relay_hooks.specs.DefaultLaw.{IsDefault}
+use Rattle.relay_hooks.specs.Standing.{Standing}
 use Rattle.relay_links.specs.Connector.{Offer}
 use Rattle.relay_links.specs.Link.{LinkState, LinkStart}
 use Rattle.relay_links.specs.declared.Returned.{Returned}
@@ -36,6 +39,11 @@ pub record IsNeutral (head : RequestHead) (e : LogEntry) : Type 0 where
   pub leaves : unwrap_or e.head head ≡ head
   pub goes_on : ends_it e ≡ false
   pub sends : e.hook ≡ hook.UpstreamRequestFilter → e.output ≡ e.input
+
+-- so is each call of a default hook, whatever the peer that it names
+abbrev pub DefaultsAreNeutral : Type 0
+DefaultsAreNeutral = (peer : Peer) (head : RequestHead) (st : Standing) (e : LogEntry)
+    → IsDefault peer st e → IsNeutral head e
 
 -- that head can be sent as it came, but for its version and what the relay makes of each: it has a
 -- host and a framing there

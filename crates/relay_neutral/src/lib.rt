@@ -2,7 +2,7 @@
 //! alone, which no turn proves (RFC 9110, section 3.7).
 #![tactic(auto)]
 
-ghost use Rattle.relay_neutral.specs.Neutral.{NeutralIsWhole};
+ghost use Rattle.relay_neutral.specs.Neutral.{DefaultsAreNeutral, NeutralIsWhole};
 
 use relay_links::ByteLink;
 
@@ -11,4 +11,9 @@ use relay_links::ByteLink;
 /// response that is relayed, and no call of a link failed, nor of the connector.
 pub fn neutral_is_whole<L: ByteLink>()
     ensures { NeutralIsWhole L.state L.start }
+{}
+
+/// Each call of a hook of `Defaults` is one that changes nothing.
+pub fn defaults_are_neutral()
+    ensures { DefaultsAreNeutral }
 {}
