@@ -3,7 +3,5 @@
 #![tactic(auto)]
 
 mod h1_exchange;
-#[cfg(test)]
-mod tests;
 
 pub use h1_exchange::{H1Exchange, Unbegun};

@@ -14,8 +14,6 @@ mod raw;
 mod reconcile;
 mod sent;
 mod target;
-#[cfg(test)]
-mod tests;
 mod upstream;
 
 pub use address::address_h2_head;

@@ -11,8 +11,6 @@ mod pipe;
 mod pipe_state;
 mod response_state;
 mod step;
-#[cfg(test)]
-mod tests;
 mod told;
 mod up;
 mod up_half;

@@ -4,7 +4,5 @@
 
 mod hooked;
 mod response;
-#[cfg(test)]
-mod tests;
 
 pub use hooked::Hooked;

@@ -11,8 +11,6 @@ mod head;
 mod options;
 mod output;
 mod size_line;
-#[cfg(test)]
-mod tests;
 mod verdict;
 mod wire;
 

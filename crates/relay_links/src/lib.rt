@@ -56,6 +56,3 @@ pub use std_source::StdSource;
 pub use vec_sink::VecSink;
 pub use watch::ShutdownWatch;
 pub use write_script::{WriteItem, WriteScript};
-
-#[cfg(test)]
-mod tests;

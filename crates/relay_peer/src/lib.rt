@@ -6,8 +6,6 @@ mod h1_client;
 mod peer_side;
 mod request_writing;
 mod response_reading;
-#[cfg(test)]
-mod tests;
 
 pub use h1_client::H1Client;
 pub use peer_side::PeerSide;

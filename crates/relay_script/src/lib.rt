@@ -6,8 +6,6 @@ mod check;
 mod checked;
 mod filtered;
 mod rule;
-#[cfg(test)]
-mod tests;
 
 pub use answered::{Answered, apply_rules};
 pub use check::{RuleError, RuleFault, check_rules, may_stand};

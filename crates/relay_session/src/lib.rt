@@ -9,8 +9,6 @@ mod reading;
 mod session;
 mod summary;
 mod task_text;
-#[cfg(test)]
-mod tests;
 mod writing;
 
 pub use front::Front;

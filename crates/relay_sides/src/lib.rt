@@ -3,8 +3,6 @@
 
 mod client_side;
 mod filtered;
-#[cfg(test)]
-mod tests;
 
 pub use client_side::ClientSide;
 pub use filtered::{Filtered, is_head_request};

@@ -16,8 +16,6 @@ mod shared;
 mod target;
 mod task;
 mod task_list;
-#[cfg(test)]
-mod tests;
 mod took;
 
 pub use context::Context;

@@ -14,6 +14,3 @@ pub use readiness::{Origin, Readiness, Seat, watch};
 pub use tcp_connector::TcpConnector;
 pub use tcp_link::TcpLink;
 pub use tcp_poller::TcpPoller;
-
-#[cfg(test)]
-mod tests;

@@ -1,6 +1,0 @@
--- A branch that was chosen can be taken.
-use Rattle.relay_core.proofs.tests.duplex.run.Goals as goal
-
--- the branch that was chosen can be taken
-pub step-last-requires : goal.step-last-requires
-step-last-requires g c = c.in-Some.ensures.can

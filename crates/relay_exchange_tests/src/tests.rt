@@ -1,0 +1,8 @@
+//! Each public call once with ample memory, and whole exchanges over links in memory.
+
+mod attempt;
+mod duplexes;
+mod filters;
+mod peer;
+mod session;
+mod sides;

@@ -1,0 +1,234 @@
+use bytes::Bytes;
+use http::Version;
+use http_header::{CONTENT_LENGTH, HeaderName, HeaderValue, TRANSFER_ENCODING};
+use relay_h1::Connection;
+use relay_links::{Put, ScriptLink, WriteItem};
+use relay_session::{Asks, Request, Writing};
+use relay_tasks::{
+    Context, Error, ErrorSource, ErrorType, Fail, Fault, FaultKind, HttpTask, ResponseHeader,
+    RetryType, TaskList,
+};
+use std::alloc::Global;
+use std::process::Abort;
+use std::str;
+use std::test::Fail as Failed;
+
+type Checked = std::result::Result<(), Failed>;
+
+/// The response to a request of that method and version.
+fn response(alloc: Global, method: Asks, version: Version) -> Writing {
+    let request = Request {
+        method,
+        version,
+        asked: false,
+        close: false,
+    };
+    Writing::new(alloc, request)
+}
+
+/// A head with that status and one field.
+fn head(
+    alloc: Global,
+    status: u16,
+    name: HeaderName,
+    value: &'static [u8],
+) -> relay_tasks::Result<ResponseHeader> {
+    let mut head = ResponseHeader::build(alloc, status)?;
+    let value = HeaderValue::from_bytes(alloc, value).map_err(|_| Fail::OutOfMemory)?;
+    head.insert_header(name, value)?;
+    Ok(head)
+}
+
+/// What a link that takes all has taken of what waits.
+fn expect_written(rt: &impl Abort, alloc: Global, writing: &mut Writing, want: &str) -> Checked {
+    let write = vec![in alloc; WriteItem::Take(1000)]?;
+    let link = ScriptLink::new(alloc, Vec::new(alloc), write);
+    let mut client: Connection<ScriptLink, u8> = Connection::new(alloc, link);
+    if writing.has_pending() {
+        assert_eq!(rt; writing.write_pending(&mut client), Put::Took(want.len()));
+    }
+    assert_eq!(rt; str::from_utf8(client.link().taken()), Ok(want));
+    assert!(rt; !writing.has_pending());
+    Ok(())
+}
+
+/// The tasks of a response in chunks, behind an informational head, with what gives nothing.
+fn chunked_tasks(alloc: Global) -> relay_tasks::Result<TaskList> {
+    let mut tasks = TaskList::new(alloc);
+    tasks.push(HttpTask::Header(ResponseHeader::build(alloc, 103)?, false))?;
+    let last = head(alloc, 200, TRANSFER_ENCODING, b"chunked")?;
+    tasks.push(HttpTask::Header(last, false))?;
+    tasks.push(HttpTask::Body(Some(Bytes::from_static(b"hello")), false))?;
+    tasks.push(HttpTask::Body(Some(Bytes::from_static(b"")), false))?;
+    tasks.push(HttpTask::Header(ResponseHeader::build(alloc, 500)?, false))?;
+    tasks.push(HttpTask::UpgradedBody(None, false))?;
+    tasks.push(HttpTask::Trailer(None))?;
+    tasks.push(HttpTask::Body(Some(Bytes::from_static(b"late")), false))?;
+    tasks.push(HttpTask::Done)?;
+    Ok(tasks)
+}
+
+#[test]
+fn writes_a_response_in_chunks(rt: HostRuntime) -> Checked {
+    let mut writing = response(rt.alloc(), Asks::Other, Version::HTTP_11);
+    let tasks = chunked_tasks(rt.alloc())?;
+    assert_eq!(rt; writing.response_duplex_vec(tasks), Ok(true));
+    assert_eq!(rt; writing.body_bytes_sent(), 5);
+    expect_written(
+        &rt,
+        rt.alloc(),
+        &mut writing,
+        "HTTP/1.1 103 Early Hints\r\n\r\nHTTP/1.1 200 OK\r\ntransfer-encoding: chunked\r\n\r\n5\r\nhello\r\n0\r\n\r\n",
+    )
+}
+
+#[test]
+fn writes_to_a_client_of_http_10(rt: HostRuntime) -> Checked {
+    let mut writing = response(rt.alloc(), Asks::Other, Version::HTTP_10);
+    let tasks = chunked_tasks(rt.alloc())?;
+    assert_eq!(rt; writing.response_duplex_vec(tasks), Ok(true));
+    expect_written(
+        &rt,
+        rt.alloc(),
+        &mut writing,
+        "HTTP/1.1 200 OK\r\n\r\nhello",
+    )
+}
+
+#[test]
+fn writes_a_response_call_by_call(rt: HostRuntime) -> Checked {
+    let mut writing = response(rt.alloc(), Asks::Other, Version::HTTP_11);
+    assert!(rt; !writing.response_written());
+    assert_eq!(rt;
+        writing.write_response_body(Bytes::from_static(b"early"), true),
+        Ok(())
+    );
+    let given = head(rt.alloc(), 200, CONTENT_LENGTH, b"7")?;
+    assert_eq!(rt; writing.write_response_header(given), Ok(()));
+    assert!(rt; writing.response_written() && !writing.response_done());
+    assert_eq!(rt;
+        writing.write_response_body(Bytes::from_static(b"hello"), false),
+        Ok(())
+    );
+    assert!(rt; !writing.response_done());
+    assert_eq!(rt;
+        writing.write_response_body(Bytes::from_static(b"world"), false),
+        Ok(())
+    );
+    assert!(rt; writing.response_done());
+    assert_eq!(rt; writing.finish_body(), Ok(()));
+    assert_eq!(rt; writing.body_bytes_sent(), 7);
+    expect_written(
+        &rt,
+        rt.alloc(),
+        &mut writing,
+        "HTTP/1.1 200 OK\r\ncontent-length: 7\r\n\r\nhellowo",
+    )
+}
+
+#[test]
+fn refuses_for_its_reasons_and_queues_what_is_given(rt: HostRuntime) -> Checked {
+    let mut writing = response(rt.alloc(), Asks::Other, Version::HTTP_11);
+    let bad = Error::explain(ErrorType::InvalidHTTPHeader, Context::BadFraming).into_in();
+    let given = head(rt.alloc(), 200, CONTENT_LENGTH, b"x")?;
+    assert_eq!(rt; writing.write_response_header(given), Err(Fail::Error(bad)));
+    assert!(rt; !writing.response_written() && !writing.has_pending());
+    let given = head(rt.alloc(), 200, CONTENT_LENGTH, b"3")?;
+    assert_eq!(rt; writing.write_response_header(given), Ok(()));
+    let short = Error::explain(ErrorType::PrematureBodyEnd, Context::BodyShort).into_down();
+    assert_eq!(rt;
+        writing.write_response_body(Bytes::from_static(b"ab"), true),
+        Err(Fail::Error(short))
+    );
+    let gone = Error::new_up(ErrorType::ConnectionClosed);
+    let mut tasks = TaskList::new(rt.alloc());
+    tasks.push(HttpTask::Body(Some(Bytes::from_static(b"a")), false))?;
+    tasks.push(HttpTask::Failed(gone))?;
+    tasks.push(HttpTask::Body(Some(Bytes::from_static(b"b")), false))?;
+    assert_eq!(rt; writing.response_duplex_vec(tasks), Err(Fail::Error(gone)));
+    expect_written(
+        &rt,
+        rt.alloc(),
+        &mut writing,
+        "HTTP/1.1 200 OK\r\ncontent-length: 3\r\n\r\naba",
+    )
+}
+
+#[test]
+fn answers_errors(rt: HostRuntime) -> Checked {
+    let mut writing = response(rt.alloc(), Asks::Other, Version::HTTP_11);
+    assert_eq!(rt; writing.respond_error(502), Ok(()));
+    assert_eq!(rt; writing.respond_error(500), Ok(()));
+    assert!(rt; writing.response_done());
+    expect_written(
+        &rt,
+        rt.alloc(),
+        &mut writing,
+        "HTTP/1.1 502 Bad Gateway\r\nserver: Pingora\r\ncontent-length: 0\r\ncache-control: private, no-store\r\n\r\n",
+    )
+}
+
+#[test]
+fn answers_errors_with_a_body_but_to_head(rt: HostRuntime) -> Checked {
+    let answer =
+        "HTTP/1.1 404 Not Found\r\nserver: Pingora\r\ncontent-length: 12\r\ncache-control: private, no-store\r\n\r\n";
+    let mut writing = response(rt.alloc(), Asks::Head, Version::HTTP_11);
+    let body = Bytes::from_static(b"nothing here");
+    assert_eq!(rt; writing.respond_error_with_body(404, body), Ok(()));
+    expect_written(&rt, rt.alloc(), &mut writing, answer)?;
+    let mut writing = response(rt.alloc(), Asks::Other, Version::HTTP_10);
+    let body = Bytes::from_static(b"nothing here");
+    assert_eq!(rt; writing.respond_error_with_body(404, body), Ok(()));
+    assert!(rt; writing.response_done());
+    let whole = format!(in rt.alloc(); "{answer}nothing here")?;
+    expect_written(&rt, rt.alloc(), &mut writing, &whole)
+}
+
+/// One write, where bytes wait.
+fn write_once(writing: &mut Writing, client: &mut Connection<ScriptLink, u8>) -> Option<Put> {
+    if !writing.has_pending() {
+        return None;
+    }
+    Some(writing.write_pending(client))
+}
+
+#[test]
+fn writes_in_parts_and_keeps_the_first_fault(rt: HostRuntime) -> Checked {
+    let fault = Fault {
+        kind: FaultKind::Write,
+        retry: RetryType::Decided(false),
+    };
+    let write = vec![in rt.alloc();
+        WriteItem::Take(20),
+        WriteItem::Wait(1),
+        WriteItem::Take(1),
+        WriteItem::Take(4),
+        WriteItem::Fault(fault),
+    ]?;
+    let link = ScriptLink::new(rt.alloc(), Vec::new(rt.alloc()), write);
+    let mut client: Connection<ScriptLink, u8> = Connection::new(rt.alloc(), link);
+    let mut writing = response(rt.alloc(), Asks::Other, Version::HTTP_11);
+    writing.write_response_header(ResponseHeader::build(rt.alloc(), 200)?)?;
+    assert_eq!(rt; write_once(&mut writing, &mut client), Some(Put::Took(19)));
+    writing.write_response_body(Bytes::from_static(b"hello"), false)?;
+    assert_eq!(rt; write_once(&mut writing, &mut client), Some(Put::NotReady));
+    assert_eq!(rt; write_once(&mut writing, &mut client), Some(Put::Took(1)));
+    writing.write_response_body(Bytes::from_static(b", world"), false)?;
+    assert_eq!(rt; write_once(&mut writing, &mut client), Some(Put::Took(4)));
+    assert!(rt; writing.has_pending());
+    assert_eq!(rt;
+        write_once(&mut writing, &mut client),
+        Some(Put::Failed(fault))
+    );
+    assert!(rt; !writing.has_pending());
+    match writing.write_response_body(Bytes::from_static(b"!"), false) {
+        Err(Fail::Error(error)) => {
+            assert_eq!(rt; error.etype, ErrorType::WriteError);
+            assert_eq!(rt; error.esource, ErrorSource::Downstream);
+        }
+        Ok(()) | Err(Fail::OutOfMemory) => assert!(rt; false, "the fault"),
+    }
+    let taken = client.link().taken();
+    assert_eq!(rt; str::from_utf8(taken), Ok("HTTP/1.1 200 OK\r\n\r\nhello"));
+    Ok(())
+}

@@ -1,0 +1,8 @@
+//! Vectors from outside, and each public call once with ample memory, a module for each crate.
+
+mod authority;
+mod h1;
+mod links;
+mod script;
+mod tasks;
+mod tcp;

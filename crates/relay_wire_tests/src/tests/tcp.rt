@@ -1,0 +1,299 @@
+use bytes::Bytes;
+use mio::net::{TcpListener, TcpStream};
+use mio::{Events, Interest, Poll, Token};
+use relay_links::{ByteLink, Connector, Got, Put};
+use relay_tasks::{Fault, FaultKind, Peer, RetryType};
+use relay_tcp::*;
+use std::alloc::Global;
+use std::net::{Ipv4Addr, SocketAddr};
+use std::sync::Arc;
+use std::test::Fail;
+use std::time::Duration;
+use std::{io, thread};
+
+// How often a call is made again, a millisecond later each time.
+const ROUNDS: usize = 1000;
+
+// How many links a poll can tell of at once.
+const SLOTS: usize = 256;
+
+fn peer() -> Peer {
+    Peer {
+        address: Bytes::from_static(b"any"),
+        tls: false,
+        allows_h1: true,
+    }
+}
+
+/// A poll, and what it has told.
+#[derive(Drop)]
+struct Waiting {
+    poll: Poll,
+    events: Events<Global>,
+    readiness: Arc<Readiness>,
+}
+
+impl Waiting {
+    fn new(rt: &HostRuntime) -> io::Result<Waiting> {
+        let poll = Poll::new(rt)?;
+        let readiness = Readiness::new(rt.alloc(), poll.registry().try_clone()?)?;
+        Ok(Waiting {
+            poll,
+            events: Events::with_capacity(rt.alloc(), 8)?,
+            readiness,
+        })
+    }
+
+    /// Waits so long at most, and tells what happened.
+    fn wait(&mut self, millis: u64) -> io::Result<()> {
+        let longest = Duration::from_millis(millis);
+        self.poll.poll(&mut self.events, Some(longest))?;
+        for event in self.events.iter() {
+            self.readiness.tell(event);
+        }
+        Ok(())
+    }
+}
+
+/// A connector to that address, whose connections are waited for there.
+fn connector(
+    rt: &HostRuntime,
+    address: SocketAddr,
+    waiting: &Waiting,
+) -> Result<TcpConnector<HostRuntime>, Fail> {
+    let connector = TcpConnector::new(rt, address, Arc::try_clone(&waiting.readiness)?);
+    Ok(connector.ok().ok_or("memory")?)
+}
+
+/// A watched link to that listener, and its far end, which is not watched.
+fn pair(
+    rt: &HostRuntime,
+    listener: &TcpListener,
+    waiting: &Waiting,
+) -> Result<(TcpLink, TcpLink), Fail> {
+    let mut connector = connector(rt, listener.local_addr()?, waiting)?;
+    let (near, _) = connector.get(&peer()).ok().ok_or("refused")?;
+    Ok((near, accept(rt, listener)?))
+}
+
+fn listen(rt: &HostRuntime) -> Result<TcpListener, Fail> {
+    Ok(TcpListener::bind(rt, SocketAddr::from((Ipv4Addr::LOCALHOST, 0)))?)
+}
+
+/// The next connection, as a link that is marked as reused.
+fn accept(rt: &HostRuntime, listener: &TcpListener) -> Result<TcpLink, Fail> {
+    for _ in 0..ROUNDS {
+        if let Ok((stream, _)) = listener.accept() {
+            return Ok(TcpLink::new(stream, true));
+        }
+        thread::sleep(rt, Duration::from_millis(1));
+    }
+    Err(Fail::from("nobody came"))
+}
+
+/// The first answer other than `NotReady` in so many reads, and the room. After each read that was
+/// not ready a millisecond is waited.
+fn read_four(
+    waiting: &mut Waiting,
+    link: &mut TcpLink,
+    rounds: usize,
+) -> io::Result<(Got, [u8; 4])> {
+    let mut room = [0; 4];
+    for _ in 0..rounds {
+        match link.read(&mut room) {
+            Got::NotReady => waiting.wait(1)?,
+            got => return Ok((got, room)),
+        }
+    }
+    Ok((Got::NotReady, room))
+}
+
+#[test]
+fn what_one_end_writes_the_other_reads_and_a_release_ends_it(rt: HostRuntime) -> Result<(), Fail> {
+    let mut waiting = Waiting::new(&rt)?;
+    let listener = listen(&rt)?;
+    let mut connector = connector(&rt, listener.local_addr()?, &waiting)?;
+    let (mut near, reused) = connector.get(&peer()).ok().ok_or("refused")?;
+    let mut far = accept(&rt, &listener)?;
+    assert_eq!(rt; read_four(&mut waiting, &mut near, 1)?.0, Got::NotReady);
+    assert_eq!(rt; near.write(b"ping"), Put::Took(4));
+    let ping = read_four(&mut waiting, &mut far, ROUNDS)?;
+    assert_eq!(rt; ping, (Got::Bytes(4), *b"ping"));
+    assert_eq!(rt; far.write(b"pong"), Put::Took(4));
+    let pong = read_four(&mut waiting, &mut near, ROUNDS)?;
+    assert_eq!(rt; pong, (Got::Bytes(4), *b"pong"));
+    connector.release(peer(), near, true);
+    assert_eq!(rt; read_four(&mut waiting, &mut far, ROUNDS)?.0, Got::End);
+    assert_eq!(rt; read_four(&mut waiting, &mut far, 1)?.0, Got::End);
+    assert_eq!(rt; (reused, far.faults(), connector.faults()), (false, 0, 0));
+    Ok(())
+}
+
+#[test]
+fn a_link_asks_its_socket_once_a_poll_has_told(rt: HostRuntime) -> Result<(), Fail> {
+    let mut waiting = Waiting::new(&rt)?;
+    let listener = listen(&rt)?;
+    let (mut near, mut far) = pair(&rt, &listener, &waiting)?;
+    let mut room = [0; 16];
+    for part in [b"one", b"two"] {
+        assert_eq!(rt; far.write(part), Put::Took(3));
+        thread::sleep(&rt, Duration::from_millis(20));
+        // The bytes are there, and nothing was told yet.
+        assert_eq!(rt; near.read(&mut room), Got::NotReady);
+        waiting.wait(1000)?;
+        assert_eq!(rt; near.read(&mut room), Got::Bytes(3));
+        assert_eq!(rt; room[..3], part[..]);
+    }
+    assert_eq!(rt; (near.used(), near.faults()), (4, 0));
+    Ok(())
+}
+
+#[test]
+fn an_end_that_came_with_the_last_bytes_is_read(rt: HostRuntime) -> Result<(), Fail> {
+    let mut waiting = Waiting::new(&rt)?;
+    let listener = listen(&rt)?;
+    let (mut near, mut far) = pair(&rt, &listener, &waiting)?;
+    assert_eq!(rt; far.write(b"bye"), Put::Took(3));
+    drop(far);
+    thread::sleep(&rt, Duration::from_millis(20));
+    waiting.wait(1000)?;
+    let mut room = [0; 16];
+    assert_eq!(rt; near.read(&mut room), Got::Bytes(3));
+    assert_eq!(rt; near.read(&mut room), Got::End);
+    Ok(())
+}
+
+/// Reads until nothing is there.
+fn drain(link: &mut TcpLink, room: &mut [u8; 4096]) {
+    for _ in 0..ROUNDS * ROUNDS {
+        if link.read(room) == Got::NotReady {
+            return;
+        }
+    }
+}
+
+#[test]
+fn a_write_goes_on_once_a_poll_has_told_of_room(rt: HostRuntime) -> Result<(), Fail> {
+    let mut waiting = Waiting::new(&rt)?;
+    let listener = listen(&rt)?;
+    let (mut near, mut far) = pair(&rt, &listener, &waiting)?;
+    let mut room = [7; 4096];
+    let mut put = near.write(&room);
+    for _ in 0..ROUNDS * ROUNDS {
+        if put == Put::NotReady {
+            break;
+        }
+        put = near.write(&room);
+    }
+    assert_eq!(rt; put, Put::NotReady);
+    drain(&mut far, &mut room);
+    // There is room again, and nothing was told yet.
+    assert_eq!(rt; near.write(&room), Put::NotReady);
+    for _ in 0..ROUNDS {
+        waiting.wait(1)?;
+        put = near.write(&room);
+        if put != Put::NotReady {
+            break;
+        }
+        drain(&mut far, &mut room);
+    }
+    assert_eq!(rt; put, Put::Took(4096));
+    Ok(())
+}
+
+/// Whether a link waits to be told of bytes that have come.
+fn is_told_apart(rt: &HostRuntime, near: &mut TcpLink, far: &mut TcpLink) -> bool {
+    let took = far.write(b"pong");
+    thread::sleep(rt, Duration::from_millis(1));
+    took == Put::Took(4) && near.read(&mut [0; 4]) == Got::NotReady
+}
+
+#[test]
+fn a_link_gives_its_slot_back(rt: HostRuntime) -> Result<(), Fail> {
+    let waiting = Waiting::new(&rt)?;
+    let listener = listen(&rt)?;
+    for _ in 0..SLOTS + 2 {
+        let (mut near, mut far) = pair(&rt, &listener, &waiting)?;
+        assert!(rt; is_told_apart(&rt, &mut near, &mut far));
+    }
+    Ok(())
+}
+
+#[test]
+fn a_link_without_a_slot_asks_at_each_call(rt: HostRuntime) -> Result<(), Fail> {
+    let mut waiting = Waiting::new(&rt)?;
+    let listener = listen(&rt)?;
+    let mut seated = Vec::new(rt.alloc());
+    for _ in 0..SLOTS {
+        let (near, _) = pair(&rt, &listener, &waiting)?;
+        seated.push(near)?;
+    }
+    let (mut near, mut far) = pair(&rt, &listener, &waiting)?;
+    assert!(rt; !is_told_apart(&rt, &mut near, &mut far));
+    // A wait ends at once for it, as for any other.
+    assert_eq!(rt; far.write(b"pong"), Put::Took(4));
+    waiting.wait(1000)?;
+    assert_eq!(rt; near.read(&mut [0; 4]), Got::Bytes(4));
+    Ok(())
+}
+
+#[test]
+fn a_poll_waits_for_a_link(rt: HostRuntime) -> Result<(), Fail> {
+    let listener = listen(&rt)?;
+    let mut link = TcpLink::new(TcpStream::connect(&rt, listener.local_addr()?)?, false);
+    let mut poll = Poll::new(&rt)?;
+    let mut events = Events::with_capacity(rt.alloc(), 4)?;
+    poll.registry()
+        .register(link.stream(), Token(7), Interest::WRITABLE)?;
+    poll.poll(&mut events, Some(Duration::from_secs(1)))?;
+    assert!(rt; events.iter().any(|event| event.is_writable()));
+    assert_eq!(rt; link.used(), 0);
+    Ok(())
+}
+
+const UNREAD: Fault = Fault {
+    kind: FaultKind::Read,
+    retry: RetryType::ReusedOnly,
+};
+
+const UNWRITTEN: Fault = Fault {
+    kind: FaultKind::Write,
+    retry: RetryType::ReusedOnly,
+};
+
+const UNCONNECTED: Fault = Fault {
+    kind: FaultKind::Connect,
+    retry: RetryType::Decided(false),
+};
+
+#[test]
+fn where_nothing_listens_each_call_is_a_fault(rt: HostRuntime) -> Result<(), Fail> {
+    let listener = listen(&rt)?;
+    let address = listener.local_addr()?;
+    drop(listener);
+    let mut waiting = Waiting::new(&rt)?;
+    let mut connector = connector(&rt, address, &waiting)?;
+    match connector.get(&peer()) {
+        Ok((mut link, _)) => {
+            let (got, _) = read_four(&mut waiting, &mut link, ROUNDS)?;
+            assert_eq!(rt; got, Got::Failed(UNREAD));
+            assert_eq!(rt; link.write(b"ping"), Put::Failed(UNWRITTEN));
+            assert_eq!(rt; link.faults(), 2);
+            assert_eq!(rt; connector.faults(), 0);
+        }
+        Err(fault) => {
+            assert_eq!(rt; fault, UNCONNECTED);
+            assert_eq!(rt; connector.faults(), 1);
+        }
+    }
+    Ok(())
+}
+
+#[test]
+fn an_address_of_no_host_is_refused_at_once(rt: HostRuntime) -> Result<(), Fail> {
+    let everyone = SocketAddr::from((Ipv4Addr::BROADCAST, 9));
+    let mut connector = connector(&rt, everyone, &Waiting::new(&rt)?)?;
+    assert_eq!(rt; connector.get(&peer()).err(), Some(UNCONNECTED));
+    assert_eq!(rt; connector.faults(), 1);
+    Ok(())
+}
