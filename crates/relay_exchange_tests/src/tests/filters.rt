@@ -347,15 +347,3 @@ fn sums_the_delays_of_the_pieces(rt: HostRuntime) {
     let app = App::new(Slows { delay: 5 });
     assert!(rt; delays(app, rt.alloc(), 3) == Ok((15, 0)));
 }
-
-#[test]
-fn stands_at_the_last_value_where_a_sum_does_not_fit(rt: HostRuntime) {
-    let app = App::new(Slows { delay: u64::MAX });
-    assert!(rt; delays(app, rt.alloc(), 2) == Ok((u64::MAX, 0)));
-}
-
-#[test]
-fn asks_for_no_delay_where_no_piece_passed(rt: HostRuntime) {
-    let app = App::new(Slows { delay: 5 });
-    assert!(rt; delays(app, rt.alloc(), 0) == Ok((0, 0)));
-}

@@ -1,5 +1,5 @@
 //! Request bodies of every framing, and clients that break off.
-use super::support::{Came, byte_by_byte, exchange, expect_failed, expect_relayed, only, text};
+use super::support::{byte_by_byte, exchange, expect_failed, expect_relayed, only, text};
 use relay_core::Step;
 use relay_links::{Branch, ListSchedule, ReadItem};
 use relay_tasks::{ErrorSource, ErrorType, Pause};
@@ -106,29 +106,6 @@ fn a_client_that_breaks_off_leaves_no_end(rt: HostRuntime) -> Checked {
         "",
         SHORT_SENT,
         "abc",
-    )
-}
-
-#[test]
-fn a_client_that_breaks_off_in_chunks_leaves_no_last_chunk(rt: HostRuntime) -> Checked {
-    let alloc = rt.alloc();
-    let from_client = vec![in alloc; text(CHUNKED), text("3\r\nabc\r\n"), ReadItem::End]?;
-    let came = exchange(
-        alloc,
-        from_client,
-        vec![in alloc]?,
-        no_schedule(alloc),
-        1000,
-    );
-    let kind = ErrorType::ConnectionClosed;
-    expect_failed(
-        &rt,
-        &came,
-        kind,
-        ErrorSource::Downstream,
-        "",
-        CHUNKED_SENT,
-        "3\r\nabc\r\n",
     )
 }
 

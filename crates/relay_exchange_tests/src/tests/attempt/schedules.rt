@@ -1,6 +1,5 @@
 //! Schedules: whatever they name, the same bytes pass.
 use super::support::{exchange, expect_relayed, only, text};
-use bytes::Bytes;
 use relay_links::{Branch, ReadItem};
 use std::alloc::{AllocError, Global};
 use std::process::Abort;

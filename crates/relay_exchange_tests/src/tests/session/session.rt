@@ -1,12 +1,10 @@
 use bytes::Bytes;
 use http::Version;
 use http_header::{CONNECTION, CONTENT_LENGTH, HeaderValue};
-use relay_h1::{Connection, Framing};
+use relay_h1::{Connection, Framing, Output};
 use relay_links::{Put, ReadItem, ScriptLink, WriteItem};
 use relay_session::{Front, HttpSession};
-use relay_tasks::{
-    Context, Error, ErrorType, Fail, HttpTask, RequestHeader, ResponseHeader, TaskList, Took,
-};
+use relay_tasks::{HttpTask, RequestHeader, ResponseHeader, TaskList, Took};
 use std::alloc::{AllocError, Global};
 use std::process::Abort;
 use std::str;
@@ -138,74 +136,8 @@ fn goes_on_behind_a_head_that_its_caller_read(rt: HostRuntime) -> Checked {
     Ok(())
 }
 
-/// The error of a body that ends short of its length.
-fn short() -> Fail {
-    Fail::Error(Error::explain(ErrorType::PrematureBodyEnd, Context::BodyShort).into_down())
-}
-
-#[test]
-fn queues_a_piece_that_ends_its_body_short(rt: HostRuntime) -> Checked {
-    let mut client = client(rt.alloc(), b"GET / HTTP/1.1\r\nHost: h\r\n\r\n")?;
-    let mut session = session_of(rt.alloc(), &mut client);
-    let given = head(rt.alloc(), 2)?;
-    assert_eq!(rt; session.write_response_header(given), Ok(()));
-    assert_eq!(rt;
-        session.write_response_body(Bytes::from_static(b"h"), true),
-        Err(short())
-    );
-    assert_eq!(rt; session.body_bytes_sent(), 1);
-    assert_eq!(rt; session.finish_body(), Err(short()));
-    assert!(rt; !session.response_done());
-    expect_written(
-        &rt,
-        &mut session,
-        &mut client,
-        "HTTP/1.1 200 OK\r\ncontent-length: 2\r\n\r\nh",
-    )
-}
-
-/// An informational head, and a final head whose Content-Length is no number.
-fn unframed_tasks(alloc: Global) -> relay_tasks::Result<TaskList> {
-    let mut bad = ResponseHeader::build(alloc, 200)?;
-    let value = HeaderValue::from_bytes(alloc, b"x").map_err(|_| Fail::OutOfMemory)?;
-    bad.insert_header(CONTENT_LENGTH, value)?;
-    let mut tasks = TaskList::new(alloc);
-    tasks.push(HttpTask::Header(ResponseHeader::build(alloc, 103)?, false))?;
-    tasks.push(HttpTask::Header(bad, false))?;
-    Ok(tasks)
-}
-
-#[test]
-fn queues_nothing_of_a_batch_that_the_check_refuses(rt: HostRuntime) -> Checked {
-    let mut client = client(rt.alloc(), b"GET / HTTP/1.1\r\nHost: h\r\n\r\n")?;
-    let mut session = session_of(rt.alloc(), &mut client);
-    let bad = Error::explain(ErrorType::InvalidHTTPHeader, Context::BadFraming).into_in();
-    let tasks = unframed_tasks(rt.alloc())?;
-    assert_eq!(rt; session.response_duplex_vec(tasks), Err(Fail::Error(bad)));
-    assert!(rt; !session.has_pending() && !session.response_written());
-    let mut tasks = TaskList::new(rt.alloc());
-    tasks.push(HttpTask::Header(head(rt.alloc(), 2)?, false))?;
-    tasks.push(HttpTask::Body(Some(Bytes::from_static(b"h")), true))?;
-    assert_eq!(rt; session.response_duplex_vec(tasks), Err(short()));
-    expect_written(
-        &rt,
-        &mut session,
-        &mut client,
-        "HTTP/1.1 200 OK\r\ncontent-length: 2\r\n\r\nh",
-    )
-}
-
 const NOT_FOUND: &str =
     "HTTP/1.1 404 Not Found\r\nserver: Pingora\r\ncontent-length: 4\r\ncache-control: private, no-store\r\n\r\n";
-
-#[test]
-fn answers_head_without_a_body(rt: HostRuntime) -> Checked {
-    let mut client = client(rt.alloc(), b"HEAD / HTTP/1.1\r\nHost: h\r\n\r\n")?;
-    let mut session = session_of(rt.alloc(), &mut client);
-    let gone = Bytes::from_static(b"gone");
-    assert_eq!(rt; session.respond_error_with_body(404, gone), Ok(()));
-    expect_written(&rt, &mut session, &mut client, NOT_FOUND)
-}
 
 #[test]
 fn answers_get_with_its_body(rt: HostRuntime) -> Checked {
@@ -295,5 +227,18 @@ fn asks_again_by_the_head_as_it_came(rt: HostRuntime) -> Checked {
     head.set_version(Version::HTTP_10);
     head.insert_header(CONNECTION, HeaderValue::from_bytes(rt.alloc(), b"close")?)?;
     assert!(rt; session.lets_ask_again());
+    Ok(())
+}
+
+#[test]
+fn writes_to_a_client(rt: HostRuntime) -> Checked {
+    let mut client = client(rt.alloc(), b"")?;
+    let mut output = Output::new(Vec::from_slice(rt.alloc(), b"0123456789")?);
+    assert!(rt; !output.is_empty());
+    assert_eq!(rt; Front::write_out(&mut client, &mut output), Put::Took(10));
+    assert!(rt; output.is_empty());
+    assert!(rt; client.is_clear());
+    assert_eq!(rt; client.used(), 1);
+    assert_eq!(rt; client.faults(), 0);
     Ok(())
 }

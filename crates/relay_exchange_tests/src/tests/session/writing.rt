@@ -4,10 +4,7 @@ use http_header::{CONTENT_LENGTH, HeaderName, HeaderValue, TRANSFER_ENCODING};
 use relay_h1::Connection;
 use relay_links::{Put, ScriptLink, WriteItem};
 use relay_session::{Asks, Request, Writing};
-use relay_tasks::{
-    Context, Error, ErrorSource, ErrorType, Fail, Fault, FaultKind, HttpTask, ResponseHeader,
-    RetryType, TaskList,
-};
+use relay_tasks::{Fail, HttpTask, ResponseHeader, TaskList};
 use std::alloc::Global;
 use std::process::Abort;
 use std::str;
@@ -83,19 +80,6 @@ fn writes_a_response_in_chunks(rt: HostRuntime) -> Checked {
 }
 
 #[test]
-fn writes_to_a_client_of_http_10(rt: HostRuntime) -> Checked {
-    let mut writing = response(rt.alloc(), Asks::Other, Version::HTTP_10);
-    let tasks = chunked_tasks(rt.alloc())?;
-    assert_eq!(rt; writing.response_duplex_vec(tasks), Ok(true));
-    expect_written(
-        &rt,
-        rt.alloc(),
-        &mut writing,
-        "HTTP/1.1 200 OK\r\n\r\nhello",
-    )
-}
-
-#[test]
 fn writes_a_response_call_by_call(rt: HostRuntime) -> Checked {
     let mut writing = response(rt.alloc(), Asks::Other, Version::HTTP_11);
     assert!(rt; !writing.response_written());
@@ -127,34 +111,6 @@ fn writes_a_response_call_by_call(rt: HostRuntime) -> Checked {
 }
 
 #[test]
-fn refuses_for_its_reasons_and_queues_what_is_given(rt: HostRuntime) -> Checked {
-    let mut writing = response(rt.alloc(), Asks::Other, Version::HTTP_11);
-    let bad = Error::explain(ErrorType::InvalidHTTPHeader, Context::BadFraming).into_in();
-    let given = head(rt.alloc(), 200, CONTENT_LENGTH, b"x")?;
-    assert_eq!(rt; writing.write_response_header(given), Err(Fail::Error(bad)));
-    assert!(rt; !writing.response_written() && !writing.has_pending());
-    let given = head(rt.alloc(), 200, CONTENT_LENGTH, b"3")?;
-    assert_eq!(rt; writing.write_response_header(given), Ok(()));
-    let short = Error::explain(ErrorType::PrematureBodyEnd, Context::BodyShort).into_down();
-    assert_eq!(rt;
-        writing.write_response_body(Bytes::from_static(b"ab"), true),
-        Err(Fail::Error(short))
-    );
-    let gone = Error::new_up(ErrorType::ConnectionClosed);
-    let mut tasks = TaskList::new(rt.alloc());
-    tasks.push(HttpTask::Body(Some(Bytes::from_static(b"a")), false))?;
-    tasks.push(HttpTask::Failed(gone))?;
-    tasks.push(HttpTask::Body(Some(Bytes::from_static(b"b")), false))?;
-    assert_eq!(rt; writing.response_duplex_vec(tasks), Err(Fail::Error(gone)));
-    expect_written(
-        &rt,
-        rt.alloc(),
-        &mut writing,
-        "HTTP/1.1 200 OK\r\ncontent-length: 3\r\n\r\naba",
-    )
-}
-
-#[test]
 fn answers_errors(rt: HostRuntime) -> Checked {
     let mut writing = response(rt.alloc(), Asks::Other, Version::HTTP_11);
     assert_eq!(rt; writing.respond_error(502), Ok(()));
@@ -182,53 +138,4 @@ fn answers_errors_with_a_body_but_to_head(rt: HostRuntime) -> Checked {
     assert!(rt; writing.response_done());
     let whole = format!(in rt.alloc(); "{answer}nothing here")?;
     expect_written(&rt, rt.alloc(), &mut writing, &whole)
-}
-
-/// One write, where bytes wait.
-fn write_once(writing: &mut Writing, client: &mut Connection<ScriptLink, u8>) -> Option<Put> {
-    if !writing.has_pending() {
-        return None;
-    }
-    Some(writing.write_pending(client))
-}
-
-#[test]
-fn writes_in_parts_and_keeps_the_first_fault(rt: HostRuntime) -> Checked {
-    let fault = Fault {
-        kind: FaultKind::Write,
-        retry: RetryType::Decided(false),
-    };
-    let write = vec![in rt.alloc();
-        WriteItem::Take(20),
-        WriteItem::Wait(1),
-        WriteItem::Take(1),
-        WriteItem::Take(4),
-        WriteItem::Fault(fault),
-    ]?;
-    let link = ScriptLink::new(rt.alloc(), Vec::new(rt.alloc()), write);
-    let mut client: Connection<ScriptLink, u8> = Connection::new(rt.alloc(), link);
-    let mut writing = response(rt.alloc(), Asks::Other, Version::HTTP_11);
-    writing.write_response_header(ResponseHeader::build(rt.alloc(), 200)?)?;
-    assert_eq!(rt; write_once(&mut writing, &mut client), Some(Put::Took(19)));
-    writing.write_response_body(Bytes::from_static(b"hello"), false)?;
-    assert_eq!(rt; write_once(&mut writing, &mut client), Some(Put::NotReady));
-    assert_eq!(rt; write_once(&mut writing, &mut client), Some(Put::Took(1)));
-    writing.write_response_body(Bytes::from_static(b", world"), false)?;
-    assert_eq!(rt; write_once(&mut writing, &mut client), Some(Put::Took(4)));
-    assert!(rt; writing.has_pending());
-    assert_eq!(rt;
-        write_once(&mut writing, &mut client),
-        Some(Put::Failed(fault))
-    );
-    assert!(rt; !writing.has_pending());
-    match writing.write_response_body(Bytes::from_static(b"!"), false) {
-        Err(Fail::Error(error)) => {
-            assert_eq!(rt; error.etype, ErrorType::WriteError);
-            assert_eq!(rt; error.esource, ErrorSource::Downstream);
-        }
-        Ok(()) | Err(Fail::OutOfMemory) => assert!(rt; false, "the fault"),
-    }
-    let taken = client.link().taken();
-    assert_eq!(rt; str::from_utf8(taken), Ok("HTTP/1.1 200 OK\r\n\r\nhello"));
-    Ok(())
 }

@@ -5,9 +5,7 @@ use relay_h1::Connection;
 use relay_links::{Put, ReadItem, ScriptLink, WriteItem};
 use relay_session::HttpSession;
 use relay_sides::ClientSide;
-use relay_tasks::{
-    Context, Fail, Fault, FaultKind, HttpTask, ResponseHeader, RetryType, TaskList, Took,
-};
+use relay_tasks::{Context, Fail, HttpTask, ResponseHeader, TaskList, Took};
 use std::alloc::{AllocError, Global};
 use std::process::Abort;
 use std::str;
@@ -94,25 +92,17 @@ fn reads(
 }
 
 #[test]
-fn ends_a_length_with_its_last_bytes(rt: HostRuntime) -> Checked {
+fn reads_a_body_to_its_end(rt: HostRuntime) -> Checked {
     let head = b"PUT / HTTP/1.1\r\nHost: h\r\nContent-Length: 4\r\n\r\nab";
-    reads(&rt, rt.alloc(), head, b"cd", ["piece", "last"])
-}
-
-#[test]
-fn ends_chunks_with_a_piece_of_no_bytes(rt: HostRuntime) -> Checked {
+    reads(&rt, rt.alloc(), head, b"cd", ["piece", "last"])?;
     let head = b"PUT / HTTP/1.1\r\nHost: h\r\nTransfer-Encoding: chunked\r\n\r\n2\r\nab\r\n";
     reads(&rt, rt.alloc(), head, b"0\r\n\r\n", ["piece", "end"])
 }
 
 #[test]
-fn tells_a_client_that_ends_inside_its_body(rt: HostRuntime) -> Checked {
+fn tells_a_client_that_sends_less_or_more(rt: HostRuntime) -> Checked {
     let head = b"PUT / HTTP/1.1\r\nHost: h\r\nContent-Length: 4\r\n\r\n";
-    reads(&rt, rt.alloc(), head, b"ab", ["piece", "closed"])
-}
-
-#[test]
-fn tells_a_client_that_sends_more(rt: HostRuntime) -> Checked {
+    reads(&rt, rt.alloc(), head, b"ab", ["piece", "closed"])?;
     let head = b"PUT / HTTP/1.1\r\nHost: h\r\nContent-Length: 2\r\n\r\nab";
     reads(&rt, rt.alloc(), head, b"cd", ["last", "sent more"])
 }
@@ -144,32 +134,10 @@ fn writes_a_batch(rt: HostRuntime) -> Checked {
     assert!(rt; !Down::<Client>::has_pending(&side));
     assert_eq!(rt; Down::<Client>::finish(&mut side), Ok(()));
     assert!(rt; !Down::<Client>::has_pending(&side));
+    assert_eq!(rt; Down::<Client>::told(&side).errors, 0);
     assert_eq!(rt;
         str::from_utf8(client.link().taken()),
         Ok("HTTP/1.1 200 OK\r\ncontent-length: 5\r\n\r\nhello")
     );
-    Ok(())
-}
-
-#[test]
-fn keeps_the_fault_of_a_write(rt: HostRuntime) -> Checked {
-    let head = b"GET / HTTP/1.1\r\nHost: h\r\n\r\n";
-    let fault = Fault {
-        kind: FaultKind::Write,
-        retry: RetryType::Decided(false),
-    };
-    let mut client = client(rt.alloc(), head, b"", WriteItem::Fault(fault))?;
-    let mut side = side_of(rt.alloc(), &mut client);
-    queue_response(&rt, rt.alloc(), &mut side)?;
-    if Down::<Client>::has_pending(&side) {
-        assert!(rt; matches!(side.write_pending(&mut client), Put::Failed(_)));
-    }
-    assert!(rt; Down::<Client>::has_pending(&side));
-    if Down::<Client>::has_pending(&side) {
-        assert!(rt; matches!(side.write_pending(&mut client), Put::Failed(_)));
-    }
-    assert!(rt; Down::<Client>::has_pending(&side));
-    assert!(rt; Down::<Client>::finish(&mut side).is_err());
-    assert_eq!(rt; Down::<Client>::told(&side).errors, 3);
     Ok(())
 }

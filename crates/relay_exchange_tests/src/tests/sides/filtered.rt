@@ -98,19 +98,18 @@ fn tells_a_head_request_by_its_method(rt: HostRuntime) -> Checked {
     Ok(())
 }
 
-#[test]
-fn hands_on_a_response_by_its_length(rt: HostRuntime) -> Checked {
-    let text = b"HTTP/1.1 100 Continue\r\n\r\nHTTP/1.1 200 OK\r\ncontent-length: 2\r\n\r\nab";
-    let mut side = filtered(rt.alloc(), text)?;
-    let told = answers(rt.alloc(), &mut side, 3)?;
-    assert_eq!(rt; told.as_str(), " informs head piece and end");
-    Ok(())
+/// So many answers of a side over that text, in words.
+fn answers_to(alloc: Global, text: &'static [u8], calls: u8) -> relay_tasks::Result<String> {
+    let mut side = filtered(alloc, text)?;
+    Ok(answers(alloc, &mut side, calls)?)
 }
 
 #[test]
-fn chunks_a_response_that_lasts_until_the_link_ends(rt: HostRuntime) -> Checked {
-    let mut side = filtered(rt.alloc(), b"HTTP/1.1 200 OK\r\n\r\nab")?;
-    let told = answers(rt.alloc(), &mut side, 4)?;
+fn hands_a_response_on(rt: HostRuntime) -> Checked {
+    let text = b"HTTP/1.1 100 Continue\r\n\r\nHTTP/1.1 200 OK\r\ncontent-length: 2\r\n\r\nab";
+    let told = answers_to(rt.alloc(), text, 3)?;
+    assert_eq!(rt; told.as_str(), " informs head piece and end");
+    let told = answers_to(rt.alloc(), b"HTTP/1.1 200 OK\r\n\r\nab", 4)?;
     assert_eq!(rt; told.as_str(), " chunked head piece done");
     Ok(())
 }
@@ -139,17 +138,5 @@ fn hands_no_switch_of_protocols_on(rt: HostRuntime) -> Checked {
     assert_eq!(rt; told.as_str(), " switches switches");
     assert_eq!(rt; side.told().errors, 2);
     assert_eq!(rt; side.inner().told().errors, 0);
-    Ok(())
-}
-
-#[test]
-fn tells_what_its_inner_side_tells(rt: HostRuntime) -> Checked {
-    let mut side = filtered(
-        rt.alloc(),
-        b"HTTP/1.1 200 OK\r\ncontent-length: 3\r\n\r\nab",
-    )?;
-    let told = answers(rt.alloc(), &mut side, 3)?;
-    assert_eq!(rt; told.as_str(), " head piece cut off");
-    assert_eq!(rt; side.told().errors, 1);
     Ok(())
 }

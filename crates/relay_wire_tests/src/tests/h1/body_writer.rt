@@ -1,5 +1,4 @@
 use relay_h1::*;
-use relay_tasks::{Context, Error, ErrorType, Fail};
 use std::process::Abort;
 use std::str;
 use std::test::Fail as Failed;
@@ -26,100 +25,35 @@ fn expect_body(
 }
 
 #[test]
-fn writes_chunks(rt: HostRuntime) -> Checked {
-    expect_body(
-        &rt,
-        Vec::new(rt.alloc()),
-        Framing::Chunked,
-        &[
-            ("hello", Some(5)),
-            ("", Some(0)),
-            ("hello, world", Some(12)),
-        ],
-        "5\r\nhello\r\nC\r\nhello, world\r\n0\r\n\r\n",
-    )
+fn writes_chunks_up_to_a_length_and_raw(rt: HostRuntime) -> Checked {
+    let alloc = rt.alloc();
+    let pieces = [
+        ("hello", Some(5)),
+        ("", Some(0)),
+        ("hello, world", Some(12)),
+    ];
+    let want = "5\r\nhello\r\nC\r\nhello, world\r\n0\r\n\r\n";
+    expect_body(&rt, Vec::new(alloc), Framing::Chunked, &pieces, want)?;
+    let pieces = [
+        ("hello", Some(5)),
+        ("", Some(0)),
+        ("world", Some(2)),
+        ("!", None),
+    ];
+    expect_body(&rt, Vec::new(alloc), Framing::Length(7), &pieces, "hellowo")?;
+    let pieces = [("hello", Some(5)), ("", Some(0)), ("!", Some(1))];
+    expect_body(&rt, Vec::new(alloc), Framing::UntilClose, &pieces, "hello!")?;
+    expect_body(&rt, Vec::new(alloc), Framing::Tunnel, &pieces, "hello!")
 }
 
 #[test]
-fn writes_an_empty_body_in_chunks(rt: HostRuntime) -> Checked {
-    expect_body(
-        &rt,
-        Vec::new(rt.alloc()),
-        Framing::Chunked,
-        &[("", Some(0))],
-        "0\r\n\r\n",
-    )
-}
-
-#[test]
-fn writes_up_to_a_length(rt: HostRuntime) -> Checked {
-    expect_body(
-        &rt,
-        Vec::new(rt.alloc()),
-        Framing::Length(7),
-        &[
-            ("hello", Some(5)),
-            ("", Some(0)),
-            ("world", Some(2)),
-            ("!", None),
-        ],
-        "hellowo",
-    )
-}
-
-#[test]
-fn writes_raw_bytes(rt: HostRuntime) -> Checked {
-    for framing in [Framing::UntilClose, Framing::Tunnel] {
-        expect_body(
-            &rt,
-            Vec::new(rt.alloc()),
-            framing,
-            &[("hello", Some(5)), ("", Some(0)), ("!", Some(1))],
-            "hello!",
-        )?;
-    }
-    Ok(())
-}
-
-#[test]
-fn writes_no_byte_where_there_is_no_body(rt: HostRuntime) -> Checked {
-    for framing in [Framing::Empty, Framing::Length(0)] {
-        expect_body(
-            &rt,
-            Vec::new(rt.alloc()),
-            framing,
-            &[("", None), ("hello", None)],
-            "",
-        )?;
-    }
-    Ok(())
-}
-
-#[test]
-fn refuses_to_end_short_of_the_length(rt: HostRuntime) -> Checked {
-    let mut out = Vec::new(rt.alloc());
-    let mut writer = BodyWriter::new(Framing::Length(3));
-    writer.write(&mut out, b"ab")?;
-    let short = Error::explain(ErrorType::PrematureBodyEnd, Context::BodyShort);
-    assert_eq!(rt; writer.finish(&mut out), Err(Fail::Error(short)));
-    assert!(rt; !writer.is_done());
-    assert_eq!(rt; writer.write(&mut out, b"c"), Ok(Some(1)));
-    assert!(rt; writer.is_done());
-    assert_eq!(rt; writer.finish(&mut out), Ok(()));
-    assert_eq!(rt; out.as_slice(), b"abc".as_slice());
-    Ok(())
-}
-
-#[test]
-fn ends_once(rt: HostRuntime) -> Checked {
-    let mut out = Vec::new(rt.alloc());
-    let mut writer = BodyWriter::new(Framing::Chunked);
-    assert!(rt; !writer.is_done());
-    writer.finish(&mut out)?;
-    writer.finish(&mut out)?;
-    assert_eq!(rt; writer.write(&mut out, b"late"), Ok(None));
-    assert_eq!(rt; out.as_slice(), b"0\r\n\r\n".as_slice());
-    Ok(())
+fn writes_no_bytes_of_a_body(rt: HostRuntime) -> Checked {
+    let alloc = rt.alloc();
+    let none = [("", Some(0))];
+    expect_body(&rt, Vec::new(alloc), Framing::Chunked, &none, "0\r\n\r\n")?;
+    let late = [("", None), ("hello", None)];
+    expect_body(&rt, Vec::new(alloc), Framing::Empty, &late, "")?;
+    expect_body(&rt, Vec::new(alloc), Framing::Length(0), &late, "")
 }
 
 #[test]

@@ -1,6 +1,6 @@
 use http::Version;
 use relay_h1::*;
-use relay_tasks::{Context, Fail, RequestHeader};
+use relay_tasks::{Context, Fail};
 use std::alloc::{AllocError, Global};
 use std::test::Fail as Failed;
 
