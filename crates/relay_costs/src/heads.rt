@@ -22,10 +22,11 @@ pub(crate) struct Request {
 impl Request {
     /// A request of which nothing was logged.
     pub(crate) fn new(alloc: Global) -> Result<Request> {
+        let got = response_head(alloc)?;
         let client = HttpSession::begun_http1(alloc, request_head(alloc)?, Framing::Empty);
         Ok(Request {
             session: Session::new_h1_with_modules(alloc, client, NoModules),
-            got: response_head(alloc)?,
+            got,
         })
     }
 
@@ -40,6 +41,9 @@ impl Request {
         Ok(())
     }
 }
+
+/// Lets go of a request. To drop one is dear to prove, so it is done in no other place.
+pub(crate) fn release(_request: Request) {}
 
 /// A call is made only where the head stands that the client sent.
 pub(crate) fn stands(session: &Session<NoModules>) -> Result<()>

@@ -1,5 +1,5 @@
 //! The calls of a request in order, each through the wrapper that enters it in the log.
-use crate::heads::{Request, peer, stands};
+use crate::heads::{Request, peer, release, stands};
 use bytes::Bytes;
 use relay_calls::{
     call_request_body_filter, call_response_body_filter, call_response_filter,
@@ -20,18 +20,35 @@ use std::alloc::Global;
 pub(crate) fn log_requests(alloc: Global, requests: usize) -> Result<usize> {
     let mut request = Request::new(alloc)?;
     let app = Defaults::new(peer());
+    let entries = log_each(alloc, &app, &mut request, requests);
+    release(request);
+    entries
+}
+
+/// Logs so many requests over the one that is lent.
+fn log_each(
+    alloc: Global,
+    app: &Defaults,
+    request: &mut Request,
+    requests: usize,
+) -> Result<usize> {
     let mut entries = 0;
     for _ in 0..requests {
-        request.make_new(alloc)?;
-        let Request { session, got } = &mut request;
-        before_the_attempt(&app, session)?;
-        in_the_attempt(&app, session)?;
-        with_the_head(&app, session, got)?;
-        with_the_body(&app, session)?;
-        at_the_end(&app, session)?;
-        entries = session.seen.log.len();
+        entries = log_request(alloc, app, request)?;
     }
     Ok(entries)
+}
+
+/// Logs a request, and answers how many entries it has.
+fn log_request(alloc: Global, app: &Defaults, request: &mut Request) -> Result<usize> {
+    request.make_new(alloc)?;
+    let Request { session, got } = request;
+    before_the_attempt(app, session)?;
+    in_the_attempt(app, session)?;
+    with_the_head(app, session, got)?;
+    with_the_body(app, session)?;
+    at_the_end(app, session)?;
+    Ok(session.seen.log.len())
 }
 
 /// The calls before a peer is named.

@@ -2,7 +2,7 @@
 ghost use Rattle.std.specs.Prelude.{OnOk};
 ghost use Rattle.relay_hooks.specs.Session.{IsReady};
 
-use crate::heads::{Request, peer};
+use crate::heads::{Request, peer, release};
 use bytes::Bytes;
 use relay_hooks::{Defaults, NoModules, ProxyHttp, Session};
 use relay_tasks::{Error, ErrorType, Fail, ResponseHeader, Result};
@@ -12,16 +12,28 @@ use std::alloc::Global;
 pub(crate) fn call_requests(alloc: Global, requests: usize) -> Result<()> {
     let mut request = Request::new(alloc)?;
     let app = Defaults::new(peer());
+    let answer = call_each(alloc, &app, &mut request, requests);
+    release(request);
+    answer
+}
+
+/// Calls the hooks of so many requests over the one that is lent.
+fn call_each(alloc: Global, app: &Defaults, request: &mut Request, requests: usize) -> Result<()> {
     for _ in 0..requests {
-        request.make_new(alloc)?;
-        let Request { session, got } = &mut request;
-        before_the_attempt(alloc, &app, session)?;
-        in_the_attempt(alloc, &app, session)?;
-        with_the_head(alloc, &app, session, got)?;
-        with_the_body(alloc, &app, session)?;
-        at_the_end(&app, session)?;
+        call_request(alloc, app, request)?;
     }
     Ok(())
+}
+
+/// Calls the hooks of a request.
+fn call_request(alloc: Global, app: &Defaults, request: &mut Request) -> Result<()> {
+    request.make_new(alloc)?;
+    let Request { session, got } = request;
+    before_the_attempt(alloc, app, session)?;
+    in_the_attempt(alloc, app, session)?;
+    with_the_head(alloc, app, session, got)?;
+    with_the_body(alloc, app, session)?;
+    at_the_end(app, session)
 }
 
 /// A call is made only where the head stands that the client sent, and nothing is noted of a call.
