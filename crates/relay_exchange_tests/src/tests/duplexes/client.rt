@@ -63,8 +63,11 @@ fn is_failure(task: &HttpTask) -> bool
     ensures { result ≡ is_failure task.now }
 {
     match task {
-        HttpTask::Header(_, _) | HttpTask::Body(_, _) | HttpTask::UpgradedBody(_, _) => false,
-        HttpTask::Trailer(_) | HttpTask::Done => false,
+        HttpTask::Header(_, _) => false,
+        HttpTask::Body(_, _) => false,
+        HttpTask::UpgradedBody(_, _) => false,
+        HttpTask::Trailer(_) => false,
+        HttpTask::Done => false,
         HttpTask::Failed(_) => true,
     }
 }
