@@ -26,6 +26,12 @@ error_of cause.Finished = None
 error_of (cause.Hidden told) = Some told.error
 error_of (cause.Reported told summary) = Some told.error
 
+-- memory was wanted
+abbrev pub is_lost : {K : Type 0} → Place K → Bool
+is_lost (place.At at) = false
+is_lost (place.Ended how) = false
+is_lost place.Lost = true
+
 -- where the end begins, with that error or with none
 abbrev pub begun : {K : Type 0} → Option Error → Place K
 begun None = place.At (stage.Ending cause.Finished)

@@ -2,7 +2,7 @@
 ghost use Rattle.std.specs.Prelude.{◌≡◌, IsSome, IsTrue};
 ghost use Rattle.relay_session.specs.Reading.{head_of};
 ghost use Rattle.relay_modules.specs.declared.seen.Seen.{Seen};
-ghost use Rattle.relay_closing.specs.Place.{begun, error_of, may_go_on};
+ghost use Rattle.relay_closing.specs.Place.{begun, error_of, is_lost, may_go_on};
 
 use bytes::Bytes;
 use relay_hooks::FailToProxy;
@@ -68,6 +68,18 @@ pub enum Place<K> {
     At(Stage),
     Ended(End<K>),
     Lost,
+}
+
+impl<K> Place<K> {
+    /// Whether memory was wanted.
+    pub fn is_lost(&self) -> bool
+        ensures { result ≡ is_lost self.now }
+    {
+        match self {
+            Place::At(_) | Place::Ended(_) => false,
+            Place::Lost => true,
+        }
+    }
 }
 
 /// Where the end of a request begins, with its final error or none.

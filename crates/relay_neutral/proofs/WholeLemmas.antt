@@ -23,7 +23,7 @@ use Rattle.relay_opening.specs.Told.{head_behind}
 use Rattle.relay_phases.specs.Order.{Station as station}
 use Rattle.relay_attempt.specs.Agrees.{Agrees}
 use Rattle.relay_attempt.specs.Passed.{Passed}
-use Rattle.relay_proxy.specs.Ahead.{IsOwedAhead, IsStoppedFor}
+use Rattle.relay_proxy.specs.Ahead.{IsOwedAhead}
 use Rattle.relay_proxy.specs.Endings.{EndsAhead}
 use Rattle.relay_proxy.specs.Passed.{Start, World}
 use Rattle.relay_proxy.specs.Sent.{Filters, RefusesToSend, Sends, SettlesFramed, asked_in, client_of}
@@ -44,15 +44,14 @@ never_owed : {head : RequestHead} (s : Start) (p : Passed) (why : Option Error) 
     → IsOwedAhead s p why text → All (IsNeutral head) s.called → ⊥
 never_owed s p why text (IsOwedAhead.by_answer head tasks t has order is_answer is) all =
     never_ends s.called station.answered all order refl
-never_owed s p why text
-    (IsOwedAhead.by_error head e t has (IsStoppedFor.by_hook order last) is) all =
+never_owed s p why text (IsOwedAhead.by_error head e t has stops told is) all =
     absurd (
     let clash : None ≡ Some e =
-    sym (last_neutral s.called last.before last.last last.is_last all).passes ∙ last.error in
+    sym (last_neutral s.called stops.fails.before stops.fails.last stops.fails.is_last all).passes
+    ∙ stops.fails.error in
     cc
     )
-never_owed s p why text
-    (IsOwedAhead.by_error head e t has (IsStoppedFor.is_purge order same) is) all =
+never_owed s p why text (IsOwedAhead.by_purge head e t has order same is) all =
     never_ends s.called station.purging all order refl
 
 -- no hook ended the request before its attempts

@@ -10,6 +10,7 @@ use Rattle.relay_tasks.specs.Head.{RequestHead}
 use Rattle.relay_tasks.specs.declared.Error.{Error}
 use Rattle.relay_tasks.specs.declared.ErrorSource.TheVariants.{Downstream}
 use Rattle.relay_tasks.specs.declared.Fault.{Fault}
+use Rattle.relay_tasks.specs.declared.task.HttpTask.{HttpTask}
 use Rattle.relay_links.specs.Count.{Rose}
 use Rattle.relay_links.specs.Link.{LinkState, LinkStart, FailsWrite}
 use Rattle.relay_links.specs.declared.Returned.{Returned}
@@ -34,7 +35,7 @@ use Rattle.relay_proxy.specs.Ahead.{IsOwedAhead}
 use Rattle.relay_proxy.specs.Answer.{owed_text, past_at, WaitsOf}
 use Rattle.relay_proxy.specs.Endings.{IsInOrder, IsGiven, IsGivenAhead, EndsAhead, IsPartRefused, FailsToWrite, IsFailedAttempt, IsUnsentAttempt, IsHalfRefused, IsPart, HasFailed, Misses, owed_by, EndsWith}
 use Rattle.relay_proxy.specs.Owed.{Owes, HasAttempts, IsAnswering, outcome_owed, outcome_failed}
-use Rattle.relay_proxy.specs.Passed.{World, Start, origin_of, asked, TellsClient}
+use Rattle.relay_proxy.specs.Passed.{answered, World, Start, origin_of, asked, TellsClient}
 use Rattle.relay_proxy.specs.Phases.{PhaseHolds, RunSoFar}
 use Rattle.relay_proxy.specs.Relayable.{IsAccepted}
 use Rattle.relay_proxy.specs.Tries.{fault_error}
@@ -77,7 +78,8 @@ moved_or_ended {L} {C} state start_at w x phase next did (inr is) moved =
 record Still {o : Origin} {p : Passed} {before link : LinkState} {start : LinkStart} {e : Error}
     (why : FailsFor o p before link start e) (after : LinkState) : Type 0 where
   again : FailsFor o p after link start e
-  same : (x : Error) → owed_text (order_of again) x ≡ owed_text (order_of why) x
+  same : (answered : List HttpTask)
+      → owed_text (order_of again) answered ≡ owed_text (order_of why) answered
 
 still : (o : Origin) (p : Passed) (before after link : LinkState) (start : LinkStart) (e : Error)
     → WrittenTo before after → (why : FailsFor o p before link start e) → Still why after
@@ -119,9 +121,10 @@ failed_on s p written before after link start e failed to =
         before = failed.before;
         raised = failed.raised;
         treated = failed.treated;
+        told = failed.told;
         why = on.again;
       };
-      same = on.same e;
+      same = on.same (answered s);
     }
 
 -- an attempt that failed still did, and as much is owed
@@ -144,6 +147,7 @@ misses_on s p written before after link start keep e text to (Misses.ahead_of_it
       raised = r.raised;
       refused = r.refused;
       treated = r.treated;
+      told = r.told;
       fresh = r.fresh;
       unsent = record { got = r.unsent.got; sent = r.unsent.sent };
     }) is
@@ -211,7 +215,8 @@ pub owed_head : {s : Start} {p : Passed} (why : Option Error) (text : List ℕ)
     → IsOwedAhead s p why text → (head : RequestHead) × IsAccepted s p head
 owed_head why text (IsOwedAhead.by_answer head tasks t has order is_answer is) =
     (head, has)
-owed_head why text (IsOwedAhead.by_error head e t has stopped is) = (head, has)
+owed_head why text (IsOwedAhead.by_error head e t has stopped told is) = (head, has)
+owed_head why text (IsOwedAhead.by_purge head e t has order same is) = (head, has)
 
 -- what hooks owe does not depend on what was written
 ahead_on : (s : Start) (p : Passed) (written : List ℕ) (why : Option Error) (text : List ℕ)
@@ -225,14 +230,22 @@ ahead_on s p written why text
       has = has.has;
       relayable = has.relayable;
     }) order is_answer is
-ahead_on s p written why text (IsOwedAhead.by_error head e t has stopped is) =
+ahead_on s p written why text (IsOwedAhead.by_error head e t has stopped told is) =
     IsOwedAhead.by_error head e t
     (record {
       framing = has.framing;
       len = has.len;
       has = has.has;
       relayable = has.relayable;
-    }) stopped is
+    }) stopped told is
+ahead_on s p written why text (IsOwedAhead.by_purge head e t has order same is) =
+    IsOwedAhead.by_purge head e t
+    (record {
+      framing = has.framing;
+      len = has.len;
+      has = has.has;
+      relayable = has.relayable;
+    }) order same is
 
 -- ---- what is owed
 
@@ -323,10 +336,10 @@ module _ {L : Type 0} (state : L → LinkState) (start_at : L → LinkStart) whe
   owes_order s p w (r ∷ own) (Ahead why) text owes front = absurd owes
   owes_order s p w (r ∷ own) (Served e) text (Misses.in_exchange f is kept) front =
       IsInOrder.is_failure _ f.head f.sent _ _ f.before f.raised e f.relayable f.sends
-      (order_of f.why) (cut_next _ (past_at p f.before) w.client _ _ f.raised f.why) f.treated
+      (order_of f.why) (cut_next _ (past_at p f.before) w.client _ _ f.raised f.why) f.treated f.told
       (subst (λ (t : List ℕ). IsFrontOf p.written t) is front)
   owes_order s p w (r ∷ own) (Served e) text (Misses.ahead_of_it f is) front =
-      IsInOrder.is_unsent f.head r.keep f.raised e f.accepted f.refused f.treated
+      IsInOrder.is_unsent f.head r.keep f.raised e f.accepted f.refused f.treated f.told
       (subst (λ (t : List ℕ). IsFrontOf p.written t) is front) f.unsent.sent
 
   -- the client's head is open no more

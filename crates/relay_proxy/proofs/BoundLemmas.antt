@@ -347,7 +347,7 @@ module _ {L C : Type 0} (state : L → LinkState) (start_at : L → LinkStart) w
 
   -- ---- behind an exchange
 
-  -- a turn that has the error of an attempt treated
+  -- a turn that has the error of an attempt treated or answered
   treat_bounds : (s : Start) (these those : List LogEntry) (client : LinkState) (ahead : List ℕ)
       (own : List (Returned L)) (link : L) (lease : Lease) (next : Phase L C) (work : Work)
       (tasks ends : ℕ) → CountsTreat (tries_in lease) next work → LeavesLink link lease next
@@ -364,7 +364,14 @@ module _ {L C : Type 0} (state : L → LinkState) (start_at : L → LinkStart) w
   treat_bounds s these those client ahead own link lease (Relay a) work tasks ends counts leaves had
       = absurd counts
   treat_bounds s these those client ahead own link lease (Broken context session l by keep e) work
-      tasks ends counts leaves had = absurd counts
+      tasks ends counts leaves had = record {
+        came = had.came;
+        got = had.got;
+        client_gave = had.client_gave;
+        own_gave = subst (λ (k : L). LinkGave state start_at k had.got) (sym leaves.0) had.own_gave;
+        tasks_within = omega (arith, counts.0, had.tasks_within);
+        ends_within = omega (arith, counts.1, had.ends_within, same_tries leaves.1);
+      }
   treat_bounds s these those client ahead own link lease (Fail l by keep session e) work tasks ends
       counts leaves had = record {
         came = had.came;

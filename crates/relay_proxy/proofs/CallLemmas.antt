@@ -7,6 +7,7 @@
 --   settled_calls                  and so does the settling of a phase
 use Rattle.std.specs.Global.{Box}
 use Rattle.std.proofs.Common.{◌≡◌, ℕ, ◌+◌, ◌≤◌, Bool, true, false, ◌&&◌, List, [], ◌∷◌, ◌++◌, length, length-append, append-nil, arith, Option, None, Some, refl, sym, ap, subst, ◌∙◌, true≢false}
+use Rattle.std.proofs.lemmas.List.Folds.{list_any-append}
 use Rattle.std.specs.Prelude.{◌==◌, IsTrue, if◌then◌else◌, unwrap_or}
 use Rattle.relay_tasks.specs.Head.{RequestHead, new_request}
 use Rattle.relay_tasks.specs.Hooks.{number_of, same_hook}
@@ -39,12 +40,15 @@ use Rattle.relay_opening.specs.declared.place.End.{End}
 use Rattle.relay_opening.specs.declared.place.End.TheVariants as end
 use Rattle.relay_opening.specs.declared.place.Place.{Place}
 use Rattle.relay_opening.specs.declared.place.Place.TheVariants as place
-use Rattle.relay_trying.specs.Trying.{Treats, may_break, may_follow, treated_at}
+use Rattle.relay_trying.specs.Trying as leads
+use Rattle.relay_trying.specs.Trying.{Treats, may_break, may_follow}
+use Rattle.relay_closing.specs.Place.{may_fail}
 use Rattle.relay_proxy.specs.Bound.{CountsAnswer, CountsCall, CountsHead, CountsTreat}
-use Rattle.relay_proxy.specs.Calls.{BeginsCalls, CallsSoFar, CountsCalls, GoesOn, HasBegun, IsBreaking, IsLogged, IsOpening, IsRelayingCalls, KeepsCalls, TellsPeer, is_calling, log_of, seen_with, station_at}
+use Rattle.relay_proxy.specs.Calls.{AnswersError, BeginsCalls, BreaksAt, CallsSoFar, CountsCalls, GoesOn, HasBegun, IsBreaking, IsLogged, IsOpening, IsRelayingCalls, IsUnended, KeepsCalls, TellsPeer, has_peer, is_calling, log_of, seen_with, station_at, treated_at}
 use Rattle.relay_proxy.specs.Closing.{Settles}
-use Rattle.relay_proxy.specs.Relaying.{is_relaying}
-use Rattle.relay_proxy.specs.Sent.{IsUntreated, is_of}
+use Rattle.relay_proxy.specs.Passed.{begins_end}
+use Rattle.relay_proxy.specs.Relaying.{is_closing, is_relaying}
+use Rattle.relay_proxy.specs.Sent.{IsTreated, IsUntreated, is_of}
 use Rattle.relay_proxy.specs.Tries.{tries_in}
 use Rattle.relay_proxy.specs.Turn.{KeepsAsked, is_connecting, links_held}
 use Rattle.relay_proxy.specs.declared.calls.At.{At}
@@ -56,6 +60,7 @@ use Rattle.relay_proxy.specs.declared.machine.Phase.{Phase}
 use Rattle.relay_proxy.specs.declared.machine.Phase.TheVariants.{ReadHead, Connect, Prepare, Relay, Broken, Fail, Close, Answer, Ended}
 use Rattle.relay_proxy.specs.declared.record.AttemptRecord.{AttemptRecord}
 use Rattle.relay_proxy.specs.declared.work.Work.{Work}
+use Rattle.relay_proxy.proofs.TreatLemmas.{treats_last, unended_more}
 
 -- what the modules allow in a turn is allowed by modules
 pub turn_allowed : {K M : Type 0} (allows : M → ModuleCall → Type 0) (p : Place K)
@@ -143,27 +148,34 @@ pub called_logged : (allows : Standing → LogEntry → Type 0) (first now : See
 called_logged allows first now mark behind to queues log none same h =
     (to, called_stands allows first now mark behind to queues log none same h)
 
--- the first call is none in which an error is treated
-other_number : (n : ℕ) → (number_of hook.NewCtx == n) ≡ true
-    → (number_of hook.ErrorWhileProxy == n) ≡ false
-other_number n is = grind (arith, is)
+-- the first call is none in which an error is treated, and the end does not begin with it
+other_number : (other : Hook) → (number_of hook.NewCtx == number_of other) ≡ false → (n : ℕ)
+    → (number_of hook.NewCtx == n) ≡ true → (number_of other == n) ≡ false
+other_number other differs n is = grind (arith, differs, is)
 
-first_untreated : (e : LogEntry) → next station.accepted e ≡ Some station.made
-    → is_of hook.ErrorWhileProxy e ≡ false
-first_untreated e leads = by (same_hook hook.NewCtx e.hook) (came well e) refl leads
+first_other : (other : Hook) → (number_of hook.NewCtx == number_of other) ≡ false
+    → (e : LogEntry) → next station.accepted e ≡ Some station.made → is_of other e ≡ false
+first_other other differs e leads = by (same_hook hook.NewCtx e.hook) (came well e) refl leads
   where
     by : (a c : Bool) → same_hook hook.NewCtx e.hook ≡ a
         → (if (a && c) then Some station.made else None) ≡ Some station.made
-        → is_of hook.ErrorWhileProxy e ≡ false
-    by true true same is = other_number (number_of e.hook) same
+        → is_of other e ≡ false
+    by true true same is = other_number other differs (number_of e.hook) same
     by true false same is = cc
     by false c same is = cc
 
 made_untreated : (es : List LogEntry) → Accepts station.accepted es station.made
     → length es ≡ 1 → IsUntreated es
 made_untreated [] order one = absurd (omega (arith, one))
-made_untreated (e ∷ []) order one = rw (first_untreated e order) refl
+made_untreated (e ∷ []) order one = rw (first_other hook.ErrorWhileProxy refl e order) refl
 made_untreated (e ∷ x ∷ es) order one = absurd (omega (arith, one))
+
+made_unended : (es : List LogEntry) → Accepts station.accepted es station.made
+    → length es ≡ 1 → IsUnended es
+made_unended [] order one = absurd (omega (arith, one))
+made_unended (e ∷ []) order one =
+    rw (first_other hook.FailToProxy refl e order, first_other hook.Logging refl e order) refl
+made_unended (e ∷ x ∷ es) order one = absurd (omega (arith, one))
 
 -- the calls of a log that had none are as many as it has
 entries_one : (before now entries : List LogEntry) → before ≡ [] → now ≡ before ++ entries
@@ -175,6 +187,21 @@ entries_one before now entries none log one = omega (
   ap (λ (l : List LogEntry). length l) log,
   length-append before entries,
 )
+
+-- the context was made, with which the end does not begin
+pub begun_on : (these those entries : List LogEntry) → those ≡ these ++ entries
+    → Accepts station.accepted entries station.made → length those ≡ length these + 1
+    → IsUnended these → IsUnended those
+begun_on these those entries log order one none =
+    let single : length entries ≡ 1 = omega (
+      arith,
+      one,
+      ap (λ (l : List LogEntry). length l) log,
+      length-append these entries,
+    ) in
+    subst (λ (l : List LogEntry). IsUnended l) (sym log)
+    (list_any-append (λ (x : LogEntry). begins_end x.hook) these entries
+    ∙ rw (none, made_unended entries order single) refl)
 
 -- a walk ends as well where the standing may change to
 walk_further : (allows : Standing → LogEntry → Type 0) (es : List LogEntry)
@@ -204,6 +231,46 @@ none_called old new work none is =
       counted = omega (arith, none, same);
       once = omega (arith, same);
     }
+
+-- ---- where an error may be treated
+
+-- none was so far, and it may be there
+breaks_untreated : {K : Type 0} (a : At K) (log : List LogEntry) (error : Error) (here : Station)
+    → treated_at a ≡ None → IsTrue (may_break here) → BreaksAt a log error here
+breaks_untreated (at.Kept kept) log error here none may = may
+breaks_untreated (at.Opening there) log error here none may = may
+breaks_untreated (at.Named peer) log error here none may = may
+breaks_untreated at.Linked log error here none may = may
+breaks_untreated (at.Treated treated) log error here none may = cc
+breaks_untreated (at.Closing there) log error here none may = may
+
+-- and it may still, where it was not
+pub may_treat : {K : Type 0} (a : At K) (log : List LogEntry) (error : Error) (here : Station)
+    → treated_at a ≡ None → BreaksAt a log error here → IsTrue (may_break here)
+may_treat (at.Kept kept) log error here none may = may
+may_treat (at.Opening there) log error here none may = may
+may_treat (at.Named peer) log error here none may = may
+may_treat at.Linked log error here none may = may
+may_treat (at.Treated treated) log error here none may = cc
+may_treat (at.Closing there) log error here none may = may
+
+-- where it was, the log tells of that, and it may be answered
+pub was_treated : {K : Type 0} (a : At K) (log : List LogEntry) (error treated : Error)
+    (here : Station) → treated_at a ≡ Some treated → BreaksAt a log error here
+    → IsTreated log error treated × IsTrue (may_fail here)
+was_treated (at.Kept kept) log error treated here is breaks = cc
+was_treated (at.Opening there) log error treated here is breaks = cc
+was_treated (at.Named peer) log error treated here is breaks = cc
+was_treated at.Linked log error treated here is breaks = cc
+was_treated (at.Treated other) log error treated here is breaks =
+    let same : other ≡ treated = cc in
+    (subst (λ (e : Error). IsTreated log error e) same breaks.0, breaks.1)
+was_treated (at.Closing there) log error treated here is breaks = cc
+
+-- wherever the treatment leads it may be answered
+may_answer : (follows : Bool) → IsTrue (may_fail (leads.treated_at follows))
+may_answer true = refl
+may_answer false = refl
 
 -- ---- up to the exchange
 
@@ -262,12 +329,13 @@ module _ {C M K : Type 0} (allows : Standing → LogEntry → Type 0) (mark_of :
 
   -- behind one call more an attempt may have failed
   pub breaks_more : (c d : Calls M K) (context context' : C) (client left : HttpSession)
-      (tries : List AttemptRecord) (which : Hook) (to : Station) → IsTrue (may_break to)
+      (tries : List AttemptRecord) (which : Hook) (to : Station) (error : Error)
+      → treated_at d.at ≡ None → begins_end which ≡ false → IsTrue (may_break to)
       → Turns allows which (station_at c.at) to QueuesNothing (seen_with c client) (mark_of context)
       (seen_with d left) (mark_of context')
       → IsOpening allows mark_of c context client tries
-      → IsBreaking allows mark_of d context' left
-  breaks_more c d context context' client left tries which to may turn o =
+      → IsBreaking allows mark_of d context' left error
+  breaks_more c d context context' client left tries which to error untreated before may turn o =
       let h = more_called c d context context' client left tries which to turn o in
       record {
         from = standing None false (moment o.first o.mark);
@@ -278,16 +346,19 @@ module _ {C M K : Type 0} (allows : Standing → LogEntry → Type 0) (mark_of :
         at = to;
         order = subst (λ (l : List LogEntry). Accepts station.accepted l to)
             (all_entries o.first (seen_with d left) h.entries o.none h.log) h.order;
-        breaks = may;
+        breaks = breaks_untreated d.at (log_of d) error to untreated may;
+        unended = unended_more (log_of c) (log_of d) turn.e which turn.calls.log turn.hook before
+            o.unended;
       }
 
   -- or it may behind none
   pub breaks_same : (c d : Calls M K) (context context' : C) (client left : HttpSession)
-      (tries : List AttemptRecord) → d ≡ c → left ≡ client → mark_of context' ≡ mark_of context
+      (tries : List AttemptRecord) (error : Error) → d ≡ c → left ≡ client
+      → mark_of context' ≡ mark_of context → treated_at d.at ≡ None
       → IsTrue (may_break (station_at c.at))
       → IsOpening allows mark_of c context client tries
-      → IsBreaking allows mark_of d context' left
-  breaks_same c d context context' client left tries same stays still may o = record {
+      → IsBreaking allows mark_of d context' left error
+  breaks_same c d context context' client left tries error same stays still untreated may o = record {
     from = standing None false (moment o.first o.mark);
     walks = subst (λ (x : Calls M K). Walk allows (standing None false (moment o.first o.mark))
         (log_of x) (standing None false (moment (seen_with x left) (mark_of context')))) (sym same)
@@ -302,17 +373,19 @@ module _ {C M K : Type 0} (allows : Standing → LogEntry → Type 0) (mark_of :
     at = station_at c.at;
     order = subst (λ (x : Calls M K). Accepts station.accepted (log_of x) (station_at c.at))
         (sym same) (opening_stands c context client tries o).order;
-    breaks = may;
+    breaks = breaks_untreated d.at (log_of d) error (station_at c.at) untreated may;
+    unended = subst (λ (x : Calls M K). IsUnended (log_of x)) (sym same) o.unended;
   }
 
   -- behind the call with which it goes out the exchange is under way
   pub relays_more : {L : Type 0} (c d : Calls M K) (context context' : C) (client left : HttpSession)
-      (tries : List AttemptRecord) (which : Hook) (a : Attempt L C) → a.context ≡ context'
+      (tries : List AttemptRecord) (which : Hook) (a : Attempt L C) → d.at ≡ at.Linked
+      → begins_end which ≡ false → a.context ≡ context'
       → a.exchange.exchange.down.session ≡ left
       → Turns allows which (station_at c.at) station.sent QueuesNothing (seen_with c client)
       (mark_of context) (seen_with d left) (mark_of context')
       → IsOpening allows mark_of c context client tries → IsRelayingCalls allows mark_of d a
-  relays_more c d context context' client left tries which a same stays turn o =
+  relays_more c d context context' client left tries which a linked before same stays turn o =
       let h = more_called c d context context' client left tries which station.sent turn o in
       record {
         first = left;
@@ -327,39 +400,90 @@ module _ {C M K : Type 0} (allows : Standing → LogEntry → Type 0) (mark_of :
             (all_entries o.first (seen_with d left) h.entries o.none h.log) h.order;
         head = ap (λ (x : HttpSession). head_of x.reading) (sym stays);
         unanswered = ap (λ (x : Writing). has_head x.place) turn.queued.same ∙ o.unanswered;
+        unended = unended_more (log_of c) (log_of d) turn.e which turn.calls.log turn.hook before
+            o.unended;
+        linked = linked;
       }
 
-  -- the error of an attempt was treated, and the log is in order up to where that leads
-  pub treated_logged : (c d : Calls M K) (context context' : C) (client left : HttpSession)
-      (peer : Peer) (reused : Bool) (raised treated : Error)
-      → (b : IsBreaking allows mark_of c context client)
+  -- the error of an attempt was treated, and is to be answered
+  pub treated_breaks : (c d : Calls M K) (context context' : C) (client left : HttpSession)
+      (peer : Peer) (reused : Bool) (raised treated : Error) → d.at ≡ at.Treated treated
+      → (b : IsBreaking allows mark_of c context client raised)
       → Treats allows hook.ErrorWhileProxy peer reused b.at raised (seen_with c client)
       (mark_of context) (seen_with d left) (mark_of context') treated
-      → (at : Station) × IsLogged allows (log_of d) at
-  treated_logged c d context context' client left peer reused raised treated b t = (
-    treated_at (may_follow treated (seen_with c client)),
+      → IsBreaking allows mark_of d context' left raised
+  treated_breaks c d context context' client left peer reused raised treated is b t =
+      let to : Station = leads.treated_at (may_follow treated (seen_with c client)) in
+      let e : LogEntry = t.call.turn.e in
+      record {
+        from = b.from;
+        walks = subst (λ (l : List LogEntry). Walk allows b.from l
+            (standing None false (moment (seen_with d left) (mark_of context'))))
+            (sym t.call.turn.calls.log)
+            (Walk-append allows (log_of c) (e ∷ []) b.from
+            (standing None false (moment (seen_with c client) (mark_of context)))
+            (standing None false (moment (seen_with d left) (mark_of context'))) b.walks
+            t.call.turn.calls.walk);
+        at = to;
+        order = subst (λ (l : List LogEntry). Accepts station.accepted l to)
+            (sym t.call.turn.calls.log)
+            (Accepts-one station.accepted b.at to (log_of c) e b.order t.call.turn.order);
+        breaks = subst (λ (a : At K). BreaksAt a (log_of d) raised to) (sym is) (
+          treats_last (log_of c) (log_of d) e t.call.turn.calls.log t.call.turn.hook raised treated
+              t.call.input t.call.output,
+          may_answer (may_follow treated (seen_with c client)),
+        );
+        unended = unended_more (log_of c) (log_of d) e hook.ErrorWhileProxy t.call.turn.calls.log
+            t.call.turn.hook refl b.unended;
+      }
+
+  -- it was answered, and the log is in order up to where that leads
+  pub answered_logged : (c d : Calls M K) (context context' : C) (client left : HttpSession)
+      (error : Error) (from : Standing) (at : Station)
+      → Walk allows from (log_of c)
+      (standing None false (moment (seen_with c client) (mark_of context)))
+      → Accepts station.accepted (log_of c) at
+      → AnswersError allows error at (seen_with c client) (mark_of context) (seen_with d left)
+      (mark_of context') → (to : Station) × IsLogged allows (log_of d) to
+  answered_logged c d context context' client left error from at walks order answers = (
+    station.told,
     record {
-      from = b.from;
+      from = from;
       to = standing None false (moment (seen_with d left) (mark_of context'));
-      walks = subst (λ (l : List LogEntry). Walk allows b.from l
+      walks = subst (λ (l : List LogEntry). Walk allows from l
           (standing None false (moment (seen_with d left) (mark_of context'))))
-          (sym t.call.turn.calls.log)
-          (Walk-append allows (log_of c) (t.call.turn.e ∷ []) b.from
+          (sym answers.turn.calls.log)
+          (Walk-append allows (log_of c) (answers.turn.e ∷ []) from
           (standing None false (moment (seen_with c client) (mark_of context)))
-          (standing None false (moment (seen_with d left) (mark_of context'))) b.walks
-          t.call.turn.calls.walk);
-      order = subst (λ (l : List LogEntry). Accepts station.accepted l
-          (treated_at (may_follow treated (seen_with c client)))) (sym t.call.turn.calls.log)
-          (Accepts-one station.accepted b.at (treated_at (may_follow treated (seen_with c client)))
-          (log_of c) t.call.turn.e b.order t.call.turn.order);
+          (standing None false (moment (seen_with d left) (mark_of context'))) walks
+          answers.turn.calls.walk);
+      order = subst (λ (l : List LogEntry). Accepts station.accepted l station.told)
+          (sym answers.turn.calls.log)
+          (Accepts-one station.accepted at station.told (log_of c) answers.turn.e order
+          answers.turn.order);
     },
   )
 
+  -- the same of an error of a hook before the attempts
+  pub opening_answered : (c d : Calls M K) (context context' : C) (client left : HttpSession)
+      (tries : List AttemptRecord) (error : Error) (at : Station) → station_at c.at ≡ at
+      → AnswersError allows error at (seen_with c client) (mark_of context) (seen_with d left)
+      (mark_of context') → IsOpening allows mark_of c context client tries
+      → (to : Station) × IsLogged allows (log_of d) to
+  opening_answered c d context context' client left tries error at here answers o =
+      let entries = all_entries o.first (seen_with c client) o.so_far.entries o.none o.so_far.log in
+      answered_logged c d context context' client left error
+      (standing None false (moment o.first o.mark)) at
+      (subst (λ (l : List LogEntry). Walk allows (standing None false (moment o.first o.mark)) l
+      (standing None false (moment (seen_with c client) (mark_of context)))) entries o.so_far.walks)
+      (subst (λ (a : Station). Accepts station.accepted (log_of c) a) here
+      (opening_stands c context client tries o).order) answers
+
   -- memory was wanted for it, and the log is as it was
-  pub untreated_logged : (c d : Calls M K) (context : C) (client : HttpSession)
-      → log_of d ≡ log_of c → IsBreaking allows mark_of c context client
+  pub untreated_logged : (c d : Calls M K) (context : C) (client : HttpSession) (error : Error)
+      → log_of d ≡ log_of c → IsBreaking allows mark_of c context client error
       → (at : Station) × IsLogged allows (log_of d) at
-  untreated_logged c d context client same b = (
+  untreated_logged c d context client error same b = (
     b.at,
     subst (λ (l : List LogEntry). IsLogged allows l b.at) (sym same)
         (record { from = b.from; to = _; walks = b.walks; order = b.order }),
@@ -387,6 +511,8 @@ module _ {C M K : Type 0} (allows : Standing → LogEntry → Type 0) (mark_of :
         (made_untreated called.entries called.order
         (entries_one (log_of c) (log_of d) called.entries none called.log one));
     unanswered = ap (λ (x : Writing). has_head x.place) called.queued.same ∙ open_to;
+    unended = begun_on (log_of c) (log_of d) called.entries called.log called.order one
+        (subst (λ (l : List LogEntry). IsUnended l) (sym none) refl);
   }
 
 module _ {M K : Type 0} where
@@ -480,6 +606,8 @@ module _ {L C M K : Type 0} (allows : Standing → LogEntry → Type 0) (mark_of
     order = so_far.order;
     head = so_far.head ∙ sym keeps.1;
     unanswered = so_far.unanswered;
+    unended = so_far.unended;
+    linked = so_far.linked;
   }
   kept_calls calls a (Broken context session link lease keep error) keeps so_far = record {
     from = so_far.from;
@@ -491,7 +619,9 @@ module _ {L C M K : Type 0} (allows : Standing → LogEntry → Type 0) (mark_of
         (ap mark_of keeps.0) (keeps.1 ∙ sym so_far.head) so_far.unanswered);
     at = station.sent;
     order = so_far.order;
-    breaks = refl;
+    breaks = subst (λ (a : At K). BreaksAt a (log_of calls) error station.sent)
+        (sym so_far.linked) refl;
+    unended = so_far.unended;
   }
   kept_calls calls a (Fail link lease keep session error) keeps so_far = absurd keeps
   kept_calls calls a (Close link lease keep outcome) keeps so_far = (
@@ -521,20 +651,21 @@ module _ {L C M K : Type 0} (allows : Standing → LogEntry → Type 0) (mark_of
       absurd (true≢false (sym is))
   relaying_calls calls (Ended outcome attempts) next is keeps so_far = absurd (true≢false (sym is))
 
-  -- the error of an attempt was treated, and its link is to go back
+  -- the error of an attempt was answered, or memory was wanted for it, and its link is to go back
   pub treated_calls : (calls : Calls M K) (before : List AttemptRecord) (next : Phase L C)
-      (work : Work) → CountsTreat before next work
+      (work : Work) → CountsTreat before next work → is_closing next ≡ true
       → (at : Station) × IsLogged allows (log_of calls) at → CallsSoFar allows mark_of calls next
-  treated_calls calls before ReadHead work counts logged = absurd counts
-  treated_calls calls before (Connect context session tries) work counts logged = absurd counts
-  treated_calls calls before (Prepare context session link lease) work counts logged = absurd counts
-  treated_calls calls before (Relay a) work counts logged = absurd counts
-  treated_calls calls before (Broken context session link lease keep error) work counts logged =
+  treated_calls calls before ReadHead work counts shut logged = absurd counts
+  treated_calls calls before (Connect context session tries) work counts shut logged = absurd counts
+  treated_calls calls before (Prepare context session link lease) work counts shut logged =
       absurd counts
-  treated_calls calls before (Fail link lease keep session error) work counts logged = logged
-  treated_calls calls before (Close link lease keep outcome) work counts logged = logged
-  treated_calls calls before (Answer session owed attempts) work counts logged = absurd counts
-  treated_calls calls before (Ended outcome attempts) work counts logged = absurd counts
+  treated_calls calls before (Relay a) work counts shut logged = absurd counts
+  treated_calls calls before (Broken context session link lease keep error) work counts shut
+      logged = absurd (true≢false (sym shut))
+  treated_calls calls before (Fail link lease keep session error) work counts shut logged = logged
+  treated_calls calls before (Close link lease keep outcome) work counts shut logged = logged
+  treated_calls calls before (Answer session owed attempts) work counts shut logged = absurd counts
+  treated_calls calls before (Ended outcome attempts) work counts shut logged = absurd counts
 
   -- nor one that hooks ended
   pub ended_calls : (calls : Calls M K) (before : List AttemptRecord) (next : Phase L C)
@@ -572,7 +703,7 @@ module _ {L C M K : Type 0} (allows : Standing → LogEntry → Type 0) (mark_of
   -- the connector gave no link, and the calls are those that they were
   pub asked_calls : (calls : Calls M K) (context : C) (session : Box HttpSession)
       (tries : List AttemptRecord) (next : Phase L C) (state : L → LinkState)
-      (start_at : L → LinkStart) → is_calling calls.at ≡ false
+      (start_at : L → LinkStart) → has_peer calls.at ≡ true
       → KeepsAsked context session next → links_held state start_at next ≡ 0
       → IsOpening allows mark_of calls context session.value tries
       → CallsSoFar allows mark_of calls next
@@ -591,10 +722,11 @@ module _ {L C M K : Type 0} (allows : Standing → LogEntry → Type 0) (mark_of
             (sym keeps.1) o.so_far);
         goes = o.goes;
         named = o.named;
-        untried = λ is. absurd (true≢false (sym is ∙ over));
+        untried = λ is. absurd (true≢false (sym over ∙ is));
         untreated = o.untreated;
         unanswered = subst (λ (b : Box HttpSession). has_head b.value.writing.place ≡ false)
             (sym keeps.1) o.unanswered;
+        unended = o.unended;
       }
   asked_calls calls context session tries (Prepare other stays link lease) state start_at over keeps
       none o = cc

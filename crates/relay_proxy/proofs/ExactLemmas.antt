@@ -22,7 +22,7 @@ use Rattle.relay_valid.specs.Unfit.{IsUnfit}
 use Rattle.relay_valid.specs.Valid.{AsksFor, AnswersWith, IsValid}
 use Rattle.relay_valid.proofs.AskedLemmas.{asks_head, asks_unrefused, valid_over}
 use Rattle.relay_valid.proofs.UnfitLemmas.{relayed_fit}
-use Rattle.relay_proxy.specs.Ahead.{IsOwedAhead, IsStoppedFor, LetsGo, goes_on}
+use Rattle.relay_proxy.specs.Ahead.{IsOwedAhead, LetsGo, goes_on}
 use Rattle.relay_proxy.specs.Answer.{past_at}
 use Rattle.relay_proxy.specs.Relayable.{IsAccepted, IsConnect, IsRelayable, NamesUpgrade}
 use Rattle.relay_proxy.specs.Sent.{IsUntreated, Sends, RefusesToSend}
@@ -411,11 +411,11 @@ ahead_or_at s p why text
     one_station s.called station.answered lets.at order lets.order
     (not_there station.answered lets.at refl lets.goes)
 ahead_or_at s p why text
-    (IsOwedAhead.by_error head e t has (IsStoppedFor.by_hook order last) is) lets =
-    one_station s.called station.failing lets.at order lets.order
+    (IsOwedAhead.by_error head e t has stops told is) lets =
+    one_station s.called station.failing lets.at stops.order lets.order
     (not_there station.failing lets.at refl lets.goes)
 ahead_or_at s p why text
-    (IsOwedAhead.by_error head e t has (IsStoppedFor.is_purge order same) is) lets =
+    (IsOwedAhead.by_purge head e t has order same is) lets =
     one_station s.called station.purging lets.at order lets.order
     (not_there station.purging lets.at refl lets.goes)
 

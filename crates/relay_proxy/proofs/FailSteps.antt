@@ -1,10 +1,11 @@
 -- What a failed attempt leaves: its error is treated, its link goes back, and its client is given what
 -- it is owed.
 --
---   queued_of                  what waits in its session, once the answer was queued
+--   queued_by                  what waits in its session, once the answer was queued
 --   leaves_part, broken_part   what passed is a part of one exchange, or nothing
 --   left_memory, left_broken   the phase behind the exchange
---   treated_on, treated_lost   the phase behind the treatment
+--   treated_on, answered_on    the phase behind the treatment, and behind the answer
+--   treated_lost               that where memory was wanted
 use Rattle.std.specs.Global.{Box}
 use Rattle.std.proofs.Common.{◌≡◌, ◌≢◌, ℕ, ◌<◌, Bool, true, false, not, List, [], ◌∷◌, ◌++◌, length, Some, refl, sym, ap, subst, ◌∙◌, inl, inr, arith, append-nil, append_assoc}
 use Rattle.std.specs.Prelude.{◌==◌, ◌⊎◌}
@@ -16,7 +17,7 @@ use Rattle.relay_tasks.specs.declared.log.LogEntry.{LogEntry}
 use Rattle.relay_tasks.specs.declared.task.HttpTask.{HttpTask}
 use Rattle.relay_links.specs.Link.{LinkState, LinkStart, IsHandedOut}
 use Rattle.relay_session.specs.Asked.{request_of}
-use Rattle.relay_session.specs.Response.{HoldsOn, IsText, pending}
+use Rattle.relay_session.specs.Response.{Holds, HoldsOn, IsOpen, pending}
 use Rattle.relay_session.specs.TaskWire.{Sent, wire}
 use Rattle.relay_session.specs.declared.session.HttpSession.{HttpSession}
 use Rattle.relay_session.specs.declared.task_text.Place.{Place}
@@ -27,18 +28,20 @@ use Rattle.relay_session.specs.declared.writing.Outgoing.TheVariants as outgoing
 use Rattle.relay_session.specs.declared.writing.Writing.{Writing}
 use Rattle.relay_hooks.specs.Standing.{Standing}
 use Rattle.relay_phases.specs.Order.{Station}
-use Rattle.relay_trying.specs.Trying.{Treats}
+use Rattle.relay_phases.specs.Turns.{wrote_in}
+use Rattle.relay_trying.specs.Trying.{Treats, may_follow, treated_at}
+use Rattle.relay_closing.specs.Queued.{QueuesOnce}
 use Rattle.relay_peer.specs.Body.{IsFrontOf}
 use Rattle.relay_attempt.specs.Order.{order_of, queued_in}
 use Rattle.relay_attempt.specs.Passed.{Passed}
-use Rattle.relay_proxy.specs.Answer.{answer_for, owed_text, QueuesAnswer, WaitsOf}
+use Rattle.relay_proxy.specs.Answer.{answer_to, owed_text, WaitsOf}
 use Rattle.relay_proxy.specs.Calls.{log_of, seen_with}
-use Rattle.relay_proxy.specs.Endings.{IsInOrder, IsGiven, FailsToWrite, IsPartRelayed, Misses, answer_to}
+use Rattle.relay_proxy.specs.Endings.{IsInOrder, IsGiven, FailsToWrite, IsPartRelayed, Misses}
 use Rattle.relay_proxy.specs.Leaving.{Answers}
 use Rattle.relay_proxy.specs.Named.{peer_in}
-use Rattle.relay_proxy.specs.Passed.{World, Start, called_to, IsUnsent, IsUntouched, TellsClient}
+use Rattle.relay_proxy.specs.Passed.{World, Start, closed_to, opened_to, IsUnsent, IsUntouched, TellsClient}
 use Rattle.relay_proxy.specs.Phases.{IsBroken, IsCalm, IsConnecting, IsGoing, IsLeased, LeavesAhead, LeavesSession, PhaseHolds, RunSoFar}
-use Rattle.relay_proxy.specs.Sent.{IsTreated}
+use Rattle.relay_proxy.specs.Sent.{IsAnswered, IsTreated}
 use Rattle.relay_proxy.specs.Tries.{tries_in}
 use Rattle.relay_proxy.specs.Turn.{Advances}
 use Rattle.relay_proxy.specs.declared.calls.Calls.{Calls}
@@ -49,12 +52,11 @@ use Rattle.relay_proxy.specs.declared.outcome.Outcome.TheVariants as outcome
 use Rattle.relay_proxy.specs.declared.record.AttemptRecord.{AttemptRecord}
 use Rattle.relay_proxy.proofs.AnswerSteps.{ends_missed}
 use Rattle.relay_proxy.proofs.CutLemmas.{cut_next}
-use Rattle.relay_proxy.proofs.HookSteps.{stop_text}
 use Rattle.relay_proxy.proofs.NamedLemmas.{names_none, peer_still}
 use Rattle.relay_proxy.proofs.OpenHead.{exchange_open}
-use Rattle.relay_proxy.proofs.OpenSteps.{called_accepted, called_tells, stands_first}
+use Rattle.relay_proxy.proofs.OpenSteps.{called_tells, closed_accepted, closed_tells, once_goes_on, once_open, once_request, stays_connecting}
 use Rattle.relay_proxy.proofs.PrepareSteps.{leased_on}
-use Rattle.relay_proxy.proofs.TreatLemmas.{refuses_on, sends_on, treats_last}
+use Rattle.relay_proxy.proofs.TreatLemmas.{refuses_on, sends_on}
 
 -- ---- what waits
 
@@ -67,49 +69,46 @@ data Queued (s : Start) (written text : List ℕ) (client : LinkState) (output :
   lost : (fault : Fault) → output ≡ outgoing.Broken fault → FailsToWrite s client
       → IsFrontOf written text → Queued s written text client output
 
--- the answer behind tasks whose text is known
-answered_text : (head : RequestHead) (request : Request) (tasks : List HttpTask) (at : Place)
-    (text : List ℕ) (counted : ℕ) (e : Error) → request ≡ request_of head
-    → wire request place.NoHead tasks ≡ record { text = text; counted = counted; place = at }
-    → (wire (request_of head) place.NoHead tasks).text
-    ++ answer_for (request_of head) (wire (request_of head) place.NoHead tasks).place e
-    ≡ text ++ answer_for request at e
-answered_text head request tasks at text counted e own is =
-    rw (sym own) (ap (λ (k : Sent). k.text ++ answer_for request k.place e) is)
-
-queued_of : (s : Start) (p : Passed) (client link : LinkState) (start : LinkStart)
-    (session session' : HttpSession) (raised e : Error)
-    (l : LeavesSession s p client link start session raised) (output : Outgoing)
-    → session.writing.output ≡ output
-    → QueuesAnswer output e session.writing session'.writing
-    → Queued s p.written (owed_text (order_of l.why) e) client session'.writing.output
-queued_of s p client link start session session' raised e l (outgoing.Open queue) is queues =
-    let tasks = queued_in (order_of l.why) in
-    let text : IsText session.writing tasks (p.written ++ queue) =
-    subst (λ (o : Outgoing). HoldsOn session.writing o tasks p.written) is l.holds in
-    let all = answered_text l.head session.writing.request tasks session.writing.place
-    (p.written ++ queue) text.counted e l.answers text.wire.is in
-    Queued.opened (queue ++ answer_for session.writing.request session.writing.place e) queues
-    (sym (append_assoc p.written queue _) ∙ sym all)
-queued_of s p client link start session session' raised e l (outgoing.Broken fault) is queues =
-    let tasks = queued_in (order_of l.why) in
-    let held : HoldsOn session.writing (outgoing.Broken fault) tasks p.written =
-    subst (λ (o : Outgoing). HoldsOn session.writing o tasks p.written) is l.holds in
-    let all = answered_text l.head session.writing.request tasks session.writing.place
-    (p.written ++ held.0) held.1.counted e l.answers held.1.wire.is in
-    Queued.lost fault queues (l.broken fault is) (record {
-      rest = held.0 ++ answer_for session.writing.request session.writing.place e;
-      joined = sym (append_assoc p.written held.0 _) ∙ sym all;
+-- an answer was queued behind tasks of which so much was written
+queued_of : (s : Start) (head : RequestHead) (written : List ℕ) (client : LinkState) (new : Writing)
+    (tasks : List HttpTask) (output : Outgoing) → new.output ≡ output
+    → new.request ≡ request_of head → HoldsOn new output tasks written
+    → ((fault : Fault) → output ≡ outgoing.Broken fault → FailsToWrite s client)
+    → Queued s written (wire (request_of head) place.NoHead tasks).text client output
+queued_of s head written client new tasks (outgoing.Open queue) is own held broken =
+    Queued.opened queue refl
+    (sym (ap (λ (k : Sent). k.text) held.wire.is)
+    ∙ ap (λ (r : Request). (wire r place.NoHead tasks).text) own)
+queued_of s head written client new tasks (outgoing.Broken fault) is own held broken =
+    Queued.lost fault refl (broken fault refl) (record {
+      rest = held.0;
+      joined = sym (ap (λ (k : Sent). k.text) held.1.wire.is)
+          ∙ ap (λ (r : Request). (wire r place.NoHead tasks).text) own;
     })
 
--- the answer to the error was queued, by what waited before
+-- a response whose writes failed had failed before an answer was queued
+was_broken : (s : Start) (client : LinkState) (old new : Writing) (wrote : List HttpTask)
+    → QueuesOnce old new wrote
+    → ((fault : Fault) → old.output ≡ outgoing.Broken fault → FailsToWrite s client)
+    → (output : Outgoing) → old.output ≡ output → (fault : Fault)
+    → new.output ≡ outgoing.Broken fault → FailsToWrite s client
+was_broken s client old new wrote queues broken (outgoing.Open queue) is fault now =
+    let opened : IsOpen new.output = once_open old new wrote queues (queue, is) in
+    absurd (let clash : outgoing.Open opened.0 ≡ outgoing.Broken fault = sym opened.1 ∙ now in cc)
+was_broken s client old new wrote queues broken (outgoing.Broken before) is fault now =
+    broken before is
+
+-- what waits once the answer to the error was queued, by what was queued before
 queued_by : (s : Start) (p : Passed) (client link : LinkState) (start : LinkStart)
-    (session session' : HttpSession) (raised e : Error)
+    (session : HttpSession) (new : Writing) (raised : Error) (wrote : List HttpTask)
     (l : LeavesSession s p client link start session raised)
-    → QueuesAnswer session.writing.output e session.writing session'.writing
-    → Queued s p.written (owed_text (order_of l.why) e) client session'.writing.output
-queued_by s p client link start session session' raised e l queues =
-    queued_of s p client link start session session' raised e l session.writing.output refl queues
+    → QueuesOnce session.writing new wrote
+    → Queued s p.written (owed_text (order_of l.why) wrote) client new.output
+queued_by s p client link start session new raised wrote l queues =
+    queued_of s l.head p.written client new (queued_in (order_of l.why) ++ wrote) new.output refl
+    (once_request session.writing new wrote queues ∙ l.answers)
+    (once_goes_on session.writing new wrote queues (queued_in (order_of l.why)) p.written l.holds)
+    (was_broken s client session.writing new wrote queues l.broken session.writing.output refl)
 
 -- what passed is a part of one exchange
 pub leaves_part : (s : Start) (p : Passed) (client link : LinkState) (start : LinkStart)
@@ -226,7 +225,7 @@ module _ {L C : Type 0} (state : L → LinkState) (start_at : L → LinkStart)
           };
         }
 
--- ---- the error is treated
+-- ---- the error is treated and answered
 
 -- what the client is owed of an attempt whose error was treated, over this link, and what waits of it
 record Owing (s : Start) (p : Passed) (w : World) (link : LinkState) (start : LinkStart)
@@ -237,7 +236,7 @@ record Owing (s : Start) (p : Passed) (w : World) (link : LinkState) (start : Li
 
 -- a write that failed did so, whatever was called
 writes_on : (s : Start) (these those : List LogEntry) (client : LinkState)
-    → FailsToWrite (called_to s these) client → FailsToWrite (called_to s those) client
+    → FailsToWrite (opened_to s these) client → FailsToWrite (opened_to s those) client
 writes_on s these those client fails = record {
   fault = fails.fault;
   kind = fails.kind;
@@ -245,147 +244,227 @@ writes_on s these those client fails = record {
   among = fails.among;
 }
 
--- the answer to an error is all that waits, where nothing was queued before
-ahead_text : (s : Start) (p : Passed) (w : World) (session : HttpSession) (new : Writing)
-    (tries : List AttemptRecord) (e : Error) → (k : IsConnecting s p w session tries)
-    → QueuesAnswer session.writing.output e session.writing new
-    → new.output ≡ outgoing.Open (answer_to k.head e)
-ahead_text s p w session new tries e k queues =
-    let b = k.begins k.head false in
-    stop_text session.writing new k.head e b.output
-    (b.answers ∙ ap (λ (h : RequestHead). request_of h) b.own)
-    (stands_first session.writing b.response b.output) queues
+-- what was told of an attempt that failed, where that was its session, and nothing of it was queued
+-- since
+session_on : (s : Start) (these those : List LogEntry) (e : LogEntry) → those ≡ these ++ e ∷ []
+    → e.hook ≡ hook.ErrorWhileProxy → (p : Passed) (client link : LinkState) (start : LinkStart)
+    (session left : HttpSession) (raised : Error) → left.writing ≡ session.writing
+    → LeavesSession (opened_to s these) p client link start session raised
+    → LeavesSession (opened_to s those) p client link start left raised
+session_on s these those e more is p client link start session left raised same l = record {
+  head = l.head;
+  sent = l.sent;
+  relayable = l.relayable;
+  sends = sends_on these those e more is l.sends;
+  why = l.why;
+  answers = ap (λ (w : Writing). w.request) same ∙ l.answers;
+  holds = subst (λ (w : Writing). Holds w (queued_in (order_of l.why)) p.written) (sym same) l.holds;
+  broken = λ fault broken. writes_on s these those client
+      (l.broken fault (sym (ap (λ (w : Writing). w.output) same) ∙ broken));
+}
+
+-- ---- it is treated
 
 module _ {L C M K : Type 0} (state : L → LinkState) (start_at : L → LinkStart)
     (allows : Standing → LogEntry → Type 0) (c d : Calls M K) (mark behind : ℕ) (s : Start)
-    (p : Passed) (w : World) (context : C) (session : Box HttpSession) (left : HttpSession)
+    (p : Passed) (w : World) (context context' : C) (session left : Box HttpSession)
     (link : L) (lease : Lease) (keep : Bool) (raised treated : Error) (from : Station)
-    (run : RunSoFar {C = C} state start_at (called_to s (log_of c)) p w []
+    (run : RunSoFar {C = C} state start_at (opened_to s (log_of c)) p w []
     (Broken context session link lease keep raised))
     (t : Treats allows hook.ErrorWhileProxy lease.peer lease.reused from raised
-    (seen_with c session.value) mark (seen_with d left) behind treated)
+    (seen_with c session.value) mark (seen_with d left.value) behind treated)
   where
     -- the log has one entry more, of that hook
     more : log_of d ≡ log_of c ++ t.call.turn.e ∷ []
     more = t.call.turn.calls.log
 
-    -- nothing was queued
-    same : left.writing ≡ session.value.writing
-    same = t.call.turn.queued.same
-
-    -- it treated the error
-    treats : IsTreated (log_of d) raised treated
-    treats = treats_last (log_of c) (log_of d) t.call.turn.e more t.call.turn.hook raised treated
-        t.call.input t.call.output
-
     -- the same peer is named
-    leased_still : IsLeased (called_to s (log_of d)) p (state link) (start_at link) lease
-    leased_still = leased_on s (log_of c) (log_of d) p (state link) (start_at link) lease
-        (ap (λ (l : List LogEntry). peer_in l) more
+    peers : peer_in (log_of d) ≡ peer_in (log_of c)
+    peers =
+        ap (λ (l : List LogEntry). peer_in l) more
         ∙ peer_still (log_of c) t.call.turn.e
-        (names_none t.call.turn.e hook.ErrorWhileProxy t.call.turn.hook refl)) run.holds.0
+        (names_none t.call.turn.e hook.ErrorWhileProxy t.call.turn.hook refl)
 
-    -- the exchange that failed left that session
-    session_on : LeavesSession (called_to s (log_of c)) p w.client (state link) (start_at link)
-        session.value raised
-        → LeavesSession (called_to s (log_of d)) p w.client (state link) (start_at link)
-        session.value raised
-    session_on l = record {
-      head = l.head;
-      sent = l.sent;
-      relayable = l.relayable;
-      sends = sends_on (log_of c) (log_of d) t.call.turn.e more t.call.turn.hook l.sends;
-      why = l.why;
-      answers = l.answers;
-      holds = l.holds;
-      broken = λ fault is. writes_on s (log_of c) (log_of d) w.client (l.broken fault is);
-    }
+    leased_still : IsLeased (opened_to s (log_of d)) p (state link) (start_at link) lease
+    leased_still = leased_on s (log_of c) (log_of d) p (state link) (start_at link) lease peers
+        run.holds.0
 
-    -- what is owed behind the exchange
-    owing_in : (l : LeavesSession (called_to s (log_of d)) p w.client (state link) (start_at link)
-        session.value raised) → keep ≡ false → (new : HttpSession)
-        → QueuesAnswer session.value.writing.output treated session.value.writing new.writing
-        → Owing (called_to s (log_of d)) p w (state link) (start_at link) keep treated
-        new.writing.output
-    owing_in l kept new queues = record {
-      text = owed_text (order_of l.why) treated;
-      misses = Misses.in_exchange (record {
-        head = l.head;
-        sent = l.sent;
-        relayable = l.relayable;
-        sends = l.sends;
-        before = p.written;
-        raised = raised;
-        treated = treats;
-        why = l.why;
-      }) refl kept;
-      queued = queued_by (called_to s (log_of d)) p w.client (state link) (start_at link)
-          session.value new raised treated l queues;
-    }
+    -- the attempt failed as before
+    broken_still : IsBroken (opened_to s (log_of c)) p w (state link) (start_at link)
+        session.value lease keep raised
+        → IsBroken (opened_to s (log_of d)) p w (state link) (start_at link) left.value lease keep
+        raised
+    broken_still (IsBroken.in_exchange l kept) =
+        IsBroken.in_exchange
+        (session_on s (log_of c) (log_of d) t.call.turn.e more t.call.turn.hook p w.client
+        (state link) (start_at link) session.value left.value raised t.call.turn.queued.same l) kept
+    broken_still (IsBroken.ahead_of_it l) = IsBroken.ahead_of_it (record {
+      connecting = stays_connecting allows c d session.value left.value mark behind
+          hook.ErrorWhileProxy from (treated_at (may_follow treated (seen_with c session.value)))
+          t.call.turn s p w (tries_in lease) (inr peers) l.connecting;
+      leased = leased_still;
+      fresh = l.fresh;
+      why = refuses_on (log_of c) (log_of d) t.call.turn.e more t.call.turn.hook l.why;
+    })
 
-    -- and ahead of it
-    owing_ahead : LeavesAhead (called_to s (log_of c)) p w (state link) (start_at link)
-        session.value lease keep raised → (new : Writing)
-        → QueuesAnswer session.value.writing.output treated session.value.writing new
-        → Owing (called_to s (log_of d)) p w (state link) (start_at link) keep treated new.output
-    owing_ahead l new queues = record {
-      text = answer_to l.connecting.head treated;
-      misses = Misses.ahead_of_it (record {
-        head = l.connecting.head;
-        accepted = called_accepted s (log_of c) (log_of d) p l.connecting.head
-            l.connecting.accepted;
-        raised = raised;
-        refused = refuses_on (log_of c) (log_of d) t.call.turn.e more t.call.turn.hook l.why;
-        treated = treats;
-        fresh = subst (λ (b : Bool). IsHandedOut (state link) (start_at link) b)
-            (sym l.fresh.marked) l.fresh;
-        unsent = l.connecting.unsent;
-      }) refl;
-      queued = Queued.opened (answer_to l.connecting.head treated)
-          (ahead_text (called_to s (log_of c)) p w session.value new (tries_in lease) treated
-          l.connecting queues)
-          (ap (λ (xs : List ℕ). xs ++ answer_to l.connecting.head treated) l.connecting.written);
-    }
-
-    -- the same by how the attempt failed
-    owing : IsBroken (called_to s (log_of c)) p w (state link) (start_at link) session.value lease
-        keep raised → (new : HttpSession)
-        → QueuesAnswer session.value.writing.output treated session.value.writing new.writing
-        → Owing (called_to s (log_of d)) p w (state link) (start_at link) keep treated
-        new.writing.output
-    owing (IsBroken.in_exchange l kept) new queues = owing_in (session_on l) kept new queues
-    owing (IsBroken.ahead_of_it l) new queues = owing_ahead l new.writing queues
-
-    -- what passed is in order still
-    order_still : IsBroken (called_to s (log_of c)) p w (state link) (start_at link) session.value
-        lease keep raised → IsInOrder (called_to s (log_of d)) p
+    -- and what passed is in order still
+    order_still : IsBroken (opened_to s (log_of d)) p w (state link) (start_at link) left.value
+        lease keep raised → IsInOrder (opened_to s (log_of d)) p
     order_still (IsBroken.in_exchange l kept) =
-        part_order (called_to s (log_of d)) p (state link) (start_at link)
-        (leaves_part (called_to s (log_of d)) p w.client (state link) (start_at link) session.value
-        raised (session_on l))
+        part_order (opened_to s (log_of d)) p (state link) (start_at link)
+        (leaves_part (opened_to s (log_of d)) p w.client (state link) (start_at link) left.value
+        raised l)
     order_still (IsBroken.ahead_of_it l) =
         IsInOrder.is_nothing l.connecting.written l.connecting.unsent.sent
 
-    -- and is a part of one exchange, or nothing
-    part_still : IsBroken (called_to s (log_of c)) p w (state link) (start_at link) session.value
-        lease keep raised
-        → IsPartRelayed (called_to s (log_of d)) p (state link) (start_at link)
-        ⊎ ((p.written ≡ []) × IsUnsent p)
-    part_still (IsBroken.in_exchange l kept) =
-        inl (leaves_part (called_to s (log_of d)) p w.client (state link) (start_at link)
-        session.value raised (session_on l))
-    part_still (IsBroken.ahead_of_it l) = inr (l.connecting.written, l.connecting.unsent)
+    -- the error is to be answered
+    pub treated_on : Advances {C = C} state start_at (opened_to s (log_of d)) w
+        (Broken context' left link lease keep raised)
+    treated_on =
+        let broken = broken_still run.holds.1 in
+        record {
+          passed = p;
+          run = record {
+            tells = called_tells s (log_of c) (log_of d) p w run.tells;
+            order = order_still broken;
+            untouched = run.untouched;
+            going = tt;
+            calm = tt;
+            holds = (leased_still, broken);
+          };
+        }
+
+-- ---- it is answered
+
+-- the link of an attempt is leased, whatever the calls of the end
+closed_leased : (s : Start) (log closed : List LogEntry) (p : Passed)
+    (link : LinkState) (start : LinkStart) (lease : Lease)
+    → IsLeased (opened_to s log) p link start lease
+    → IsLeased (closed_to s log closed) p link start lease
+closed_leased s log closed p link start lease leased = record {
+  tells = leased.tells;
+  peer = leased.peer;
+  recorded = leased.recorded;
+  reused = leased.reused;
+  tries = record { each = leased.tries.each; allowed = leased.tries.allowed };
+}
+
+-- an exchange that failed left that session, whatever they are
+closed_session : (s : Start) (log closed : List LogEntry) (p : Passed)
+    (client link : LinkState) (start : LinkStart) (session : HttpSession) (raised : Error)
+    → LeavesSession (opened_to s log) p client link start session raised
+    → LeavesSession (closed_to s log closed) p client link start session raised
+closed_session s log closed p client link start session raised l = record {
+  head = l.head;
+  sent = l.sent;
+  relayable = l.relayable;
+  sends = l.sends;
+  why = l.why;
+  answers = l.answers;
+  holds = l.holds;
+  broken = λ fault is.
+      let fails : FailsToWrite (opened_to s log) client = l.broken fault is in
+      record {
+        fault = fails.fault;
+        kind = fails.kind;
+        rose = fails.rose;
+        among = fails.among;
+      };
+}
+
+module _ {L C : Type 0} (state : L → LinkState) (start_at : L → LinkStart) (s : Start)
+    (log closed : List LogEntry) (p : Passed) (w : World) (context : C)
+    (session : Box HttpSession) (left : Writing) (link : L) (lease : Lease) (keep : Bool)
+    (raised treated : Error) (is_treated : IsTreated log raised treated)
+    (told : IsAnswered closed treated)
+    (queues : QueuesOnce session.value.writing left (wrote_in closed))
+    (run : RunSoFar {C = C} state start_at (opened_to s log) p w []
+    (Broken context session link lease keep raised))
+  where
+    -- what is owed behind the exchange
+    owing_in : LeavesSession (opened_to s log) p w.client (state link) (start_at link) session.value
+        raised → keep ≡ false
+        → Owing (closed_to s log closed) p w (state link) (start_at link) keep treated left.output
+    owing_in before kept =
+        let l = closed_session s log closed p w.client (state link) (start_at link) session.value
+        raised before in
+        record {
+          text = owed_text (order_of l.why) (wrote_in closed);
+          misses = Misses.in_exchange (record {
+            head = l.head;
+            sent = l.sent;
+            relayable = l.relayable;
+            sends = l.sends;
+            before = p.written;
+            raised = raised;
+            treated = is_treated;
+            told = told;
+            why = l.why;
+          }) refl kept;
+          queued = queued_by (closed_to s log closed) p w.client (state link) (start_at link)
+              session.value left raised (wrote_in closed) l queues;
+        }
+
+    -- and ahead of it
+    owing_ahead : LeavesAhead (opened_to s log) p w (state link) (start_at link) session.value lease
+        keep raised
+        → Owing (closed_to s log closed) p w (state link) (start_at link) keep treated left.output
+    owing_ahead l =
+        let begins = l.connecting.begins l.connecting.head false in
+        record {
+          text = answer_to l.connecting.head (wrote_in closed);
+          misses = Misses.ahead_of_it (record {
+            head = l.connecting.head;
+            accepted = closed_accepted s log closed p l.connecting.head l.connecting.accepted;
+            raised = raised;
+            refused = l.why;
+            treated = is_treated;
+            told = told;
+            fresh = subst (λ (b : Bool). IsHandedOut (state link) (start_at link) b)
+                (sym l.fresh.marked) l.fresh;
+            unsent = l.connecting.unsent;
+          }) refl;
+          queued = queued_of (closed_to s log closed) l.connecting.head p.written w.client left
+              (wrote_in closed) left.output refl
+              (once_request session.value.writing left (wrote_in closed) queues
+              ∙ begins.answers ∙ ap (λ (h : RequestHead). request_of h) begins.own)
+              (subst (λ (xs : List ℕ). Holds left (wrote_in closed) xs) (sym l.connecting.written)
+              (once_goes_on session.value.writing left (wrote_in closed) queues [] []
+              begins.response))
+              (was_broken (closed_to s log closed) w.client session.value.writing left
+              (wrote_in closed) queues
+              (λ fault is. absurd (let clash : outgoing.Open [] ≡ outgoing.Broken fault =
+              sym begins.output ∙ is in cc)) session.value.writing.output refl);
+        }
+
+    -- the same by how the attempt failed
+    owing : IsBroken (opened_to s log) p w (state link) (start_at link) session.value lease keep
+        raised
+        → Owing (closed_to s log closed) p w (state link) (start_at link) keep treated left.output
+    owing (IsBroken.in_exchange l kept) = owing_in l kept
+    owing (IsBroken.ahead_of_it l) = owing_ahead l
+
+    -- what passed is in order still
+    order_so : IsBroken (opened_to s log) p w (state link) (start_at link) session.value lease keep
+        raised → IsInOrder (closed_to s log closed) p
+    order_so (IsBroken.in_exchange l kept) =
+        part_order (closed_to s log closed) p (state link) (start_at link)
+        (leaves_part (closed_to s log closed) p w.client (state link) (start_at link) session.value
+        raised (closed_session s log closed p w.client (state link) (start_at link) session.value
+        raised l))
+    order_so (IsBroken.ahead_of_it l) =
+        IsInOrder.is_nothing l.connecting.written l.connecting.unsent.sent
 
     -- the phase that follows
     goes_to : (next : Phase L C) → IsGoing state start_at next
-        → IsCalm state start_at (called_to s (log_of d)) w next
-        → PhaseHolds state start_at (called_to s (log_of d)) p w [] next
-        → Advances state start_at (called_to s (log_of d)) w next
+        → IsCalm state start_at (closed_to s log closed) w next
+        → PhaseHolds state start_at (closed_to s log closed) p w [] next
+        → Advances state start_at (closed_to s log closed) w next
     goes_to next going calm holds = record {
       passed = p;
       run = record {
-        tells = called_tells s (log_of c) (log_of d) p w run.tells;
-        order = order_still run.holds.1;
+        tells = closed_tells s log closed p w run.tells;
+        order = order_so run.holds.1;
         untouched = run.untouched;
         going = going;
         calm = calm;
@@ -393,75 +472,44 @@ module _ {L C M K : Type 0} (state : L → LinkState) (start_at : L → LinkStar
       };
     }
 
-    -- memory was wanted behind the treatment
-    lost_on : Advances {C = C} state start_at (called_to s (log_of d)) w
-        (Close link lease false outcome.OutOfMemory)
-    lost_on = goes_to (Close link lease false outcome.OutOfMemory) (λ limit. cc) tt
-        (leased_still, (part_still run.holds.1, refl))
+    leased_so : IsLeased (closed_to s log closed) p (state link) (start_at link) lease
+    leased_so = closed_leased s log closed p (state link) (start_at link) lease run.holds.0
 
-    -- nothing waits for the client
-    over_on : (new : HttpSession)
-        → QueuesAnswer session.value.writing.output treated session.value.writing new.writing
-        → pending new.writing.output ≡ []
-        → Advances {C = C} state start_at (called_to s (log_of d)) w
-        (Close link lease keep (outcome.Served (Some treated) false))
-    over_on new queues none =
-        let o = owing run.holds.1 new queues in
-        goes_to (Close link lease keep (outcome.Served (Some treated) false)) (λ limit. cc) tt (
-          leased_still,
-          ends_missed (called_to s (log_of d)) p w (state link) (start_at link) keep treated o.text
-              o.misses (given_all (called_to s (log_of d)) p w o.text new.writing.output o.queued
-              none),
-        )
-
-    -- something waits
-    waits_on : (new : Box HttpSession)
-        → QueuesAnswer session.value.writing.output treated session.value.writing
-        new.value.writing → 0 < length (pending new.value.writing.output)
-        → Advances {C = C} state start_at (called_to s (log_of d)) w
-        (Fail link lease keep new treated)
-    waits_on new queues some =
-        let o = owing run.holds.1 new.value queues in
-        goes_to (Fail link lease keep new treated) tt tt (
-          leased_still,
+    -- what the attempt comes to
+    pub answered_on : (next : Phase L C) → Answers left link lease keep treated next
+        → Advances {C = C} state start_at (closed_to s log closed) w next
+    answered_on next (Answers.waits new same some is) =
+        let o = owing run.holds.1 in
+        subst (λ (k : Phase L C). Advances state start_at (closed_to s log closed) w k) (sym is)
+        (goes_to (Fail link lease keep new treated) tt tt (
+          leased_so,
           record {
             text = o.text;
             misses = o.misses;
-            waits = waits_of (called_to s (log_of d)) p w.client o.text new.value.writing.output
-                o.queued some;
+            waits = subst (λ (x : Writing). WaitsOf x.output p.written o.text) (sym same)
+                (waits_of (closed_to s log closed) p w.client o.text left.output o.queued some);
           },
-        )
+        ))
+    answered_on next (Answers.is_over none is) =
+        let o = owing run.holds.1 in
+        subst (λ (k : Phase L C). Advances state start_at (closed_to s log closed) w k) (sym is)
+        (goes_to (Close link lease keep (outcome.Served (Some treated) false)) (λ limit. cc) tt (
+          leased_so,
+          ends_missed (closed_to s log closed) p w (state link) (start_at link) keep treated o.text
+              o.misses (given_all (closed_to s log closed) p w o.text left.output o.queued none),
+        ))
 
-    -- what the answer is queued behind
-    queues_same : (new : Writing) → QueuesAnswer left.writing.output treated left.writing new
-        → QueuesAnswer session.value.writing.output treated session.value.writing new
-    queues_same new queues =
-        subst (λ (x : Writing). QueuesAnswer x.output treated x new) same queues
-
-    -- what the attempt comes to
-    pub treated_on : (next : Phase L C) → Answers left.writing link lease keep treated next
-        → Advances {C = C} state start_at (called_to s (log_of d)) w next
-    treated_on next (Answers.waits new queues some is) =
-        subst (λ (k : Phase L C). Advances state start_at (called_to s (log_of d)) w k) (sym is)
-        (waits_on new (queues_same new.value.writing queues) some)
-    treated_on next (Answers.is_over new queues none is) =
-        subst (λ (k : Phase L C). Advances state start_at (called_to s (log_of d)) w k) (sym is)
-        (over_on (record session.value { writing = new }) (queues_same new queues) none)
-    treated_on next (Answers.is_lost is) =
-        subst (λ (k : Phase L C). Advances state start_at (called_to s (log_of d)) w k) (sym is)
-        lost_on
-
--- memory was wanted for the treatment
+-- memory was wanted for one of both
 pub treated_lost : {L C : Type 0} (state : L → LinkState) (start_at : L → LinkStart)
     (these those : List LogEntry) (s : Start) (p : Passed) (w : World) (context : C)
     (session : Box HttpSession) (link : L) (lease : Lease) (keep : Bool) (e : Error)
     → those ≡ these
-    → RunSoFar {C = C} state start_at (called_to s these) p w []
+    → RunSoFar {C = C} state start_at (opened_to s these) p w []
     (Broken context session link lease keep e)
-    → Advances {C = C} state start_at (called_to s those) w
+    → Advances {C = C} state start_at (opened_to s those) w
     (Close link lease false outcome.OutOfMemory)
 treated_lost {C = C} state start_at these those s p w context session link lease keep e same run =
-    subst (λ (l : List LogEntry). Advances {C = C} state start_at (called_to s l) w
+    subst (λ (l : List LogEntry). Advances {C = C} state start_at (opened_to s l) w
     (Close link lease false outcome.OutOfMemory)) (sym same) (record {
       passed = p;
       run = record {
@@ -473,7 +521,7 @@ treated_lost {C = C} state start_at these those s p w context session link lease
         holds = (
           run.holds.0,
           (
-            broken_part (called_to s these) p w (state link) (start_at link) session.value lease
+            broken_part (opened_to s these) p w (state link) (start_at link) session.value lease
                 keep e run.holds.1,
             refl,
           ),

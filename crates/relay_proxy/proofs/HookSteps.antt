@@ -4,14 +4,13 @@
 --   opening_on                 the calls so far, behind it
 --   goes_connecting            the request goes on
 --   answered                   hooks answered it
---   stopped                    hooks stopped it with an error
+--   purged                     it is a purge
 --   counts_called ..           what is counted of the call
---   stop_text                  what answers such an error
-use Rattle.std.proofs.Common.{◌≡◌, ℕ, ◌≤◌, true, false, List, [], ◌∷◌, ◌++◌, Ok, Some, None, Bool, is_some, refl, sym, ap, subst, ◌∙◌, inl, arith}
+--   stop_text                  what answers that
+use Rattle.std.proofs.Common.{◌≡◌, ℕ, ◌≤◌, true, false, List, [], ◌∷◌, ◌++◌, Ok, Some, None, Bool, Option, is_some, refl, sym, ap, subst, ◌∙◌, inl, arith, true≢false}
 use Rattle.relay_tasks.specs.Head.{RequestHead}
 use Rattle.relay_tasks.specs.Hooks.{same_hook}
 use Rattle.relay_tasks.specs.declared.Error.{Error}
-use Rattle.relay_tasks.specs.declared.ErrorSource.TheVariants.{Internal}
 use Rattle.relay_tasks.specs.declared.Peer.{Peer}
 use Rattle.relay_tasks.specs.declared.hook.Hook.{Hook}
 use Rattle.relay_tasks.specs.declared.hook.Hook.TheVariants as hook
@@ -43,11 +42,11 @@ use Rattle.relay_opening.specs.declared.place.End.TheVariants as end
 use Rattle.relay_opening.proofs.QueuedLemmas.{end_open}
 use Rattle.relay_trying.specs.Trying.{NamesPeer}
 use Rattle.relay_attempt.specs.Passed.{Passed}
-use Rattle.relay_proxy.specs.Ahead.{IsOwedAhead, IsStoppedFor, unrelayed}
+use Rattle.relay_proxy.specs.Ahead.{IsOwedAhead, LastFails}
 use Rattle.relay_proxy.specs.Answer.{QueuesAnswer, answer_for}
-use Rattle.relay_proxy.specs.Calls.{CallsNext, CountsCalls, GoesOn, IsLogged, IsOpening, TakesNext, TellsPeer, comes_next, is_calling, leads_at, leads_to, log_of, seen_with, station_at}
+use Rattle.relay_proxy.specs.Calls.{CallsNext, CountsCalls, GoesOn, IsLogged, IsOpening, IsUnended, TakesNext, TellsError, TellsPeer, comes_next, failed_at, final_at, has_peer, is_calling, leads_at, leads_to, log_of, place_station, seen_with, station_at}
 use Rattle.relay_proxy.specs.Named.{IsNamed, peer_in}
-use Rattle.relay_proxy.specs.Passed.{Start, World, called_to}
+use Rattle.relay_proxy.specs.Passed.{Start, World, begins_end, opened_to}
 use Rattle.relay_proxy.specs.Phases.{IsConnecting}
 use Rattle.relay_proxy.specs.Relayable.{IsAccepted}
 use Rattle.relay_proxy.specs.Sent.{IsUntreated}
@@ -61,20 +60,7 @@ use Rattle.relay_proxy.specs.declared.work.Work.{Work}
 use Rattle.relay_proxy.proofs.CallLemmas.{logged_more, logged_same, none_called, one_called, opening_stands}
 use Rattle.relay_proxy.proofs.NamedLemmas.{names_one, peer_last}
 use Rattle.relay_proxy.proofs.OpenSteps.{AnswersAs, called_accepted, hooks_answer, stands_first, stays_connecting}
-use Rattle.relay_proxy.proofs.TreatLemmas.{untreated_more}
-
--- one error stops a request
-same_stop : (a b : Error) → led.Stopped a ≡ led.Stopped b → a ≡ b
-same_stop a b same = cc
-
--- or hooks stop it with that error: one failed with it, or the request is a purge
-abbrev pub StopsFor : End → Error → Type 0
-StopsFor end.Attempts e = ⊥
-StopsFor end.Answered e = ⊥
-StopsFor end.Purge e = e ≡ unrelayed Internal
-StopsFor end.Declined e = ⊥
-StopsFor (end.Unwritten why) e = ⊥
-StopsFor (end.Failed error) e = e ≡ error
+use Rattle.relay_proxy.proofs.TreatLemmas.{unended_more, untreated_more}
 
 -- the hooks are over so, where they answered the request
 record IsDone {K : Type 0} (p : Place K) : Type 0 where
@@ -95,23 +81,16 @@ done_of (place.Ended (end.Unwritten why)) is = cc
 done_of (place.Ended (end.Failed error)) is = cc
 done_of place.Lost is = cc
 
--- or where they stopped it with that error
-record IsStop {K : Type 0} (p : Place K) (e : Error) : Type 0 where
-  how : End
-  is : p ≡ place.Ended how
-  stops : StopsFor how e
-
-stop_of : {K : Type 0} (p : Place K) (e : Error) → leads_to p ≡ led.Stopped e → IsStop p e
-stop_of (place.Behind last) e is = cc
-stop_of (place.Ended end.Attempts) e is = cc
-stop_of (place.Ended end.Answered) e is = cc
-stop_of (place.Ended end.Purge) e is =
-    record { how = end.Purge; is = refl; stops = same_stop e (unrelayed Internal) (sym is) }
-stop_of (place.Ended end.Declined) e is = cc
-stop_of (place.Ended (end.Unwritten why)) e is = cc
-stop_of (place.Ended (end.Failed error)) e is =
-    record { how = end.Failed error; is = refl; stops = same_stop e error (sym is) }
-stop_of place.Lost e is = cc
+-- or the request is a purge
+purge_of : {K : Type 0} (p : Place K) → leads_to p ≡ led.Purges → p ≡ place.Ended end.Purge
+purge_of (place.Behind last) is = cc
+purge_of (place.Ended end.Attempts) is = cc
+purge_of (place.Ended end.Answered) is = cc
+purge_of (place.Ended end.Purge) is = refl
+purge_of (place.Ended end.Declined) is = cc
+purge_of (place.Ended (end.Unwritten why)) is = cc
+purge_of (place.Ended (end.Failed error)) is = cc
+purge_of place.Lost is = cc
 
 -- where a call led anywhere but out of memory its place is known
 pub known_at : {K : Type 0} (a : At K) (to : Opened) → to ≡ leads_at a
@@ -124,6 +103,8 @@ place_in (at.Kept kept) = place.Lost
 place_in (at.Opening there) = there
 place_in (at.Named peer) = place.Lost
 place_in at.Linked = place.Lost
+place_in (at.Treated error) = place.Lost
+place_in (at.Closing there) = place.Lost
 
 same_place : {K : Type 0} (p q : Place K) → at.Opening p ≡ at.Opening q → p ≡ q
 same_place p q same = ap (λ (a : At _). place_in a) same
@@ -131,31 +112,34 @@ same_place p q same = ap (λ (a : At _). place_in a) same
 pub same_peer : {K : Type 0} (p q : Peer) → ◌≡◌ {A = At K} (at.Named p) (at.Named q) → p ≡ q
 same_peer p q same = cc
 
--- the hook that comes next is none in which an error is treated
+-- a hook in which no error is treated and with which no end begins
+abbrev IsBefore : Hook → Type 0
+IsBefore which = (same_hook hook.ErrorWhileProxy which ≡ false) × (begins_end which ≡ false)
+
+-- the hook that comes next is one
 opens_behind : {K : Type 0} (last : Called K) (has_modules : Bool)
-    → same_hook hook.ErrorWhileProxy (next_hook last has_modules) ≡ false
-opens_behind (called.Made None) has_modules = refl
-opens_behind (called.Made (Some kept)) has_modules = refl
-opens_behind called.Handed has_modules = refl
-opens_behind called.Early has_modules = refl
-opens_behind called.Spawning true = refl
-opens_behind called.Spawning false = refl
-opens_behind called.Headed has_modules = refl
-opens_behind called.Filtered has_modules = refl
-opens_behind called.Sending has_modules = refl
+    → IsBefore (next_hook last has_modules)
+opens_behind (called.Made None) has_modules = (refl, refl)
+opens_behind (called.Made (Some kept)) has_modules = (refl, refl)
+opens_behind called.Handed has_modules = (refl, refl)
+opens_behind called.Early has_modules = (refl, refl)
+opens_behind called.Spawning true = (refl, refl)
+opens_behind called.Spawning false = (refl, refl)
+opens_behind called.Headed has_modules = (refl, refl)
+opens_behind called.Filtered has_modules = (refl, refl)
+opens_behind called.Sending has_modules = (refl, refl)
 
 -- where hooks come one behind the other, that is the one
-same_next : (a b : Hook) → Some a ≡ Some b → same_hook hook.ErrorWhileProxy a ≡ false
-    → same_hook hook.ErrorWhileProxy b ≡ false
-same_next a b is other = let same : a ≡ b = cc in subst (λ (h : Hook). same_hook hook.ErrorWhileProxy h ≡ false) same other
+same_next : (a b : Hook) → Some a ≡ Some b → IsBefore a → IsBefore b
+same_next a b is other = let same : a ≡ b = cc in subst (λ (h : Hook). IsBefore h) same other
 
 opens_by : {K : Type 0} (a : At K) (has_modules : Bool) (which : Hook)
-    → comes_next a has_modules ≡ Some which → same_hook hook.ErrorWhileProxy which ≡ false
+    → comes_next a has_modules ≡ Some which → IsBefore which
 opens_by (at.Kept kept) has_modules which is = cc
 opens_by (at.Opening (place.Behind last)) has_modules which is =
     same_next (next_hook last has_modules) which is (opens_behind last has_modules)
 opens_by (at.Opening (place.Ended end.Attempts)) has_modules which is =
-    same_next hook.UpstreamPeer which is refl
+    same_next hook.UpstreamPeer which is (refl, refl)
 opens_by (at.Opening (place.Ended end.Answered)) has_modules which is = cc
 opens_by (at.Opening (place.Ended end.Purge)) has_modules which is = cc
 opens_by (at.Opening (place.Ended end.Declined)) has_modules which is = cc
@@ -164,6 +148,56 @@ opens_by (at.Opening (place.Ended (end.Failed error))) has_modules which is = cc
 opens_by (at.Opening place.Lost) has_modules which is = cc
 opens_by (at.Named peer) has_modules which is = cc
 opens_by at.Linked has_modules which is = cc
+opens_by (at.Treated error) has_modules which is = cc
+opens_by (at.Closing there) has_modules which is = cc
+
+-- before a hook is called no peer was named
+pub unnamed : {K : Type 0} (a : At K) → is_calling a ≡ true → has_peer a ≡ false
+unnamed (at.Kept kept) is = refl
+unnamed (at.Opening there) is = refl
+unnamed (at.Named peer) is = absurd (true≢false (sym is))
+unnamed at.Linked is = absurd (true≢false (sym is))
+unnamed (at.Treated error) is = absurd (true≢false (sym is))
+unnamed (at.Closing there) is = absurd (true≢false (sym is))
+
+-- nor is one where an error of a hook is to be answered, of which the log tells
+pub unnamed_failed : {K : Type 0} (a : At K) (e : Error) → final_at a ≡ Some e → has_peer a ≡ false
+unnamed_failed (at.Kept kept) e is = refl
+unnamed_failed (at.Opening there) e is = refl
+unnamed_failed (at.Named peer) e is = cc
+unnamed_failed at.Linked e is = cc
+unnamed_failed (at.Treated error) e is = cc
+unnamed_failed (at.Closing there) e is = cc
+
+failed_station : {K : Type 0} (p : Place K) (e : Error) → failed_at p ≡ Some e
+    → place_station p ≡ station.failing
+failed_station (place.Behind last) e is = cc
+failed_station (place.Ended end.Attempts) e is = cc
+failed_station (place.Ended end.Answered) e is = cc
+failed_station (place.Ended end.Purge) e is = cc
+failed_station (place.Ended end.Declined) e is = cc
+failed_station (place.Ended (end.Unwritten why)) e is = cc
+failed_station (place.Ended (end.Failed error)) e is = refl
+failed_station place.Lost e is = cc
+
+pub final_station : {K : Type 0} (a : At K) (e : Error) → final_at a ≡ Some e
+    → station_at a ≡ station.failing
+final_station (at.Kept kept) e is = cc
+final_station (at.Opening there) e is = failed_station there e is
+final_station (at.Named peer) e is = cc
+final_station at.Linked e is = cc
+final_station (at.Treated error) e is = cc
+final_station (at.Closing there) e is = cc
+
+pub final_fails : {K : Type 0} (a : At K) (log : List LogEntry) (e : Error)
+    → final_at a ≡ Some e → TellsPeer a log → LastFails log e
+final_fails (at.Kept kept) log e is tells = cc
+final_fails (at.Opening there) log e is tells =
+    subst (λ (o : Option Error). TellsError o log) is tells
+final_fails (at.Named peer) log e is tells = cc
+final_fails at.Linked log e is tells = cc
+final_fails (at.Treated error) log e is tells = cc
+final_fails (at.Closing there) log e is tells = cc
 
 -- nothing was queued twice
 pub quiet_twice : (a b c : Writing) (v w : List HttpTask) → QueuesNothing a b v
@@ -233,10 +267,10 @@ module _ {C M K : Type 0} (allows : Standing → LogEntry → Type 0) (mark_of :
         → IsUntreated (log_of old) → IsUntreated (log_of new)
     untreated_by (TakesNext.leads which comes (place.Behind last) to turn) none =
         untreated_more (log_of old) (log_of new) turn.e which turn.calls.log turn.hook
-        (opens_by old.at (is_some old.session.modules) which comes) none
+        (opens_by old.at (is_some old.session.modules) which comes).0 none
     untreated_by (TakesNext.leads which comes (place.Ended how) to turn) none =
         untreated_more (log_of old) (log_of new) turn.0.e which turn.0.calls.log turn.0.hook
-        (opens_by old.at (is_some old.session.modules) which comes) none
+        (opens_by old.at (is_some old.session.modules) which comes).0 none
     untreated_by (TakesNext.leads which comes place.Lost to turn) none =
         subst (λ (l : List LogEntry). IsUntreated l) (sym turn) none
     untreated_by (TakesNext.names was peer to names) none =
@@ -247,6 +281,26 @@ module _ {C M K : Type 0} (allows : Standing → LogEntry → Type 0) (mark_of :
 
     pub untreated : IsUntreated (log_of old) → IsUntreated (log_of new)
     untreated none = untreated_by turns none
+
+    -- nor does one begin the end
+    unended_by : CallsNext allows old client (mark_of context) new left (mark_of context')
+        → IsUnended (log_of old) → IsUnended (log_of new)
+    unended_by (TakesNext.leads which comes (place.Behind last) to turn) none =
+        unended_more (log_of old) (log_of new) turn.e which turn.calls.log turn.hook
+        (opens_by old.at (is_some old.session.modules) which comes).1 none
+    unended_by (TakesNext.leads which comes (place.Ended how) to turn) none =
+        unended_more (log_of old) (log_of new) turn.0.e which turn.0.calls.log turn.0.hook
+        (opens_by old.at (is_some old.session.modules) which comes).1 none
+    unended_by (TakesNext.leads which comes place.Lost to turn) none =
+        subst (λ (l : List LogEntry). IsUnended l) (sym turn) none
+    unended_by (TakesNext.names was peer to names) none =
+        unended_more (log_of old) (log_of new) names.turn.e hook.UpstreamPeer names.turn.calls.log
+        names.turn.hook refl none
+    unended_by (TakesNext.lost to same) none =
+        subst (λ (l : List LogEntry). IsUnended l) (sym same) none
+
+    pub unended : IsUnended (log_of old) → IsUnended (log_of new)
+    unended none = unended_by turns none
 
     -- ---- the request goes on
 
@@ -276,7 +330,19 @@ module _ {C M K : Type 0} (allows : Standing → LogEntry → Type 0) (mark_of :
     goes_by (at.Opening (place.Ended end.Purge)) is goes = cc
     goes_by (at.Opening (place.Ended end.Declined)) is goes = cc
     goes_by (at.Opening (place.Ended (end.Unwritten why))) is goes = cc
-    goes_by (at.Opening (place.Ended (end.Failed error))) is goes = cc
+    goes_by (at.Opening (place.Ended (end.Failed error))) is goes =
+        let t = turned (place.Ended (end.Failed error)) is (λ lost. cc) in
+        record {
+          which = t.which;
+          turn = t.turn.0;
+          goes = tt;
+          tells = record {
+            before = log_of old;
+            last = t.turn.0.e;
+            is_last = t.turn.0.calls.log;
+            error = t.turn.1;
+          };
+        }
     goes_by (at.Opening place.Lost) is goes = cc
     goes_by (at.Named peer) is goes =
         let n = named_by turns peer is in
@@ -289,6 +355,8 @@ module _ {C M K : Type 0} (allows : Standing → LogEntry → Type 0) (mark_of :
           tells = names_peer peer n;
         }
     goes_by at.Linked is goes = absurd (unlinked_by turns is)
+    goes_by (at.Treated error) is goes = cc
+    goes_by (at.Closing there) is goes = cc
 
     pub opening_on : (tries : List AttemptRecord) → is_calling old.at ≡ true
         → leads_at new.at ≡ led.GoesOn
@@ -306,15 +374,16 @@ module _ {C M K : Type 0} (allows : Standing → LogEntry → Type 0) (mark_of :
               o.so_far g.turn;
           goes = g.goes;
           named = g.tells;
-          untried = λ still. o.untried due;
+          untried = λ still. o.untried (unnamed old.at due);
           untreated = untreated o.untreated;
           unanswered = ap (λ (x : Writing). has_head x.place) g.turn.queued.same ∙ o.unanswered;
+          unended = unended o.unended;
         }
 
     pub goes_connecting : leads_at new.at ≡ led.GoesOn → (s : Start) (q : Passed)
         (w : World) (tries : List AttemptRecord) → tries ≡ []
-        → IsConnecting (called_to s (log_of old)) q w client tries
-        → IsConnecting (called_to s (log_of new)) q w left tries
+        → IsConnecting (opened_to s (log_of old)) q w client tries
+        → IsConnecting (opened_to s (log_of new)) q w left tries
     goes_connecting goes s q w tries none k =
         let g = goes_by new.at refl goes in
         stays_connecting allows old new client left (mark_of context) (mark_of context')
@@ -336,12 +405,12 @@ module _ {C M K : Type 0} (allows : Standing → LogEntry → Type 0) (mark_of :
     pub record Answered (s : Start) (q : Passed) : Type 0 where
       pub text : List ℕ
       pub is_open : left.writing.output ≡ outgoing.Open text
-      pub owed : IsOwedAhead (called_to s (log_of new)) q None text
+      pub owed : IsOwedAhead (opened_to s (log_of new)) q None text
 
     answered_by : (p : Place K) → new.at ≡ at.Opening p → leads_to p ≡ led.Answered → (s : Start)
         (q : Passed) (w : World) (tries : List AttemptRecord)
         → IsOpening allows mark_of old context client tries
-        → IsConnecting (called_to s (log_of old)) q w client tries → Answered s q
+        → IsConnecting (opened_to s (log_of old)) q w client tries → Answered s q
     answered_by p is leads s q w tries o k =
         let done = done_of p leads in
         let t = turned (place.Ended done.how)
@@ -362,66 +431,38 @@ module _ {C M K : Type 0} (allows : Standing → LogEntry → Type 0) (mark_of :
     answered_at : (a : At K) → new.at ≡ a → leads_at a ≡ led.Answered → (s : Start)
         (q : Passed) (w : World) (tries : List AttemptRecord)
         → IsOpening allows mark_of old context client tries
-        → IsConnecting (called_to s (log_of old)) q w client tries → Answered s q
+        → IsConnecting (opened_to s (log_of old)) q w client tries → Answered s q
     answered_at (at.Kept kept) is leads s q w tries o k = cc
     answered_at (at.Opening p) is leads s q w tries o k = answered_by p is leads s q w tries o k
     answered_at (at.Named peer) is leads s q w tries o k = cc
     answered_at at.Linked is leads s q w tries o k = cc
+    answered_at (at.Treated error) is leads s q w tries o k = cc
+    answered_at (at.Closing there) is leads s q w tries o k = cc
 
     pub answered : leads_at new.at ≡ led.Answered → (s : Start) (q : Passed)
         (w : World) (tries : List AttemptRecord)
         → IsOpening allows mark_of old context client tries
-        → IsConnecting (called_to s (log_of old)) q w client tries → Answered s q
+        → IsConnecting (opened_to s (log_of old)) q w client tries → Answered s q
     answered leads s q w tries o k = answered_at new.at refl leads s q w tries o k
 
-    stopped_by : (how : End) (e : Error) → new.at ≡ at.Opening (place.Ended how) → StopsFor how e
-        → Accepts station.accepted (log_of new) (end_station how) → IsStoppedFor (log_of new) e
-    stopped_by end.Attempts e is stops order = absurd stops
-    stopped_by end.Answered e is stops order = absurd stops
-    stopped_by end.Purge e is stops order = IsStoppedFor.is_purge order stops
-    stopped_by end.Declined e is stops order = absurd stops
-    stopped_by (end.Unwritten why) e is stops order = absurd stops
-    stopped_by (end.Failed error) e is stops order =
-        let t = turned (place.Ended (end.Failed error)) is (λ lost. cc) in
-        IsStoppedFor.by_hook order (record {
-          before = log_of old;
-          last = t.turn.0.e;
-          is_last = t.turn.0.calls.log;
-          error = t.turn.1 ∙ ap (λ (x : Error). Some x) (sym stops);
-        })
-
-    -- and queued nothing
-    quiet_by : (how : End) (e : Error) → new.at ≡ at.Opening (place.Ended how) → StopsFor how e
-        → left.writing ≡ client.writing
-    quiet_by end.Attempts e is stops = absurd stops
-    quiet_by end.Answered e is stops = absurd stops
-    quiet_by end.Purge e is stops =
-        (turned (place.Ended end.Purge) is (λ lost. cc)).turn.0.queued.same
-    quiet_by end.Declined e is stops = absurd stops
-    quiet_by (end.Unwritten why) e is stops = absurd stops
-    quiet_by (end.Failed error) e is stops =
-        (turned (place.Ended (end.Failed error)) is (λ lost. cc)).turn.0.queued.same
-
-    -- hooks stopped the request with that error, of which nothing was queued
-    pub record Stopped (s : Start) (q : Passed) (e : Error) : Type 0 where
+    -- the request is a purge, of which nothing was queued
+    pub record IsPurge (s : Start) (q : Passed) : Type 0 where
       pub head : RequestHead
       pub is_open : left.writing.output ≡ outgoing.Open []
       pub request : left.writing.request ≡ request_of head
       pub place : left.writing.place ≡ stands.NoHead
-      pub accepted : IsAccepted (called_to s (log_of new)) q head
-      pub why : IsStoppedFor (log_of new) e
+      pub accepted : IsAccepted (opened_to s (log_of new)) q head
+      pub order : Accepts station.accepted (log_of new) station.purging
 
-    stopped_place : (p : Place K) (e : Error) → new.at ≡ at.Opening p → leads_to p ≡ led.Stopped e
+    purged_place : (p : Place K) → new.at ≡ at.Opening p → leads_to p ≡ led.Purges
         → (s : Start) (q : Passed) (w : World) (tries : List AttemptRecord)
         → IsOpening allows mark_of old context client tries
-        → IsConnecting (called_to s (log_of old)) q w client tries → Stopped s q e
-    stopped_place p e is leads s q w tries o k =
-        let stop = stop_of p e leads in
-        let at_end : new.at ≡ at.Opening (place.Ended stop.how) =
-        is ∙ ap (λ (x : Place K). at.Opening x) stop.is in
-        let t = turned (place.Ended stop.how) at_end (λ lost. cc) in
+        → IsConnecting (opened_to s (log_of old)) q w client tries → IsPurge s q
+    purged_place p is leads s q w tries o k =
+        let t = turned (place.Ended end.Purge)
+        (is ∙ ap (λ (x : Place K). at.Opening x) (purge_of p leads)) (λ lost. cc) in
         let begins = k.begins k.head false in
-        let same = quiet_by stop.how e at_end stop.stops in
+        let same : left.writing ≡ client.writing = t.turn.0.queued.same in
         record {
           head = k.head;
           is_open = ap (λ (x : Writing). x.output) same ∙ begins.output;
@@ -430,26 +471,25 @@ module _ {C M K : Type 0} (allows : Standing → LogEntry → Type 0) (mark_of :
           place = ap (λ (x : Writing). x.place) same
               ∙ stands_first client.writing begins.response begins.output;
           accepted = called_accepted s (log_of old) (log_of new) q k.head k.accepted;
-          why = stopped_by stop.how e at_end stop.stops
-              (order_on tries t.turn.0.e (end_station stop.how) t.turn.0.calls.log t.turn.0.order
-              o);
+          order = order_on tries t.turn.0.e station.purging t.turn.0.calls.log t.turn.0.order o;
         }
 
-    stopped_at : (a : At K) (e : Error) → new.at ≡ a → leads_at a ≡ led.Stopped e → (s : Start)
+    purged_at : (a : At K) → new.at ≡ a → leads_at a ≡ led.Purges → (s : Start)
         (q : Passed) (w : World) (tries : List AttemptRecord)
         → IsOpening allows mark_of old context client tries
-        → IsConnecting (called_to s (log_of old)) q w client tries → Stopped s q e
-    stopped_at (at.Kept kept) e is leads s q w tries o k = cc
-    stopped_at (at.Opening p) e is leads s q w tries o k =
-        stopped_place p e is leads s q w tries o k
-    stopped_at (at.Named peer) e is leads s q w tries o k = cc
-    stopped_at at.Linked e is leads s q w tries o k = cc
+        → IsConnecting (opened_to s (log_of old)) q w client tries → IsPurge s q
+    purged_at (at.Kept kept) is leads s q w tries o k = cc
+    purged_at (at.Opening p) is leads s q w tries o k = purged_place p is leads s q w tries o k
+    purged_at (at.Named peer) is leads s q w tries o k = cc
+    purged_at at.Linked is leads s q w tries o k = cc
+    purged_at (at.Treated error) is leads s q w tries o k = cc
+    purged_at (at.Closing there) is leads s q w tries o k = cc
 
-    pub stopped : (e : Error) → leads_at new.at ≡ led.Stopped e → (s : Start)
+    pub purged : leads_at new.at ≡ led.Purges → (s : Start)
         (q : Passed) (w : World) (tries : List AttemptRecord)
         → IsOpening allows mark_of old context client tries
-        → IsConnecting (called_to s (log_of old)) q w client tries → Stopped s q e
-    stopped e leads s q w tries o k = stopped_at new.at e refl leads s q w tries o k
+        → IsConnecting (opened_to s (log_of old)) q w client tries → IsPurge s q
+    purged leads s q w tries o k = purged_at new.at refl leads s q w tries o k
 
     -- ---- what is counted, and the log
 

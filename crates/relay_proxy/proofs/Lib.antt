@@ -6,6 +6,7 @@ pub mod CutLemmas
 pub mod AnswerSteps
 pub mod FailSteps
 pub mod HeadSteps
+pub mod ClosingSteps
 pub mod ConnectSteps
 pub mod OpenSteps
 pub mod CallLemmas

@@ -16,7 +16,7 @@ use Rattle.relay_tasks.specs.declared.log.LogEntry.{LogEntry}
 use Rattle.relay_tasks.specs.declared.task.HttpTask.{HttpTask}
 use Rattle.relay_links.specs.Link.{LinkState, LinkStart}
 use Rattle.relay_session.specs.Reading.{head_of}
-use Rattle.relay_session.specs.Response.{Holds, HoldsOn, has_head, pending}
+use Rattle.relay_session.specs.Response.{GoesOnWith, Holds, HoldsOn, IsOpen, has_head, pending}
 use Rattle.relay_session.specs.TaskWire.{Sent, wire}
 use Rattle.relay_session.specs.declared.session.HttpSession.{HttpSession}
 use Rattle.relay_session.specs.Asked.{request_of}
@@ -48,13 +48,14 @@ use Rattle.relay_h1.specs.declared.framing.Framing.{Framing}
 use Rattle.relay_h1.proofs.VerdictLemmas.{HasRequest-IsOpen}
 use Rattle.relay_peer.proofs.FaultLemmas.{grew_same}
 use Rattle.relay_proxy.specs.Calls.{log_of, seen_with}
-use Rattle.relay_proxy.specs.Ahead.{IsAnswerOf, IsOwedAhead}
+use Rattle.relay_closing.specs.Queued.{QueuesOnce}
+use Rattle.relay_proxy.specs.Ahead.{IsAnswerOf, IsOwedAhead, IsStoppedFor}
 use Rattle.relay_proxy.specs.Endings.{IsInOrder, AttemptsUnlinked, EndsAhead, EndsUnlinked}
-use Rattle.relay_proxy.specs.Passed.{World, Start, asked, called_to, origin_of, IsUnsent, TellsClient}
+use Rattle.relay_proxy.specs.Passed.{World, Start, asked, closed_to, opened_to, origin_of, IsUnsent, TellsClient}
 use Rattle.relay_proxy.specs.Phases.{IsConnecting, RunSoFar}
 use Rattle.relay_proxy.specs.Relayable.{IsAccepted, IsRelayable}
 use Rattle.relay_proxy.specs.Named.{peer_in}
-use Rattle.relay_proxy.specs.Sent.{IsUntreated}
+use Rattle.relay_proxy.specs.Sent.{IsAnswered, IsUntreated}
 use Rattle.relay_proxy.specs.Tries.{AreTries, IsTry}
 use Rattle.relay_proxy.specs.Turn.{Advances}
 use Rattle.relay_proxy.specs.declared.calls.Calls.{Calls}
@@ -92,7 +93,7 @@ all_named these those same tries all = λ k d within. named_try these those same
 
 -- what the client's link tells does not depend on the calls
 pub called_tells : (s : Start) (these those : List LogEntry) (p : Passed) (w : World)
-    → TellsClient (called_to s these) p w → TellsClient (called_to s those) p w
+    → TellsClient (opened_to s these) p w → TellsClient (opened_to s those) p w
 called_tells s these those p w tells = record {
   came = tells.came;
   written = tells.written;
@@ -103,7 +104,7 @@ called_tells s these those p w tells = record {
 
 -- nor does the head that was accepted
 pub called_accepted : (s : Start) (these those : List LogEntry) (p : Passed) (head : RequestHead)
-    → IsAccepted (called_to s these) p head → IsAccepted (called_to s those) p head
+    → IsAccepted (opened_to s these) p head → IsAccepted (opened_to s those) p head
 called_accepted s these those p head accepted = record {
   framing = accepted.framing;
   len = accepted.len;
@@ -114,10 +115,30 @@ called_accepted s these those p head accepted = record {
 -- nor, where they name the same peer, the attempts that were made
 pub called_tries : (s : Start) (these those : List LogEntry) (tries : List AttemptRecord)
     → peer_in those ≡ peer_in these
-    → AreTries (called_to s these) tries → AreTries (called_to s those) tries
+    → AreTries (opened_to s these) tries → AreTries (opened_to s those) tries
 called_tries s these those tries same are = record {
   each = all_named these those same tries are.each;
   allowed = are.allowed;
+}
+
+-- and none of them depends on the calls of the end
+pub closed_tells : (s : Start) (log closed : List LogEntry) (p : Passed) (w : World)
+    → TellsClient (opened_to s log) p w → TellsClient (closed_to s log closed) p w
+closed_tells s log closed p w tells = record {
+  came = tells.came;
+  written = tells.written;
+  faults = tells.faults;
+  connect_faults = tells.connect_faults;
+  fault_lists = tells.fault_lists;
+}
+
+pub closed_accepted : (s : Start) (log closed : List LogEntry) (p : Passed) (head : RequestHead)
+    → IsAccepted (opened_to s log) p head → IsAccepted (closed_to s log closed) p head
+closed_accepted s log closed p head accepted = record {
+  framing = accepted.framing;
+  len = accepted.len;
+  has = accepted.has;
+  relayable = accepted.relayable;
 }
 
 -- ---- the session
@@ -198,8 +219,8 @@ abbrev pub stays_connecting : {M K : Type 0} (allows : Standing → LogEntry →
     → Turns allows which from to QueuesNothing (seen_with c client) mark (seen_with d left) behind
     → (s : Start) (p : Passed) (w : World) (tries : List AttemptRecord)
     → (tries ≡ []) ⊎ (peer_in (log_of d) ≡ peer_in (log_of c))
-    → IsConnecting (called_to s (log_of c)) p w client tries
-    → IsConnecting (called_to s (log_of d)) p w left tries
+    → IsConnecting (opened_to s (log_of c)) p w client tries
+    → IsConnecting (opened_to s (log_of d)) p w left tries
 stays_connecting allows c d client left mark behind which from to t s p w tries same k = record {
   head = k.head;
   accepted = called_accepted s (log_of c) (log_of d) p k.head k.accepted;
@@ -212,7 +233,7 @@ stays_connecting allows c d client left mark behind which from to t s p w tries 
   written = k.written;
   unsent = k.unsent;
   are_tries = elim same [
-    | inl none ↦ no_tries (called_to s (log_of d)) tries none
+    | inl none ↦ no_tries (opened_to s (log_of d)) tries none
     | inr peers ↦ called_tries s (log_of c) (log_of d) tries peers k.are_tries
   ];
 }
@@ -247,6 +268,30 @@ held_place writing (outgoing.Broken fault) tasks (lost, held) =
 pub leads_to : (writing : Writing) (tasks : List HttpTask) → Holds writing tasks []
     → (wire writing.request stands.NoHead tasks).place ≡ writing.place
 leads_to writing tasks holds = held_place writing writing.output tasks holds
+
+-- ---- an answer that was queued once, if any
+
+-- the response goes on with it
+pub once_goes_on : (old new : Writing) (wrote : List HttpTask) → QueuesOnce old new wrote
+    → GoesOnWith old new wrote
+once_goes_on old new wrote (inl none) = λ tasks taken holds.
+    subst (λ (w : Writing). Holds w (tasks ++ wrote) taken) (sym none.same)
+    (subst (λ (l : List HttpTask). Holds old l taken)
+    (sym (ap (λ (l : List HttpTask). tasks ++ l) none.wrote_none ∙ append-nil tasks)) holds)
+once_goes_on old new wrote (inr answer) = answer.queued
+
+-- answers the same request
+pub once_request : (old new : Writing) (wrote : List HttpTask) → QueuesOnce old new wrote
+    → new.request ≡ old.request
+once_request old new wrote (inl none) = ap (λ (w : Writing). w.request) none.same
+once_request old new wrote (inr answer) = answer.answers_to
+
+-- and is open where it was
+pub once_open : (old new : Writing) (wrote : List HttpTask) → QueuesOnce old new wrote
+    → IsOpen old.output → IsOpen new.output
+once_open old new wrote (inl none) = λ is_open.
+    subst (λ (w : Writing). IsOpen w.output) (sym none.same) is_open
+once_open old new wrote (inr answer) = answer.stays_open
 
 -- ---- a request that hooks answered
 
@@ -323,8 +368,8 @@ pub hooks_answer : {M K : Type 0} (allows : Standing → LogEntry → Type 0) (c
     → AnswersAs how → end_station how ≡ station.answered
     → Accepts station.accepted (log_of d) (end_station how)
     → left.writing.output ≡ outgoing.Open waiting
-    → IsConnecting (called_to s (log_of c)) p w client tries
-    → IsOwedAhead (called_to s (log_of d)) p None waiting
+    → IsConnecting (opened_to s (log_of c)) p w client tries
+    → IsOwedAhead (opened_to s (log_of d)) p None waiting
 hooks_answer allows c d client left mark behind which from how s p w tries waiting t ends at order
     is_open k =
     let begins = k.begins k.head false in
@@ -340,6 +385,36 @@ hooks_answer allows c d client left mark behind which from how s p w tries waiti
     (QueuesAtEnd how) t k.quiet))
     (subst (λ (r : Request). IsAnswerOf r t.e.wrote answer.tasks) request answer.is_answer))
     (answer.text ∙ ap (λ (r : Request). (wire r stands.NoHead answer.tasks).text) request)
+
+-- a hook stopped the request with that error, the application answered it, and what waits is what it
+-- queued
+pub record IsStopped (s : Start) (p : Passed) (left : HttpSession) (e : Error) : Type 0 where
+  pub text : List ℕ
+  pub is_open : left.writing.output ≡ outgoing.Open text
+  pub owed : IsOwedAhead s p (Some e) text
+
+pub error_answered : (s : Start) (log closed : List LogEntry) (p : Passed) (w : World)
+    (client left : HttpSession) (tries : List AttemptRecord) (e : Error) → IsStoppedFor log e
+    → IsAnswered closed e → QueuesOnce client.writing left.writing (wrote_in closed)
+    → IsConnecting (opened_to s log) p w client tries
+    → IsStopped (closed_to s log closed) p left e
+error_answered s log closed p w client left tries e stops told queues k =
+    let wrote : List HttpTask = wrote_in closed in
+    let begins = k.begins k.head false in
+    let request : left.writing.request ≡ request_of k.head =
+    once_request client.writing left.writing wrote queues
+    ∙ begins.answers ∙ ap (λ (h : RequestHead). request_of h) begins.own in
+    let waits : IsOpen left.writing.output =
+    once_open client.writing left.writing wrote queues ([], begins.output) in
+    record {
+      text = waits.0;
+      is_open = waits.1;
+      owed = IsOwedAhead.by_error k.head e waits.0
+          (closed_accepted s log closed p k.head k.accepted) stops told
+          (waits_of left.writing wrote waits.0
+          (once_goes_on client.writing left.writing wrote queues [] [] begins.response) waits.1
+          ∙ ap (λ (r : Request). (wire r stands.NoHead wrote).text) request);
+    }
 
 -- how one ends that is owed nothing
 owed_nothing : (s : Start) (p : Passed) (w : World) (why : Option Error)
@@ -375,9 +450,9 @@ module _ {L C : Type 0} (state : L → LinkState) (start_at : L → LinkStart) w
   -- a request that goes on behind a call
   pub opened_on : (these those : List LogEntry) (s : Start) (p : Passed) (w : World)
       (context context' : C) (client left : Box HttpSession) (tries : List AttemptRecord)
-      → IsConnecting (called_to s those) p w left.value tries
-      → RunSoFar {C = C} state start_at (called_to s these) p w [] (Connect context client tries)
-      → Advances {C = C} state start_at (called_to s those) w (Connect context' left tries)
+      → IsConnecting (opened_to s those) p w left.value tries
+      → RunSoFar {C = C} state start_at (opened_to s these) p w [] (Connect context client tries)
+      → Advances {C = C} state start_at (opened_to s those) w (Connect context' left tries)
   opened_on these those s p w context context' client left tries k run = record {
     passed = p;
     run = record {
@@ -391,16 +466,17 @@ module _ {L C : Type 0} (state : L → LinkState) (start_at : L → LinkStart) w
   }
 
   -- one that is owed that text by hooks
-  pub hooks_owe : (these those : List LogEntry) (s : Start) (p : Passed) (w : World) (context : C)
+  pub hooks_owe : (these those : List LogEntry) (xs : List LogEntry) (s : Start) (p : Passed)
+      (w : World) (context : C)
       (client left : Box HttpSession) (tries : List AttemptRecord) (why : Option Error)
       (text : List ℕ) → left.value.writing.output ≡ outgoing.Open text → 0 < length text
-      → IsOwedAhead (called_to s those) p why text → IsUntreated those → tries ≡ []
-      → RunSoFar {C = C} state start_at (called_to s these) p w [] (Connect context client tries)
-      → Advances {C = C} state start_at (called_to s those) w (Answer left (owed.Ahead why) tries)
-  hooks_owe these those s p w context client left tries why text waits some owes untreated none
+      → IsOwedAhead (closed_to s those xs) p why text → IsUntreated those → tries ≡ []
+      → RunSoFar {C = C} state start_at (opened_to s these) p w [] (Connect context client tries)
+      → Advances {C = C} state start_at (closed_to s those xs) w (Answer left (owed.Ahead why) tries)
+  hooks_owe these those xs s p w context client left tries why text waits some owes untreated none
       run =
-      answer_on state start_at (called_to s those) p w [] left (owed.Ahead why) tries
-      (called_tells s these those p w run.tells) (record {
+      answer_on state start_at (closed_to s those xs) p w [] left (owed.Ahead why) tries
+      (closed_tells s those xs p w (called_tells s these those p w run.tells)) (record {
         text = text;
         owes = (
           owes,
@@ -417,54 +493,55 @@ module _ {L C : Type 0} (state : L → LinkState) (start_at : L → LinkStart) w
       })
 
   -- one that is owed nothing has ended
-  pub hooks_end : (these those : List LogEntry) (s : Start) (p : Passed) (w : World) (context : C)
+  pub hooks_end : (these those : List LogEntry) (xs : List LogEntry) (s : Start) (p : Passed)
+      (w : World) (context : C)
       (client : Box HttpSession) (tries : List AttemptRecord) (why : Option Error)
-      → IsOwedAhead (called_to s those) p why [] → IsUntreated those → tries ≡ []
-      → RunSoFar {C = C} state start_at (called_to s these) p w [] (Connect context client tries)
-      → Advances {C = C} state start_at (called_to s those) w
+      → IsOwedAhead (closed_to s those xs) p why [] → IsUntreated those → tries ≡ []
+      → RunSoFar {C = C} state start_at (opened_to s these) p w [] (Connect context client tries)
+      → Advances {C = C} state start_at (closed_to s those xs) w
       (Ended (outcome.Served why false) tries)
-  hooks_end these those s p w context client tries why owes untreated none run = record {
+  hooks_end these those xs s p w context client tries why owes untreated none run = record {
     passed = p;
     run = record {
-      tells = called_tells s these those p w run.tells;
+      tells = closed_tells s those xs p w (called_tells s these those p w run.tells);
       order = IsInOrder.is_nothing run.holds.written run.holds.unsent.sent;
       untouched = run.untouched;
       going = λ limit. cc;
       calm = tt;
-      holds = owed_nothing (called_to s those) p w why tries owes untreated run.holds.written
+      holds = owed_nothing (closed_to s those xs) p w why tries owes untreated run.holds.written
           (record { got = run.holds.unsent.got; sent = run.holds.unsent.sent }) none;
     };
   }
 
   -- what waits for the client is what it is owed
-  pub hooks_leave : (these those : List LogEntry) (s : Start) (p : Passed) (w : World)
+  pub hooks_leave : (these those : List LogEntry) (xs : List LogEntry) (s : Start) (p : Passed) (w : World)
       (context : C) (client left : Box HttpSession) (tries : List AttemptRecord)
       (why : Option Error) (text : List ℕ) (next : Phase L C)
       → left.value.writing.output ≡ outgoing.Open text
       → (0 < length (pending left.value.writing.output) → next ≡ Answer left (owed.Ahead why) tries)
       → (pending left.value.writing.output ≡ [] → next ≡ Ended (outcome.Served why false) tries)
-      → IsOwedAhead (called_to s those) p why text → IsUntreated those → tries ≡ []
-      → RunSoFar {C = C} state start_at (called_to s these) p w [] (Connect context client tries)
-      → Advances {C = C} state start_at (called_to s those) w next
-  hooks_leave these those s p w context client left tries why [] next is more none owes
+      → IsOwedAhead (closed_to s those xs) p why text → IsUntreated those → tries ≡ []
+      → RunSoFar {C = C} state start_at (opened_to s these) p w [] (Connect context client tries)
+      → Advances {C = C} state start_at (closed_to s those xs) w next
+  hooks_leave these those xs s p w context client left tries why [] next is more none owes
       untreated untried run =
-      subst (λ (k : Phase L C). Advances {C = C} state start_at (called_to s those) w k)
+      subst (λ (k : Phase L C). Advances {C = C} state start_at (closed_to s those xs) w k)
       (sym (none (ap pending is)))
-      (hooks_end these those s p w context client tries why owes untreated untried run)
-  hooks_leave these those s p w context client left tries why (b ∷ bs) next is more none owes
+      (hooks_end these those xs s p w context client tries why owes untreated untried run)
+  hooks_leave these those xs s p w context client left tries why (b ∷ bs) next is more none owes
       untreated untried run =
       let long : 0 < length (pending left.value.writing.output) =
       omega (arith, ap (λ (o : Outgoing). length (pending o)) is) in
-      subst (λ (k : Phase L C). Advances {C = C} state start_at (called_to s those) w k)
+      subst (λ (k : Phase L C). Advances {C = C} state start_at (closed_to s those xs) w k)
       (sym (more long))
-      (hooks_owe these those s p w context client left tries why (b ∷ bs) is (omega arith) owes
+      (hooks_owe these those xs s p w context client left tries why (b ∷ bs) is (omega arith) owes
       untreated untried run)
 
   -- one that was out of memory
   pub hooks_lost : (these those : List LogEntry) (s : Start) (p : Passed) (w : World) (context : C)
       (client : Box HttpSession) (tries : List AttemptRecord) → tries ≡ []
-      → RunSoFar {C = C} state start_at (called_to s these) p w [] (Connect context client tries)
-      → Advances {C = C} state start_at (called_to s those) w (Ended outcome.OutOfMemory tries)
+      → RunSoFar {C = C} state start_at (opened_to s these) p w [] (Connect context client tries)
+      → Advances {C = C} state start_at (opened_to s those) w (Ended outcome.OutOfMemory tries)
   hooks_lost these those s p w context client tries none run = record {
     passed = p;
     run = record {
@@ -475,7 +552,7 @@ module _ {L C : Type 0} (state : L → LinkState) (start_at : L → LinkStart) w
       calm = tt;
       holds = (
         record { got = run.holds.unsent.got; sent = run.holds.unsent.sent },
-        inr (inl (no_tries (called_to s those) tries none, run.holds.written)),
+        inr (inl (no_tries (opened_to s those) tries none, run.holds.written)),
       );
     };
   }
@@ -490,8 +567,8 @@ module _ {L C : Type 0} (state : L → LinkState) (start_at : L → LinkStart) w
       → HasRequest w.ahead head framing len → IsRelayable head → StandsBehind head framing client
       → HasCalled allows (seen_with c client) mark station.accepted station.made QueuesNothing
       (seen_with d left.value) mark
-      → RunSoFar {C = C} state start_at (called_to s (log_of c)) p w [] ReadHead
-      → Advances {C = C} state start_at (called_to s (log_of d)) x (Connect context left tries)
+      → RunSoFar {C = C} state start_at (opened_to s (log_of c)) p w [] ReadHead
+      → Advances {C = C} state start_at (opened_to s (log_of d)) x (Connect context left tries)
   head_accepted allows c d s p w x head framing len context client left tries mark same_client
       ahead same none no_log has relayable behind called run =
       record {
@@ -511,18 +588,18 @@ module _ {L C : Type 0} (state : L → LinkState) (start_at : L → LinkStart) w
             quiet = ap (λ (l : List LogEntry). wrote_in l) log ∙ called.queued.wrote_none;
             begins = λ sent reused. begins_on (origin_of s head sent reused) p.came x.client x.ahead
                 (seen_with c client) (seen_with d left.value) called.reads called.queued.same
-                (begins_behind (called_to s (log_of c)) p x head framing len client sent reused tells
+                (begins_behind (opened_to s (log_of c)) p x head framing len client sent reused tells
                 run.holds.written asks
                 (ahead ∙ ap (λ (xs : List ℕ). drop len xs) run.holds.whole) behind);
             written = run.holds.written;
             unsent = run.holds.unsent;
-            are_tries = no_tries (called_to s (log_of d)) tries none;
+            are_tries = no_tries (opened_to s (log_of d)) tries none;
           };
         };
       }
     where
-      tells : TellsClient (called_to s (log_of c)) p x
-      tells = client_still (called_to s (log_of c)) p w x (omega (arith, same))
+      tells : TellsClient (opened_to s (log_of c)) p x
+      tells = client_still (opened_to s (log_of c)) p w x (omega (arith, same))
           (ap (λ (l : LinkState). l.given) same_client)
           (ap (λ (l : LinkState). l.taken) same_client)
           (omega (arith, ap (λ (l : LinkState). l.faults) same_client))

@@ -46,13 +46,13 @@ use Rattle.relay_attempt.specs.Exchange.{IsUnderWay, UpHolds}
 use Rattle.relay_attempt.specs.Passed.{Passed}
 use Rattle.relay_attempt.specs.declared.h1_exchange.H1Exchange.{H1Exchange}
 use Rattle.relay_attempt.specs.Head.{link_of}
-use Rattle.relay_proxy.specs.Calls.{CountsCalls, GoesOn, IsBreaking, IsLogged, IsOpening, IsRelayingCalls, TellsPeer, is_calling, log_of, seen_with, station_at}
+use Rattle.relay_proxy.specs.Calls.{CountsCalls, GoesOn, IsBreaking, IsLogged, IsOpening, IsRelayingCalls, IsUnended, TellsPeer, has_peer, log_of, seen_with, station_at, treated_at}
 use Rattle.relay_proxy.specs.Named.{IsNamed, peer_in}
 use Rattle.relay_proxy.specs.Preparing.{FiltersReady, MakesHead, Prepares, Settles, Unprepared}
 use Rattle.relay_proxy.specs.Sent.{Filters, Sends, RefusesToSend, SettlesFramed, asked_in, client_in, client_of}
 use Rattle.relay_proxy.specs.Endings.{IsInOrder, EndsLinked, error_of, outcome_of}
 use Rattle.relay_proxy.specs.Tries.{AreTries, tries_in}
-use Rattle.relay_proxy.specs.Passed.{World, Start, called_to, origin_of, TellsClient, IsUnsent, IsUntouched}
+use Rattle.relay_proxy.specs.Passed.{World, Start, begins_end, opened_to, origin_of, TellsClient, IsUnsent, IsUntouched}
 use Rattle.relay_proxy.specs.Phases.{IsBroken, IsConnecting, IsLeased, IsRelaying, LeavesAhead, PhaseHolds, RunSoFar}
 use Rattle.relay_proxy.specs.Turn.{Advances}
 use Rattle.relay_proxy.specs.declared.calls.At.{At}
@@ -73,7 +73,7 @@ use Rattle.relay_proxy.proofs.NamedLemmas.{names_none, peer_still}
 use Rattle.relay_proxy.proofs.OpenHead.{exchange_open}
 use Rattle.relay_proxy.proofs.OpenSteps.{called_tells, called_tries, stays_connecting}
 use Rattle.relay_proxy.proofs.SentLemmas.{client_is, never_unready}
-use Rattle.relay_proxy.proofs.TreatLemmas.{untreated_more}
+use Rattle.relay_proxy.proofs.TreatLemmas.{unended_more, untreated_more}
 
 -- ---- the calls
 
@@ -106,8 +106,8 @@ leased_anew s p link start lease unsent tries handed peer recorded = record {
 -- it is that of the same peer, once more calls were made that name none
 pub leased_on : (s : Start) (these those : List LogEntry) (p : Passed) (link : LinkState)
     (start : LinkStart) (lease : Lease) → peer_in those ≡ peer_in these
-    → IsLeased (called_to s these) p link start lease
-    → IsLeased (called_to s those) p link start lease
+    → IsLeased (opened_to s these) p link start lease
+    → IsLeased (opened_to s those) p link start lease
 leased_on s these those p link start lease same leased = record {
   tells = leased.tells;
   peer = same ∙ leased.peer;
@@ -130,13 +130,13 @@ client_asked s p w session tries k =
 
 module _ {M K : Type 0} (allows : Standing → LogEntry → Type 0) (c d : Calls M K)
     (client left : HttpSession) (mark behind : ℕ) (s : Start) (p : Passed) (w : World)
-    (tries : List AttemptRecord) (k : IsConnecting (called_to s (log_of c)) p w client tries)
+    (tries : List AttemptRecord) (k : IsConnecting (opened_to s (log_of c)) p w client tries)
   where
     -- behind a hook that names no peer the request stands as it stood
     abbrev pub stays_on : (which : Hook) (from to : Station) → same_hook hook.UpstreamPeer which ≡ false
         → Turns allows which from to QueuesNothing (seen_with c client) mark (seen_with d left)
         behind
-        → IsConnecting (called_to s (log_of d)) p w left tries
+        → IsConnecting (opened_to s (log_of d)) p w left tries
     stays_on which from to other t =
         stays_connecting allows c d client left mark behind which from to t s p w tries
         (inr (peers_stay allows c d client left mark behind which from to other t)) k
@@ -165,12 +165,12 @@ module _ {M K : Type 0} (allows : Standing → LogEntry → Type 0) (c d : Calls
         → Settles left filtered answer
         → SettlesFramed (client_of k.head) (asked_in (filters_by filtered f)) filtered answer
     settled_by filtered answer f settles =
-        let on : IsConnecting (called_to s (log_of d)) p w left tries =
+        let on : IsConnecting (opened_to s (log_of d)) p w left tries =
         stays_on hook.UpstreamRequestFilter station.linked station.sent refl f.call.turn in
         subst (λ (h : RequestHead). SettlesFramed (client_of k.head) h filtered answer)
         (ap (λ (l : List LogEntry). head_behind k.head l) f.call.turn.calls.log)
         (subst (λ (x : _). SettlesFramed x (head_behind k.head (log_of d)) filtered answer)
-        (client_asked (called_to s (log_of d)) p w left tries on)
+        (client_asked (opened_to s (log_of d)) p w left tries on)
         (settles (head_behind k.head (log_of d)) on.is_left))
 
     -- so the head is sent of the client's
@@ -184,7 +184,7 @@ module _ {M K : Type 0} (allows : Standing → LogEntry → Type 0) (c d : Calls
 
     -- why it is not, and how the request stands then
     pub record Refuses (e : Error) : Type 0 where
-      pub on : IsConnecting (called_to s (log_of d)) p w left tries
+      pub on : IsConnecting (opened_to s (log_of d)) p w left tries
       pub same_peers : peer_in (log_of d) ≡ peer_in (log_of c)
       pub why : RefusesToSend (log_of d) on.head true e
 
@@ -242,9 +242,9 @@ module _ {L C : Type 0} (state : L → LinkState) (start_at : L → LinkStart) w
   -- the link is to go back, not kept, where memory was wanted
   pub link_lost : (these those : List LogEntry) (s : Start) (p : Passed) (w : World) (context : C)
       (session : Box HttpSession) (link : L) (lease : Lease) → peer_in those ≡ peer_in these
-      → RunSoFar {C = C} state start_at (called_to s these) p w []
+      → RunSoFar {C = C} state start_at (opened_to s these) p w []
       (Prepare context session link lease)
-      → Advances {C = C} state start_at (called_to s those) w
+      → Advances {C = C} state start_at (opened_to s those) w
       (Close link lease false outcome.OutOfMemory)
   link_lost these those s p w context session link lease same run = record {
     passed = p;
@@ -275,10 +275,10 @@ module _ {L C : Type 0} (state : L → LinkState) (start_at : L → LinkStart) w
   abbrev pub prepared_on : (these those : List LogEntry) (s : Start) (p : Passed) (w : World)
       (context context' : C) (session session' : Box HttpSession) (link : L) (lease : Lease)
       → peer_in those ≡ peer_in these
-      → IsConnecting (called_to s those) p w session'.value (tries_in lease)
-      → RunSoFar {C = C} state start_at (called_to s these) p w []
+      → IsConnecting (opened_to s those) p w session'.value (tries_in lease)
+      → RunSoFar {C = C} state start_at (opened_to s these) p w []
       (Prepare context session link lease)
-      → RunSoFar {C = C} state start_at (called_to s those) p w []
+      → RunSoFar {C = C} state start_at (opened_to s those) p w []
       (Prepare context' session' link lease)
   prepared_on these those s p w context context' session session' link lease same k run = record {
     tells = called_tells s these those p w run.tells;
@@ -343,18 +343,18 @@ module _ {L C M K : Type 0} (state : L → LinkState) (start_at : L → LinkStar
     (link : L) (lease : Lease) (handed : IsHandedOut (state link) (start_at link) lease.reused)
     (was : c.at ≡ at.Named lease.peer) (same : lease.recorded ≡ lease.peer)
     (tells : TellsPeer c.at (log_of c))
-    (run : RunSoFar {C = C} state start_at (called_to s (log_of c)) p w []
+    (run : RunSoFar {C = C} state start_at (opened_to s (log_of c)) p w []
     (Connect context session (tries_in lease)))
   where
     -- the link is held
-    abbrev pub holds_link : RunSoFar {C = C} state start_at (called_to s (log_of c)) p w []
+    abbrev pub holds_link : RunSoFar {C = C} state start_at (opened_to s (log_of c)) p w []
         (Prepare context session link lease)
-    holds_link = linked state start_at (called_to s (log_of c)) p w context session link lease handed
+    holds_link = linked state start_at (opened_to s (log_of c)) p w context session link lease handed
         (subst (λ (a : At K). TellsPeer a (log_of c)) was tells) same run
 
     -- memory was wanted
     pub told_lost : (d : Calls M K) → log_of d ≡ log_of c
-        → Advances {C = C} state start_at (called_to s (log_of d)) w
+        → Advances {C = C} state start_at (opened_to s (log_of d)) w
         (Close link lease false outcome.OutOfMemory)
     told_lost d log =
         link_lost state start_at (log_of c) (log_of d) s p w context session link lease
@@ -366,11 +366,11 @@ module _ {L C M K : Type 0} (state : L → LinkState) (start_at : L → LinkStar
     (link : L) (lease : Lease) (handed : IsHandedOut (state link) (start_at link) lease.reused)
     (was : c.at ≡ at.Named lease.peer) (same : lease.recorded ≡ lease.peer)
     (tells : TellsPeer c.at (log_of c))
-    (run : RunSoFar {C = C} state start_at (called_to s (log_of c)) p w []
+    (run : RunSoFar {C = C} state start_at (opened_to s (log_of c)) p w []
     (Connect context session (tries_in lease)))
   where
     -- the link is held
-    held_link : RunSoFar {C = C} state start_at (called_to s (log_of c)) p w []
+    held_link : RunSoFar {C = C} state start_at (opened_to s (log_of c)) p w []
         (Prepare context session link lease)
     held_link = holds_link state start_at c s p w context session link lease handed was same tells run
 
@@ -378,7 +378,7 @@ module _ {L C M K : Type 0} (state : L → LinkState) (start_at : L → LinkStar
     pub told_well : (context' : C) (session' : Box HttpSession) → session'.value ≡ left
         → Turns allows hook.ConnectedToUpstream station.named station.linked QueuesNothing
         (seen_with c session.value) mark (seen_with d left) behind
-        → Advances {C = C} state start_at (called_to s (log_of d)) w
+        → Advances {C = C} state start_at (opened_to s (log_of d)) w
         (Prepare context' session' link lease)
     told_well context' session' is turn = record {
       passed = p;
@@ -386,7 +386,7 @@ module _ {L C M K : Type 0} (state : L → LinkState) (start_at : L → LinkStar
           link lease
           (peers_stay allows c d session.value left mark behind hook.ConnectedToUpstream
           station.named station.linked refl turn)
-          (subst (λ (h : HttpSession). IsConnecting (called_to s (log_of d)) p w h (tries_in lease))
+          (subst (λ (h : HttpSession). IsConnecting (opened_to s (log_of d)) p w h (tries_in lease))
           (sym is)
           (stays_on allows c d session.value left mark behind s p w (tries_in lease)
           run.holds hook.ConnectedToUpstream station.named station.linked refl turn)) held_link;
@@ -397,7 +397,7 @@ module _ {L C M K : Type 0} (state : L → LinkState) (start_at : L → LinkStar
         → (turn : Turns allows hook.ConnectedToUpstream station.named station.broken QueuesNothing
         (seen_with c session.value) mark (seen_with d left) behind)
         → turn.e.error ≡ Some e
-        → LeavesAhead (called_to s (log_of d)) p w (state link) (start_at link) left lease
+        → LeavesAhead (opened_to s (log_of d)) p w (state link) (start_at link) left lease
         false e
     told_badly e turn fails = record {
       connecting = stays_on allows c d session.value left mark behind s p w
@@ -417,7 +417,7 @@ module _ {L C M K : Type 0} (state : L → LinkState) (start_at : L → LinkStar
       }) refl;
     }
       where
-        holds : PhaseHolds {C = C} state start_at (called_to s (log_of c)) p w []
+        holds : PhaseHolds {C = C} state start_at (opened_to s (log_of c)) p w []
             (Prepare context session link lease)
         holds = held_link.holds
 
@@ -427,13 +427,13 @@ module _ {L C M K : Type 0} (state : L → LinkState) (start_at : L → LinkStar
     (allows : Standing → LogEntry → Type 0) (c d : Calls M K) (mark behind : ℕ) (s : Start)
     (p : Passed) (w : World) (context : C) (session : Box HttpSession) (left : HttpSession)
     (link : L) (lease : Lease)
-    (run : RunSoFar {C = C} state start_at (called_to s (log_of c)) p w []
+    (run : RunSoFar {C = C} state start_at (opened_to s (log_of c)) p w []
     (Prepare context session link lease))
   where
     -- the filter was called, and the head is sent of the client's
     pub record IsFiltered (context' : C) (session' : Box HttpSession) (sent : RequestHead)
         : Type 0 where
-      pub on : RunSoFar {C = C} state start_at (called_to s (log_of d)) p w []
+      pub on : RunSoFar {C = C} state start_at (opened_to s (log_of d)) p w []
           (Prepare context' session' link lease)
       pub sends : Sends (log_of d) on.holds.1.connecting.head sent
 
@@ -442,7 +442,7 @@ module _ {L C M K : Type 0} (state : L → LinkState) (start_at : L → LinkStar
         → (made : Prepares allows c session.value mark d left behind sent)
         → IsFiltered context' session' sent
     filtered_well context' session' is sent made =
-        subst (λ (h : HttpSession). (k : IsConnecting (called_to s (log_of d)) p w h
+        subst (λ (h : HttpSession). (k : IsConnecting (opened_to s (log_of d)) p w h
         (tries_in lease)) → Sends (log_of d) k.head sent → h ≡ session'.value
         → IsFiltered context' session' sent) is
         (λ k sends same. record {
@@ -463,7 +463,7 @@ module _ {L C M K : Type 0} (state : L → LinkState) (start_at : L → LinkStar
     -- it is refused
     pub filtered_badly : (e : Error)
         → Unprepared allows c session.value mark d left behind e
-        → LeavesAhead (called_to s (log_of d)) p w (state link) (start_at link) left lease
+        → LeavesAhead (opened_to s (log_of d)) p w (state link) (start_at link) left lease
         true e
     filtered_badly e refused =
         let r = refuses_as allows c d session.value left mark behind s p w
@@ -479,7 +479,7 @@ module _ {L C M K : Type 0} (state : L → LinkState) (start_at : L → LinkStar
     -- memory was wanted
     pub filtered_lost : MakesHead allows c session.value mark d left behind
         (Err fail.OutOfMemory)
-        → Advances {C = C} state start_at (called_to s (log_of d)) w
+        → Advances {C = C} state start_at (opened_to s (log_of d)) w
         (Close link lease false outcome.OutOfMemory)
     filtered_lost (inl log) =
         link_lost state start_at (log_of c) (log_of d) s p w context session link lease
@@ -552,30 +552,34 @@ module _ {C M K : Type 0} (allows : Standing → LogEntry → Type 0) (mark_of :
       goes = subst (λ (a : At K). GoesOn a) (sym is) tt;
       named = subst (λ (a : At K). TellsPeer a (log_of d)) (sym is) tt;
       untried = λ still.
-          absurd (true≢false (sym still ∙ ap (λ (a : At K). is_calling a) is));
+          absurd (true≢false (sym (ap (λ (a : At K). has_peer a) is) ∙ still));
       untreated = untreated_more (log_of c) (log_of d) turn.e hook.ConnectedToUpstream
           turn.calls.log turn.hook refl o.untreated;
       unanswered = ap (λ (x : Writing). has_head x.place) turn.queued.same ∙ o.unanswered;
+      unended = unended_more (log_of c) (log_of d) turn.e hook.ConnectedToUpstream turn.calls.log
+          turn.hook refl o.unended;
     }
 
     -- a call behind which the attempt may have failed
     breaks_at : (from : Station) → station_at c.at ≡ from → (which : Hook) (to : Station)
+        (error : Error) → treated_at d.at ≡ None → begins_end which ≡ false
         → IsTrue (may_break to)
         → Turns allows which from to QueuesNothing (seen_with c client) (mark_of context)
-        (seen_with d left) (mark_of context') → IsBreaking allows mark_of d context' left
-    breaks_at from is which to may turn =
-        breaks_more allows mark_of c d context context' client left tries which to may
+        (seen_with d left) (mark_of context') → IsBreaking allows mark_of d context' left error
+    breaks_at from is which to error untreated before may turn =
+        breaks_more allows mark_of c d context context' client left tries which to error untreated
+        before may
         (subst (λ (a : Station). Turns allows which a to QueuesNothing (seen_with c client)
         (mark_of context) (seen_with d left) (mark_of context')) (sym is) turn) o
 
     -- the application failed as it was told of the link
-    pub told_breaks : (peer : Peer) → c.at ≡ at.Named peer
+    pub told_breaks : (peer : Peer) (error : Error) → c.at ≡ at.Named peer → d.at ≡ c.at
         → Turns allows hook.ConnectedToUpstream station.named station.broken QueuesNothing
         (seen_with c client) (mark_of context) (seen_with d left) (mark_of context')
-        → IsBreaking allows mark_of d context' left
-    told_breaks peer was turn =
+        → IsBreaking allows mark_of d context' left error
+    told_breaks peer error was stays turn =
         breaks_at station.named (ap (λ (a : At K). station_at a) was) hook.ConnectedToUpstream
-        station.broken refl turn
+        station.broken error (ap (λ (a : At K). treated_at a) (stays ∙ was)) refl refl turn
 
     -- the filter was called
     pub filtered_logged : c.at ≡ at.Linked → (filtered : RequestHead)
@@ -586,27 +590,30 @@ module _ {C M K : Type 0} (allows : Standing → LogEntry → Type 0) (mark_of :
         station.sent f.call.turn
 
     -- no head is sent
-    pub unsent_breaks : c.at ≡ at.Linked → (e : Error)
+    pub unsent_breaks : c.at ≡ at.Linked → d.at ≡ at.Linked → (e : Error)
         → Unprepared allows c client (mark_of context) d left (mark_of context') e
-        → IsBreaking allows mark_of d context' left
-    unsent_breaks was e (Unprepared.unready same stays still readies) =
-        breaks_same allows mark_of c d context context' client left tries same stays still
-        (ap (λ (a : At K). may_break (station_at a)) was) o
-    unsent_breaks was e (Unprepared.unfiltered ready call) =
+        → IsBreaking allows mark_of d context' left e
+    unsent_breaks was is e (Unprepared.unready same stays still readies) =
+        breaks_same allows mark_of c d context context' client left tries e same stays still
+        (ap (λ (a : At K). treated_at a) is) (ap (λ (a : At K). may_break (station_at a)) was) o
+    unsent_breaks was is e (Unprepared.unfiltered ready call) =
         breaks_at station.linked (ap (λ (a : At K). station_at a) was)
-        hook.UpstreamRequestFilter station.broken refl call.call.turn
-    unsent_breaks was e (Unprepared.unsettled filtered f settles) =
+        hook.UpstreamRequestFilter station.broken e (ap (λ (a : At K). treated_at a) is) refl refl
+        call.call.turn
+    unsent_breaks was is e (Unprepared.unsettled filtered f settles) =
         breaks_at station.linked (ap (λ (a : At K). station_at a) was)
-        hook.UpstreamRequestFilter station.sent refl f.call.turn
+        hook.UpstreamRequestFilter station.sent e (ap (λ (a : At K). treated_at a) is) refl refl
+        f.call.turn
 
     -- the head goes out
-    pub filtered_relays : {L : Type 0} → c.at ≡ at.Linked → (filtered : RequestHead)
+    pub filtered_relays : {L : Type 0} → c.at ≡ at.Linked → d.at ≡ at.Linked
+        → (filtered : RequestHead)
         → FiltersReady allows c client (mark_of context) d left (mark_of context') filtered
         → (a : Attempt L C) → a.context ≡ context' → a.exchange.exchange.down.session ≡ left
         → IsRelayingCalls allows mark_of d a
-    filtered_relays was filtered f a same stays =
+    filtered_relays was is filtered f a same stays =
         relays_more allows mark_of c d context context' client left tries
-        hook.UpstreamRequestFilter a same stays
+        hook.UpstreamRequestFilter a is refl same stays
         (subst (λ (x : Station). Turns allows hook.UpstreamRequestFilter x station.sent
         QueuesNothing (seen_with c client) (mark_of context) (seen_with d left)
         (mark_of context')) (sym (ap (λ (a : At K). station_at a) was)) f.call.turn) o
@@ -616,6 +623,43 @@ module _ {C M K : Type 0} (allows : Standing → LogEntry → Type 0) (mark_of :
         (Err fail.OutOfMemory) → (at : Station) × IsLogged allows (log_of d) at
     lost_logged was (inl log) = logged_same allows mark_of c d context client tries log o
     lost_logged was (inr (filtered, f)) = (station.sent, filtered_logged was filtered f)
+
+-- the end does not begin with the steps to the head
+module _ {M K : Type 0} (allows : Standing → LogEntry → Type 0) (c d : Calls M K)
+    (client left : HttpSession) (mark behind : ℕ) (open_to : IsUnended (log_of c))
+  where
+    filter_unended : (to : Station) → Turns allows hook.UpstreamRequestFilter station.linked to
+        QueuesNothing (seen_with c client) mark (seen_with d left) behind → IsUnended (log_of d)
+    filter_unended to turn =
+        unended_more (log_of c) (log_of d) turn.e hook.UpstreamRequestFilter turn.calls.log
+        turn.hook refl open_to
+
+    pub made_unended : (answer : Result RequestHead Fail)
+        → MakesHead allows c client mark d left behind answer → IsUnended (log_of d)
+    made_unended (Ok sent) made = filter_unended station.sent made.filters.call.turn
+    made_unended (Err (fail.Error e)) (Unprepared.unready same stays still readies) =
+        subst (λ (x : Calls M K). IsUnended (log_of x)) (sym same) open_to
+    made_unended (Err (fail.Error e)) (Unprepared.unfiltered ready call) =
+        filter_unended station.broken call.call.turn
+    made_unended (Err (fail.Error e)) (Unprepared.unsettled filtered f settles) =
+        filter_unended station.sent f.call.turn
+    made_unended (Err fail.OutOfMemory) (inl same) =
+        subst (λ (l : List LogEntry). IsUnended l) (sym same) open_to
+    made_unended (Err fail.OutOfMemory) (inr (filtered, f)) =
+        filter_unended station.sent f.call.turn
+
+    -- nor as the application is told of a link
+    pub told_unended : (peer : Peer) (reused : Bool) (answer : Result Unit Fail)
+        → TellsConnected allows peer reused (seen_with c client) mark (seen_with d left) behind
+        answer → IsUnended (log_of d)
+    told_unended peer reused (Ok done) told =
+        unended_more (log_of c) (log_of d) told.turn.e hook.ConnectedToUpstream told.turn.calls.log
+        told.turn.hook refl open_to
+    told_unended peer reused (Err (fail.Error e)) told =
+        unended_more (log_of c) (log_of d) told.turn.e hook.ConnectedToUpstream told.turn.calls.log
+        told.turn.hook refl open_to
+    told_unended peer reused (Err fail.OutOfMemory) same =
+        subst (λ (l : List LogEntry). IsUnended l) (sym same) open_to
 
 -- what is counted of the calls of a head that is not sent
 module _ {M K : Type 0} (allows : Standing → LogEntry → Type 0) (c d : Calls M K)

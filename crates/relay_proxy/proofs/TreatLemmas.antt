@@ -2,6 +2,9 @@
 --
 --   other_call         a call of another hook is none of that one
 --   untreated_more     no error was treated by a call of another hook
+--   unended_more       no end was begun by a call of a hook with which none begins
+--   still_open, ends_with
+--                      the start, where the end has not begun, and where it has
 --   lets_at            where none was treated the whole log lets the request go
 --   filters_on .. refuses_on, sends_on
 --                      what the log told of the head that is sent, behind one treatment more
@@ -9,6 +12,7 @@
 use Rattle.std.proofs.Common.{◌≡◌, ◌⊎◌, Bool, true, false, ◌||◌, ◌&&◌, List, [], ◌∷◌, ◌++◌, Option, Some, refl, sym, ap, subst, ◌∙◌, true≢false, append-nil, append_assoc}
 use Rattle.std.proofs.lemmas.List.Folds.{list_any-append}
 use Rattle.std.specs.List.{list_any}
+use Rattle.std.specs.Prelude.{if◌then◌else◌}
 use Rattle.relay_tasks.specs.Head.{RequestHead}
 use Rattle.relay_tasks.specs.Hooks.{same_hook}
 use Rattle.relay_tasks.specs.declared.Error.{Error}
@@ -19,6 +23,8 @@ use Rattle.relay_tasks.specs.declared.log.LogEntry.{LogEntry}
 use Rattle.relay_authority.specs.declared.upstream.Upstream.TheVariants as over
 use Rattle.relay_phases.specs.Order.{Station, Accepts, accepted}
 use Rattle.relay_proxy.specs.Ahead.{LetsGo, goes_on}
+use Rattle.relay_proxy.specs.Calls.{IsUnended}
+use Rattle.relay_proxy.specs.Passed.{Start, before_end, begins_end, called_to, closed_to, from_end, opened_to}
 use Rattle.relay_proxy.specs.Sent.{FailsAt, Filters, IsTreated, IsUntreated, RefusesToSend, Sends, is_of, only_treats}
 
 -- a call of another hook is none of that one
@@ -41,6 +47,77 @@ pub untreated_more : (these those : List LogEntry) (e : LogEntry) (which : Hook)
 untreated_more these those e which more is other none =
     subst (λ (l : List LogEntry). IsUntreated l) (sym more)
     (any_more hook.ErrorWhileProxy these e (other_call hook.ErrorWhileProxy e which is other) none)
+
+-- a call of a hook with which no end begins begins none
+pub unended_more : (these those : List LogEntry) (e : LogEntry) (which : Hook)
+    → those ≡ these ++ e ∷ [] → e.hook ≡ which → begins_end which ≡ false
+    → IsUnended these → IsUnended those
+unended_more these those e which more is other none =
+    let last : begins_end e.hook ≡ false = ap (λ (h : Hook). begins_end h) is ∙ other in
+    subst (λ (l : List LogEntry). IsUnended l) (sym more)
+    (list_any-append (λ (x : LogEntry). begins_end x.hook) these (e ∷ [])
+    ∙ rw (none, last) refl)
+
+-- a log whose end has not begun is all before it
+before_all : (log : List LogEntry) → IsUnended log → before_end log ≡ log
+before_all [] none = refl
+before_all (e ∷ es) none = first (begins_end e.hook) none (before_all es)
+  where
+    first : (b : Bool) → (b || list_any (λ x. begins_end x.hook) es) ≡ false
+        → (IsUnended es → before_end es ≡ es)
+        → (if b then [] else e ∷ before_end es) ≡ e ∷ es
+    first true is rest = absurd (true≢false is)
+    first false is rest = ap (λ (l : List LogEntry). e ∷ l) (rest is)
+
+from_none : (log : List LogEntry) → IsUnended log → from_end log ≡ []
+from_none [] none = refl
+from_none (e ∷ es) none = first (begins_end e.hook) none (from_none es)
+  where
+    first : (b : Bool) → (b || list_any (λ x. begins_end x.hook) es) ≡ false
+        → (IsUnended es → from_end es ≡ [])
+        → (if b then e ∷ es else from_end es) ≡ []
+    first true is rest = absurd (true≢false is)
+    first false is rest = rest is
+
+-- where the end has not begun, the start is that of an open request
+pub still_open : (s : Start) (log : List LogEntry) → IsUnended log
+    → called_to s log ≡ opened_to s log
+still_open s log none =
+    ap (λ (l : List LogEntry). closed_to s l (from_end log)) (before_all log none)
+    ∙ ap (λ (l : List LogEntry). closed_to s log l) (from_none log none)
+
+-- behind a call with which the end begins, the calls before it are those that were made, and it is
+-- the one of the end
+before_one : (log : List LogEntry) (e : LogEntry) → IsUnended log → begins_end e.hook ≡ true
+    → before_end (log ++ e ∷ []) ≡ log
+before_one [] e none is = rw is refl
+before_one (x ∷ es) e none is = first (begins_end x.hook) none (λ rest. before_one es e rest is)
+  where
+    first : (b : Bool) → (b || list_any (λ y. begins_end y.hook) es) ≡ false
+        → (IsUnended es → before_end (es ++ e ∷ []) ≡ es)
+        → (if b then [] else x ∷ before_end (es ++ e ∷ [])) ≡ x ∷ es
+    first true is rest = absurd (true≢false is)
+    first false is rest = ap (λ (l : List LogEntry). x ∷ l) (rest is)
+
+from_one : (log : List LogEntry) (e : LogEntry) → IsUnended log → begins_end e.hook ≡ true
+    → from_end (log ++ e ∷ []) ≡ e ∷ []
+from_one [] e none is = rw is refl
+from_one (x ∷ es) e none is = first (begins_end x.hook) none (λ rest. from_one es e rest is)
+  where
+    first : (b : Bool) → (b || list_any (λ y. begins_end y.hook) es) ≡ false
+        → (IsUnended es → from_end (es ++ e ∷ []) ≡ e ∷ [])
+        → (if b then x ∷ (es ++ e ∷ []) else from_end (es ++ e ∷ [])) ≡ e ∷ []
+    first true is rest = absurd (true≢false is)
+    first false is rest = rest is
+
+pub ends_with : (s : Start) (these those : List LogEntry) (e : LogEntry)
+    → those ≡ these ++ e ∷ [] → IsUnended these → begins_end e.hook ≡ true
+    → called_to s those ≡ closed_to s these (e ∷ [])
+ends_with s these those e more none is =
+    ap (λ (l : List LogEntry). called_to s l) more
+    ∙ (ap (λ (l : List LogEntry). closed_to s l (from_end (these ++ e ∷ [])))
+    (before_one these e none is)
+    ∙ ap (λ (l : List LogEntry). closed_to s these l) (from_one these e none is))
 
 -- where none was treated, the whole log lets the request go
 pub record LetsAt (called : List LogEntry) : Type 0 where

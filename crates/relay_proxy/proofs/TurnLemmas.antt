@@ -3,6 +3,7 @@ use Rattle.std.proofs.Common.{◌≡◌, ℕ, ◌+◌, ◌∷◌, subst, arith, 
 use Rattle.std.specs.Global.{Box}
 use Rattle.relay_tasks.specs.declared.Error.{Error}
 use Rattle.relay_tasks.specs.declared.Fault.{Fault}
+use Rattle.relay_tasks.specs.declared.log.LogEntry.{LogEntry}
 use Rattle.relay_links.specs.Connector.{Offer}
 use Rattle.relay_links.specs.Link.{LinkState, LinkStart, LinkItems}
 use Rattle.relay_links.specs.declared.Returned.{Returned}
@@ -12,7 +13,8 @@ use Rattle.relay_attempt.specs.Exchange.{IsUnderWay}
 use Rattle.relay_attempt.specs.Head.{link_of}
 use Rattle.relay_attempt.specs.Passed.{Passed}
 use Rattle.relay_session.specs.declared.session.HttpSession.{HttpSession}
-use Rattle.relay_proxy.specs.Passed.{World, Start, origin_of}
+use Rattle.relay_proxy.specs.Calls.{IsUnended}
+use Rattle.relay_proxy.specs.Passed.{World, Start, called_to, opened_to, origin_of}
 use Rattle.relay_proxy.specs.Phases.{RunSoFar}
 use Rattle.relay_proxy.specs.Uses.{ClientUses, LinkUses, OwnUses, PhaseUses, TurnCounts}
 use Rattle.relay_proxy.specs.Refusals.{attempts_in, faults_before, faults_for, faults_of_turn}
@@ -22,6 +24,7 @@ use Rattle.relay_proxy.specs.Taken.{offers_before, offers_of_turn}
 use Rattle.relay_proxy.specs.Tries.{tries_in}
 use Rattle.relay_proxy.specs.Turn.{Advances, AdvancesOn, DoesWork, WorksIn, links_held}
 use Rattle.relay_proxy.proofs.CountLemmas.{client_counts}
+use Rattle.relay_proxy.proofs.TreatLemmas.{still_open}
 use Rattle.relay_proxy.proofs.UseLemmas.{relaying_of}
 use Rattle.relay_proxy.specs.declared.machine.Attempt.{Attempt}
 use Rattle.relay_proxy.specs.declared.machine.Lease.{Lease}
@@ -31,6 +34,10 @@ use Rattle.relay_proxy.specs.declared.machine.RunStep.{RunStep}
 use Rattle.relay_proxy.specs.declared.owed.Owed.{Owed}
 use Rattle.relay_proxy.specs.declared.record.AttemptRecord.{AttemptRecord}
 use Rattle.relay_proxy.specs.declared.work.Work.{Work}
+
+-- a log without calls has none of the end
+pub none_unended : (log : List LogEntry) → log ≡ [] → IsUnended log
+none_unended log none = subst (λ (l : List LogEntry). IsUnended l) (sym none) refl
 
 module _ {L C : Type 0} (state : L → LinkState) (start_at : L → LinkStart) where
   -- a turn of a phase that relays is one of a request that has not ended
@@ -96,6 +103,18 @@ module _ {L C : Type 0} (state : L → LinkState) (start_at : L → LinkStart) w
   broken_turn s s' p w x [] context session link lease keep e next run turn = turn run
   broken_turn s s' p w x (r ∷ own) context session link lease keep e next run turn =
       absurd run.holds
+
+  -- one behind which the end has not begun
+  pub open_step : (s : Start) (these those : List LogEntry) (p : Passed) (w x : World)
+      (phase next : Phase L C) → IsUnended these → IsUnended those
+      → (RunSoFar state start_at (opened_to s these) p w [] phase
+      → Advances state start_at (opened_to s those) x next)
+      → RunSoFar state start_at (called_to s these) p w [] phase
+      → Advances state start_at (called_to s those) x next
+  open_step s these those p w x phase next before behind turn run =
+      subst (λ (t : Start). Advances state start_at t x next) (sym (still_open s those behind))
+      (turn (subst (λ (t : Start). RunSoFar state start_at t p w [] phase)
+      (still_open s these before) run))
 
   -- it had not ended before
   pub relaying_rests : (w x : World) (phase next : Phase L C) (did : RunStep)

@@ -20,10 +20,11 @@ use Rattle.relay_phases.specs.Order.{Accepts, Station, accepted, answered, faili
 use Rattle.relay_phases.specs.Order.{Station as station}
 use Rattle.relay_phases.specs.Turns.{wrote_in}
 use Rattle.relay_attempt.specs.Passed.{Passed}
-use Rattle.relay_proxy.specs.Answer.{answer_for}
+use Rattle.relay_proxy.specs.Answer.{answer_for, answer_to}
 use Rattle.relay_proxy.specs.Passed.{Start}
+use Rattle.relay_proxy.specs.Passed as passed
 use Rattle.relay_proxy.specs.Relayable.{IsAccepted}
-use Rattle.relay_proxy.specs.Sent.{only_treats}
+use Rattle.relay_proxy.specs.Sent.{IsAnswered, only_treats}
 
 -- the error of a request that is not relayed
 abbrev pub unrelayed : ErrorSource → Error
@@ -63,19 +64,22 @@ pub record LastFails (called : List LogEntry) (e : Error) : Type 0 where
   pub is_last : called ≡ before ++ last ∷ []
   pub error : last.error ≡ Some e
 
--- why hooks stopped a request with that error: one of them answered it; or the request is a purge,
--- which is not done so far
-pub data IsStoppedFor (called : List LogEntry) (e : Error) : Type 0 where
-  by_hook : Accepts accepted called failing → LastFails called e → IsStoppedFor called e
-  is_purge : Accepts accepted called purging → e ≡ unrelayed Internal → IsStoppedFor called e
+-- hooks stopped a request with that error: one of them answered it, and it is final
+pub record IsStoppedFor (called : List LogEntry) (e : Error) : Type 0 where
+  pub order : Accepts accepted called failing
+  pub fails : LastFails called e
 
 -- the client is owed that text by the hooks before the attempts, for an error or for none: the text
--- of their answer, or of the one to the error with which they stopped the request
+-- of their answer; of what the application answered the error with, with which one of them stopped
+-- the request; or of the relay's own answer to a purge, which is not done so far
 pub data IsOwedAhead (s : Start) (p : Passed) : Option Error → List ℕ → Type 0 where
   by_answer : (head : RequestHead) (tasks : List HttpTask) (text : List ℕ) → IsAccepted s p head
       → Accepts accepted s.called answered
       → IsAnswerOf (request_of head) (wrote_in s.called) tasks
       → text ≡ (wire (request_of head) place.NoHead tasks).text → IsOwedAhead s p None text
   by_error : (head : RequestHead) (e : Error) (text : List ℕ) → IsAccepted s p head
-      → IsStoppedFor s.called e → text ≡ answer_for (request_of head) place.NoHead e
+      → IsStoppedFor s.called e → IsAnswered s.closed e → text ≡ answer_to head (passed.answered s)
       → IsOwedAhead s p (Some e) text
+  by_purge : (head : RequestHead) (e : Error) (text : List ℕ) → IsAccepted s p head
+      → Accepts accepted s.called purging → e ≡ unrelayed Internal
+      → text ≡ answer_for (request_of head) place.NoHead e → IsOwedAhead s p (Some e) text

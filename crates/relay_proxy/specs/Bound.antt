@@ -178,14 +178,15 @@ CountsSend before (Close link lease keep outcome) work =
 CountsSend before (Answer session owed attempts) work = ⊥
 CountsSend before (Ended outcome attempts) work = ⊥
 
--- what a turn counts that has the error of an attempt treated behind those: no task, and one end
--- where memory was wanted
+-- what a turn counts that has the error of an attempt treated or answered behind those: no task, and
+-- one end where memory was wanted
 abbrev pub CountsTreat : {L C : Type 0} → List AttemptRecord → Phase L C → Work → Type 0
 CountsTreat before ReadHead work = ⊥
 CountsTreat before (Connect context session tries) work = ⊥
 CountsTreat before (Prepare context session link lease) work = ⊥
 CountsTreat before (Relay a) work = ⊥
-CountsTreat before (Broken context session link lease keep error) work = ⊥
+CountsTreat before (Broken context session link lease keep error) work =
+    (work.moved ≡ 0) × (work.ended ≡ 0) × (tries_in lease ≡ before)
 CountsTreat before (Fail link lease keep session error) work =
     (work.moved ≡ 0) × (work.ended ≡ 0) × (tries_in lease ≡ before)
 CountsTreat before (Close link lease keep outcome) work =

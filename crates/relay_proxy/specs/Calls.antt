@@ -1,11 +1,13 @@
 -- The calls of an application for one request: what its hooks are shown, their log, and where they
 -- stand (RFC 9110, section 3.7).
 use Rattle.std.specs.Prelude.{◌≡◌, ℕ, ◌+◌, ◌≤◌, Bool, IsTrue, true, false, is_some, length, List, [], Option, Some, None, Ok}
-use Rattle.relay_tasks.specs.declared.ErrorSource.TheVariants.{Internal}
+use Rattle.relay_tasks.specs.declared.Error.{Error}
 use Rattle.relay_tasks.specs.declared.Peer.{Peer}
 use Rattle.relay_tasks.specs.declared.hook.Hook.{Hook}
 use Rattle.relay_tasks.specs.declared.hook.Hook.TheVariants as hook
+use Rattle.relay_tasks.specs.declared.log.Item.TheVariants as item
 use Rattle.relay_tasks.specs.declared.log.LogEntry.{LogEntry}
+use Rattle.std.specs.List.{list_any}
 use Rattle.relay_session.specs.Reading.{head_of}
 use Rattle.relay_session.specs.Response.{has_head}
 use Rattle.relay_session.specs.declared.session.HttpSession.{HttpSession}
@@ -16,7 +18,7 @@ use Rattle.relay_hooks.specs.Standing.{Standing, standing}
 use Rattle.relay_calls.specs.Log.{IsAllowed, Walk}
 use Rattle.relay_phases.specs.Order.{Accepts, Station, accepted, sent}
 use Rattle.relay_phases.specs.Order.{Station as station}
-use Rattle.relay_phases.specs.Turns.{HasCalled, QueuesNothing}
+use Rattle.relay_phases.specs.Turns.{HasCalled, QueuesNothing, Turns}
 use Rattle.relay_opening.specs.Opens.{TurnsTo}
 use Rattle.relay_opening.specs.Place.{end_station, next_hook, station_of}
 use Rattle.relay_opening.specs.declared.place.Called.TheVariants as called
@@ -24,9 +26,12 @@ use Rattle.relay_opening.specs.declared.place.End.TheVariants as end
 use Rattle.relay_opening.specs.declared.place.Place.{Place}
 use Rattle.relay_opening.specs.declared.place.Place.TheVariants as place
 use Rattle.relay_trying.specs.Trying.{NamesPeer, may_break}
-use Rattle.relay_proxy.specs.Ahead.{unrelayed}
+use Rattle.relay_closing.specs.Place.{may_fail}
+use Rattle.relay_closing.specs.Queued.{QueuesOnce}
+use Rattle.relay_proxy.specs.Ahead.{LastFails}
 use Rattle.relay_proxy.specs.Named.{IsNamed}
-use Rattle.relay_proxy.specs.Sent.{IsUntreated}
+use Rattle.relay_proxy.specs.Passed.{begins_end}
+use Rattle.relay_proxy.specs.Sent.{IsTreated, IsUntreated}
 use Rattle.relay_proxy.specs.Tries.{tries_in}
 use Rattle.relay_proxy.specs.declared.calls.At.{At}
 use Rattle.relay_proxy.specs.declared.calls.At.TheVariants as at
@@ -68,10 +73,50 @@ comes_next (at.Kept kept) has_modules = None
 comes_next (at.Opening there) has_modules = next_after there has_modules
 comes_next (at.Named peer) has_modules = None
 comes_next at.Linked has_modules = None
+comes_next (at.Treated error) has_modules = None
+comes_next (at.Closing there) has_modules = None
 
 -- one is called next, and no peer was named
 abbrev pub is_calling : {K : Type 0} → At K → Bool
 is_calling here = is_some (comes_next here false)
+
+-- the error that a hook before the attempts answered, which is to be answered
+abbrev pub failed_at : {K : Type 0} → Place K → Option Error
+failed_at (place.Behind last) = None
+failed_at (place.Ended end.Attempts) = None
+failed_at (place.Ended end.Answered) = None
+failed_at (place.Ended end.Purge) = None
+failed_at (place.Ended end.Declined) = None
+failed_at (place.Ended (end.Unwritten why)) = None
+failed_at (place.Ended (end.Failed error)) = Some error
+failed_at place.Lost = None
+
+-- the same, wherever it stands
+abbrev pub final_at : {K : Type 0} → At K → Option Error
+final_at (at.Kept kept) = None
+final_at (at.Opening there) = failed_at there
+final_at (at.Named peer) = None
+final_at at.Linked = None
+final_at (at.Treated error) = None
+final_at (at.Closing there) = None
+
+-- the error of an attempt as it was treated, which is to be answered
+abbrev pub treated_at : {K : Type 0} → At K → Option Error
+treated_at (at.Kept kept) = None
+treated_at (at.Opening there) = None
+treated_at (at.Named peer) = None
+treated_at at.Linked = None
+treated_at (at.Treated error) = Some error
+treated_at (at.Closing there) = None
+
+-- a peer was named
+abbrev pub has_peer : {K : Type 0} → At K → Bool
+has_peer (at.Kept kept) = false
+has_peer (at.Opening there) = false
+has_peer (at.Named peer) = true
+has_peer at.Linked = true
+has_peer (at.Treated error) = true
+has_peer (at.Closing there) = true
 
 -- the station at which the order of calls has the request
 abbrev pub place_station : {K : Type 0} → Place K → Station
@@ -84,8 +129,11 @@ station_at (at.Kept kept) = station.accepted
 station_at (at.Opening there) = place_station there
 station_at (at.Named peer) = station.named
 station_at at.Linked = station.linked
+station_at (at.Treated error) = station.failing
+station_at (at.Closing there) = station.told
 
--- the request goes on there: another hook comes next, or the connector is asked
+-- the request goes on there: another hook comes next, an error is to be answered, or the connector is
+-- asked
 abbrev pub Goes : {K : Type 0} → Place K → Type 0
 Goes (place.Behind last) = Unit {0}
 Goes (place.Ended end.Attempts) = Unit {0}
@@ -93,7 +141,7 @@ Goes (place.Ended end.Answered) = ⊥
 Goes (place.Ended end.Purge) = ⊥
 Goes (place.Ended end.Declined) = ⊥
 Goes (place.Ended (end.Unwritten why)) = ⊥
-Goes (place.Ended (end.Failed error)) = ⊥
+Goes (place.Ended (end.Failed error)) = Unit {0}
 Goes place.Lost = ⊥
 
 abbrev pub GoesOn : {K : Type 0} → At K → Type 0
@@ -101,23 +149,32 @@ GoesOn (at.Kept kept) = ⊥
 GoesOn (at.Opening there) = Goes there
 GoesOn (at.Named peer) = Unit {0}
 GoesOn at.Linked = Unit {0}
+GoesOn (at.Treated error) = ⊥
+GoesOn (at.Closing there) = ⊥
 
--- the peer that was named is the one that the log tells
+-- the error that a hook answered is that of the last call of the log
+abbrev pub TellsError : Option Error → List LogEntry → Type 0
+TellsError None log = Unit {0}
+TellsError (Some error) log = LastFails log error
+
+-- the peer that was named is the one that the log tells, and so is the error of a hook
 abbrev pub TellsPeer : {K : Type 0} → At K → List LogEntry → Type 0
 TellsPeer (at.Kept kept) log = Unit {0}
-TellsPeer (at.Opening there) log = Unit {0}
+TellsPeer (at.Opening there) log = TellsError (failed_at there) log
 TellsPeer (at.Named peer) log = IsNamed log peer
 TellsPeer at.Linked log = Unit {0}
+TellsPeer (at.Treated error) log = Unit {0}
+TellsPeer (at.Closing there) log = Unit {0}
 
 -- what a call led to, by where the hooks stand behind it; a purge is not done so far
 abbrev pub leads_to : {K : Type 0} → Place K → Opened
 leads_to (place.Behind last) = led.GoesOn
 leads_to (place.Ended end.Attempts) = led.GoesOn
 leads_to (place.Ended end.Answered) = led.Answered
-leads_to (place.Ended end.Purge) = led.Stopped (unrelayed Internal)
+leads_to (place.Ended end.Purge) = led.Purges
 leads_to (place.Ended end.Declined) = led.Answered
 leads_to (place.Ended (end.Unwritten why)) = led.OutOfMemory
-leads_to (place.Ended (end.Failed error)) = led.Stopped error
+leads_to (place.Ended (end.Failed error)) = led.GoesOn
 leads_to place.Lost = led.OutOfMemory
 
 abbrev pub leads_at : {K : Type 0} → At K → Opened
@@ -125,6 +182,8 @@ leads_at (at.Kept kept) = led.OutOfMemory
 leads_at (at.Opening there) = leads_to there
 leads_at (at.Named peer) = led.GoesOn
 leads_at at.Linked = led.GoesOn
+leads_at (at.Treated error) = led.OutOfMemory
+leads_at (at.Closing there) = led.OutOfMemory
 
 module _ (allows : Standing → LogEntry → Type 0) where
   -- from there the hook that comes next was called, and led to that; out of memory no entry is new,
@@ -163,6 +222,28 @@ pub record IsLogged (allows : Standing → LogEntry → Type 0) (log : List LogE
   pub walks : Walk allows from log to
   pub order : Accepts accepted log station
 
+-- the end of the request has not begun
+abbrev pub IsUnended : List LogEntry → Type 0
+IsUnended log = list_any (λ e. begins_end e.hook) log ≡ false
+
+-- the error of an attempt may be treated at that station; or it was, and is to be answered there
+abbrev pub BreaksAt : {K : Type 0} → At K → List LogEntry → Error → Station → Type 0
+BreaksAt (at.Kept kept) log error here = IsTrue (may_break here)
+BreaksAt (at.Opening there) log error here = IsTrue (may_break here)
+BreaksAt (at.Named peer) log error here = IsTrue (may_break here)
+BreaksAt at.Linked log error here = IsTrue (may_break here)
+BreaksAt (at.Treated treated) log error here =
+    IsTreated log error treated × IsTrue (may_fail here)
+BreaksAt (at.Closing there) log error here = IsTrue (may_break here)
+
+module _ (allows : Standing → LogEntry → Type 0) where
+  -- the application answered that error, which was final there: its entry alone is new, and what it
+  -- queued is what the entry tells
+  pub record AnswersError (error : Error) (from : Station) (old : Seen) (before : ℕ) (new : Seen)
+      (behind : ℕ) : Type 0 where
+    pub turn : Turns allows hook.FailToProxy from station.told QueuesOnce old before new behind
+    pub input : turn.e.input ≡ item.Failure error
+
 module _ {C M K : Type 0} (allows : Standing → LogEntry → Type 0) (mark_of : C → ℕ) where
   -- the hooks up to the exchange, so far, behind those attempts: each call of them stands in the log,
   -- which ends at the mark of the context that is held, and the request goes on
@@ -176,21 +257,24 @@ module _ {C M K : Type 0} (allows : Standing → LogEntry → Type 0) (mark_of :
     pub goes : GoesOn calls.at
     pub named : TellsPeer calls.at (log_of calls)
     -- until a peer is named no attempt was made
-    pub untried : is_calling calls.at ≡ true → tries ≡ []
+    pub untried : has_peer calls.at ≡ false → tries ≡ []
     -- none of an attempt that had a link has failed
     pub untreated : IsUntreated (log_of calls)
     -- no final head was queued for the client
     pub unanswered : has_head client.writing.place ≡ false
+    pub unended : IsUnended (log_of calls)
 
-  -- the calls so far of an attempt that failed: the log walks to where the session and the context
-  -- stand, and the error may be treated there
-  pub record IsBreaking (calls : Calls M K) (context : C) (client : HttpSession) : Type 0 where
+  -- the calls so far of an attempt that failed with that error: the log walks to where the session
+  -- and the context stand, and the error may be treated there, or answered
+  pub record IsBreaking (calls : Calls M K) (context : C) (client : HttpSession) (error : Error)
+      : Type 0 where
     pub from : Standing
     pub walks : Walk allows from (log_of calls)
         (standing None false (moment (seen_with calls client) (mark_of context)))
     pub at : Station
     pub order : Accepts accepted (log_of calls) at
-    pub breaks : IsTrue (may_break at)
+    pub breaks : BreaksAt calls.at (log_of calls) error at
+    pub unended : IsUnended (log_of calls)
 
 module _ {L C M K : Type 0} (allows : Standing → LogEntry → Type 0) (mark_of : C → ℕ) where
   -- the calls so far of an attempt whose exchange is under way: they ended as it began, with a
@@ -203,6 +287,8 @@ module _ {L C M K : Type 0} (allows : Standing → LogEntry → Type 0) (mark_of
     pub order : Accepts accepted (log_of calls) sent
     pub head : head_of first.reading ≡ head_of a.exchange.exchange.down.session.reading
     pub unanswered : has_head first.writing.place ≡ false
+    pub unended : IsUnended (log_of calls)
+    pub linked : calls.at ≡ at.Linked
 
   -- the calls so far, by the phase in which the request stands
   abbrev pub CallsSoFar : Calls M K → Phase L C → Type 0
@@ -214,7 +300,7 @@ module _ {L C M K : Type 0} (allows : Standing → LogEntry → Type 0) (mark_of
       × (calls.at ≡ at.Linked)
   CallsSoFar calls (Relay a) = IsRelayingCalls calls a.value
   CallsSoFar calls (Broken context session link lease keep error) =
-      IsBreaking allows mark_of calls context session.value
+      IsBreaking allows mark_of calls context session.value error
   CallsSoFar calls (Fail link lease keep session error) =
       (at : Station) × IsLogged allows (log_of calls) at
   CallsSoFar calls (Close link lease keep outcome) =

@@ -23,9 +23,7 @@ use Rattle.relay_h1.specs.Verdict.{IsOpen, HasRequest, IsRefusedRequest, refused
 use Rattle.relay_h1.specs.Wire.{generated}
 use Rattle.relay_h1.specs.declared.framing.Framing.{Framing}
 use Rattle.relay_authority.specs.Entry.{Entered}
-use Rattle.relay_session.specs.Asked.{request_of}
 use Rattle.relay_session.specs.Reading.{IsWhole}
-use Rattle.relay_session.specs.declared.task_text.Place.TheVariants as place
 use Rattle.relay_core.specs.Past.{Origin}
 use Rattle.relay_peer.specs.Body.{IsFrontOf, body_of}
 use Rattle.relay_peer.specs.Faults.{IsAmong, IsLast}
@@ -36,11 +34,11 @@ use Rattle.relay_attempt.specs.Agrees.{Agrees}
 use Rattle.relay_attempt.specs.Passed.{Passed}
 use Rattle.relay_valid.specs.Valid.{IsValid}
 use Rattle.relay_proxy.specs.Ahead.{IsOwedAhead, unrelayed}
-use Rattle.relay_proxy.specs.Answer.{answer_for, owed_text, past_at}
+use Rattle.relay_proxy.specs.Answer.{answer_to, owed_text, past_at}
 use Rattle.relay_proxy.specs.Named.{IsNamed}
 use Rattle.relay_proxy.specs.Relayable.{IsAccepted, IsConnect, IsRelayable, NamesUpgrade}
-use Rattle.relay_proxy.specs.Passed.{World, Start, origin_of, asked, TellsClient, TellsLink, IsUnsent, IsUntouched}
-use Rattle.relay_proxy.specs.Sent.{Sends, RefusesToSend, IsTreated, IsUntreated}
+use Rattle.relay_proxy.specs.Passed.{World, Start, answered, origin_of, asked, TellsClient, TellsLink, IsUnsent, IsUntouched}
+use Rattle.relay_proxy.specs.Sent.{Sends, RefusesToSend, IsAnswered, IsTreated, IsUntreated}
 use Rattle.relay_proxy.specs.Tries.{AreTries, EndsTrying, fault_error}
 use Rattle.relay_proxy.specs.declared.outcome.Outcome.{Outcome}
 use Rattle.relay_proxy.specs.declared.outcome.Outcome.TheVariants.{NoRequest, Refused, Served, TurnLimit, OutOfMemory}
@@ -68,10 +66,6 @@ IsNext None order = Unit {0}
 IsNext (Some at) order =
     (order.closing ≡ []) × IsFrontOf (order.batched ++ at ∷ []) order.read
 
--- the answer to an error of a request with that head, of which nothing was queued
-abbrev pub answer_to : RequestHead → Error → List ℕ
-answer_to head e = answer_for (request_of head) place.NoHead e
-
 -- what was sent and what was written, whatever the outcome: nothing; the front of a generated
 -- answer, or of what hooks answered, with nothing sent; those of one exchange, whose request is of a
 -- form that is relayed; or those of one that failed when a part had been written: the front of what
@@ -90,12 +84,12 @@ pub data IsInOrder (s : Start) (p : Passed) : Type 0 where
       → IsFrontOf p.written (generated 502) → p.sent ≡ [] → IsInOrder s p
   is_unsent : (head : RequestHead) (keep : Bool) (raised e : Error) → IsAccepted s p head
       → RefusesToSend s.called head keep raised → IsTreated s.called raised e
-      → IsFrontOf p.written (answer_to head e) → p.sent ≡ [] → IsInOrder s p
+      → IsAnswered s.closed e → IsFrontOf p.written (answer_to head (answered s)) → p.sent ≡ [] → IsInOrder s p
   is_failure : (cut : Option HttpTask) (head sent : RequestHead) (reused closed : Bool)
       (before : List ℕ) (raised e : Error) → IsRelayable head → Sends s.called head sent
       → (order : IsInOrderWith cut (origin_of s head sent reused) (past_at p before) closed)
-      → IsNext cut order → IsTreated s.called raised e
-      → IsFrontOf p.written (owed_text order e) → IsInOrder s p
+      → IsNext cut order → IsTreated s.called raised e → IsAnswered s.closed e
+      → IsFrontOf p.written (owed_text order (answered s)) → IsInOrder s p
 
 -- the error of a client that ended inside its head
 abbrev pub left_early : Error
@@ -308,7 +302,7 @@ pub record IsRelayedEarly
       → IsWhole (asked s p) (body_of early.order.pieces) w.ahead
 
 -- an exchange failed, when a part of what was queued had been written, and its error was treated:
--- that is what was made of it
+-- that is what was made of it, and was answered
 pub record HasFailed
     (s : Start) (p : Passed) (client link : LinkState) (start : LinkStart) (e : Error)
     : Type 0 where
@@ -319,13 +313,14 @@ pub record HasFailed
   pub before : List ℕ
   pub raised : Error
   pub treated : IsTreated s.called raised e
+  pub told : IsAnswered s.closed e
   pub why : FailsFor (origin_of s head sent start.reused) (past_at p before) client link start
       raised
 
 -- what was queued for the client in it, and then the answer to its error
 abbrev pub owed_by : {s : Start} {p : Passed} {client link : LinkState} {start : LinkStart}
     {e : Error} → HasFailed s p client link start e → List ℕ
-owed_by {e = e} failed = owed_text (order_of failed.why) e
+owed_by {s = s} failed = owed_text (order_of failed.why) (answered s)
 
 -- an attempt failed before its head was sent, and before anything was asked of the link, which
 -- stands as it was handed out and is kept or not; that is what was made of its error
@@ -337,6 +332,7 @@ pub record IsRefusedAhead (s : Start) (p : Passed) (link : LinkState) (start : L
   pub raised : Error
   pub refused : RefusesToSend s.called head keep raised
   pub treated : IsTreated s.called raised e
+  pub told : IsAnswered s.closed e
   pub fresh : IsHandedOut link start start.reused
   pub unsent : IsUnsent p
 
@@ -348,7 +344,7 @@ pub data Misses
   in_exchange : (failed : HasFailed s p client link start e) → text ≡ owed_by failed
       → keep ≡ false → Misses s p client link start keep e text
   ahead_of_it : (refused : IsRefusedAhead s p link start keep e)
-      → text ≡ answer_to refused.head e → Misses s p client link start keep e text
+      → text ≡ answer_to refused.head (answered s) → Misses s p client link start keep e text
 
 -- an attempt failed, for a cause that no valid exchange has, and its client was given what was
 -- queued for it and the answer: its link is not kept, and the client does not go back
@@ -367,7 +363,7 @@ pub record IsUnsentAttempt
     (s : Start) (p : Passed) (w : World) (link : LinkState) (start : LinkStart) (keep reuse : Bool)
     (e : Error) : Type 0 where
   pub refused : IsRefusedAhead s p link start keep e
-  pub answered : IsGiven s p w (answer_to refused.head e)
+  pub answered : IsGiven s p w (answer_to refused.head (answered s))
   pub stays : reuse ≡ false
 
 -- what was sent and written so far of one exchange over this link, as the link came back

@@ -9,7 +9,6 @@ use Rattle.relay_session.specs.Response.{pending}
 use Rattle.relay_session.specs.declared.session.HttpSession.{HttpSession}
 use Rattle.relay_session.specs.declared.writing.Writing.{Writing}
 use Rattle.relay_attempt.specs.Passed.{Passed}
-use Rattle.relay_proxy.specs.Answer.{QueuesAnswer}
 use Rattle.relay_proxy.specs.Endings.{IsPartRelayed}
 use Rattle.relay_proxy.specs.Passed.{Start}
 use Rattle.relay_proxy.specs.Phases.{LeavesSession}
@@ -25,15 +24,13 @@ LeavesBy s p client link start session fail.OutOfMemory = IsPartRelayed s p link
 LeavesBy s p client link start session (fail.Error e) =
     LeavesSession s p client link start session e
 
--- what an attempt comes to whose error is that now, of a client that was answered so before: the
--- answer to the error was queued and waits, or nothing does; or memory was wanted
-pub data Answers {L C : Type 0} (old : Writing) (link : L) (lease : Lease) (keep : Bool) (e : Error)
+-- what an attempt comes to whose error is that now, which was answered: what waits for the client
+-- is written then, or nothing does
+pub data Answers {L C : Type 0} (new : Writing) (link : L) (lease : Lease) (keep : Bool) (e : Error)
     (next : Phase L C) : Type 0 where
-  waits : (session : Box HttpSession)
-      → QueuesAnswer old.output e old session.value.writing
-      → 0 < length (pending session.value.writing.output)
-      → next ≡ phase.Fail link lease keep session e → Answers old link lease keep e next
-  is_over : (new : Writing) → QueuesAnswer old.output e old new → pending new.output ≡ []
+  waits : (session : Box HttpSession) → session.value.writing ≡ new
+      → 0 < length (pending new.output) → next ≡ phase.Fail link lease keep session e
+      → Answers new link lease keep e next
+  is_over : pending new.output ≡ []
       → next ≡ phase.Close link lease keep (outcome.Served (Some e) false)
-      → Answers old link lease keep e next
-  is_lost : next ≡ phase.Close link lease false outcome.OutOfMemory → Answers old link lease keep e next
+      → Answers new link lease keep e next

@@ -1,10 +1,15 @@
 -- What passed between the outside and one request since it began.
-use Rattle.std.specs.Prelude.{◌≡◌, ℕ, Bool, false, ◌≤◌, List, [], ◌++◌}
+use Rattle.std.specs.Prelude.{◌≡◌, ℕ, Bool, false, ◌||◌, ◌≤◌, List, [], ◌∷◌, ◌++◌, if◌then◌else◌}
 use Rattle.relay_tasks.specs.Head.{RequestHead}
+use Rattle.relay_tasks.specs.Hooks.{same_hook}
+use Rattle.relay_tasks.specs.declared.hook.Hook.{Hook}
+use Rattle.relay_tasks.specs.declared.hook.Hook.TheVariants as hook
 use Rattle.relay_tasks.specs.declared.log.LogEntry.{LogEntry}
+use Rattle.relay_tasks.specs.declared.task.HttpTask.{HttpTask}
 use Rattle.relay_links.specs.Link.{LinkState, LinkStart}
 use Rattle.relay_links.specs.Told.{Since, told_length}
 use Rattle.relay_h1.specs.Verdict.{IsOpen}
+use Rattle.relay_phases.specs.Turns.{wrote_in}
 use Rattle.relay_core.specs.Past.{Origin}
 use Rattle.relay_peer.specs.Faults.{TellsSince}
 use Rattle.relay_attempt.specs.Passed.{Passed}
@@ -16,8 +21,8 @@ pub record World : Type 0 where
   pub ahead : List ℕ
   pub connect_faults : ℕ
 
--- the places and counts at which a request began, how many attempts it may make, and the calls of
--- hooks that were made for it so far
+-- the places and counts at which a request began, how many attempts it may make, the calls of hooks
+-- that were made for it before its end, and those of its end
 pub record Start : Type 0 where
   pub ahead : List ℕ
   pub given : ℕ
@@ -28,6 +33,7 @@ pub record Start : Type 0 where
   pub write_faults : ℕ
   pub most : ℕ
   pub called : List LogEntry
+  pub closed : List LogEntry
 
 -- where a request begins that may make so many attempts, as the world stands
 abbrev pub start_of : ℕ → World → Start
@@ -41,11 +47,38 @@ start_of most w = record {
   write_faults = told_length w.client.write_faults;
   most = most;
   called = [];
+  closed = [];
 }
 
--- the same, once these calls were made
+-- with that hook the end of a request begins
+abbrev pub begins_end : Hook → Bool
+begins_end which = same_hook hook.FailToProxy which || same_hook hook.Logging which
+
+-- the calls before the end of a request
+abbrev pub before_end : List LogEntry → List LogEntry
+before_end [] = []
+before_end (e ∷ es) = if begins_end e.hook then [] else e ∷ before_end es
+
+-- and those of its end
+abbrev pub from_end : List LogEntry → List LogEntry
+from_end [] = []
+from_end (e ∷ es) = if begins_end e.hook then e ∷ es else from_end es
+
+-- the same start, once these calls were made before the end, and those in it
+abbrev pub closed_to : Start → List LogEntry → List LogEntry → Start
+closed_to s called closed = record s { called = called; closed = closed }
+
+-- once these calls were made, and the end has not begun
+abbrev pub opened_to : Start → List LogEntry → Start
+opened_to s called = closed_to s called []
+
+-- once these calls were made, some of them of the end
 abbrev pub called_to : Start → List LogEntry → Start
-called_to s log = record s { called = log }
+called_to s log = closed_to s (before_end log) (from_end log)
+
+-- what an error was answered with: what the calls of the end queued
+abbrev pub answered : Start → List HttpTask
+answered s = wrote_in s.closed
 
 -- where the exchange of a request began that has that head, and of which that head is sent, over a
 -- link that had been used before or not; a request that asks for an upgrade is not relayed

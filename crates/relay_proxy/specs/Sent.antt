@@ -83,6 +83,14 @@ pub record IsTreated (called : List LogEntry) (raised treated : Error) : Type 0 
   pub told : e.input ≡ item.Failure raised
   pub answered : e.output ≡ item.Failure treated
 
+-- the first of these calls of the end of a request is one in which that error was answered
+pub record IsAnswered (closed : List LogEntry) (e : Error) : Type 0 where
+  pub first : LogEntry
+  pub rest : List LogEntry
+  pub closed_are : closed ≡ first ∷ rest
+  pub is_answer : first.hook ≡ hook.FailToProxy
+  pub told : first.input ≡ item.Failure e
+
 -- the last of these calls of the filter of the head that is sent was given the client's head, made
 -- ready as hooks had left it before that call, and it left this one
 pub record Filters (called : List LogEntry) (head filtered : RequestHead) : Type 0 where

@@ -9,12 +9,15 @@ ghost use Rattle.relay_phases.specs.Order.{Station, accepted, made};
 ghost use Rattle.relay_phases.specs.Turns.{HasCalled, QueuesNothing};
 ghost use Rattle.relay_tasks.specs.declared.hook.Hook.{Hook};
 ghost use Rattle.relay_trying.specs.Trying.{FiltersHead, TellsConnected, Treats, may_break};
-ghost use Rattle.relay_proxy.specs.Calls.{CallsNext, HasBegun, TakesNext, allowed_by, is_calling, leads_at, leads_to, log_of, seen_with};
+ghost use Rattle.relay_closing.specs.Place.{may_fail};
+ghost use Rattle.relay_proxy.specs.Calls.{AnswersError, CallsNext, HasBegun, TakesNext, allowed_by, final_at, is_calling, leads_at, leads_to, log_of, seen_with, treated_at};
 
+use relay_closing as closing;
+use relay_closing::begin_closing;
 use relay_hooks::{HttpModule, ProxyHttp, Session};
 use relay_opening::{End, Place, begin_opening, take_turn};
 use relay_session::HttpSession;
-use relay_tasks::{Error, ErrorType, Fail, Peer, PhaseLog, RequestHeader, Result};
+use relay_tasks::{Error, Fail, Peer, PhaseLog, RequestHeader, Result};
 use relay_trying::{filter_head, name_peer, tell_connected, treat_failure};
 use std::alloc::Global;
 use std::mem;
@@ -30,6 +33,10 @@ pub(crate) enum At<K> {
     Named(Peer),
     /// The application was told of the link, and the head is to be filtered.
     Linked,
+    /// The error of an attempt was treated, and is that one: it is to be answered.
+    Treated(Error),
+    /// The end of the request has begun, and its hooks stand there.
+    Closing(closing::Place<K>),
 }
 
 impl<K> At<K> {
@@ -42,6 +49,7 @@ impl<K> At<K> {
             At::Opening(place) => leads_to(place),
             At::Named(_) => Opened::GoesOn,
             At::Linked => Opened::GoesOn,
+            At::Treated(_) | At::Closing(_) => Opened::OutOfMemory,
         }
     }
 
@@ -54,21 +62,47 @@ impl<K> At<K> {
             At::Opening(Place::Ended(End::Answered | End::Purge | End::Declined)) => false,
             At::Opening(Place::Ended(End::Unwritten(_) | End::Failed(_)) | Place::Lost) => false,
             At::Kept(_) | At::Named(_) | At::Linked => false,
+            At::Treated(_) | At::Closing(_) => false,
+        }
+    }
+
+    /// The error of a hook before the attempts, which is to be answered.
+    fn final_error(&self) -> Option<Error>
+        ensures { result ≡ final_at self.now }
+    {
+        match self {
+            At::Opening(Place::Ended(End::Failed(error))) => Some(*error),
+            At::Opening(Place::Ended(End::Attempts | End::Answered | End::Purge)) => None,
+            At::Opening(Place::Ended(End::Declined | End::Unwritten(_))) => None,
+            At::Opening(Place::Behind(_) | Place::Lost) => None,
+            At::Kept(_) | At::Named(_) | At::Linked => None,
+            At::Treated(_) | At::Closing(_) => None,
+        }
+    }
+
+    /// The error of an attempt as it was treated, which is to be answered.
+    fn treated(&self) -> Option<Error>
+        ensures { result ≡ treated_at self.now }
+    {
+        match self {
+            At::Treated(error) => Some(*error),
+            At::Kept(_) | At::Opening(_) | At::Named(_) | At::Linked => None,
+            At::Closing(_) => None,
         }
     }
 }
 
-/// What a call of a hook before a link was given led to: the request goes on, to another hook or to
-/// the connector; it was answered; it was stopped with that error; or memory was wanted.
+/// What a call of a hook before a link was given led to: the request goes on, to another hook, to the
+/// answer of its error or to the connector; it was answered; it is a purge; or memory was wanted.
 #[derive(Clone, Copy)]
 pub(crate) enum Opened {
     GoesOn,
     Answered,
-    Stopped(Error),
+    Purges,
     OutOfMemory,
 }
 
-/// The same, by where the hooks before the attempts stand. A purge is not done so far.
+/// The same, by where the hooks before the attempts stand.
 fn leads_to<K>(place: &Place<K>) -> Opened
     ensures { result ≡ leads_to place.now }
 {
@@ -76,10 +110,10 @@ fn leads_to<K>(place: &Place<K>) -> Opened
         Place::Behind(_) => Opened::GoesOn,
         Place::Ended(End::Attempts) => Opened::GoesOn,
         Place::Ended(End::Answered) => Opened::Answered,
-        Place::Ended(End::Purge) => Opened::Stopped(Error::new_in(ErrorType::Custom(1))),
+        Place::Ended(End::Purge) => Opened::Purges,
         Place::Ended(End::Declined) => Opened::Answered,
         Place::Ended(End::Unwritten(_)) => Opened::OutOfMemory,
-        Place::Ended(End::Failed(error)) => Opened::Stopped(*error),
+        Place::Ended(End::Failed(_)) => Opened::GoesOn,
         Place::Lost => Opened::OutOfMemory,
     }
 }
@@ -119,7 +153,23 @@ impl<M: HttpModule + Drop, K: Drop> Calls<M, K> {
         match &self.at {
             At::Named(peer) => peer.copy().ok(),
             At::Kept(_) | At::Opening(_) | At::Linked => None,
+            At::Treated(_) | At::Closing(_) => None,
         }
+    }
+
+    /// The error with which a hook before the attempts stopped the request, and which is to be
+    /// answered.
+    pub(crate) fn final_error(&self) -> Option<Error>
+        ensures { result ≡ final_at self.now.at }
+    {
+        self.at.final_error()
+    }
+
+    /// The error of an attempt as it was treated, which is to be answered.
+    pub(crate) fn treated(&self) -> Option<Error>
+        ensures { result ≡ treated_at self.now.at }
+    {
+        self.at.treated()
     }
 
     /// The log of the calls.
@@ -154,6 +204,7 @@ pub(crate) fn begin_calls<SV: ProxyHttp>(
     let kept = match mem::replace(&mut calls.at, At::Kept(None)) {
         At::Kept(kept) => kept,
         At::Opening(_) | At::Named(_) | At::Linked => None,
+        At::Treated(_) | At::Closing(_) => None,
     };
     mem::swap(client, &mut calls.session.seen.downstream);
     let begun = begin_opening(app, &mut calls.session, kept);
@@ -216,6 +267,7 @@ fn take_next<SV: ProxyHttp>(
             Err(Fail::OutOfMemory) => At::Opening(Place::Lost),
         },
         At::Opening(Place::Lost) | At::Kept(_) | At::Named(_) | At::Linked => unreachable!(),
+        At::Treated(_) | At::Closing(_) => unreachable!(),
     }
 }
 
@@ -235,6 +287,7 @@ pub(crate) fn tell_link<SV: ProxyHttp>(
         (seen_with calls.old client.old) (SV.mark_of app.now context.old)
         (seen_with calls.new client.new) (SV.mark_of app.now context.new) result }
     ensures at { OnOk result (calls.new.at ≡ At.Linked) }
+    ensures stays { OnErr result (calls.new.at ≡ calls.old.at) }
 {
     if !client.has_head() {
         return Err(Fail::OutOfMemory);
@@ -273,7 +326,7 @@ pub(crate) fn filter<SV: ProxyHttp>(
     filtered
 }
 
-/// Has the application treat the error of an attempt that had its link, and answers the error as it
+/// Has the application treat the error of an attempt that had its link, and keeps the error as it
 /// made it. The attempt is at that peer, and its link had been used before or not.
 ///
 /// Out of memory alone, where no entry is new; also where the client's head was not read, which
@@ -293,7 +346,7 @@ pub(crate) fn treat<SV: ProxyHttp>(
         (seen_with calls.new client.new) (SV.mark_of app.now context.new) treated) }
     ensures memory { IsOkUnless result Fail.OutOfMemory }
     ensures lost { OnErr result (log_of calls.new ≡ log_of calls.old) }
-    ensures at { calls.new.at ≡ calls.old.at }
+    ensures at { IfOk result (λ treated. calls.new.at ≡ At.Treated treated) }
 {
     if !client.has_head() {
         return Err(Fail::OutOfMemory);
@@ -301,5 +354,40 @@ pub(crate) fn treat<SV: ProxyHttp>(
     mem::swap(client, &mut calls.session.seen.downstream);
     let treated = treat_failure(app, &mut calls.session, context, peer, error, reused);
     mem::swap(client, &mut calls.session.seen.downstream);
-    treated
+    let treated = treated?;
+    calls.at = At::Treated(treated);
+    Ok(treated)
+}
+
+/// Has the application answer the client for that error, which is final. With this the end of the
+/// request begins.
+///
+/// Out of memory alone, where no entry is new; also where the client's head was not read, which
+/// cannot be where this is called.
+pub(crate) fn answer_error<SV: ProxyHttp>(
+    app: &SV,
+    calls: &mut Calls<SV::Modules, SV::Kept>,
+    context: &mut SV::CTX,
+    client: &mut HttpSession,
+    error: Error,
+) -> Result<()>
+    ensures answers { (from : Station) → IsTrue (may_fail from) → OnOk result (
+        AnswersError (allowed_by (SV.allows app.now) SV.Modules.allows) error from
+        (seen_with calls.old client.old) (SV.mark_of app.now context.old)
+        (seen_with calls.new client.new) (SV.mark_of app.now context.new)) }
+    ensures memory { IsOkUnless result Fail.OutOfMemory }
+    ensures lost { OnErr result (log_of calls.new ≡ log_of calls.old) }
+{
+    if !client.has_head() {
+        return Err(Fail::OutOfMemory);
+    }
+    mem::swap(client, &mut calls.session.seen.downstream);
+    let failing = begin_closing(Some(error));
+    let place = closing::take_turn(app, &mut calls.session, context, failing, false);
+    mem::swap(client, &mut calls.session.seen.downstream);
+    if place.is_lost() {
+        return Err(Fail::OutOfMemory);
+    }
+    calls.at = At::Closing(place);
+    Ok(())
 }

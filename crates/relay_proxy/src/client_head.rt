@@ -8,8 +8,8 @@ ghost use Rattle.relay_proxy.specs.Relayable.{IsConnect};
 ghost use Rattle.relay_proxy.specs.Bound.{CountsHead};
 ghost use Rattle.relay_proxy.specs.Endings.{IsTurnedDown, ended_outcome};
 ghost use Rattle.relay_attempt.specs.Passed.{Passed};
-ghost use Rattle.relay_proxy.specs.Calls.{CallsSoFar, CountsCalls, allowed_by, log_of};
-ghost use Rattle.relay_proxy.specs.Passed.{World, Start, called_to};
+ghost use Rattle.relay_proxy.specs.Calls.{CallsSoFar, CountsCalls, IsUnended, allowed_by, log_of};
+ghost use Rattle.relay_proxy.specs.Passed.{World, Start, opened_to};
 ghost use Rattle.relay_proxy.specs.Phases.{RunSoFar};
 ghost use Rattle.relay_proxy.specs.Refusals.{attempts_in};
 ghost use Rattle.relay_proxy.specs.Stock.{items_held};
@@ -40,9 +40,9 @@ pub(crate) fn read_head<SV: ProxyHttp, D: ByteLink, U, L: ByteLink>(
     client: &mut Connection<D, U>,
 ) -> Next<L, SV::CTX>
     ensures run { (s : Start) (p : Passed) (faults : ℕ) → log_of calls.old ≡ []
-        → RunSoFar {C = SV.CTX} L.state L.start (called_to s (log_of calls.old)) p
+        → RunSoFar {C = SV.CTX} L.state L.start (opened_to s (log_of calls.old)) p
         (world_of D.state client.old faults) [] (Phase.ReadHead)
-        → Advances L.state L.start (called_to s (log_of calls.new))
+        → Advances L.state L.start (opened_to s (log_of calls.new))
         (world_of D.state client.new faults) result.phase }
     ensures calls { log_of calls.old ≡ [] → CallsSoFar {L = L}
         (allowed_by (SV.allows hooks.now) SV.Modules.allows) (SV.mark_of hooks.now) calls.new
@@ -60,6 +60,7 @@ pub(crate) fn read_head<SV: ProxyHttp, D: ByteLink, U, L: ByteLink>(
     ensures uses { ClientUses result.work.used (D.state client.old.link) (D.state client.new.link) }
     ensures kept { client.new.kept ≡ client.old.kept }
     ensures client_start { D.start client.new.link ≡ D.start client.old.link }
+    ensures unended { IsUnended (log_of calls.old) → IsUnended (log_of calls.new) }
 {
     match client.judge_request(alloc) {
         Ok(None) => await_head(alloc, client),
@@ -156,10 +157,10 @@ fn take_head<SV: ProxyHttp, D: ByteLink, U, L: ByteLink>(
 ) -> Next<L, SV::CTX>
     requires { read.len ≤ length client.old.ahead }
     ensures run { (s : Start) (p : Passed) (faults : ℕ) → log_of calls.old ≡ []
-        → RunSoFar {C = SV.CTX} L.state L.start (called_to s (log_of calls.old)) p
+        → RunSoFar {C = SV.CTX} L.state L.start (opened_to s (log_of calls.old)) p
         (world_of D.state client.old faults) [] (Phase.ReadHead)
         → HasRequest client.old.ahead read.head read.framing read.len
-        → Advances L.state L.start (called_to s (log_of calls.new))
+        → Advances L.state L.start (opened_to s (log_of calls.new))
         (world_of D.state client.new faults) result.phase }
     ensures calls { log_of calls.old ≡ [] → CallsSoFar {L = L}
         (allowed_by (SV.allows hooks.now) SV.Modules.allows) (SV.mark_of hooks.now) calls.new
@@ -177,6 +178,7 @@ fn take_head<SV: ProxyHttp, D: ByteLink, U, L: ByteLink>(
     ensures uses { ClientUses result.work.used (D.state client.old.link) (D.state client.new.link) }
     ensures kept { client.new.kept ≡ client.old.kept }
     ensures client_start { D.start client.new.link ≡ D.start client.old.link }
+    ensures unended { IsUnended (log_of calls.old) → IsUnended (log_of calls.new) }
 {
     if let Err(error) = check_entry(&read.head) {
         return give_answer(alloc, 400, Some(error.into_down()));
@@ -198,12 +200,12 @@ fn accept_head<SV: ProxyHttp, D: ByteLink, U, L: ByteLink>(
 ) -> Next<L, SV::CTX>
     requires { read.len ≤ length client.old.ahead }
     ensures run { (s : Start) (p : Passed) (faults : ℕ) → log_of calls.old ≡ []
-        → RunSoFar {C = SV.CTX} L.state L.start (called_to s (log_of calls.old)) p
+        → RunSoFar {C = SV.CTX} L.state L.start (opened_to s (log_of calls.old)) p
         (world_of D.state client.old faults) [] (Phase.ReadHead)
         → HasRequest client.old.ahead read.head read.framing read.len
         → Entered read.head None
         → ¬ (IsConnect read.head)
-        → Advances L.state L.start (called_to s (log_of calls.new))
+        → Advances L.state L.start (opened_to s (log_of calls.new))
         (world_of D.state client.new faults) result.phase }
     ensures calls { log_of calls.old ≡ [] → CallsSoFar {L = L}
         (allowed_by (SV.allows hooks.now) SV.Modules.allows) (SV.mark_of hooks.now) calls.new
@@ -221,6 +223,7 @@ fn accept_head<SV: ProxyHttp, D: ByteLink, U, L: ByteLink>(
     ensures uses { ClientUses result.work.used (D.state client.old.link) (D.state client.new.link) }
     ensures kept { client.new.kept ≡ client.old.kept }
     ensures client_start { D.start client.new.link ≡ D.start client.old.link }
+    ensures unended { IsUnended (log_of calls.old) → IsUnended (log_of calls.new) }
 {
     if names_upgrade(&read.head) {
         let error = Error::new_down(ErrorType::Custom(1));

@@ -10,10 +10,10 @@ ghost use Rattle.relay_links.specs.Link.{LinkState, IsHandedOut};
 ghost use Rattle.relay_attempt.specs.Passed.{Passed};
 ghost use Rattle.relay_proxy.specs.declared.calls.At.{At};
 ghost use Rattle.relay_proxy.specs.Bound.{CountsLink};
-ghost use Rattle.relay_proxy.specs.Calls.{CallsSoFar, CountsCalls, allowed_by, is_calling, log_of};
+ghost use Rattle.relay_proxy.specs.Calls.{CallsSoFar, CountsCalls, IsUnended, allowed_by, is_calling, log_of};
 ghost use Rattle.relay_proxy.specs.Named.{IsNamed};
 ghost use Rattle.relay_proxy.specs.Taken.{TakesAfter};
-ghost use Rattle.relay_proxy.specs.Passed.{World, Start, called_to};
+ghost use Rattle.relay_proxy.specs.Passed.{World, Start, opened_to};
 ghost use Rattle.relay_proxy.specs.Phases.{RunSoFar};
 ghost use Rattle.relay_proxy.specs.Refusals.{attempts_in, faults_before, faults_told};
 ghost use Rattle.relay_proxy.specs.Stock.{items_held};
@@ -77,10 +77,10 @@ pub(crate) fn connect<SV: ProxyHttp, K: Connector>(
     ensures run { (s : Start) (p : Passed) (client : LinkState) (ahead : List ℕ) → s.most ≡ most
         → CallsSoFar {L = K.Byte} (allowed_by (SV.allows app.now) SV.Modules.allows)
         (SV.mark_of app.now) calls.old (Phase.Connect context session tries)
-        → RunSoFar {C = SV.CTX} K.Byte.state K.Byte.start (called_to s (log_of calls.old)) p
+        → RunSoFar {C = SV.CTX} K.Byte.state K.Byte.start (opened_to s (log_of calls.old)) p
         (world_with client ahead (K.fault_count connector.old)) []
         (Phase.Connect context session tries)
-        → Advances {C = SV.CTX} K.Byte.state K.Byte.start (called_to s (log_of calls.new))
+        → Advances {C = SV.CTX} K.Byte.state K.Byte.start (opened_to s (log_of calls.new))
         (world_with client ahead (K.fault_count connector.new)) result.phase }
     ensures calls { CallsSoFar {L = K.Byte} (allowed_by (SV.allows app.now) SV.Modules.allows)
         (SV.mark_of app.now) calls.old (Phase.Connect context session tries)
@@ -105,6 +105,7 @@ pub(crate) fn connect<SV: ProxyHttp, K: Connector>(
         (items_held K.Byte.start result.phase) (K.refusals connector.old)
         (K.refusals connector.new) (K.stock connector.old) (K.stock connector.new) }
     ensures faults { K.fault_count connector.old ≤ K.fault_count connector.new }
+    ensures unended { IsUnended (log_of calls.old) → IsUnended (log_of calls.new) }
 {
     let room = match AttemptRoom::behind(tries) {
         Ok(room) => room,
@@ -143,11 +144,11 @@ fn tell<SV: ProxyHttp, L: ByteLink>(
     ensures run { (s : Start) (p : Passed) (w : World)
         → CallsSoFar {L = L} (allowed_by (SV.allows app.now) SV.Modules.allows)
         (SV.mark_of app.now) calls.old (Phase.Connect context session (tries_in lease))
-        → RunSoFar {C = SV.CTX} L.state L.start (called_to s (log_of calls.old)) p w []
+        → RunSoFar {C = SV.CTX} L.state L.start (opened_to s (log_of calls.old)) p w []
         (Phase.Connect context session (tries_in lease))
         → calls.old.at ≡ At.Named lease.peer → lease.recorded ≡ lease.peer
         → IsHandedOut (L.state link) (L.start link) lease.reused
-        → Advances L.state L.start (called_to s (log_of calls.new)) w result.phase }
+        → Advances L.state L.start (opened_to s (log_of calls.new)) w result.phase }
     ensures calls { calls.old.at ≡ At.Named lease.peer
         → CallsSoFar {L = L} (allowed_by (SV.allows app.now) SV.Modules.allows)
         (SV.mark_of app.now) calls.old (Phase.Connect context session (tries_in lease))
@@ -165,6 +166,7 @@ fn tell<SV: ProxyHttp, L: ByteLink>(
     ensures items { items_held L.start result.phase ≡ (L.start link).items ∷ [] }
     ensures fresh { IsHandedOut (L.state link) (L.start link) lease.reused
         → PhaseUses L.state L.start 0 [] result.phase }
+    ensures unended { IsUnended (log_of calls.old) → IsUnended (log_of calls.new) }
 {
     let mut context = context;
     let mut session = session;

@@ -10,10 +10,10 @@ ghost use Rattle.relay_session.specs.declared.writing.Outgoing.{Outgoing};
 ghost use Rattle.relay_tasks.specs.Head.{RequestHead};
 ghost use Rattle.relay_tasks.specs.declared.log.LogEntry.{LogEntry};
 ghost use Rattle.relay_attempt.specs.Passed.{Passed};
-ghost use Rattle.relay_proxy.specs.Ahead.{IsStoppedFor};
 ghost use Rattle.relay_proxy.specs.Bound.{CountsCall, CountsLink};
-ghost use Rattle.relay_proxy.specs.Calls.{CallsSoFar, CountsCalls, allowed_by, is_calling, log_of};
-ghost use Rattle.relay_proxy.specs.Passed.{World, Start, called_to};
+ghost use Rattle.relay_phases.specs.Order.{Accepts, accepted, purging};
+ghost use Rattle.relay_proxy.specs.Calls.{CallsSoFar, CountsCalls, IsUnended, allowed_by, final_at, is_calling, log_of};
+ghost use Rattle.relay_proxy.specs.Passed.{World, Start, called_to, opened_to};
 ghost use Rattle.relay_proxy.specs.Phases.{RunSoFar};
 ghost use Rattle.relay_proxy.specs.Sent.{IsUntreated};
 ghost use Rattle.relay_proxy.specs.Stock.{items_held};
@@ -24,7 +24,7 @@ ghost use Rattle.relay_proxy.specs.Turn.{world_with, DoesWork, is_connecting, is
 ghost use Rattle.relay_proxy.specs.Uses.{OwesAnswer, PhaseUses};
 ghost use Rattle.relay_proxy.specs.declared.outcome.Outcome.{Outcome};
 
-use crate::calls::{Calls, Opened, call_next};
+use crate::calls::{Calls, Opened, answer_error, call_next};
 use crate::connecting::{connect, lacks_memory};
 use crate::machine::{Next, Phase, RunStep};
 use crate::owed::{Owed, queue_answer};
@@ -33,10 +33,10 @@ use crate::work::Work;
 use relay_hooks::ProxyHttp;
 use relay_links::{ByteLink, Connector};
 use relay_session::HttpSession;
-use relay_tasks::Error;
+use relay_tasks::{Error, ErrorType};
 
-/// Calls the hook that comes next, while no peer is named; and then asks the connector for a link to
-/// it.
+/// Calls the hook that comes next, while no peer is named, or has the application answer the error
+/// with which one stopped the request; and then asks the connector for a link to the peer.
 pub(crate) fn reach<SV: ProxyHttp, K: Connector>(
     app: &SV,
     connector: &mut K,
@@ -78,6 +78,9 @@ pub(crate) fn reach<SV: ProxyHttp, K: Connector>(
         (K.refusals connector.new) (K.stock connector.old) (K.stock connector.new) }
     ensures faults { K.fault_count connector.old ≤ K.fault_count connector.new }
 {
+    if let Some(error) = calls.final_error() {
+        return answer(app, calls, context, session, tries, error);
+    }
     if calls.is_calling() {
         return open(app, calls, context, session, tries);
     }
@@ -93,6 +96,55 @@ fn open<SV: ProxyHttp, L: ByteLink>(
     tries: AttemptList,
 ) -> Next<L, SV::CTX>
     requires { is_calling calls.old.at ≡ true }
+    ensures run { (s : Start) (p : Passed) (w : World)
+        → CallsSoFar {L = L} (allowed_by (SV.allows app.now) SV.Modules.allows)
+        (SV.mark_of app.now) calls.old (Phase.Connect context session tries)
+        → RunSoFar {C = SV.CTX} L.state L.start (opened_to s (log_of calls.old)) p w []
+        (Phase.Connect context session tries)
+        → Advances L.state L.start (opened_to s (log_of calls.new)) w result.phase }
+    ensures calls { CallsSoFar {L = L} (allowed_by (SV.allows app.now) SV.Modules.allows)
+        (SV.mark_of app.now) calls.old (Phase.Connect context session tries)
+        → CallsSoFar {L = L} (allowed_by (SV.allows app.now) SV.Modules.allows)
+        (SV.mark_of app.now) calls.new result.phase }
+    ensures cause { (w : World) → HasCause L.state L.start w w
+        (Phase.Connect context session tries) result.phase result.step }
+    ensures work { DoesWork result.step result.work }
+    ensures counts { CountsCall tries result.phase result.work }
+    ensures called { CountsCalls calls.old calls.new result.work }
+    ensures unused { result.work.used ≡ 0 }
+    ensures step { (result.step ≡ RunStep.Moved) ⊎ (result.step ≡ RunStep.Ended) }
+    ensures over { is_over result.phase ≡ is_end result.step }
+    ensures unlinked { links_held L.state L.start result.phase ≡ 0 }
+    ensures no_items { items_held L.start result.phase ≡ [] }
+    ensures attempts { attempts_in result.phase ≡ tries }
+    // The end of the request does not begin with it.
+    ensures unended { IsUnended (log_of calls.old) → IsUnended (log_of calls.new) }
+{
+    let mut context = context;
+    let mut session = session;
+    match call_next(app, calls, &mut context, &mut session) {
+        Opened::GoesOn => Next {
+            phase: Phase::Connect(context, session, tries),
+            step: RunStep::Moved,
+            work: Work::CALLED,
+        },
+        Opened::Answered => owe(session, tries, None),
+        Opened::Purges => turn_down(session, tries),
+        Opened::OutOfMemory => lacks_memory(tries),
+    }
+}
+
+/// Has the application answer the error with which a hook stopped the request: the client is owed what
+/// it queued, and the request ends where that is nothing.
+fn answer<SV: ProxyHttp, L: ByteLink>(
+    app: &SV,
+    calls: &mut Calls<SV::Modules, SV::Kept>,
+    context: SV::CTX,
+    session: Box<HttpSession>,
+    tries: AttemptList,
+    error: Error,
+) -> Next<L, SV::CTX>
+    requires { final_at calls.old.at ≡ Some error }
     ensures run { (s : Start) (p : Passed) (w : World)
         → CallsSoFar {L = L} (allowed_by (SV.allows app.now) SV.Modules.allows)
         (SV.mark_of app.now) calls.old (Phase.Connect context session tries)
@@ -117,30 +169,23 @@ fn open<SV: ProxyHttp, L: ByteLink>(
 {
     let mut context = context;
     let mut session = session;
-    match call_next(app, calls, &mut context, &mut session) {
-        Opened::GoesOn => Next {
-            phase: Phase::Connect(context, session, tries),
-            step: RunStep::Moved,
-            work: Work::CALLED,
-        },
-        Opened::Answered => owe(session, tries, None),
-        Opened::Stopped(error) => stop(session, tries, error),
-        Opened::OutOfMemory => lacks_memory(tries),
+    match answer_error(app, calls, &mut context, &mut session, error) {
+        Ok(()) => owe(session, tries, Some(error)),
+        Err(_) => lacks_memory(tries),
     }
 }
 
-/// A request that hooks stopped with that error: the client is owed the answer to it, where it has
-/// one.
-fn stop<L: ByteLink, C>(session: Box<HttpSession>, tries: AttemptList, error: Error) -> Next<L, C>
+/// A request that is a purge, which is not done so far: the client is owed the relay's own answer.
+fn turn_down<L: ByteLink, C>(session: Box<HttpSession>, tries: AttemptList) -> Next<L, C>
     ensures run { (s : Start) (these those : List LogEntry) (p : Passed) (w : World) (context : C)
         (client : Box HttpSession) (head : RequestHead)
         → session.value.writing.output ≡ Outgoing.Open []
         → session.value.writing.request ≡ request_of head
-        → session.value.writing.place ≡ Place.NoHead → IsAccepted (called_to s those) p head
-        → IsStoppedFor those error → IsUntreated those → tries ≡ []
-        → RunSoFar {C = C} L.state L.start (called_to s these) p w []
+        → session.value.writing.place ≡ Place.NoHead → IsAccepted (opened_to s those) p head
+        → Accepts accepted those purging → IsUntreated those → tries ≡ []
+        → RunSoFar {C = C} L.state L.start (opened_to s these) p w []
         (Phase.Connect context client tries)
-        → Advances {C = C} L.state L.start (called_to s those) w result.phase }
+        → Advances {C = C} L.state L.start (opened_to s those) w result.phase }
     ensures owes { result.step ≡ RunStep.Moved → OwesAnswer result.phase }
     ensures step { (result.step ≡ RunStep.Moved) ⊎ (result.step ≡ RunStep.Ended) }
     ensures work { DoesWork result.step result.work }
@@ -154,6 +199,7 @@ fn stop<L: ByteLink, C>(session: Box<HttpSession>, tries: AttemptList, error: Er
     ensures attempts { attempts_in result.phase ≡ tries }
 {
     let mut session = session;
+    let error = Error::new_in(ErrorType::Custom(1));
     let Ok(()) = queue_answer(&mut session, error) else {
         return lacks_memory(tries);
     };

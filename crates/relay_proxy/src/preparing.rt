@@ -13,9 +13,9 @@ ghost use Rattle.relay_h1.specs.Framing.{request_framing};
 ghost use Rattle.relay_links.specs.Link.{IsHandedOut};
 ghost use Rattle.relay_session.specs.Reading.{head_of};
 ghost use Rattle.relay_proxy.specs.Bound.{CountsSend};
-ghost use Rattle.relay_proxy.specs.Calls.{BeginsCalls, CallsSoFar, CountsCalls, allowed_by, log_of};
+ghost use Rattle.relay_proxy.specs.Calls.{BeginsCalls, CallsSoFar, CountsCalls, IsUnended, allowed_by, log_of};
 ghost use Rattle.relay_proxy.specs.Endings.{IsInOrder, outcome_of};
-ghost use Rattle.relay_proxy.specs.Passed.{World, Start, called_to, IsUntouched, TellsClient};
+ghost use Rattle.relay_proxy.specs.Passed.{World, Start, opened_to, IsUntouched, TellsClient};
 ghost use Rattle.relay_proxy.specs.Phases.{IsConnecting, IsRelaying, RunSoFar};
 ghost use Rattle.relay_proxy.specs.Preparing.{MakesHead, Readies, Settles};
 ghost use Rattle.relay_proxy.specs.Sent.{Sends, unframed};
@@ -50,9 +50,9 @@ pub(crate) fn prepare<SV: ProxyHttp, L: ByteLink>(
     lease: Lease,
 ) -> Next<L, SV::CTX>
     ensures run { (s : Start) (p : Passed) (w : World)
-        → RunSoFar {C = SV.CTX} L.state L.start (called_to s (log_of calls.old)) p w []
+        → RunSoFar {C = SV.CTX} L.state L.start (opened_to s (log_of calls.old)) p w []
         (Phase.Prepare context session link lease)
-        → Advances L.state L.start (called_to s (log_of calls.new)) w result.phase }
+        → Advances L.state L.start (opened_to s (log_of calls.new)) w result.phase }
     ensures calls { CallsSoFar {L = L} (allowed_by (SV.allows app.now) SV.Modules.allows)
         (SV.mark_of app.now) calls.old (Phase.Prepare context session link lease)
         → CallsSoFar {L = L} (allowed_by (SV.allows app.now) SV.Modules.allows)
@@ -71,6 +71,7 @@ pub(crate) fn prepare<SV: ProxyHttp, L: ByteLink>(
     ensures items { items_held L.start result.phase ≡ (L.start link).items ∷ [] }
     ensures asked { (n : ℕ) → LinkUses L.state L.start n link
         → PhaseUses L.state L.start n [] result.phase }
+    ensures unended { IsUnended (log_of calls.old) → IsUnended (log_of calls.new) }
 {
     let mut context = context;
     let mut session = session;
@@ -93,6 +94,7 @@ fn sent_of<SV: ProxyHttp>(
     ensures makes { MakesHead (allowed_by (SV.allows app.now) SV.Modules.allows) calls.old client.old
         (SV.mark_of app.now context.old) calls.new client.new (SV.mark_of app.now context.new)
         result }
+    ensures at { calls.new.at ≡ calls.old.at }
 {
     let ready = readied(alloc, client)?;
     let filtered = filter(app, calls, context, client, ready)?;

@@ -130,6 +130,10 @@ impl<SV: ProxyHttp, K: Connector, P: Purger> HttpProxy<SV, K, P> {
         ensures calls { CallsSoFar (allowed_by (SV.allows self.now.inner) SV.Modules.allows)
             (SV.mark_of self.now.inner) result.calls result.machine.phase }
         ensures no_log { log_of result.calls ≡ [] }
+        ensures starts { called_to (start_of self.now.conf.max_retries
+            (world_of D.state client.old (K.fault_count self.now.connector)))
+            (log_of result.calls) ≡ start_of self.now.conf.max_retries
+            (world_of D.state client.old (K.fault_count self.now.connector)) }
         ensures no_turns { result.machine.turns ≡ 0 }
         ensures unused { result.machine.work.used ≡ 0 }
         ensures unmoved { result.machine.work.moved ≡ 0 }

@@ -639,7 +639,8 @@ module _ {L C D U M : Type 0}
 
   -- a request begins
   pub begins : (before now : Books L) (visit : Visit D U L C M) (rest : List (Visit D U L C M))
-      (s : Start) (p : Passed) → s.most ≡ now.most → s.called ≡ log_of visit.calls
+      (s : Start) (p : Passed) → s.most ≡ now.most
+      → called_to s (log_of visit.calls) ≡ s
       → CallsSoFar allows mark_of visit.calls visit.phase
       → RunSoFar state start_at s p (world_of client_state visit.client now.faults) [] visit.phase
       → is_over visit.phase ≡ false → Serves state start_at client_state allows mark_of before now
@@ -656,8 +657,8 @@ module _ {L C D U M : Type 0}
         limit = limit;
         calls = calls;
         passed = p;
-        run = subst (λ (log : List LogEntry). RunSoFar state start_at (called_to s log) p
-            (world_of client_state visit.client now.faults) [] visit.phase) called run;
+        run = subst (λ (t : Start). RunSoFar state start_at t p
+            (world_of client_state visit.client now.faults) [] visit.phase) (sym called) run;
         going = going;
       };
       of_others = serves.under_way;

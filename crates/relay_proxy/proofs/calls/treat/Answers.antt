@@ -1,6 +1,5 @@
 -- The error is treated with the session that has its client in it, which is then taken out again.
 use Rattle.std.proofs.Common.{refl, sym}
-use Rattle.std.proofs.lemmas.Result.{IfOk-weaker}
 use Rattle.relay_tasks.specs.declared.hook.Hook.TheVariants as hook
 use Rattle.relay_modules.specs.Module.{ModuleCall}
 use Rattle.relay_trying.proofs.WithinLemmas.{Treats-within}
@@ -10,9 +9,8 @@ use Rattle.relay_proxy.proofs.calls.treat.Goals as goal
 pub returns-clause-treats : goal.returns-clause-treats
 returns-clause-treats g c =
     rw (c.swap-2.ensures.x_after, sym c.swap.ensures.y_after)
-    (λ from may. IfOk-weaker c.treat_failure-treated.result _ _
-    (Treats-within (g.SV.ProxyHttp.allows c.args.app.now)
+    (λ from may. Treats-within (g.SV.ProxyHttp.allows c.args.app.now)
     (λ (call : ModuleCall). (made : g.row.SV-Modules.Denot)
     × g.SV.Modules.HttpModule.allows made call) _ _ _ _ hook.ErrorWhileProxy refl
-    c.args.peer.now c.args.reused from c.args.error)
-    (c.treat_failure-treated.ensures.treats from may))
+    c.args.peer.now c.args.reused from c.args.error _
+    (c.in_ok-treated.ensures.treats from may))

@@ -1,12 +1,13 @@
 -- The head names no Upgrade, and a session is made that stands behind it, for which a context is
 -- made.
-use Rattle.std.proofs.Common.{ap, refl, ◌∙◌}
+use Rattle.std.proofs.Common.{List, ap, refl, subst, sym, ◌∙◌}
+use Rattle.relay_tasks.specs.declared.log.LogEntry.{LogEntry}
 use Rattle.relay_session.specs.Response.{has_head}
 use Rattle.relay_session.specs.declared.task_text.Place.{Place}
-use Rattle.relay_proxy.specs.Calls.{allowed_by, log_of}
-use Rattle.relay_proxy.specs.Passed.{World, called_to}
+use Rattle.relay_proxy.specs.Calls.{IsUnended, allowed_by, log_of}
+use Rattle.relay_proxy.specs.Passed.{World, opened_to}
 use Rattle.relay_proxy.specs.Turn.{world_of}
-use Rattle.relay_proxy.proofs.CallLemmas.{begun_calls, called_logged, none_logged}
+use Rattle.relay_proxy.proofs.CallLemmas.{begun_calls, begun_on, called_logged, none_logged}
 use Rattle.relay_proxy.proofs.HeadSteps.{head_upgrades}
 use Rattle.relay_proxy.proofs.OpenSteps.{head_accepted, stands_first}
 use Rattle.relay_proxy.proofs.client_head.accept_head.Goals as goal
@@ -14,7 +15,7 @@ use Rattle.relay_proxy.proofs.client_head.accept_head.Goals as goal
 -- a head that names Upgrade is left alone
 pub returns-then-names_upgrade-clause-run : goal.returns-then-names_upgrade-clause-run
 returns-then-names_upgrade-clause-run g c = λ s p faults none run has entered no_connect.
-    head_upgrades g.L.ByteLink.state g.L.ByteLink.start (called_to s (log_of c.args.calls.now)) p
+    head_upgrades g.L.ByteLink.state g.L.ByteLink.start (opened_to s (log_of c.args.calls.now)) p
     (world_of g.D.ByteLink.state c.args.client.now faults) c.args.read.head c.args.read.framing
     c.args.read.len _ _ has entered no_connect (c.if-names_upgrade.ensures.0 refl)
     c.new_down-error.ensures c.new.ensures run
@@ -70,3 +71,20 @@ returns-clause-calls g c = λ none.
     c.new-3.ensures c.in-Ok.ensures.at (ap (λ (p : Place). has_head p)
     (stands_first c.begun_http1-session.result.writing made.response made.output))
     c.in-Ok.ensures.once (rw c.in-Ok-new.ensures.ok c.in-Ok.ensures.begins)
+
+-- the end does not begin with the first call
+pub returns-in_default-clause-unended : goal.returns-in_default-clause-unended
+returns-in_default-clause-unended g c = λ none.
+    subst (λ (l : List LogEntry). IsUnended l) (sym c.in_default.ensures.log) none
+
+pub returns-in_default-new-clause-unended : goal.returns-in_default-new-clause-unended
+returns-in_default-new-clause-unended g c = λ none.
+    let made = c.in-Ok.ensures.begins in
+    begun_on (log_of c.args.calls.now) (log_of c.begin_calls.new.calls) made.entries made.log
+    made.order c.in-Ok.ensures.once none
+
+pub returns-clause-unended : goal.returns-clause-unended
+returns-clause-unended g c = λ none.
+    let made = c.in-Ok.ensures.begins in
+    begun_on (log_of c.args.calls.now) (log_of c.begin_calls.new.calls) made.entries made.log
+    made.order c.in-Ok.ensures.once none

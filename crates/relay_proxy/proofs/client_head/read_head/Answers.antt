@@ -3,7 +3,7 @@ use Rattle.std.proofs.Common.{refl}
 use Rattle.relay_h1.proofs.HeadEndLemmas.{head_end-within}
 use Rattle.relay_proxy.specs.Endings as endings
 use Rattle.relay_proxy.specs.Calls.{log_of}
-use Rattle.relay_proxy.specs.Passed.{called_to}
+use Rattle.relay_proxy.specs.Passed.{opened_to}
 use Rattle.relay_proxy.specs.Turn.{world_of}
 use Rattle.relay_proxy.proofs.CallLemmas.{none_logged, unopened_calls}
 use Rattle.relay_proxy.proofs.client_head.read_head.Goals as goal
@@ -18,7 +18,7 @@ take_head-requires g c =
 pub returns-in-Ok-None-clause-run : goal.returns-in-Ok-None-clause-run
 returns-in-Ok-None-clause-run g c = λ s p faults none run.
     (rw c.judge_request.ensures.same at
-    (c.await_head.ensures.run (called_to s (log_of c.args.calls.now)) p faults)) run
+    (c.await_head.ensures.run (opened_to s (log_of c.args.calls.now)) p faults)) run
     (rw c.in-Ok-None.field-0-is at c.in-Ok-None.ensures.verdict)
 
 -- and no hook is called for it
@@ -42,7 +42,7 @@ returns-in-Err-OutOfMemory-clause-calls g c = λ none.
 pub returns-in-Err-Error-clause-run : goal.returns-in-Err-Error-clause-run
 returns-in-Err-Error-clause-run g c = λ s p faults none run.
     let verdict = rw c.in-Err-Error.field-0-is at c.in-Err-Error.ensures.verdict in
-    rw c.judge_request.ensures.same (c.give_answer.ensures.run (called_to s (log_of c.args.calls.now)) p
+    rw c.judge_request.ensures.same (c.give_answer.ensures.run (opened_to s (log_of c.args.calls.now)) p
     (world_of g.D.ByteLink.state c.args.client.now faults) run
     (endings.IsTurnedDown.has_bad_head verdict.0 verdict.2 refl
     (rw verdict.1 refl)))

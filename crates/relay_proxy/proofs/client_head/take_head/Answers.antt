@@ -4,7 +4,7 @@ use Rattle.relay_tasks.specs.declared.Error.{Error}
 use Rattle.relay_tasks.specs.declared.ErrorSource.TheVariants.{Downstream}
 use Rattle.relay_proxy.specs.Endings as endings
 use Rattle.relay_proxy.specs.Calls.{log_of}
-use Rattle.relay_proxy.specs.Passed.{called_to}
+use Rattle.relay_proxy.specs.Passed.{opened_to}
 use Rattle.relay_proxy.specs.Turn.{world_of}
 use Rattle.relay_proxy.proofs.CallLemmas.{unopened_calls}
 use Rattle.relay_proxy.proofs.client_head.take_head.Goals as goal
@@ -13,7 +13,7 @@ use Rattle.relay_proxy.proofs.client_head.take_head.Goals as goal
 pub returns-in-Err-clause-run : goal.returns-in-Err-clause-run
 returns-in-Err-clause-run g c = λ s p faults none run has.
     let refused = c.in-Err.ensures in
-    c.give_answer.ensures.run (called_to s (log_of c.args.calls.now)) p _ run
+    c.give_answer.ensures.run (opened_to s (log_of c.args.calls.now)) p _ run
     (endings.IsTurnedDown.is_not_entered c.args.read.head c.args.read.framing c.args.read.len
     refused.0 has refused.2 refl
     (ap Some (c.into_down.ensures
@@ -28,7 +28,7 @@ returns-in-Err-clause-cause g c = λ faults.
 -- a request for a tunnel is turned down
 pub returns-then-is_connect-clause-run : goal.returns-then-is_connect-clause-run
 returns-then-is_connect-clause-run g c = λ s p faults none run has.
-    c.give_answer-then-is_connect.ensures.run (called_to s (log_of c.args.calls.now)) p _ run
+    c.give_answer-then-is_connect.ensures.run (opened_to s (log_of c.args.calls.now)) p _ run
     (endings.IsTurnedDown.asks_to_connect c.args.read.head c.args.read.framing c.args.read.len has
     c.in_default.ensures (c.if-is_connect.ensures.0 refl) refl refl)
 

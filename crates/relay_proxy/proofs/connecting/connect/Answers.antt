@@ -1,7 +1,7 @@
 -- Over a link that the connector gave the exchange begins; where it gave none, its count rose.
 use Rattle.std.proofs.Common.{List, ap, refl, subst, sym, ◌∙◌}
-use Rattle.relay_proxy.specs.Calls.{TellsPeer, log_of}
-use Rattle.relay_proxy.specs.Passed.{called_to}
+use Rattle.relay_proxy.specs.Calls.{TellsPeer, has_peer, log_of}
+use Rattle.relay_proxy.specs.Passed.{opened_to}
 use Rattle.relay_proxy.specs.Refusals.{faults_told}
 use Rattle.relay_proxy.specs.Turn.{world_with}
 use Rattle.relay_proxy.specs.declared.calls.At.{At}
@@ -44,7 +44,7 @@ returns-in_default-peer-clause-calls g c = λ o.
 -- where it gave none the request goes on, or ends with its fault
 pub returns-in-Err-get-clause-run : goal.returns-in-Err-get-clause-run
 returns-in-Err-get-clause-run g c = λ s p client ahead limit o run.
-    c.refused_link.ensures.run (called_to s (log_of c.args.calls.now)) p
+    c.refused_link.ensures.run (opened_to s (log_of c.args.calls.now)) p
     (world_with client ahead (g.K.Connector.fault_count c.args.connector.now))
     (g.K.Connector.fault_count c.get.new.self) limit c.get.ensures.fits.0
     c.in-Err-get.ensures.rose c.in-Err-get.ensures.fault
@@ -55,7 +55,8 @@ returns-in-Err-get-clause-run g c = λ s p client ahead limit o run.
 pub returns-in-Err-get-clause-calls : goal.returns-in-Err-get-clause-calls
 returns-in-Err-get-clause-calls g c = λ o.
     asked_calls _ _ c.args.calls.now c.args.context c.args.session c.args.tries
-    c.refused_link.result.phase g.K.Byte.ByteLink.state g.K.Byte.ByteLink.start c.requires
+    c.refused_link.result.phase g.K.Byte.ByteLink.state g.K.Byte.ByteLink.start
+    (ap (λ (a : At _). has_peer a) c.in-Some-peer.ensures)
     c.refused_link.ensures.asked c.refused_link.ensures.unlinked o
 
 pub returns-in-Err-get-clause-called : goal.returns-in-Err-get-clause-called
@@ -92,3 +93,7 @@ returns-in_default-peer-clause-asks g c =
     (none_asked _ _ _ _ _ _ _
     (ap (λ (xs : List AttemptRecord). faults_told xs)
     (c.into_tries-in_default-peer.ensures ∙ c.in-Ok.ensures.ok)) refl refl refl)
+
+-- the end does not begin as the application is told of the link
+pub returns-in-Ok-get-clause-unended : goal.returns-in-Ok-get-clause-unended
+returns-in-Ok-get-clause-unended g c = c.tell.ensures.unended

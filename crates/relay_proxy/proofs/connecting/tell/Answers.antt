@@ -4,7 +4,7 @@ use Rattle.relay_tasks.specs.declared.error.Fail.TheVariants as fail
 use Rattle.relay_proxy.specs.Calls.{log_of}
 use Rattle.relay_proxy.proofs.CallLemmas.{logged_same, none_called, one_called}
 use Rattle.relay_proxy.proofs.OpenSteps.{called_tells}
-use Rattle.relay_proxy.proofs.PrepareSteps.{ahead_broken, told_badly, told_breaks, told_error, told_calls, told_lost, told_well}
+use Rattle.relay_proxy.proofs.PrepareSteps.{ahead_broken, told_badly, told_breaks, told_error, told_calls, told_lost, told_unended, told_well}
 use Rattle.relay_proxy.proofs.connecting.tell.Goals as goal
 
 -- the head comes next
@@ -50,7 +50,8 @@ returns-in-Err-Error-clause-calls g c = λ was o.
     rw c.fail_ahead.ensures.phase
     (told_breaks _ (g.SV.ProxyHttp.mark_of c.args.app.now) c.args.calls.now
     c.tell_link.new.calls c.args.context c.tell_link.new.context c.args.session.value
-    c.tell_link.new.client _ o c.args.lease.peer was call.turn)
+    c.tell_link.new.client _ o c.args.lease.peer c.in-Err-Error.error was
+    c.in-Err-Error.ensures.stays call.turn)
 
 pub returns-in-Err-Error-clause-called : goal.returns-in-Err-Error-clause-called
 returns-in-Err-Error-clause-called g c =
@@ -80,3 +81,21 @@ returns-in-Err-OutOfMemory-clause-called g c =
     none_called _ _ c.closed.result.work (rw c.closed.ensures.work refl)
     (told_error _ _ _ _ _ _ _ _ fail.OutOfMemory c.in-Err-OutOfMemory.field-0-is
     c.in-Err-OutOfMemory.ensures.told)
+
+pub returns-in-Ok-clause-unended : goal.returns-in-Ok-clause-unended
+returns-in-Ok-clause-unended g c = λ none.
+    told_unended _ c.args.calls.now c.tell_link.new.calls c.args.session.value
+    c.tell_link.new.client _ _ none c.args.lease.peer c.args.lease.reused c.tell_link.result
+    (rw c.deref_mut.ensures.value at c.tell_link.ensures.told)
+
+pub returns-in-Err-Error-clause-unended : goal.returns-in-Err-Error-clause-unended
+returns-in-Err-Error-clause-unended g c = λ none.
+    told_unended _ c.args.calls.now c.tell_link.new.calls c.args.session.value
+    c.tell_link.new.client _ _ none c.args.lease.peer c.args.lease.reused c.tell_link.result
+    (rw c.deref_mut.ensures.value at c.tell_link.ensures.told)
+
+pub returns-in-Err-OutOfMemory-clause-unended : goal.returns-in-Err-OutOfMemory-clause-unended
+returns-in-Err-OutOfMemory-clause-unended g c = λ none.
+    told_unended _ c.args.calls.now c.tell_link.new.calls c.args.session.value
+    c.tell_link.new.client _ _ none c.args.lease.peer c.args.lease.reused c.tell_link.result
+    (rw c.deref_mut.ensures.value at c.tell_link.ensures.told)

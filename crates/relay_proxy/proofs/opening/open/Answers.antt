@@ -1,8 +1,8 @@
 -- The hook that comes next is called, and the request goes on, or ends.
-use Rattle.std.proofs.Common.{arith, refl, sym}
+use Rattle.std.proofs.Common.{[], arith, refl, sym}
 use Rattle.relay_proxy.specs.Calls.{log_of}
 use Rattle.relay_proxy.proofs.CallLemmas.{ended_calls}
-use Rattle.relay_proxy.proofs.HookSteps.{answered, counts_called, goes_connecting, known_at, memory_called, memory_logged, opening_on, stopped, untreated}
+use Rattle.relay_proxy.proofs.HookSteps.{answered, counts_called, goes_connecting, known_at, memory_called, memory_logged, opening_on, purged, unended, unnamed, untreated}
 use Rattle.relay_proxy.proofs.OpenSteps.{hooks_leave, hooks_lost, opened_on}
 use Rattle.relay_proxy.proofs.opening.open.Goals as goal
 
@@ -14,7 +14,8 @@ returns-in-GoesOn-clause-run g c = λ s p w o run.
     (goes_connecting _ (g.SV.ProxyHttp.mark_of c.args.app.now) c.args.calls.now
     c.call_next.new.calls c.args.context c.call_next.new.context c.args.session.value
     c.call_next.new.client (rw c.deref_mut.ensures.value at c.in-GoesOn.ensures.turns)
-    (sym c.in-GoesOn.ensures.shown) s p w c.args.tries (o.untried c.requires) run.holds) run
+    (sym c.in-GoesOn.ensures.shown) s p w c.args.tries
+    (o.untried (unnamed c.args.calls.now.at c.requires)) run.holds) run
 
 -- and its calls go on
 pub returns-in-GoesOn-clause-calls : goal.returns-in-GoesOn-clause-calls
@@ -39,13 +40,13 @@ returns-in-Answered-clause-run g c = λ s p w o run.
     c.call_next.new.client (rw c.deref_mut.ensures.value at c.in-Answered.ensures.turns)
     (sym c.in-Answered.ensures.shown) s p w c.args.tries o run.holds in
     hooks_leave g.L.ByteLink.state g.L.ByteLink.start (log_of c.args.calls.now)
-    (log_of c.call_next.new.calls) s p w c.args.context c.args.session _ c.args.tries _ done.text
+    (log_of c.call_next.new.calls) [] s p w c.args.context c.args.session _ c.args.tries _ done.text
     c.owe.result.phase done.is_open (λ some. (c.owe.ensures.some some).0)
     (λ none. (c.owe.ensures.none none).0) done.owed
     (untreated _ (g.SV.ProxyHttp.mark_of c.args.app.now) c.args.calls.now c.call_next.new.calls
     c.args.context c.call_next.new.context c.args.session.value c.call_next.new.client
     (rw c.deref_mut.ensures.value at c.in-Answered.ensures.turns) o.untreated)
-    (o.untried c.requires) run
+    (o.untried (unnamed c.args.calls.now.at c.requires)) run
 
 pub returns-in-Answered-clause-calls : goal.returns-in-Answered-clause-calls
 returns-in-Answered-clause-calls g c = λ o.
@@ -62,35 +63,37 @@ returns-in-Answered-clause-called g c =
     c.call_next.new.client (rw c.deref_mut.ensures.value at c.in-Answered.ensures.turns) c.owe.result.work
     (known_at _ _ c.in-Answered.ensures.shown (λ lost. cc)) (rw c.owe.ensures.work (omega arith))
 
--- or stopped it
-pub returns-in-Stopped-clause-run : goal.returns-in-Stopped-clause-run
-returns-in-Stopped-clause-run g c = λ s p w o run.
-    let done = stopped _ (g.SV.ProxyHttp.mark_of c.args.app.now) c.args.calls.now
+-- or it is a purge
+pub returns-in-Purges-clause-run : goal.returns-in-Purges-clause-run
+returns-in-Purges-clause-run g c = λ s p w o run.
+    let done = purged _ (g.SV.ProxyHttp.mark_of c.args.app.now) c.args.calls.now
     c.call_next.new.calls c.args.context c.call_next.new.context c.args.session.value
-    c.call_next.new.client (rw c.deref_mut.ensures.value at c.in-Stopped.ensures.turns) c.in-Stopped.error
-    (sym c.in-Stopped.ensures.shown) s p w c.args.tries o run.holds in
-    c.stop.ensures.run s (log_of c.args.calls.now) (log_of c.call_next.new.calls) p w
+    c.call_next.new.client (rw c.deref_mut.ensures.value at c.in-Purges.ensures.turns)
+    (sym c.in-Purges.ensures.shown) s p w c.args.tries o run.holds in
+    c.turn_down.ensures.run s (log_of c.args.calls.now) (log_of c.call_next.new.calls) p w
     c.args.context c.args.session done.head done.is_open done.request done.place done.accepted
-    done.why
+    done.order
     (untreated _ (g.SV.ProxyHttp.mark_of c.args.app.now) c.args.calls.now c.call_next.new.calls
     c.args.context c.call_next.new.context c.args.session.value c.call_next.new.client
-    (rw c.deref_mut.ensures.value at c.in-Stopped.ensures.turns) o.untreated)
-    (o.untried c.requires) run
+    (rw c.deref_mut.ensures.value at c.in-Purges.ensures.turns) o.untreated)
+    (o.untried (unnamed c.args.calls.now.at c.requires)) run
 
-pub returns-in-Stopped-clause-calls : goal.returns-in-Stopped-clause-calls
-returns-in-Stopped-clause-calls g c = λ o.
-    ended_calls _ _ c.call_next.new.calls c.args.tries c.stop.result.phase c.stop.result.work
-    c.stop.ensures.counts c.stop.ensures.unopened
+pub returns-in-Purges-clause-calls : goal.returns-in-Purges-clause-calls
+returns-in-Purges-clause-calls g c = λ o.
+    ended_calls _ _ c.call_next.new.calls c.args.tries c.turn_down.result.phase
+    c.turn_down.result.work c.turn_down.ensures.counts c.turn_down.ensures.unopened
     (memory_logged _ (g.SV.ProxyHttp.mark_of c.args.app.now) c.args.calls.now
     c.call_next.new.calls c.args.context c.call_next.new.context c.args.session.value
-    c.call_next.new.client (rw c.deref_mut.ensures.value at c.in-Stopped.ensures.turns) c.args.tries o)
+    c.call_next.new.client (rw c.deref_mut.ensures.value at c.in-Purges.ensures.turns) c.args.tries
+    o)
 
-pub returns-in-Stopped-clause-called : goal.returns-in-Stopped-clause-called
-returns-in-Stopped-clause-called g c =
+pub returns-in-Purges-clause-called : goal.returns-in-Purges-clause-called
+returns-in-Purges-clause-called g c =
     counts_called _ (g.SV.ProxyHttp.mark_of c.args.app.now) c.args.calls.now
     c.call_next.new.calls c.args.context c.call_next.new.context c.args.session.value
-    c.call_next.new.client (rw c.deref_mut.ensures.value at c.in-Stopped.ensures.turns) c.stop.result.work
-    (known_at _ _ c.in-Stopped.ensures.shown (λ lost. cc)) c.stop.ensures.called
+    c.call_next.new.client (rw c.deref_mut.ensures.value at c.in-Purges.ensures.turns)
+    c.turn_down.result.work (known_at _ _ c.in-Purges.ensures.shown (λ lost. cc))
+    c.turn_down.ensures.called
 
 -- or memory was wanted
 pub returns-in-OutOfMemory-clause-run : goal.returns-in-OutOfMemory-clause-run
@@ -98,7 +101,7 @@ returns-in-OutOfMemory-clause-run g c = λ s p w o run.
     rw c.lacks_memory.ensures.phase
     (hooks_lost g.L.ByteLink.state g.L.ByteLink.start (log_of c.args.calls.now)
     (log_of c.call_next.new.calls) s p w c.args.context c.args.session c.args.tries
-    (o.untried c.requires) run)
+    (o.untried (unnamed c.args.calls.now.at c.requires)) run)
 
 pub returns-in-OutOfMemory-clause-calls : goal.returns-in-OutOfMemory-clause-calls
 returns-in-OutOfMemory-clause-calls g c = λ o.
@@ -113,3 +116,27 @@ returns-in-OutOfMemory-clause-called g c =
     c.call_next.new.calls c.args.context c.call_next.new.context c.args.session.value
     c.call_next.new.client (rw c.deref_mut.ensures.value at c.in-OutOfMemory.ensures.turns)
     c.lacks_memory.result.work (rw c.lacks_memory.ensures.work refl)
+
+pub returns-in-GoesOn-clause-unended : goal.returns-in-GoesOn-clause-unended
+returns-in-GoesOn-clause-unended g c = λ none.
+    unended _ (g.SV.ProxyHttp.mark_of c.args.app.now) c.args.calls.now c.call_next.new.calls
+    c.args.context c.call_next.new.context c.args.session.value c.call_next.new.client
+    (rw c.deref_mut.ensures.value at c.in-GoesOn.ensures.turns) none
+
+pub returns-in-Answered-clause-unended : goal.returns-in-Answered-clause-unended
+returns-in-Answered-clause-unended g c = λ none.
+    unended _ (g.SV.ProxyHttp.mark_of c.args.app.now) c.args.calls.now c.call_next.new.calls
+    c.args.context c.call_next.new.context c.args.session.value c.call_next.new.client
+    (rw c.deref_mut.ensures.value at c.in-Answered.ensures.turns) none
+
+pub returns-in-Purges-clause-unended : goal.returns-in-Purges-clause-unended
+returns-in-Purges-clause-unended g c = λ none.
+    unended _ (g.SV.ProxyHttp.mark_of c.args.app.now) c.args.calls.now c.call_next.new.calls
+    c.args.context c.call_next.new.context c.args.session.value c.call_next.new.client
+    (rw c.deref_mut.ensures.value at c.in-Purges.ensures.turns) none
+
+pub returns-in-OutOfMemory-clause-unended : goal.returns-in-OutOfMemory-clause-unended
+returns-in-OutOfMemory-clause-unended g c = λ none.
+    unended _ (g.SV.ProxyHttp.mark_of c.args.app.now) c.args.calls.now c.call_next.new.calls
+    c.args.context c.call_next.new.context c.args.session.value c.call_next.new.client
+    (rw c.deref_mut.ensures.value at c.in-OutOfMemory.ensures.turns) none

@@ -1,11 +1,11 @@
 -- The head is made, and the exchange begins with it; or the attempt fails.
-use Rattle.std.proofs.Common.{true, refl}
+use Rattle.std.proofs.Common.{true, refl, ◌∙◌}
 use Rattle.relay_tasks.specs.declared.error.Fail.TheVariants as fail
 use Rattle.relay_phases.specs.Order.{Station as station}
 use Rattle.relay_proxy.specs.Calls.{log_of}
 use Rattle.relay_proxy.proofs.CallLemmas.{begun_exchange, one_called}
 use Rattle.relay_proxy.proofs.OpenSteps.{called_tells}
-use Rattle.relay_proxy.proofs.PrepareSteps.{ahead_broken, filtered_badly, filtered_logged, filtered_lost, filtered_relays, filtered_well, lost_counts, lost_logged, makes_error, unsent_breaks, unsent_counts}
+use Rattle.relay_proxy.proofs.PrepareSteps.{ahead_broken, filtered_badly, filtered_logged, filtered_lost, filtered_relays, filtered_well, lost_counts, lost_logged, made_unended, makes_error, unsent_breaks, unsent_counts}
 use Rattle.relay_proxy.proofs.preparing.prepare.Goals as goal
 
 -- the exchange begins
@@ -24,7 +24,7 @@ returns-in-Ok-clause-calls g c = λ o.
     c.begin.ensures.calls
     (filtered_relays _ (g.SV.ProxyHttp.mark_of c.args.app.now) c.args.calls.now
     c.sent_of.new.calls c.args.context c.sent_of.new.context c.args.session.value
-    c.sent_of.new.client _ o.0 o.1 made.filtered made.filters) (
+    c.sent_of.new.client _ o.0 o.1 (c.sent_of.ensures.at ∙ o.1) made.filtered made.filters) (
       station.sent,
       filtered_logged _ (g.SV.ProxyHttp.mark_of c.args.app.now) c.args.calls.now
           c.sent_of.new.calls c.args.context c.sent_of.new.context c.args.session.value
@@ -55,10 +55,10 @@ pub returns-in-Err-Error-clause-calls : goal.returns-in-Err-Error-clause-calls
 returns-in-Err-Error-clause-calls g c = λ o.
     let refused = rw c.deref_mut.ensures.value at (makes_error _ _ _ _ _ _ _ _
     (fail.Error c.in-Err-Error.error) c.in-Err-Error.field-0-is c.in-Err-Error.ensures.makes) in
-    rw c.fail_ahead.ensures.phase
+    rw (c.fail_ahead.ensures.phase, c.in-Err-Error.field-0-is)
     (unsent_breaks _ (g.SV.ProxyHttp.mark_of c.args.app.now) c.args.calls.now
     c.sent_of.new.calls c.args.context c.sent_of.new.context c.args.session.value
-    c.sent_of.new.client _ o.0 o.1 c.in-Err-Error.error refused)
+    c.sent_of.new.client _ o.0 o.1 (c.sent_of.ensures.at ∙ o.1) c.in-Err-Error.error refused)
 
 pub returns-in-Err-Error-clause-called : goal.returns-in-Err-Error-clause-called
 returns-in-Err-Error-clause-called g c =
@@ -92,3 +92,21 @@ returns-in-Err-OutOfMemory-clause-called g c =
     fail.OutOfMemory c.in-Err-OutOfMemory.field-0-is c.in-Err-OutOfMemory.ensures.makes) in
     lost_counts _ c.args.calls.now c.sent_of.new.calls c.args.session.value
     c.sent_of.new.client _ _ c.closed.result.work (rw c.closed.ensures.work refl) lost
+
+pub returns-in-Ok-clause-unended : goal.returns-in-Ok-clause-unended
+returns-in-Ok-clause-unended g c = λ none.
+    made_unended _ c.args.calls.now c.sent_of.new.calls c.args.session.value
+    c.sent_of.new.client _ _ none c.sent_of.result
+    (rw c.deref_mut.ensures.value at c.sent_of.ensures.makes)
+
+pub returns-in-Err-Error-clause-unended : goal.returns-in-Err-Error-clause-unended
+returns-in-Err-Error-clause-unended g c = λ none.
+    made_unended _ c.args.calls.now c.sent_of.new.calls c.args.session.value
+    c.sent_of.new.client _ _ none c.sent_of.result
+    (rw c.deref_mut.ensures.value at c.sent_of.ensures.makes)
+
+pub returns-in-Err-OutOfMemory-clause-unended : goal.returns-in-Err-OutOfMemory-clause-unended
+returns-in-Err-OutOfMemory-clause-unended g c = λ none.
+    made_unended _ c.args.calls.now c.sent_of.new.calls c.args.session.value
+    c.sent_of.new.client _ _ none c.sent_of.result
+    (rw c.deref_mut.ensures.value at c.sent_of.ensures.makes)

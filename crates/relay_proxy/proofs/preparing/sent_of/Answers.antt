@@ -12,6 +12,7 @@ returns-in_err-filtered g c =
     (record {
       makes = filter_fails _ c.args.calls.now c.filter.new.calls c.args.client.now
           c.filter.new.client _ _ c.in_ok-ready.ready _ c.in_err-filtered.ensures.filters;
+      at = c.filter.ensures.at;
     })
 
 -- it left a head
@@ -23,4 +24,5 @@ returns g c = record {
         readies = c.in_ok-ready.ensures;
         call = c.in_ok-filtered.ensures.filters;
       }) c.settled.ensures;
+  at = c.filter.ensures.at;
 }

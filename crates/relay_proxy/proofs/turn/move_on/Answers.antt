@@ -11,7 +11,7 @@ use Rattle.relay_proxy.specs.Turn.{world_of}
 use Rattle.relay_proxy.proofs.BoundLemmas.{answer_bounds, head_turn_bounds, link_turn_bounds, send_turn_bounds, treat_turn_bounds}
 use Rattle.relay_proxy.proofs.RefusalLemmas.{none_added, none_unmade, others_told}
 use Rattle.relay_proxy.proofs.TakenLemmas.{takes_nothing, takes_more, took_more, one_out, no_offers}
-use Rattle.relay_proxy.proofs.TurnLemmas.{broken_counts, broken_faults, broken_offers, broken_turn, head_turn, connect_turn, prepare_turn, head_counts, still_counts, connect_counts, prepare_counts, prepare_faults, prepare_offers, unlinked_open, answer_offers}
+use Rattle.relay_proxy.proofs.TurnLemmas.{broken_counts, broken_faults, broken_offers, broken_turn, head_turn, connect_turn, none_unended, open_step, prepare_turn, head_counts, still_counts, connect_counts, prepare_counts, prepare_faults, prepare_offers, unlinked_open, answer_offers}
 use Rattle.relay_proxy.proofs.turn.move_on.Goals as goal
 
 -- a turn that reads the head is a turn
@@ -25,8 +25,10 @@ returns-in-ReadHead-clause-turn g c =
     (g.K.Connector.fault_count c.args.connector.now))
     (world_of g.D.ByteLink.state c.read_head.new.client
     (g.K.Connector.fault_count c.args.connector.now)) own c.read_head.result.phase run
+    (open_step g.K.Byte.ByteLink.state g.K.Byte.ByteLink.start s _ _ p _ _ _ _
+    (none_unended _ calls) (c.read_head.ensures.unended (none_unended _ calls))
     (λ first. c.read_head.ensures.run s p (g.K.Connector.fault_count c.args.connector.now) calls
-    first))
+    first)))
 
 -- a write of the answer is a turn
 pub returns-in-Answer-clause-turn : goal.returns-in-Answer-clause-turn
@@ -286,8 +288,10 @@ returns-in-ReadHead-clause-bounds g c =
     (world_of g.D.ByteLink.state c.read_head.new.client
     (g.K.Connector.fault_count c.args.connector.now)) own c.read_head.result.phase
     c.read_head.result.work tasks ends run
+    (open_step g.K.Byte.ByteLink.state g.K.Byte.ByteLink.start s _ _ p _ _ _ _
+    (none_unended _ calls) (c.read_head.ensures.unended (none_unended _ calls))
     (λ first. c.read_head.ensures.run s p (g.K.Connector.fault_count c.args.connector.now) calls
-    first)
+    first))
     c.read_head.ensures.counts had)
 
 -- one that asks the connector counts one head or one end
@@ -361,9 +365,11 @@ returns-in-Prepare-clause-turn g c =
     (g.K.Connector.fault_count c.args.connector.now))
     (world_of g.D.ByteLink.state c.args.client.now
     (g.K.Connector.fault_count c.args.connector.now)) own _ _ _ _ c.prepare.result.phase run
+    (open_step g.K.Byte.ByteLink.state g.K.Byte.ByteLink.start s _ _ p _ _ _ _
+    calls.0.unended (c.prepare.ensures.unended calls.0.unended)
     (λ first. c.prepare.ensures.run s p
     (world_of g.D.ByteLink.state c.args.client.now
-    (g.K.Connector.fault_count c.args.connector.now)) first))
+    (g.K.Connector.fault_count c.args.connector.now)) first)))
 
 -- its cause
 pub returns-in-Prepare-clause-cause : goal.returns-in-Prepare-clause-cause
@@ -422,9 +428,11 @@ returns-in-Prepare-clause-bounds g c =
     (world_of g.D.ByteLink.state c.args.client.now
     (g.K.Connector.fault_count c.args.connector.now)) own _ _ _ _ c.prepare.result.phase
     c.prepare.result.work tasks ends run
+    (open_step g.K.Byte.ByteLink.state g.K.Byte.ByteLink.start s _ _ p _ _ _ _
+    calls.0.unended (c.prepare.ensures.unended calls.0.unended)
     (λ first. c.prepare.ensures.run s p
     (world_of g.D.ByteLink.state c.args.client.now
-    (g.K.Connector.fault_count c.args.connector.now)) first) c.prepare.ensures.counts had)
+    (g.K.Connector.fault_count c.args.connector.now)) first)) c.prepare.ensures.counts had)
 
 -- it holds the link that it held
 pub returns-in-Prepare-clause-carries : goal.returns-in-Prepare-clause-carries
@@ -454,7 +462,7 @@ returns-in-Broken-clause-turn g c =
     (g.K.Connector.fault_count c.args.connector.now)) own _ _ _ _ _ _ c.fail.result.phase run
     (λ first. c.fail.ensures.run s p
     (world_of g.D.ByteLink.state c.args.client.now
-    (g.K.Connector.fault_count c.args.connector.now)) first))
+    (g.K.Connector.fault_count c.args.connector.now)) calls first))
 
 -- its cause
 pub returns-in-Broken-clause-cause : goal.returns-in-Broken-clause-cause

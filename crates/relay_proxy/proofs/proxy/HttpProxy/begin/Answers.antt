@@ -1,4 +1,5 @@
 -- A request that begins has passed nothing.
+use Rattle.std.proofs.Common.{refl}
 use Rattle.relay_proxy.specs.Turn.{world_of}
 use Rattle.relay_proxy.proofs.HeadSteps.{begins_reading}
 use Rattle.relay_proxy.proofs.proxy.HttpProxy.begin.Goals as goal
@@ -10,3 +11,7 @@ returns-clause-run g c =
     c.args.self.now.conf.max_retries
     (world_of g.D.ByteLink.state c.args.client.now
     (g.K.Connector.fault_count c.args.self.now.connector)))
+
+-- which begins where it stands
+pub returns-clause-starts : goal.returns-clause-starts
+returns-clause-starts g c = rw c.new-2.ensures.log refl
