@@ -141,7 +141,7 @@ fn taken(alloc: Global, hooks: &str) -> Result<Result<usize, ScriptError>, Fail>
     Ok(read_script(alloc, text.as_bytes()).map(|script| script.rules.as_slice().len()))
 }
 
-const TAKEN: [(&str, usize); 6] = [
+const TAKEN: [(&str, usize); 7] = [
     ("[]", 0),
     (
         r#"[{"hook":"early_request_filter","do":"error","type":"ReadError"}]"#,
@@ -165,6 +165,11 @@ const TAKEN: [(&str, usize); 6] = [
     (
         r#"[{"hook":"error_while_proxy","do":"retry","on":"reused"}]"#,
         1,
+    ),
+    (
+        "[{\"hook\":\"suppress_error_log\",\"do\":\"say\",\"on\":true},\
+      {\"hook\":\"persist_connection_context\",\"do\":\"keep\",\"value\":7}]",
+        2,
     ),
 ];
 
