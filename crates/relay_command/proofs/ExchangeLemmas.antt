@@ -20,6 +20,7 @@ use Rattle.relay_links.specs.Told.{more}
 use Rattle.relay_links.specs.declared.connector.Returned.{Returned}
 use Rattle.relay_links.specs.declared.script_connector.PeerScript.{PeerScript}
 use Rattle.relay_links.specs.declared.script_link.ScriptLink.{ScriptLink}
+use Rattle.relay_proxy.specs.ClosingHooks.{Gives}
 use Rattle.relay_proxy.specs.Endings.{EndsAhead, EndsReturned, EndsUnlinked, EndsWith, AttemptsUnfinished, AttemptsUnlinked, FailsToConnect, IsFailedAttempt, IsRelayedEarly, IsRelayedWhole, IsUnsentAttempt}
 use Rattle.relay_proxy.specs.Refusals.{fault_told, faults_told}
 use Rattle.relay_proxy.specs.Tries.{EndsTrying, IsTry, fault_error, tries_of}
@@ -358,6 +359,17 @@ clear_again s p w (r ∷ q ∷ rest) records (ended.Served error reuse) ends bac
 clear_again s p w own records ended.TurnLimit ends back = cc
 clear_again s p w own records ended.OutOfMemory ends back = cc
 
+-- a client goes back only where its request came to that: not where the hooks of its end were cut
+-- off
+back_given : (log : List LogEntry) (came now : Outcome) → Gives log came now
+    → outcome_reuse now ≡ true → outcome_reuse came ≡ true
+back_given log came now (Gives.same is heard) back =
+    ap (λ (o : Outcome). outcome_reuse o) (sym is) ∙ back
+back_given log came now (Gives.cut error reuse was (inl limit)) back =
+    absurd (true≢false (sym back ∙ ap (λ (o : Outcome). outcome_reuse o) limit))
+back_given log came now (Gives.cut error reuse was (inr lost)) back =
+    absurd (true≢false (sym back ∙ ap (λ (o : Outcome). outcome_reuse o) lost))
+
 -- what is reported of a request that the proxy made over the links of a script
 pub is_request : (script : ScriptSpec) (from to : Place) (written : List ℕ)
     (own : List (Returned ScriptLink)) (processed : Processed)
@@ -378,7 +390,7 @@ is_request script from to written own processed run asked logged client clear pr
       run = run;
       asked = asked;
       are_links = links_are _ run.passed (world_at to) run.own from.peers
-          processed.history.attempts processed.outcome (offers_of to.peers) run.ended.ends
+          processed.history.attempts run.came (offers_of to.peers) run.ended.ends
           run.offered;
       logged = logged;
       is_client = client;
@@ -388,8 +400,8 @@ is_request script from to written own processed run asked logged client clear pr
       written = is_written;
       attempts = ap (λ sent. attempt_reports (names_of from.peers) sent processed.history.attempts)
           (ap sent_of is_own
-          ∙ sent_is _ run.passed (world_at to) run.own processed.history.attempts
-          processed.outcome run.ended.ends);
+          ∙ sent_is _ run.passed (world_at to) run.own processed.history.attempts run.came
+          run.ended.ends);
       log = refl;
     }
 
@@ -433,8 +445,9 @@ run_next script peers old new processed turns written own request many at ran st
         retries = set_up ∙ at.retries;
         client = client;
         clear = clear_again _ run.passed (world_at (place_of new rest)) run.own
-            processed.history.attempts processed.outcome run.ended.ends
-            (ap (λ (r : RequestSpec). outcome_reuse r.outcome) (sym found) ∙ again);
+            processed.history.attempts run.came run.ended.ends
+            (back_given processed.history.log run.came processed.outcome run.given
+            (ap (λ (r : RequestSpec). outcome_reuse r.outcome) (sym found) ∙ again));
         app = same ∙ at.app;
       };
     }
@@ -473,7 +486,7 @@ run_next script peers old new processed turns written own request many at ran st
     -- what is left are the peers behind the one that was asked
     offers : offers_left new.proxy.connector ≡ offers_of rest
     offers = left_after _ offered.passed (world_at (place_of new rest)) offered.own peers
-        processed.history.attempts processed.outcome (offers_left new.proxy.connector)
+        processed.history.attempts offered.came (offers_left new.proxy.connector)
         offered.ended.ends offered.offered
 
     run : Processes script_state script_start

@@ -4,6 +4,7 @@ use Rattle.std.proofs.lemmas.List.{length-drop, length-take}
 use Rattle.std.proofs.lemmas.List.Concat.{flat_map-cons}
 use Rattle.std.proofs.lemmas.Option.{same_Some}
 use Rattle.relay_tasks.specs.declared.fault.Fault.{Fault}
+use Rattle.relay_tasks.specs.declared.log.LogEntry.{LogEntry}
 use Rattle.relay_links.specs.Connector.{Offer}
 use Rattle.relay_links.specs.Link.{LinkState, LinkItems}
 use Rattle.relay_links.specs.ReadScript.{given_of, left_items, script_given, script_left, IsAtEnd}
@@ -16,6 +17,7 @@ use Rattle.relay_links.specs.declared.read_script.ReadItem.{ReadItem}
 use Rattle.relay_links.specs.declared.read_script.ReadItem.TheVariants as item
 use Rattle.relay_links.specs.declared.script_link.ScriptLink.{ScriptLink}
 use Rattle.relay_attempt.specs.Passed.{Passed}
+use Rattle.relay_proxy.specs.ClosingHooks.{Gives}
 use Rattle.relay_proxy.specs.Endings.{EndsWith, IsNoRequest}
 use Rattle.relay_proxy.specs.Bound.{OwnGave, most_sides}
 use Rattle.relay_proxy.specs.Closing.{IsQuiet}
@@ -27,6 +29,7 @@ use Rattle.relay_proxy.specs.Stock.{items_back}
 use Rattle.relay_proxy.specs.Taken.{AreNext}
 use Rattle.relay_links.specs.ListSchedule.{branches_left}
 use Rattle.relay_links.specs.declared.list_schedule.ListSchedule.{ListSchedule}
+use Rattle.relay_proxy.specs.declared.outcome.Outcome.{Outcome}
 use Rattle.relay_proxy.specs.declared.outcome.Outcome.TheVariants as ended
 use Rattle.relay_proxy.specs.declared.record.AttemptRecord.{AttemptRecord}
 use Rattle.relay_command.specs.Exchange.{peer_offer, peers_behind, offers_of, AreLinksOf, Place, world_at, first_place, start_at, IsRequest, Follows, AreRun, IsRun}
@@ -40,6 +43,15 @@ none_of : (s : Start) (p : Passed) (w : World) (own : List (Returned ScriptLink)
 none_of s p w [] records ends = ends.0
 none_of s p w (r ∷ []) records ends = absurd ends.ends
 none_of s p w (r ∷ q ∷ rest) records ends = absurd ends
+
+-- a request of which that is given came to it
+none_given : (log : List LogEntry) (came now : Outcome) → Gives log came now
+    → now ≡ ended.NoRequest → came ≡ ended.NoRequest
+none_given log came now (Gives.same is heard) none = sym is ∙ none
+none_given log came now (Gives.cut error reuse was (inl limit)) none =
+    absurd (let clash : ended.TurnLimit ≡ ended.NoRequest = sym limit ∙ none in cc)
+none_given log came now (Gives.cut error reuse was (inr lost)) none =
+    absurd (let clash : ended.OutOfMemory ≡ ended.NoRequest = sym lost ∙ none in cc)
 
 -- a link whose first item has bytes has given some, or does not stand at an end
 gives_first : (b : ℕ) (bytes : List ℕ) (items : List ReadItem) (at done : ℕ)
@@ -78,7 +90,9 @@ never_none script request rest b bytes items begins run none =
     let s = start_at script from one.processed.history.log in
     let w = world_at first.to in
     let last = first.to.client in
-    let outcome : one.processed.outcome ≡ ended.NoRequest = sym one.outcome ∙ none in
+    let outcome : one.run.came ≡ ended.NoRequest =
+    none_given one.processed.history.log one.run.came one.processed.outcome one.run.given
+    (sym one.outcome ∙ none) in
     let ends : EndsWith script_state script_start s one.run.passed w one.run.own
     one.processed.history.attempts ended.NoRequest =
     rw outcome at one.run.ended.ends in

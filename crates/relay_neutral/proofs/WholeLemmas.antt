@@ -4,7 +4,7 @@
 --   neutral_agrees     the head that is sent agrees with the client's, which no call changed
 --   neutral_refuses    it is not refused
 --   whole              a valid one is served, or unfinished
-use Rattle.std.proofs.Common.{◌≡◌, Bool, false, List, [], ◌∷◌, ◌++◌, Option, None, Some, ℕ, refl, sym, ◌∙◌, subst}
+use Rattle.std.proofs.Common.{◌≡◌, ◌⊎◌, Bool, false, List, [], ◌∷◌, ◌++◌, Option, None, Some, ℕ, refl, sym, ◌∙◌, subst, inl}
 use Rattle.std.specs.Prelude.{All, Ok, Err}
 use Rattle.std.proofs.lemmas.List.Elements.{All-append, All-cons, All-nil}
 use Rattle.http.specs.declared.version.TheConstants.Version.{HTTP_11}
@@ -24,8 +24,12 @@ use Rattle.relay_phases.specs.Order.{Station as station}
 use Rattle.relay_attempt.specs.Agrees.{Agrees}
 use Rattle.relay_attempt.specs.Passed.{Passed}
 use Rattle.relay_proxy.specs.Ahead.{IsOwedAhead}
+use Rattle.relay_proxy.specs.ClosingHooks.{Gives}
 use Rattle.relay_proxy.specs.Endings.{EndsAhead}
+use Rattle.relay_proxy.specs.Exact.{IsUnfinished}
 use Rattle.relay_proxy.specs.Passed.{Start, World}
+use Rattle.relay_proxy.specs.declared.outcome.Outcome.{Outcome}
+use Rattle.relay_proxy.specs.declared.outcome.Outcome.TheVariants.{Served}
 use Rattle.relay_proxy.specs.Sent.{Filters, RefusesToSend, Sends, SettlesFramed, asked_in, client_of}
 use Rattle.relay_proxy.proofs.SentLemmas.{sends_agrees}
 use Rattle.relay_neutral.specs.Neutral.{CanBeSent, IsNeutral, NeutralIsWhole}
@@ -115,14 +119,25 @@ neutral_refuses called head keep e (RefusesToSend.unsettled filtered f settles k
 
 -- ---- how it ends
 
+-- what is given of a request that came to be served without an error, or unfinished: that, or the
+-- hooks of its end were cut off
+given_whole : (log : List LogEntry) (came now : Outcome) → Gives log came now
+    → IsUnfinished came ⊎ ((reuse : Bool) × (came ≡ Served None reuse))
+    → IsUnfinished now ⊎ ((reuse : Bool) × (now ≡ Served None reuse))
+given_whole log came now (Gives.same is heard) ends =
+    subst (λ (o : Outcome). IsUnfinished o ⊎ ((reuse : Bool) × (o ≡ Served None reuse)))
+    (sym is) ends
+given_whole log came now (Gives.cut error reuse is out) ends = inl out
+
 module _ {L : Type 0} (state : L → LinkState) (start_at : L → LinkStart) where
   -- a valid one is served without an error, or unfinished
   pub whole : NeutralIsWhole state start_at
   whole s w before after told_before told_after had has client turns processed run head all
       relayable can asks answers faultless =
-      run.exact.whole head relayable
+      given_whole processed.history.log run.came processed.outcome run.given
+      (run.exact.whole head relayable
       (λ told ahead. neutral_passes s run.passed w told ahead all)
       (λ keep e refuses. neutral_refuses s.called head keep e refuses all can)
       (λ sent sends. neutral_agrees s.called head sent asks.is_request.framing sends all
       asks.is_request.has.framed)
-      asks (λ r sent one sends. answers r sent one sends) faultless
+      asks (λ r sent one sends. answers r sent one sends) faultless)

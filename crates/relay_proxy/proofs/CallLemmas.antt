@@ -6,7 +6,7 @@
 --   relaying_calls                 and so does one of an exchange
 --   settled_calls                  and so does the settling of a phase
 use Rattle.std.specs.Global.{Box}
-use Rattle.std.proofs.Common.{◌≡◌, ℕ, ◌+◌, ◌≤◌, Bool, true, false, ◌&&◌, List, [], ◌∷◌, ◌++◌, length, length-append, append-nil, arith, Option, None, Some, refl, sym, ap, subst, ◌∙◌, true≢false}
+use Rattle.std.proofs.Common.{◌≡◌, ℕ, ◌+◌, ◌≤◌, Bool, true, false, ◌&&◌, List, [], ◌∷◌, ◌++◌, length, length-append, append-nil, arith, Option, None, Some, refl, sym, ap, subst, ◌∙◌, true≢false, inl, inr}
 use Rattle.std.proofs.lemmas.List.Folds.{list_any-append}
 use Rattle.std.specs.Prelude.{◌==◌, IsTrue, if◌then◌else◌, unwrap_or}
 use Rattle.relay_tasks.specs.Head.{RequestHead, new_request}
@@ -44,7 +44,7 @@ use Rattle.relay_trying.specs.Trying as leads
 use Rattle.relay_trying.specs.Trying.{Treats, may_break, may_follow}
 use Rattle.relay_closing.specs.Place.{may_fail}
 use Rattle.relay_proxy.specs.Bound.{CountsAnswer, CountsCall, CountsHead, CountsTreat}
-use Rattle.relay_proxy.specs.Calls.{AnswersError, BeginsCalls, BreaksAt, CallsSoFar, CountsCalls, GoesOn, HasBegun, IsBreaking, IsLogged, IsOpening, IsRelayingCalls, IsUnended, KeepsCalls, TellsPeer, has_peer, is_calling, log_of, seen_with, station_at, treated_at}
+use Rattle.relay_proxy.specs.Calls.{BeginsCalls, BreaksAt, CallsSoFar, CountsCalls, EndsBy, GoesOn, HasBegun, HasCome, IsBreaking, IsLogged, IsOpening, IsOwing, IsRelayingCalls, IsUncalled, IsUncalledEnd, IsUncalledFor, IsUnended, TellsPeer, has_peer, is_calling, log_of, seen_with, station_at, treated_at}
 use Rattle.relay_proxy.specs.Closing.{Settles}
 use Rattle.relay_proxy.specs.Passed.{begins_end}
 use Rattle.relay_proxy.specs.Relaying.{is_closing, is_relaying}
@@ -57,6 +57,10 @@ use Rattle.relay_proxy.specs.declared.calls.Calls.{Calls}
 use Rattle.relay_proxy.specs.declared.machine.Attempt.{Attempt}
 use Rattle.relay_proxy.specs.declared.machine.Lease.{Lease}
 use Rattle.relay_proxy.specs.declared.machine.Phase.{Phase}
+use Rattle.relay_proxy.specs.declared.outcome.Outcome.{Outcome}
+use Rattle.relay_proxy.specs.declared.outcome.Outcome.TheVariants as outcome
+use Rattle.relay_proxy.specs.declared.owed.Owed.{Owed}
+use Rattle.relay_proxy.specs.declared.owed.Owed.TheVariants as owing
 use Rattle.relay_proxy.specs.declared.machine.Phase.TheVariants.{ReadHead, Connect, Prepare, Relay, Broken, Fail, Close, Answer, Ended}
 use Rattle.relay_proxy.specs.declared.record.AttemptRecord.{AttemptRecord}
 use Rattle.relay_proxy.specs.declared.work.Work.{Work}
@@ -79,7 +83,7 @@ turn_allowed allows place.Lost made call none = absurd none
 
 -- where the hooks before the attempts are over, a hook comes next only where they let it go
 pub calling_ended : (K : Type 0) (how : End)
-    → is_calling {K = K} (at.Opening (place.Ended how)) ≡ true → how ≡ end.Attempts
+    → is_calling {K = K} {X = Unit {0}} (at.Opening (place.Ended how)) ≡ true → how ≡ end.Attempts
 calling_ended K end.Attempts calls = refl
 calling_ended K end.Answered calls = absurd (true≢false (sym calls))
 calling_ended K end.Purge calls = absurd (true≢false (sym calls))
@@ -204,7 +208,7 @@ begun_on these those entries log order one none =
     ∙ rw (none, made_unended entries order single) refl)
 
 -- a walk ends as well where the standing may change to
-walk_further : (allows : Standing → LogEntry → Type 0) (es : List LogEntry)
+pub walk_further : (allows : Standing → LogEntry → Type 0) (es : List LogEntry)
     (from mid to : Standing) → Walk allows from es mid → Views mid to → Walk allows from es to
 walk_further allows es from mid to walks views =
     subst (λ (l : List LogEntry). Walk allows from l to) (append-nil es)
@@ -213,7 +217,7 @@ walk_further allows es from mid to walks views =
 -- ---- what is counted
 
 -- the log has one entry more
-pub one_called : {M K : Type 0} (old new : Calls M K) (work : Work) → work.called ≤ 1
+pub one_called : {M K X : Type 0} (old new : Calls M K X) (work : Work) → work.called ≤ 1
     → (e : LogEntry) → log_of new ≡ log_of old ++ e ∷ [] → CountsCalls old new work
 one_called old new work once e is =
     let more = ap (λ (l : List LogEntry). length l) is ∙ length-append (log_of old) (e ∷ []) in
@@ -223,7 +227,7 @@ one_called old new work once e is =
     }
 
 -- or it is the same
-pub none_called : {M K : Type 0} (old new : Calls M K) (work : Work) → work.called ≡ 0
+pub none_called : {M K X : Type 0} (old new : Calls M K X) (work : Work) → work.called ≡ 0
     → log_of new ≡ log_of old → CountsCalls old new work
 none_called old new work none is =
     let same = ap (λ (l : List LogEntry). length l) is in
@@ -235,27 +239,27 @@ none_called old new work none is =
 -- ---- where an error may be treated
 
 -- none was so far, and it may be there
-breaks_untreated : {K : Type 0} (a : At K) (log : List LogEntry) (error : Error) (here : Station)
+breaks_untreated : {K X : Type 0} (a : At K X) (log : List LogEntry) (error : Error) (here : Station)
     → treated_at a ≡ None → IsTrue (may_break here) → BreaksAt a log error here
 breaks_untreated (at.Kept kept) log error here none may = may
 breaks_untreated (at.Opening there) log error here none may = may
 breaks_untreated (at.Named peer) log error here none may = may
 breaks_untreated at.Linked log error here none may = may
 breaks_untreated (at.Treated treated) log error here none may = cc
-breaks_untreated (at.Closing there) log error here none may = may
+breaks_untreated (at.Closing held there) log error here none may = may
 
 -- and it may still, where it was not
-pub may_treat : {K : Type 0} (a : At K) (log : List LogEntry) (error : Error) (here : Station)
+pub may_treat : {K X : Type 0} (a : At K X) (log : List LogEntry) (error : Error) (here : Station)
     → treated_at a ≡ None → BreaksAt a log error here → IsTrue (may_break here)
 may_treat (at.Kept kept) log error here none may = may
 may_treat (at.Opening there) log error here none may = may
 may_treat (at.Named peer) log error here none may = may
 may_treat at.Linked log error here none may = may
 may_treat (at.Treated treated) log error here none may = cc
-may_treat (at.Closing there) log error here none may = may
+may_treat (at.Closing held there) log error here none may = may
 
 -- where it was, the log tells of that, and it may be answered
-pub was_treated : {K : Type 0} (a : At K) (log : List LogEntry) (error treated : Error)
+pub was_treated : {K X : Type 0} (a : At K X) (log : List LogEntry) (error treated : Error)
     (here : Station) → treated_at a ≡ Some treated → BreaksAt a log error here
     → IsTreated log error treated × IsTrue (may_fail here)
 was_treated (at.Kept kept) log error treated here is breaks = cc
@@ -265,7 +269,7 @@ was_treated at.Linked log error treated here is breaks = cc
 was_treated (at.Treated other) log error treated here is breaks =
     let same : other ≡ treated = cc in
     (subst (λ (e : Error). IsTreated log error e) same breaks.0, breaks.1)
-was_treated (at.Closing there) log error treated here is breaks = cc
+was_treated (at.Closing held there) log error treated here is breaks = cc
 
 -- wherever the treatment leads it may be answered
 may_answer : (follows : Bool) → IsTrue (may_fail (leads.treated_at follows))
@@ -276,7 +280,7 @@ may_answer false = refl
 
 module _ {C M K : Type 0} (allows : Standing → LogEntry → Type 0) (mark_of : C → ℕ) where
   -- a call more was made
-  abbrev more_called : (c d : Calls M K) (context context' : C) (client left : HttpSession)
+  abbrev more_called : (c d : Calls M K C) (context context' : C) (client left : HttpSession)
       (tries : List AttemptRecord) (which : Hook) (to : Station)
       → Turns allows which (station_at c.at) to QueuesNothing (seen_with c client) (mark_of context)
       (seen_with d left) (mark_of context')
@@ -290,21 +294,21 @@ module _ {C M K : Type 0} (allows : Standing → LogEntry → Type 0) (mark_of :
       o.so_far turn
 
   -- up to the exchange the log is in order, up to where the hooks stand
-  pub opening_stands : (calls : Calls M K) (context : C) (client : HttpSession)
+  pub opening_stands : (calls : Calls M K C) (context : C) (client : HttpSession)
       (tries : List AttemptRecord) → IsOpening allows mark_of calls context client tries
       → IsLogged allows (log_of calls) (station_at calls.at)
   opening_stands calls context client tries o =
       called_stands allows o.first (seen_with calls client) o.mark (mark_of context)
       (station_at calls.at) QueuesNothing (log_of calls) o.none refl o.so_far
 
-  pub opening_logged : (calls : Calls M K) (context : C) (client : HttpSession)
+  pub opening_logged : (calls : Calls M K C) (context : C) (client : HttpSession)
       (tries : List AttemptRecord) → IsOpening allows mark_of calls context client tries
       → (at : Station) × IsLogged allows (log_of calls) at
   opening_logged calls context client tries o =
       (station_at calls.at, opening_stands calls context client tries o)
 
   -- behind one call more it is in order up to where that leads
-  pub logged_more : (c d : Calls M K) (context context' : C) (client left : HttpSession)
+  pub logged_more : (c d : Calls M K C) (context context' : C) (client left : HttpSession)
       (tries : List AttemptRecord) (which : Hook) (to : Station)
       (queues : Writing → Writing → List HttpTask → Type 0)
       → Turns allows which (station_at c.at) to queues (seen_with c client) (mark_of context)
@@ -319,7 +323,7 @@ module _ {C M K : Type 0} (allows : Standing → LogEntry → Type 0) (mark_of :
       o.so_far turn)
 
   -- and behind none it is as it was
-  pub logged_same : (c d : Calls M K) (context : C) (client : HttpSession)
+  pub logged_same : (c d : Calls M K C) (context : C) (client : HttpSession)
       (tries : List AttemptRecord) → log_of d ≡ log_of c
       → IsOpening allows mark_of c context client tries
       → (at : Station) × IsLogged allows (log_of d) at
@@ -328,7 +332,7 @@ module _ {C M K : Type 0} (allows : Standing → LogEntry → Type 0) (mark_of :
       (opening_logged c context client tries o)
 
   -- behind one call more an attempt may have failed
-  pub breaks_more : (c d : Calls M K) (context context' : C) (client left : HttpSession)
+  pub breaks_more : (c d : Calls M K C) (context context' : C) (client left : HttpSession)
       (tries : List AttemptRecord) (which : Hook) (to : Station) (error : Error)
       → treated_at d.at ≡ None → begins_end which ≡ false → IsTrue (may_break to)
       → Turns allows which (station_at c.at) to QueuesNothing (seen_with c client) (mark_of context)
@@ -352,7 +356,7 @@ module _ {C M K : Type 0} (allows : Standing → LogEntry → Type 0) (mark_of :
       }
 
   -- or it may behind none
-  pub breaks_same : (c d : Calls M K) (context context' : C) (client left : HttpSession)
+  pub breaks_same : (c d : Calls M K C) (context context' : C) (client left : HttpSession)
       (tries : List AttemptRecord) (error : Error) → d ≡ c → left ≡ client
       → mark_of context' ≡ mark_of context → treated_at d.at ≡ None
       → IsTrue (may_break (station_at c.at))
@@ -360,7 +364,7 @@ module _ {C M K : Type 0} (allows : Standing → LogEntry → Type 0) (mark_of :
       → IsBreaking allows mark_of d context' left error
   breaks_same c d context context' client left tries error same stays still untreated may o = record {
     from = standing None false (moment o.first o.mark);
-    walks = subst (λ (x : Calls M K). Walk allows (standing None false (moment o.first o.mark))
+    walks = subst (λ (x : Calls M K C). Walk allows (standing None false (moment o.first o.mark))
         (log_of x) (standing None false (moment (seen_with x left) (mark_of context')))) (sym same)
         (subst (λ (x : HttpSession). Walk allows (standing None false (moment o.first o.mark))
         (log_of c) (standing None false (moment (seen_with c x) (mark_of context')))) (sym stays)
@@ -371,14 +375,14 @@ module _ {C M K : Type 0} (allows : Standing → LogEntry → Type 0) (mark_of :
         (all_entries o.first (seen_with c client) o.so_far.entries o.none o.so_far.log)
         o.so_far.walks)));
     at = station_at c.at;
-    order = subst (λ (x : Calls M K). Accepts station.accepted (log_of x) (station_at c.at))
+    order = subst (λ (x : Calls M K C). Accepts station.accepted (log_of x) (station_at c.at))
         (sym same) (opening_stands c context client tries o).order;
     breaks = breaks_untreated d.at (log_of d) error (station_at c.at) untreated may;
-    unended = subst (λ (x : Calls M K). IsUnended (log_of x)) (sym same) o.unended;
+    unended = subst (λ (x : Calls M K C). IsUnended (log_of x)) (sym same) o.unended;
   }
 
   -- behind the call with which it goes out the exchange is under way
-  pub relays_more : {L : Type 0} (c d : Calls M K) (context context' : C) (client left : HttpSession)
+  pub relays_more : {L : Type 0} (c d : Calls M K C) (context context' : C) (client left : HttpSession)
       (tries : List AttemptRecord) (which : Hook) (a : Attempt L C) → d.at ≡ at.Linked
       → begins_end which ≡ false → a.context ≡ context'
       → a.exchange.exchange.down.session ≡ left
@@ -406,7 +410,7 @@ module _ {C M K : Type 0} (allows : Standing → LogEntry → Type 0) (mark_of :
       }
 
   -- the error of an attempt was treated, and is to be answered
-  pub treated_breaks : (c d : Calls M K) (context context' : C) (client left : HttpSession)
+  pub treated_breaks : (c d : Calls M K C) (context context' : C) (client left : HttpSession)
       (peer : Peer) (reused : Bool) (raised treated : Error) → d.at ≡ at.Treated treated
       → (b : IsBreaking allows mark_of c context client raised)
       → Treats allows hook.ErrorWhileProxy peer reused b.at raised (seen_with c client)
@@ -428,7 +432,7 @@ module _ {C M K : Type 0} (allows : Standing → LogEntry → Type 0) (mark_of :
         order = subst (λ (l : List LogEntry). Accepts station.accepted l to)
             (sym t.call.turn.calls.log)
             (Accepts-one station.accepted b.at to (log_of c) e b.order t.call.turn.order);
-        breaks = subst (λ (a : At K). BreaksAt a (log_of d) raised to) (sym is) (
+        breaks = subst (λ (a : At K C). BreaksAt a (log_of d) raised to) (sym is) (
           treats_last (log_of c) (log_of d) e t.call.turn.calls.log t.call.turn.hook raised treated
               t.call.input t.call.output,
           may_answer (may_follow treated (seen_with c client)),
@@ -437,50 +441,8 @@ module _ {C M K : Type 0} (allows : Standing → LogEntry → Type 0) (mark_of :
             t.call.turn.hook refl b.unended;
       }
 
-  -- it was answered, and the log is in order up to where that leads
-  pub answered_logged : (c d : Calls M K) (context context' : C) (client left : HttpSession)
-      (error : Error) (from : Standing) (at : Station)
-      → Walk allows from (log_of c)
-      (standing None false (moment (seen_with c client) (mark_of context)))
-      → Accepts station.accepted (log_of c) at
-      → AnswersError allows error at (seen_with c client) (mark_of context) (seen_with d left)
-      (mark_of context') → (to : Station) × IsLogged allows (log_of d) to
-  answered_logged c d context context' client left error from at walks order answers = (
-    station.told,
-    record {
-      from = from;
-      to = standing None false (moment (seen_with d left) (mark_of context'));
-      walks = subst (λ (l : List LogEntry). Walk allows from l
-          (standing None false (moment (seen_with d left) (mark_of context'))))
-          (sym answers.turn.calls.log)
-          (Walk-append allows (log_of c) (answers.turn.e ∷ []) from
-          (standing None false (moment (seen_with c client) (mark_of context)))
-          (standing None false (moment (seen_with d left) (mark_of context'))) walks
-          answers.turn.calls.walk);
-      order = subst (λ (l : List LogEntry). Accepts station.accepted l station.told)
-          (sym answers.turn.calls.log)
-          (Accepts-one station.accepted at station.told (log_of c) answers.turn.e order
-          answers.turn.order);
-    },
-  )
-
-  -- the same of an error of a hook before the attempts
-  pub opening_answered : (c d : Calls M K) (context context' : C) (client left : HttpSession)
-      (tries : List AttemptRecord) (error : Error) (at : Station) → station_at c.at ≡ at
-      → AnswersError allows error at (seen_with c client) (mark_of context) (seen_with d left)
-      (mark_of context') → IsOpening allows mark_of c context client tries
-      → (to : Station) × IsLogged allows (log_of d) to
-  opening_answered c d context context' client left tries error at here answers o =
-      let entries = all_entries o.first (seen_with c client) o.so_far.entries o.none o.so_far.log in
-      answered_logged c d context context' client left error
-      (standing None false (moment o.first o.mark)) at
-      (subst (λ (l : List LogEntry). Walk allows (standing None false (moment o.first o.mark)) l
-      (standing None false (moment (seen_with c client) (mark_of context)))) entries o.so_far.walks)
-      (subst (λ (a : Station). Accepts station.accepted (log_of c) a) here
-      (opening_stands c context client tries o).order) answers
-
   -- memory was wanted for it, and the log is as it was
-  pub untreated_logged : (c d : Calls M K) (context : C) (client : HttpSession) (error : Error)
+  pub untreated_logged : (c d : Calls M K C) (context : C) (client : HttpSession) (error : Error)
       → log_of d ≡ log_of c → IsBreaking allows mark_of c context client error
       → (at : Station) × IsLogged allows (log_of d) at
   untreated_logged c d context client error same b = (
@@ -490,7 +452,7 @@ module _ {C M K : Type 0} (allows : Standing → LogEntry → Type 0) (mark_of :
   )
 
   -- the context was made, and the calls so far are that one
-  pub begun_calls : (c d : Calls M K) (client left : HttpSession) (context : C)
+  pub begun_calls : (c d : Calls M K C) (client left : HttpSession) (context : C)
       (tries : List AttemptRecord) → log_of c ≡ [] → tries ≡ [] → HasBegun d.at
       → has_head client.writing.place ≡ false → length (log_of d) ≡ length (log_of c) + 1
       → HasCalled allows (seen_with c client) (mark_of context) station.accepted station.made
@@ -500,11 +462,11 @@ module _ {C M K : Type 0} (allows : Standing → LogEntry → Type 0) (mark_of :
     first = seen_with c client;
     mark = mark_of context;
     none = none;
-    so_far = subst (λ (a : At K). HasCalled allows (seen_with c client) (mark_of context)
+    so_far = subst (λ (a : At K C). HasCalled allows (seen_with c client) (mark_of context)
         station.accepted (station_at a) QueuesNothing (seen_with d left) (mark_of context))
         (sym begun.1) called;
-    goes = subst (λ (a : At K). GoesOn a) (sym begun.1) tt;
-    named = subst (λ (a : At K). TellsPeer a (log_of d)) (sym begun.1) tt;
+    goes = subst (λ (a : At K C). GoesOn a) (sym begun.1) tt;
+    named = subst (λ (a : At K C). TellsPeer a (log_of d)) (sym begun.1) tt;
     untried = λ still. untried;
     untreated = subst (λ (l : List LogEntry). IsUntreated l)
         (all_entries (seen_with c client) (seen_with d left) called.entries none called.log)
@@ -515,10 +477,10 @@ module _ {C M K : Type 0} (allows : Standing → LogEntry → Type 0) (mark_of :
         (subst (λ (l : List LogEntry). IsUnended l) (sym none) refl);
   }
 
-module _ {M K : Type 0} where
+module _ {M K X : Type 0} where
   -- between two sessions of the same head the standing of a log may change, where no final head was
   -- queued for the first
-  pub views_on : (calls : Calls M K) (mark behind : ℕ) (first now : HttpSession) → behind ≡ mark
+  pub views_on : (calls : Calls M K X) (mark behind : ℕ) (first now : HttpSession) → behind ≡ mark
       → head_of now.reading ≡ head_of first.reading → has_head first.writing.place ≡ false
       → Views (standing None false (moment (seen_with calls first) mark))
       (standing None false (moment (seen_with calls now) behind))
@@ -530,47 +492,49 @@ module _ {M K : Type 0} where
     upgraded = λ is. absurd (true≢false (sym is));
   }
 
-module _ {L C M K : Type 0} (allows : Standing → LogEntry → Type 0) (mark_of : C → ℕ) where
+module _ {C M K : Type 0} (allows : Standing → LogEntry → Type 0) (mark_of : C → ℕ) where
   -- no call was made yet, and none is to be
-  pub unopened_calls : (calls : Calls M K) (next : Phase L C) (work : Work) → log_of calls ≡ []
-      → is_connecting next ≡ false → CountsHead next work → CallsSoFar allows mark_of calls next
-  unopened_calls calls ReadHead work none shut counts = none
-  unopened_calls calls (Connect context session tries) work none shut counts =
-      absurd (true≢false shut)
-  unopened_calls calls (Prepare context session link lease) work none shut counts = absurd counts
-  unopened_calls calls (Relay a) work none shut counts = absurd counts
-  unopened_calls calls (Broken context session link lease keep error) work none shut counts =
-      absurd counts
-  unopened_calls calls (Fail link lease keep session error) work none shut counts = absurd counts
-  unopened_calls calls (Close link lease keep outcome) work none shut counts = absurd counts
-  unopened_calls calls (Answer session owed attempts) work none shut counts =
-      none_logged allows (log_of calls) none
-  unopened_calls calls (Ended outcome attempts) work none shut counts =
-      none_logged allows (log_of calls) none
+  uncalled_end : (calls : Calls M K C) (came : Outcome) → log_of calls ≡ [] → IsUncalledEnd came
+      → HasCome allows mark_of calls came
+  uncalled_end calls outcome.NoRequest none is = none
+  uncalled_end calls (outcome.Refused error) none is = none
+  uncalled_end calls (outcome.Served error reuse) none is = absurd is
+  uncalled_end calls outcome.TurnLimit none is = none_logged allows (log_of calls) none
+  uncalled_end calls outcome.OutOfMemory none is = none_logged allows (log_of calls) none
 
-  -- wherever the request stands its log is in order
-  pub calls_logged : (calls : Calls M K) (phase : Phase L C) → CallsSoFar allows mark_of calls phase
-      → (at : Station) × IsLogged allows (log_of calls) at
-  calls_logged calls ReadHead so_far = none_logged allows (log_of calls) so_far
-  calls_logged calls (Connect context session tries) so_far =
-      opening_logged allows mark_of calls context session.value tries so_far
-  calls_logged calls (Prepare context session link lease) so_far =
-      opening_logged allows mark_of calls context session.value (tries_in lease) so_far.0
-  calls_logged calls (Relay a) so_far = (
-    station.sent,
-    record { from = so_far.from; to = _; walks = so_far.walks; order = so_far.order },
-  )
-  calls_logged calls (Broken context session link lease keep error) so_far = (
-    so_far.at,
-    record { from = so_far.from; to = _; walks = so_far.walks; order = so_far.order },
-  )
-  calls_logged calls (Fail link lease keep session error) so_far = so_far
-  calls_logged calls (Close link lease keep outcome) so_far = so_far
-  calls_logged calls (Answer session owed attempts) so_far = so_far
-  calls_logged calls (Ended outcome attempts) so_far = so_far
+  uncalled_for : (calls : Calls M K C) (client : HttpSession) (owed : Owed) → log_of calls ≡ []
+      → IsUncalledFor owed → IsOwing allows mark_of calls client owed
+  uncalled_for calls client (owing.Refused error) none is = none
+  uncalled_for calls client (owing.Ahead why) none is = absurd is
+  uncalled_for calls client (owing.Served error) none is = absurd is
+
+  -- the connector gave no link to the peer that was named
+  unheard_at : (peer : Peer) (calls : Calls M K C) (client : HttpSession) (e : Error)
+      → calls.at ≡ at.Named peer → IsLogged allows (log_of calls) (station_at calls.at)
+      → EndsBy allows mark_of calls.at calls client (Some e)
+  unheard_at peer calls client e is logged =
+      subst (λ (a : At K C). EndsBy allows mark_of a calls client (Some e)) (sym is) (
+        (station_at calls.at, logged),
+        inr (subst (λ (a : At K C). Accepts station.accepted (log_of calls) (station_at a)) is
+            logged.order),
+      )
+
+module _ {L C M K : Type 0} (allows : Standing → LogEntry → Type 0) (mark_of : C → ℕ) where
+  pub unopened_calls : (calls : Calls M K C) (next : Phase L C) → log_of calls ≡ []
+      → IsUncalled next → CallsSoFar allows mark_of calls next
+  unopened_calls calls ReadHead none is = none
+  unopened_calls calls (Connect context session tries) none is = absurd is
+  unopened_calls calls (Prepare context session link lease) none is = absurd is
+  unopened_calls calls (Relay a) none is = absurd is
+  unopened_calls calls (Broken context session link lease keep error) none is = absurd is
+  unopened_calls calls (Fail link lease keep session error) none is = absurd is
+  unopened_calls calls (Close link lease keep outcome) none is = absurd is
+  unopened_calls calls (Answer session owed attempts) none is =
+      uncalled_for allows mark_of calls session.value owed none is
+  unopened_calls calls (Ended outcome attempts) none is = uncalled_end allows mark_of calls outcome none is
 
   -- the exchange has begun, for the calls so far, with that context and that session
-  pub begun_exchange : (calls : Calls M K) (context : C) (session : HttpSession) (next : Phase L C)
+  pub begun_exchange : (calls : Calls M K C) (context : C) (session : HttpSession) (next : Phase L C)
       → BeginsCalls context session next
       → ((a : Attempt L C) → a.context ≡ context → a.exchange.exchange.down.session ≡ session
       → IsRelayingCalls allows mark_of calls a)
@@ -586,129 +550,21 @@ module _ {L C M K : Type 0} (allows : Standing → LogEntry → Type 0) (mark_of
       logged = absurd begins
   begun_exchange calls context session (Fail link lease keep stays error) begins relays logged =
       absurd begins
-  begun_exchange calls context session (Close link lease keep outcome) begins relays logged = logged
+  begun_exchange calls context session (Close link lease keep outcome) begins relays logged =
+      subst (λ (o : Outcome). HasCome allows mark_of calls o) (sym begins) logged
   begun_exchange calls context session (Answer stays owed attempts) begins relays logged =
       absurd begins
   begun_exchange calls context session (Ended outcome attempts) begins relays logged = absurd begins
 
-  -- a turn of an exchange leaves the calls so far
-  kept_calls : (calls : Calls M K) (a : Attempt L C) (next : Phase L C) → KeepsCalls a next
-      → IsRelayingCalls allows mark_of calls a → CallsSoFar allows mark_of calls next
-  kept_calls calls a ReadHead keeps so_far = absurd keeps
-  kept_calls calls a (Connect context session tries) keeps so_far = absurd keeps
-  kept_calls calls a (Prepare context session link lease) keeps so_far = absurd keeps
-  kept_calls calls a (Relay b) keeps so_far = record {
-    first = so_far.first;
-    from = so_far.from;
-    walks = subst (λ (c : C). Walk allows so_far.from (log_of calls)
-        (standing None false (moment (seen_with calls so_far.first) (mark_of c)))) (sym keeps.0)
-        so_far.walks;
-    order = so_far.order;
-    head = so_far.head ∙ sym keeps.1;
-    unanswered = so_far.unanswered;
-    unended = so_far.unended;
-    linked = so_far.linked;
-  }
-  kept_calls calls a (Broken context session link lease keep error) keeps so_far = record {
-    from = so_far.from;
-    walks = walk_further allows (log_of calls) so_far.from
-        (standing None false (moment (seen_with calls so_far.first) (mark_of a.context)))
-        (standing None false (moment (seen_with calls session.value) (mark_of context)))
-        so_far.walks
-        (views_on calls (mark_of a.context) (mark_of context) so_far.first session.value
-        (ap mark_of keeps.0) (keeps.1 ∙ sym so_far.head) so_far.unanswered);
-    at = station.sent;
-    order = so_far.order;
-    breaks = subst (λ (a : At K). BreaksAt a (log_of calls) error station.sent)
-        (sym so_far.linked) refl;
-    unended = so_far.unended;
-  }
-  kept_calls calls a (Fail link lease keep session error) keeps so_far = absurd keeps
-  kept_calls calls a (Close link lease keep outcome) keeps so_far = (
-    station.sent,
-    record { from = so_far.from; to = _; walks = so_far.walks; order = so_far.order },
-  )
-  kept_calls calls a (Answer session owed attempts) keeps so_far = absurd keeps
-  kept_calls calls a (Ended outcome attempts) keeps so_far = absurd keeps
-
-  pub relaying_calls : (calls : Calls M K) (phase next : Phase L C) → is_relaying phase ≡ true
-      → ((a : Box (Attempt L C)) → phase ≡ Relay a → KeepsCalls a.value next)
-      → CallsSoFar allows mark_of calls phase → CallsSoFar allows mark_of calls next
-  relaying_calls calls ReadHead next is keeps so_far = absurd (true≢false (sym is))
-  relaying_calls calls (Connect context session tries) next is keeps so_far =
-      absurd (true≢false (sym is))
-  relaying_calls calls (Prepare context session link lease) next is keeps so_far =
-      absurd (true≢false (sym is))
-  relaying_calls calls (Relay a) next is keeps so_far =
-      kept_calls calls a.value next (keeps a refl) so_far
-  relaying_calls calls (Broken context session link lease keep error) next is keeps so_far =
-      absurd (true≢false (sym is))
-  relaying_calls calls (Fail link lease keep session error) next is keeps so_far =
-      absurd (true≢false (sym is))
-  relaying_calls calls (Close link lease keep outcome) next is keeps so_far =
-      absurd (true≢false (sym is))
-  relaying_calls calls (Answer session owed attempts) next is keeps so_far =
-      absurd (true≢false (sym is))
-  relaying_calls calls (Ended outcome attempts) next is keeps so_far = absurd (true≢false (sym is))
-
-  -- the error of an attempt was answered, or memory was wanted for it, and its link is to go back
-  pub treated_calls : (calls : Calls M K) (before : List AttemptRecord) (next : Phase L C)
-      (work : Work) → CountsTreat before next work → is_closing next ≡ true
-      → (at : Station) × IsLogged allows (log_of calls) at → CallsSoFar allows mark_of calls next
-  treated_calls calls before ReadHead work counts shut logged = absurd counts
-  treated_calls calls before (Connect context session tries) work counts shut logged = absurd counts
-  treated_calls calls before (Prepare context session link lease) work counts shut logged =
-      absurd counts
-  treated_calls calls before (Relay a) work counts shut logged = absurd counts
-  treated_calls calls before (Broken context session link lease keep error) work counts shut
-      logged = absurd (true≢false (sym shut))
-  treated_calls calls before (Fail link lease keep session error) work counts shut logged = logged
-  treated_calls calls before (Close link lease keep outcome) work counts shut logged = logged
-  treated_calls calls before (Answer session owed attempts) work counts shut logged = absurd counts
-  treated_calls calls before (Ended outcome attempts) work counts shut logged = absurd counts
-
-  -- nor one that hooks ended
-  pub ended_calls : (calls : Calls M K) (before : List AttemptRecord) (next : Phase L C)
-      (work : Work) → CountsCall before next work → is_connecting next ≡ false
-      → (at : Station) × IsLogged allows (log_of calls) at → CallsSoFar allows mark_of calls next
-  ended_calls calls before ReadHead work counts shut logged = absurd counts
-  ended_calls calls before (Connect context session tries) work counts shut logged =
-      absurd (true≢false shut)
-  ended_calls calls before (Prepare context session link lease) work counts shut logged = absurd counts
-  ended_calls calls before (Relay a) work counts shut logged = absurd counts
-  ended_calls calls before (Broken context session link lease keep error) work counts shut logged =
-      absurd counts
-  ended_calls calls before (Fail link lease keep session error) work counts shut logged =
-      absurd counts
-  ended_calls calls before (Close link lease keep outcome) work counts shut logged =
-      absurd counts
-  ended_calls calls before (Answer session owed attempts) work counts shut logged = logged
-  ended_calls calls before (Ended outcome attempts) work counts shut logged = logged
-
-  -- nor does one that writes its answer
-  pub answered_calls : (calls : Calls M K) (next : Phase L C) (work : Work)
-      → CountsAnswer next work → (at : Station) × IsLogged allows (log_of calls) at
-      → CallsSoFar allows mark_of calls next
-  answered_calls calls ReadHead work counts logged = absurd counts
-  answered_calls calls (Connect context session tries) work counts logged = absurd counts
-  answered_calls calls (Prepare context session link lease) work counts logged = absurd counts
-  answered_calls calls (Relay a) work counts logged = absurd counts
-  answered_calls calls (Broken context session link lease keep error) work counts logged =
-      absurd counts
-  answered_calls calls (Fail link lease keep session error) work counts logged = absurd counts
-  answered_calls calls (Close link lease keep outcome) work counts logged = absurd counts
-  answered_calls calls (Answer session owed attempts) work counts logged = logged
-  answered_calls calls (Ended outcome attempts) work counts logged = logged
-
   -- the connector gave no link, and the calls are those that they were
-  pub asked_calls : (calls : Calls M K) (context : C) (session : Box HttpSession)
+  pub asked_calls : (peer : Peer) (calls : Calls M K C) (context : C) (session : Box HttpSession)
       (tries : List AttemptRecord) (next : Phase L C) (state : L → LinkState)
-      (start_at : L → LinkStart) → has_peer calls.at ≡ true
+      (start_at : L → LinkStart) → calls.at ≡ at.Named peer
       → KeepsAsked context session next → links_held state start_at next ≡ 0
       → IsOpening allows mark_of calls context session.value tries
       → CallsSoFar allows mark_of calls next
-  asked_calls calls context session tries ReadHead state start_at over keeps none o = absurd keeps
-  asked_calls calls context session tries (Connect other stays more) state start_at over keeps none
+  asked_calls peer calls context session tries ReadHead state start_at over keeps none o = absurd keeps
+  asked_calls peer calls context session tries (Connect other stays more) state start_at over keeps none
       o =
       record {
         first = o.first;
@@ -722,28 +578,34 @@ module _ {L C M K : Type 0} (allows : Standing → LogEntry → Type 0) (mark_of
             (sym keeps.1) o.so_far);
         goes = o.goes;
         named = o.named;
-        untried = λ is. absurd (true≢false (sym over ∙ is));
+        untried = λ is.
+            absurd (true≢false (sym (ap (λ (a : At K C). has_peer a) over) ∙ is));
         untreated = o.untreated;
         unanswered = subst (λ (b : Box HttpSession). has_head b.value.writing.place ≡ false)
             (sym keeps.1) o.unanswered;
         unended = o.unended;
       }
-  asked_calls calls context session tries (Prepare other stays link lease) state start_at over keeps
+  asked_calls peer calls context session tries (Prepare other stays link lease) state start_at over keeps
       none o = cc
-  asked_calls calls context session tries (Relay a) state start_at over keeps none o = cc
-  asked_calls calls context session tries (Broken other stays link lease keep error) state start_at over
+  asked_calls peer calls context session tries (Relay a) state start_at over keeps none o = cc
+  asked_calls peer calls context session tries (Broken other stays link lease keep error) state start_at over
       keeps none o = cc
-  asked_calls calls context session tries (Fail link lease keep stays error) state start_at over
+  asked_calls peer calls context session tries (Fail link lease keep stays error) state start_at over
       keeps none o = cc
-  asked_calls calls context session tries (Close link lease keep outcome) state start_at over keeps
+  asked_calls peer calls context session tries (Close link lease keep outcome) state start_at over keeps
       none o = cc
-  asked_calls calls context session tries (Answer stays owed attempts) state start_at over keeps
-      none o = opening_logged allows mark_of calls context session.value tries o
-  asked_calls calls context session tries (Ended outcome attempts) state start_at over keeps none
-      o = opening_logged allows mark_of calls context session.value tries o
+  asked_calls peer calls context session tries (Answer stays owed attempts) state start_at over keeps
+      none o =
+      subst (λ (k : Owed). IsOwing allows mark_of calls stays.value k) (sym keeps.1)
+      (unheard_at allows mark_of peer calls stays.value keeps.0 over
+      (opening_stands allows mark_of calls context session.value tries o))
+  asked_calls peer calls context session tries (Ended outcome attempts) state start_at over keeps none
+      o =
+      subst (λ (k : Outcome). HasCome allows mark_of calls k) (sym keeps)
+      (opening_logged allows mark_of calls context session.value tries o)
 
   -- the settling of a phase calls no hook
-  pub settled_calls : (calls : Calls M K) (next settled : Phase L C)
+  pub settled_calls : (calls : Calls M K C) (next settled : Phase L C)
       (before after : Option (List (Returned L))) → Settles next before after settled
       → CallsSoFar allows mark_of calls next → CallsSoFar allows mark_of calls settled
   settled_calls calls ReadHead settled before after does so_far =

@@ -266,7 +266,7 @@ session_on s these those e more is p client link start session left raised same 
 -- ---- it is treated
 
 module _ {L C M K : Type 0} (state : L → LinkState) (start_at : L → LinkStart)
-    (allows : Standing → LogEntry → Type 0) (c d : Calls M K) (mark behind : ℕ) (s : Start)
+    (allows : Standing → LogEntry → Type 0) (c d : Calls M K C) (mark behind : ℕ) (s : Start)
     (p : Passed) (w : World) (context context' : C) (session left : Box HttpSession)
     (link : L) (lease : Lease) (keep : Bool) (raised treated : Error) (from : Station)
     (run : RunSoFar {C = C} state start_at (opened_to s (log_of c)) p w []

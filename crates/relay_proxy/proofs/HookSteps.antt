@@ -7,7 +7,7 @@
 --   purged                     it is a purge
 --   counts_called ..           what is counted of the call
 --   stop_text                  what answers that
-use Rattle.std.proofs.Common.{◌≡◌, ℕ, ◌≤◌, true, false, List, [], ◌∷◌, ◌++◌, Ok, Some, None, Bool, Option, is_some, refl, sym, ap, subst, ◌∙◌, inl, arith, true≢false}
+use Rattle.std.proofs.Common.{◌≡◌, ℕ, ◌≤◌, true, false, List, [], ◌∷◌, ◌++◌, Ok, Some, None, Bool, Option, is_some, refl, sym, ap, subst, ◌∙◌, inl, inr, arith, true≢false}
 use Rattle.relay_tasks.specs.Head.{RequestHead}
 use Rattle.relay_tasks.specs.Hooks.{same_hook}
 use Rattle.relay_tasks.specs.declared.Error.{Error}
@@ -25,7 +25,7 @@ use Rattle.relay_session.specs.declared.task_text.Request.{Request}
 use Rattle.relay_session.specs.declared.writing.Outgoing.{Outgoing}
 use Rattle.relay_session.specs.declared.writing.Outgoing.TheVariants as outgoing
 use Rattle.relay_session.specs.declared.writing.Writing.{Writing}
-use Rattle.relay_hooks.specs.Standing.{Standing}
+use Rattle.relay_hooks.specs.Standing.{Standing, standing}
 use Rattle.relay_phases.specs.Order.{Accepts, Station, next}
 use Rattle.relay_phases.specs.Order.{Station as station}
 use Rattle.relay_phases.specs.Turns.{QueuesNothing, Turns}
@@ -44,12 +44,16 @@ use Rattle.relay_trying.specs.Trying.{NamesPeer}
 use Rattle.relay_attempt.specs.Passed.{Passed}
 use Rattle.relay_proxy.specs.Ahead.{IsOwedAhead, LastFails}
 use Rattle.relay_proxy.specs.Answer.{QueuesAnswer, answer_for}
-use Rattle.relay_proxy.specs.Calls.{CallsNext, CountsCalls, GoesOn, IsLogged, IsOpening, IsUnended, TakesNext, TellsError, TellsPeer, comes_next, failed_at, final_at, has_peer, is_calling, leads_at, leads_to, log_of, place_station, seen_with, station_at}
+use Rattle.relay_proxy.specs.Calls.{CallsNext, CountsCalls, EndsBy, GoesOn, IsLogged, IsOpening, IsOwing, IsUnended, TakesNext, TellsError, TellsPeer, comes_next, failed_at, final_at, has_peer, is_calling, leads_at, leads_to, log_of, place_station, seen_with, station_at}
 use Rattle.relay_proxy.specs.Named.{IsNamed, peer_in}
 use Rattle.relay_proxy.specs.Passed.{Start, World, begins_end, opened_to}
 use Rattle.relay_proxy.specs.Phases.{IsConnecting}
 use Rattle.relay_proxy.specs.Relayable.{IsAccepted}
 use Rattle.relay_proxy.specs.Sent.{IsUntreated}
+use Rattle.relay_hooks.specs.Session.{moment}
+use Rattle.relay_calls.specs.Log.{Walk}
+use Rattle.relay_closing.specs.Place.{begun}
+use Rattle.relay_proxy.specs.declared.owed.Owed.TheVariants as owing
 use Rattle.relay_proxy.specs.declared.calls.At.{At}
 use Rattle.relay_proxy.specs.declared.calls.At.TheVariants as at
 use Rattle.relay_proxy.specs.declared.calls.Calls.{Calls}
@@ -57,7 +61,8 @@ use Rattle.relay_proxy.specs.declared.calls.Opened.{Opened}
 use Rattle.relay_proxy.specs.declared.calls.Opened.TheVariants as led
 use Rattle.relay_proxy.specs.declared.record.AttemptRecord.{AttemptRecord}
 use Rattle.relay_proxy.specs.declared.work.Work.{Work}
-use Rattle.relay_proxy.proofs.CallLemmas.{logged_more, logged_same, none_called, one_called, opening_stands}
+use Rattle.relay_proxy.proofs.CallLemmas.{all_entries, logged_more, logged_same, none_called, one_called, opening_stands}
+use Rattle.relay_proxy.proofs.LastCalls.{unended_unlogged}
 use Rattle.relay_proxy.proofs.NamedLemmas.{names_one, peer_last}
 use Rattle.relay_proxy.proofs.OpenSteps.{AnswersAs, called_accepted, hooks_answer, stands_first, stays_connecting}
 use Rattle.relay_proxy.proofs.TreatLemmas.{unended_more, untreated_more}
@@ -93,23 +98,24 @@ purge_of (place.Ended (end.Failed error)) is = cc
 purge_of place.Lost is = cc
 
 -- where a call led anywhere but out of memory its place is known
-pub known_at : {K : Type 0} (a : At K) (to : Opened) → to ≡ leads_at a
+pub known_at : {K X : Type 0} (a : At K X) (to : Opened) → to ≡ leads_at a
     → (to ≡ led.OutOfMemory → ⊥) → a ≡ at.Opening place.Lost → ⊥
-known_at a to is known lost = known (is ∙ ap (λ (b : At _). leads_at b) lost)
+known_at a to is known lost = known (is ∙ ap (λ (b : At _ _). leads_at b) lost)
 
 -- the place of the hooks before the attempts, or the peer, of a place where the hooks stand
-abbrev place_in : {K : Type 0} → At K → Place K
+abbrev place_in : {K X : Type 0} → At K X → Place K
 place_in (at.Kept kept) = place.Lost
 place_in (at.Opening there) = there
 place_in (at.Named peer) = place.Lost
 place_in at.Linked = place.Lost
 place_in (at.Treated error) = place.Lost
-place_in (at.Closing there) = place.Lost
+place_in (at.Closing held there) = place.Lost
 
-same_place : {K : Type 0} (p q : Place K) → at.Opening p ≡ at.Opening q → p ≡ q
-same_place p q same = ap (λ (a : At _). place_in a) same
+same_place : {K X : Type 0} (p q : Place K)
+    → ◌≡◌ {A = At K X} (at.Opening p) (at.Opening q) → p ≡ q
+same_place p q same = ap (λ (a : At _ _). place_in a) same
 
-pub same_peer : {K : Type 0} (p q : Peer) → ◌≡◌ {A = At K} (at.Named p) (at.Named q) → p ≡ q
+pub same_peer : {K X : Type 0} (p q : Peer) → ◌≡◌ {A = At K X} (at.Named p) (at.Named q) → p ≡ q
 same_peer p q same = cc
 
 -- a hook in which no error is treated and with which no end begins
@@ -133,7 +139,7 @@ opens_behind called.Sending has_modules = (refl, refl)
 same_next : (a b : Hook) → Some a ≡ Some b → IsBefore a → IsBefore b
 same_next a b is other = let same : a ≡ b = cc in subst (λ (h : Hook). IsBefore h) same other
 
-opens_by : {K : Type 0} (a : At K) (has_modules : Bool) (which : Hook)
+opens_by : {K X : Type 0} (a : At K X) (has_modules : Bool) (which : Hook)
     → comes_next a has_modules ≡ Some which → IsBefore which
 opens_by (at.Kept kept) has_modules which is = cc
 opens_by (at.Opening (place.Behind last)) has_modules which is =
@@ -149,25 +155,25 @@ opens_by (at.Opening place.Lost) has_modules which is = cc
 opens_by (at.Named peer) has_modules which is = cc
 opens_by at.Linked has_modules which is = cc
 opens_by (at.Treated error) has_modules which is = cc
-opens_by (at.Closing there) has_modules which is = cc
+opens_by (at.Closing held there) has_modules which is = cc
 
 -- before a hook is called no peer was named
-pub unnamed : {K : Type 0} (a : At K) → is_calling a ≡ true → has_peer a ≡ false
+pub unnamed : {K X : Type 0} (a : At K X) → is_calling a ≡ true → has_peer a ≡ false
 unnamed (at.Kept kept) is = refl
 unnamed (at.Opening there) is = refl
 unnamed (at.Named peer) is = absurd (true≢false (sym is))
 unnamed at.Linked is = absurd (true≢false (sym is))
 unnamed (at.Treated error) is = absurd (true≢false (sym is))
-unnamed (at.Closing there) is = absurd (true≢false (sym is))
+unnamed (at.Closing held there) is = absurd (true≢false (sym is))
 
 -- nor is one where an error of a hook is to be answered, of which the log tells
-pub unnamed_failed : {K : Type 0} (a : At K) (e : Error) → final_at a ≡ Some e → has_peer a ≡ false
+pub unnamed_failed : {K X : Type 0} (a : At K X) (e : Error) → final_at a ≡ Some e → has_peer a ≡ false
 unnamed_failed (at.Kept kept) e is = refl
 unnamed_failed (at.Opening there) e is = refl
 unnamed_failed (at.Named peer) e is = cc
 unnamed_failed at.Linked e is = cc
 unnamed_failed (at.Treated error) e is = cc
-unnamed_failed (at.Closing there) e is = cc
+unnamed_failed (at.Closing held there) e is = cc
 
 failed_station : {K : Type 0} (p : Place K) (e : Error) → failed_at p ≡ Some e
     → place_station p ≡ station.failing
@@ -180,16 +186,16 @@ failed_station (place.Ended (end.Unwritten why)) e is = cc
 failed_station (place.Ended (end.Failed error)) e is = refl
 failed_station place.Lost e is = cc
 
-pub final_station : {K : Type 0} (a : At K) (e : Error) → final_at a ≡ Some e
+pub final_station : {K X : Type 0} (a : At K X) (e : Error) → final_at a ≡ Some e
     → station_at a ≡ station.failing
 final_station (at.Kept kept) e is = cc
 final_station (at.Opening there) e is = failed_station there e is
 final_station (at.Named peer) e is = cc
 final_station at.Linked e is = cc
 final_station (at.Treated error) e is = cc
-final_station (at.Closing there) e is = cc
+final_station (at.Closing held there) e is = cc
 
-pub final_fails : {K : Type 0} (a : At K) (log : List LogEntry) (e : Error)
+pub final_fails : {K X : Type 0} (a : At K X) (log : List LogEntry) (e : Error)
     → final_at a ≡ Some e → TellsPeer a log → LastFails log e
 final_fails (at.Kept kept) log e is tells = cc
 final_fails (at.Opening there) log e is tells =
@@ -197,7 +203,7 @@ final_fails (at.Opening there) log e is tells =
 final_fails (at.Named peer) log e is tells = cc
 final_fails at.Linked log e is tells = cc
 final_fails (at.Treated error) log e is tells = cc
-final_fails (at.Closing there) log e is tells = cc
+final_fails (at.Closing held there) log e is tells = cc
 
 -- nothing was queued twice
 pub quiet_twice : (a b c : Writing) (v w : List HttpTask) → QueuesNothing a b v
@@ -208,7 +214,7 @@ quiet_twice a b c v w first then = record {
 }
 
 module _ {C M K : Type 0} (allows : Standing → LogEntry → Type 0) (mark_of : C → ℕ)
-    (old new : Calls M K) (context context' : C) (client left : HttpSession)
+    (old new : Calls M K C) (context context' : C) (client left : HttpSession)
     (turns : CallsNext allows old client (mark_of context) new left (mark_of context'))
   where
     -- a hook was called, and led to that place
@@ -305,7 +311,7 @@ module _ {C M K : Type 0} (allows : Standing → LogEntry → Type 0) (mark_of :
     -- ---- the request goes on
 
     -- a hook was called that queued nothing, behind which the request goes on
-    record Goes (a : At K) : Type 0 where
+    record Goes (a : At K C) : Type 0 where
       which : Hook
       turn : Turns allows which (station_at old.at) (station_at a) QueuesNothing
           (seen_with old client) (mark_of context) (seen_with new left) (mark_of context')
@@ -318,7 +324,7 @@ module _ {C M K : Type 0} (allows : Standing → LogEntry → Type 0) (mark_of :
         ∙ peer_last (log_of old) n.names.turn.e peer
         (names_one n.names.turn.e peer n.names.turn.hook n.names.output)
 
-    goes_by : (a : At K) → new.at ≡ a → leads_at a ≡ led.GoesOn → Goes a
+    goes_by : (a : At K C) → new.at ≡ a → leads_at a ≡ led.GoesOn → Goes a
     goes_by (at.Kept kept) is goes = cc
     goes_by (at.Opening (place.Behind last)) is goes =
         let t = turned (place.Behind last) is (λ lost. cc) in
@@ -348,7 +354,7 @@ module _ {C M K : Type 0} (allows : Standing → LogEntry → Type 0) (mark_of :
         let n = named_by turns peer is in
         record {
           which = hook.UpstreamPeer;
-          turn = subst (λ (a : At K). Turns allows hook.UpstreamPeer (station_at a) station.named QueuesNothing
+          turn = subst (λ (a : At K C). Turns allows hook.UpstreamPeer (station_at a) station.named QueuesNothing
               (seen_with old client) (mark_of context) (seen_with new left) (mark_of context'))
               (sym n.was) n.names.turn;
           goes = tt;
@@ -356,7 +362,7 @@ module _ {C M K : Type 0} (allows : Standing → LogEntry → Type 0) (mark_of :
         }
     goes_by at.Linked is goes = absurd (unlinked_by turns is)
     goes_by (at.Treated error) is goes = cc
-    goes_by (at.Closing there) is goes = cc
+    goes_by (at.Closing held there) is goes = cc
 
     pub opening_on : (tries : List AttemptRecord) → is_calling old.at ≡ true
         → leads_at new.at ≡ led.GoesOn
@@ -428,7 +434,7 @@ module _ {C M K : Type 0} (allows : Standing → LogEntry → Type 0) (mark_of :
               waits.1 k;
         }
 
-    answered_at : (a : At K) → new.at ≡ a → leads_at a ≡ led.Answered → (s : Start)
+    answered_at : (a : At K C) → new.at ≡ a → leads_at a ≡ led.Answered → (s : Start)
         (q : Passed) (w : World) (tries : List AttemptRecord)
         → IsOpening allows mark_of old context client tries
         → IsConnecting (opened_to s (log_of old)) q w client tries → Answered s q
@@ -437,7 +443,7 @@ module _ {C M K : Type 0} (allows : Standing → LogEntry → Type 0) (mark_of :
     answered_at (at.Named peer) is leads s q w tries o k = cc
     answered_at at.Linked is leads s q w tries o k = cc
     answered_at (at.Treated error) is leads s q w tries o k = cc
-    answered_at (at.Closing there) is leads s q w tries o k = cc
+    answered_at (at.Closing held there) is leads s q w tries o k = cc
 
     pub answered : leads_at new.at ≡ led.Answered → (s : Start) (q : Passed)
         (w : World) (tries : List AttemptRecord)
@@ -474,7 +480,7 @@ module _ {C M K : Type 0} (allows : Standing → LogEntry → Type 0) (mark_of :
           order = order_on tries t.turn.0.e station.purging t.turn.0.calls.log t.turn.0.order o;
         }
 
-    purged_at : (a : At K) → new.at ≡ a → leads_at a ≡ led.Purges → (s : Start)
+    purged_at : (a : At K C) → new.at ≡ a → leads_at a ≡ led.Purges → (s : Start)
         (q : Passed) (w : World) (tries : List AttemptRecord)
         → IsOpening allows mark_of old context client tries
         → IsConnecting (opened_to s (log_of old)) q w client tries → IsPurge s q
@@ -483,7 +489,7 @@ module _ {C M K : Type 0} (allows : Standing → LogEntry → Type 0) (mark_of :
     purged_at (at.Named peer) is leads s q w tries o k = cc
     purged_at at.Linked is leads s q w tries o k = cc
     purged_at (at.Treated error) is leads s q w tries o k = cc
-    purged_at (at.Closing there) is leads s q w tries o k = cc
+    purged_at (at.Closing held there) is leads s q w tries o k = cc
 
     pub purged : leads_at new.at ≡ led.Purges → (s : Start)
         (q : Passed) (w : World) (tries : List AttemptRecord)
@@ -539,7 +545,7 @@ module _ {C M K : Type 0} (allows : Standing → LogEntry → Type 0) (mark_of :
       station.named,
       logged_more allows mark_of old new context context' client left tries
           hook.UpstreamPeer station.named QueuesNothing
-          (subst (λ (a : At K). Turns allows hook.UpstreamPeer (station_at a) station.named
+          (subst (λ (a : At K C). Turns allows hook.UpstreamPeer (station_at a) station.named
           QueuesNothing
           (seen_with old client) (mark_of context) (seen_with new left) (mark_of context'))
           (sym was) names.turn) o,
@@ -551,6 +557,86 @@ module _ {C M K : Type 0} (allows : Standing → LogEntry → Type 0) (mark_of :
         → IsOpening allows mark_of old context client tries
         → (at : Station) × IsLogged allows (log_of new) at
     memory_logged tries o = logged_by turns tries o
+
+    -- hooks answered it, and its end begins behind that
+    owing_by : (p : Place K) → new.at ≡ at.Opening p → leads_to p ≡ led.Answered
+        → (tries : List AttemptRecord) → IsOpening allows mark_of old context client tries
+        → IsOwing allows mark_of (record new { at = at.Closing context' (begun None) }) left
+        (owing.Ahead None)
+    owing_by p is leads tries o =
+        let done = done_of p leads in
+        let t = turned (place.Ended done.how)
+        (is ∙ ap (λ (x : Place K). at.Opening x) done.is) (λ lost. cc) in
+        let order : Accepts station.accepted (log_of new) station.answered =
+        subst (λ (a : Station). Accepts station.accepted (log_of new) a) done.at
+        (order_on tries t.turn.0.e (end_station done.how) t.turn.0.calls.log t.turn.0.order o) in
+        let unended : IsUnended (log_of new) = unended_by turns o.unended in
+        let called = HasCalled-more allows QueuesNothing _ (λ a b wrote. Unit {0})
+        (λ a b c v w first behind. tt) o.first o.mark t.which station.accepted (station_at old.at)
+        (end_station done.how) (seen_with old client) (mark_of context) (seen_with new left)
+        (mark_of context') o.so_far t.turn.0 in (
+          record {
+            from = standing None false (moment o.first o.mark);
+            walks = subst (λ (l : List LogEntry). Walk allows
+                (standing None false (moment o.first o.mark)) l
+                (standing None false (moment (seen_with new left) (mark_of context'))))
+                (all_entries o.first (seen_with new left) called.entries o.none called.log)
+                called.walks;
+            start = station.answered;
+            begins = refl;
+            order = order;
+            logged = unended_unlogged (log_of new) unended;
+            begun = unended;
+            error_is = refl;
+          },
+          (order, unended),
+        )
+
+    owing_at : (a : At K C) → new.at ≡ a → leads_at a ≡ led.Answered → (tries : List AttemptRecord)
+        → IsOpening allows mark_of old context client tries
+        → IsOwing allows mark_of (record new { at = at.Closing context' (begun None) }) left
+        (owing.Ahead None)
+    owing_at (at.Kept kept) is leads tries o = cc
+    owing_at (at.Opening p) is leads tries o = owing_by p is leads tries o
+    owing_at (at.Named peer) is leads tries o = cc
+    owing_at at.Linked is leads tries o = cc
+    owing_at (at.Treated error) is leads tries o = cc
+    owing_at (at.Closing held there) is leads tries o = cc
+
+    pub answered_owing : leads_at new.at ≡ led.Answered → (tries : List AttemptRecord)
+        → IsOpening allows mark_of old context client tries
+        → IsOwing allows mark_of (record new { at = at.Closing context' (begun None) }) left
+        (owing.Ahead None)
+    answered_owing leads tries o = owing_at new.at refl leads tries o
+
+    -- it is a purge, which has no such end so far
+    unheard_by : (p : Place K) → new.at ≡ at.Opening p → leads_to p ≡ led.Purges
+        → (tries : List AttemptRecord) → (other : HttpSession) → (e : Error)
+        → IsOpening allows mark_of old context client tries
+        → IsOwing allows mark_of new other (owing.Ahead (Some e))
+    unheard_by p is leads tries other e o =
+        let purges = purge_of p leads in
+        let t = turned (place.Ended end.Purge)
+        (is ∙ ap (λ (x : Place K). at.Opening x) purges) (λ lost. cc) in
+        subst (λ (a : At K C). EndsBy allows mark_of a new other (Some e)) (sym is) (
+          memory_logged tries o,
+          inl (order_on tries t.turn.0.e station.purging t.turn.0.calls.log t.turn.0.order o),
+        )
+
+    unheard_at : (a : At K C) → new.at ≡ a → leads_at a ≡ led.Purges → (tries : List AttemptRecord)
+        → (other : HttpSession) → (e : Error) → IsOpening allows mark_of old context client tries
+        → IsOwing allows mark_of new other (owing.Ahead (Some e))
+    unheard_at (at.Kept kept) is leads tries other e o = cc
+    unheard_at (at.Opening p) is leads tries other e o = unheard_by p is leads tries other e o
+    unheard_at (at.Named peer) is leads tries other e o = cc
+    unheard_at at.Linked is leads tries other e o = cc
+    unheard_at (at.Treated error) is leads tries other e o = cc
+    unheard_at (at.Closing held there) is leads tries other e o = cc
+
+    pub purged_owing : leads_at new.at ≡ led.Purges → (tries : List AttemptRecord) → (other : HttpSession) → (e : Error)
+        → IsOpening allows mark_of old context client tries
+        → IsOwing allows mark_of new other (owing.Ahead (Some e))
+    purged_owing leads tries other e o = unheard_at new.at refl leads tries other e o
 
 -- ---- the answer to an error
 

@@ -10,6 +10,7 @@ pub mod ClosingSteps
 pub mod ConnectSteps
 pub mod OpenSteps
 pub mod CallLemmas
+pub mod LastCalls
 pub mod NamedLemmas
 pub mod HookSteps
 pub mod PrepareSteps
@@ -17,6 +18,7 @@ pub mod RelaySteps
 pub mod TreatLemmas
 pub mod BoundLemmas
 pub mod StepLemmas
+pub mod EndSteps
 mod TakenLemmas
 mod RefusalLemmas
 mod TurnLemmas

@@ -179,7 +179,7 @@ head_behind_append : (head : RequestHead) (es : List LogEntry) (e : LogEntry)
 head_behind_append head [] e = refl
 head_behind_append head (x ∷ es) e = head_behind_append (unwrap_or x.head head) es e
 
-module _ {M K : Type 0} (allows : Standing → LogEntry → Type 0) (c d : Calls M K)
+module _ {M K X : Type 0} (allows : Standing → LogEntry → Type 0) (c d : Calls M K X)
     (client left : HttpSession) (mark behind : ℕ) (which : Hook) (from to : Station)
     (queues : Writing → Writing → List HttpTask → Type 0)
     (t : Turns allows which from to queues (seen_with c client) mark (seen_with d left) behind)
@@ -214,7 +214,7 @@ module _ {M K : Type 0} (allows : Standing → LogEntry → Type 0) (c d : Calls
         ∙ append-nil t.e.wrote
 
 -- a call that queued nothing leaves a request that wants a link as it stood
-abbrev pub stays_connecting : {M K : Type 0} (allows : Standing → LogEntry → Type 0) (c d : Calls M K)
+abbrev pub stays_connecting : {M K X : Type 0} (allows : Standing → LogEntry → Type 0) (c d : Calls M K X)
     (client left : HttpSession) (mark behind : ℕ) (which : Hook) (from to : Station)
     → Turns allows which from to QueuesNothing (seen_with c client) mark (seen_with d left) behind
     → (s : Start) (p : Passed) (w : World) (tries : List AttemptRecord)
@@ -360,7 +360,7 @@ hooks_queued (end.Unwritten why) old new wrote waiting ends holds queues is_open
 hooks_queued (end.Failed error) old new wrote waiting ends holds queues is_open = absurd ends
 
 -- the hooks before the attempts answered the request, and what waits is what it is owed
-pub hooks_answer : {M K : Type 0} (allows : Standing → LogEntry → Type 0) (c d : Calls M K)
+pub hooks_answer : {M K X : Type 0} (allows : Standing → LogEntry → Type 0) (c d : Calls M K X)
     (client left : HttpSession) (mark behind : ℕ) (which : Hook) (from : Station) (how : End)
     (s : Start) (p : Passed) (w : World) (tries : List AttemptRecord) (waiting : List ℕ)
     → Turns allows which from (end_station how) (QueuesAtEnd how) (seen_with c client) mark
@@ -559,7 +559,7 @@ module _ {L C : Type 0} (state : L → LinkState) (start_at : L → LinkStart) w
 
   -- the head was accepted and taken from what is ahead, and a session begins behind it, for which a
   -- context was made
-  pub head_accepted : {M K : Type 0} (allows : Standing → LogEntry → Type 0) (c d : Calls M K)
+  pub head_accepted : {M K X : Type 0} (allows : Standing → LogEntry → Type 0) (c d : Calls M K X)
       (s : Start) (p : Passed) (w x : World) (head : RequestHead) (framing : Framing) (len : ℕ)
       (context : C) (client : HttpSession) (left : Box HttpSession) (tries : List AttemptRecord)
       (mark : ℕ) → x.client ≡ w.client → x.ahead ≡ drop len w.ahead

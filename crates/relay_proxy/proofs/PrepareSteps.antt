@@ -50,7 +50,7 @@ use Rattle.relay_proxy.specs.Calls.{CountsCalls, GoesOn, IsBreaking, IsLogged, I
 use Rattle.relay_proxy.specs.Named.{IsNamed, peer_in}
 use Rattle.relay_proxy.specs.Preparing.{FiltersReady, MakesHead, Prepares, Settles, Unprepared}
 use Rattle.relay_proxy.specs.Sent.{Filters, Sends, RefusesToSend, SettlesFramed, asked_in, client_in, client_of}
-use Rattle.relay_proxy.specs.Endings.{IsInOrder, EndsLinked, error_of, outcome_of}
+use Rattle.relay_proxy.specs.Endings.{IsInOrder, EndsLinked}
 use Rattle.relay_proxy.specs.Tries.{AreTries, tries_in}
 use Rattle.relay_proxy.specs.Passed.{World, Start, begins_end, opened_to, origin_of, TellsClient, IsUnsent, IsUntouched}
 use Rattle.relay_proxy.specs.Phases.{IsBroken, IsConnecting, IsLeased, IsRelaying, LeavesAhead, PhaseHolds, RunSoFar}
@@ -78,7 +78,7 @@ use Rattle.relay_proxy.proofs.TreatLemmas.{unended_more, untreated_more}
 -- ---- the calls
 
 -- a hook that is not the one that names a peer leaves the peer that the log tells
-pub peers_stay : {M K : Type 0} (allows : Standing → LogEntry → Type 0) (c d : Calls M K)
+pub peers_stay : {M K X : Type 0} (allows : Standing → LogEntry → Type 0) (c d : Calls M K X)
     (client left : HttpSession) (mark behind : ℕ) (which : Hook) (from to : Station)
     → same_hook hook.UpstreamPeer which ≡ false
     → Turns allows which from to QueuesNothing (seen_with c client) mark (seen_with d left) behind
@@ -128,7 +128,7 @@ client_asked s p w session tries k =
     subst (λ (h : RequestHead). request_framing h ≡ Some b.framing) b.own b.has.framed in
     client_is k.head b.framing (is_body_done session.reading) framed b.done
 
-module _ {M K : Type 0} (allows : Standing → LogEntry → Type 0) (c d : Calls M K)
+module _ {M K X : Type 0} (allows : Standing → LogEntry → Type 0) (c d : Calls M K X)
     (client left : HttpSession) (mark behind : ℕ) (s : Start) (p : Passed) (w : World)
     (tries : List AttemptRecord) (k : IsConnecting (opened_to s (log_of c)) p w client tries)
   where
@@ -223,18 +223,6 @@ module _ {M K : Type 0} (allows : Standing → LogEntry → Type 0) (c d : Calls
 came_alone : (p : Passed) → p.written ≡ [] → IsUnsent p
     → record { came = p.came; written = []; got = []; sent = [] } ≡ p
 came_alone p none unsent = grind (arith, none, unsent.got, unsent.sent)
-
--- a framing that is there is not missing
-not_missing : (framing : Framing) (found : Option Framing) → found ≡ None → found ≡ Some framing → ⊥
-not_missing framing found none some = cc
-
--- an exchange is refused only where its head has no framing, so with one it was memory that failed
-memory_alone : (error : Error) (why : Fail) (found : Option Framing) (framing : Framing)
-    → IsMemoryOr error why → (why ≡ fail.Error error → found ≡ None) → found ≡ Some framing
-    → why ≡ fail.OutOfMemory
-memory_alone error fail.OutOfMemory found framing causes refused framed = refl
-memory_alone error (fail.Error e) found framing causes refused framed =
-    absurd (not_missing framing found (refused (ap (λ (x : Error). fail.Error x) causes)) framed)
 
 -- ---- an attempt that ends ahead of its exchange
 
@@ -339,7 +327,7 @@ told_error allows peer reused old before new behind why to is told =
     subst (λ (f : Fail). TellsConnected allows peer reused old before new behind (Err f)) is told
 
 module _ {L C M K : Type 0} (state : L → LinkState) (start_at : L → LinkStart)
-    (c : Calls M K) (s : Start) (p : Passed) (w : World) (context : C) (session : Box HttpSession)
+    (c : Calls M K C) (s : Start) (p : Passed) (w : World) (context : C) (session : Box HttpSession)
     (link : L) (lease : Lease) (handed : IsHandedOut (state link) (start_at link) lease.reused)
     (was : c.at ≡ at.Named lease.peer) (same : lease.recorded ≡ lease.peer)
     (tells : TellsPeer c.at (log_of c))
@@ -350,10 +338,10 @@ module _ {L C M K : Type 0} (state : L → LinkState) (start_at : L → LinkStar
     abbrev pub holds_link : RunSoFar {C = C} state start_at (opened_to s (log_of c)) p w []
         (Prepare context session link lease)
     holds_link = linked state start_at (opened_to s (log_of c)) p w context session link lease handed
-        (subst (λ (a : At K). TellsPeer a (log_of c)) was tells) same run
+        (subst (λ (a : At K C). TellsPeer a (log_of c)) was tells) same run
 
     -- memory was wanted
-    pub told_lost : (d : Calls M K) → log_of d ≡ log_of c
+    pub told_lost : (d : Calls M K C) → log_of d ≡ log_of c
         → Advances {C = C} state start_at (opened_to s (log_of d)) w
         (Close link lease false outcome.OutOfMemory)
     told_lost d log =
@@ -361,7 +349,7 @@ module _ {L C M K : Type 0} (state : L → LinkState) (start_at : L → LinkStar
         (ap (λ (l : List LogEntry). peer_in l) log) holds_link
 
 module _ {L C M K : Type 0} (state : L → LinkState) (start_at : L → LinkStart)
-    (allows : Standing → LogEntry → Type 0) (c d : Calls M K) (mark behind : ℕ) (s : Start)
+    (allows : Standing → LogEntry → Type 0) (c d : Calls M K C) (mark behind : ℕ) (s : Start)
     (p : Passed) (w : World) (context : C) (session : Box HttpSession) (left : HttpSession)
     (link : L) (lease : Lease) (handed : IsHandedOut (state link) (start_at link) lease.reused)
     (was : c.at ≡ at.Named lease.peer) (same : lease.recorded ≡ lease.peer)
@@ -424,7 +412,7 @@ module _ {L C M K : Type 0} (state : L → LinkState) (start_at : L → LinkStar
 -- ---- the head is made
 
 module _ {L C M K : Type 0} (state : L → LinkState) (start_at : L → LinkStart)
-    (allows : Standing → LogEntry → Type 0) (c d : Calls M K) (mark behind : ℕ) (s : Start)
+    (allows : Standing → LogEntry → Type 0) (c d : Calls M K C) (mark behind : ℕ) (s : Start)
     (p : Passed) (w : World) (context : C) (session : Box HttpSession) (left : HttpSession)
     (link : L) (lease : Lease)
     (run : RunSoFar {C = C} state start_at (opened_to s (log_of c)) p w []
@@ -491,7 +479,7 @@ module _ {L C M K : Type 0} (state : L → LinkState) (start_at : L → LinkStar
 
 -- ---- what the steps to the head come to
 
-module _ {M K : Type 0} (allows : Standing → LogEntry → Type 0) (c d : Calls M K)
+module _ {M K X : Type 0} (allows : Standing → LogEntry → Type 0) (c d : Calls M K X)
     (client left : HttpSession) (mark behind : ℕ)
   where
     -- the filter did not leave a head
@@ -521,7 +509,7 @@ module _ {M K : Type 0} (allows : Standing → LogEntry → Type 0) (c d : Calls
 -- ---- the calls so far
 
 module _ {C M K : Type 0} (allows : Standing → LogEntry → Type 0) (mark_of : C → ℕ)
-    (c d : Calls M K) (context context' : C) (client left : HttpSession)
+    (c d : Calls M K C) (context context' : C) (client left : HttpSession)
     (tries : List AttemptRecord) (o : IsOpening allows mark_of c context client tries)
   where
     -- a call from where the hooks stand
@@ -542,17 +530,17 @@ module _ {C M K : Type 0} (allows : Standing → LogEntry → Type 0) (mark_of :
       first = o.first;
       mark = o.mark;
       none = o.none;
-      so_far = subst (λ (a : At K). HasCalled allows o.first o.mark station.accepted (station_at a)
+      so_far = subst (λ (a : At K C). HasCalled allows o.first o.mark station.accepted (station_at a)
           QueuesNothing (seen_with d left) (mark_of context')) (sym is)
           (HasCalled-more allows QueuesNothing QueuesNothing QueuesNothing quiet_twice o.first
           o.mark hook.ConnectedToUpstream station.accepted station.named station.linked
           (seen_with c client) (mark_of context) (seen_with d left) (mark_of context')
-          (subst (λ (a : At K). HasCalled allows o.first o.mark station.accepted (station_at a)
+          (subst (λ (a : At K C). HasCalled allows o.first o.mark station.accepted (station_at a)
           QueuesNothing (seen_with c client) (mark_of context)) was o.so_far) turn);
-      goes = subst (λ (a : At K). GoesOn a) (sym is) tt;
-      named = subst (λ (a : At K). TellsPeer a (log_of d)) (sym is) tt;
+      goes = subst (λ (a : At K C). GoesOn a) (sym is) tt;
+      named = subst (λ (a : At K C). TellsPeer a (log_of d)) (sym is) tt;
       untried = λ still.
-          absurd (true≢false (sym (ap (λ (a : At K). has_peer a) is) ∙ still));
+          absurd (true≢false (sym (ap (λ (a : At K C). has_peer a) is) ∙ still));
       untreated = untreated_more (log_of c) (log_of d) turn.e hook.ConnectedToUpstream
           turn.calls.log turn.hook refl o.untreated;
       unanswered = ap (λ (x : Writing). has_head x.place) turn.queued.same ∙ o.unanswered;
@@ -578,15 +566,15 @@ module _ {C M K : Type 0} (allows : Standing → LogEntry → Type 0) (mark_of :
         (seen_with c client) (mark_of context) (seen_with d left) (mark_of context')
         → IsBreaking allows mark_of d context' left error
     told_breaks peer error was stays turn =
-        breaks_at station.named (ap (λ (a : At K). station_at a) was) hook.ConnectedToUpstream
-        station.broken error (ap (λ (a : At K). treated_at a) (stays ∙ was)) refl refl turn
+        breaks_at station.named (ap (λ (a : At K C). station_at a) was) hook.ConnectedToUpstream
+        station.broken error (ap (λ (a : At K C). treated_at a) (stays ∙ was)) refl refl turn
 
     -- the filter was called
     pub filtered_logged : c.at ≡ at.Linked → (filtered : RequestHead)
         → FiltersReady allows c client (mark_of context) d left (mark_of context') filtered
         → IsLogged allows (log_of d) station.sent
     filtered_logged was filtered f =
-        logged_at station.linked (ap (λ (a : At K). station_at a) was) hook.UpstreamRequestFilter
+        logged_at station.linked (ap (λ (a : At K C). station_at a) was) hook.UpstreamRequestFilter
         station.sent f.call.turn
 
     -- no head is sent
@@ -595,14 +583,14 @@ module _ {C M K : Type 0} (allows : Standing → LogEntry → Type 0) (mark_of :
         → IsBreaking allows mark_of d context' left e
     unsent_breaks was is e (Unprepared.unready same stays still readies) =
         breaks_same allows mark_of c d context context' client left tries e same stays still
-        (ap (λ (a : At K). treated_at a) is) (ap (λ (a : At K). may_break (station_at a)) was) o
+        (ap (λ (a : At K C). treated_at a) is) (ap (λ (a : At K C). may_break (station_at a)) was) o
     unsent_breaks was is e (Unprepared.unfiltered ready call) =
-        breaks_at station.linked (ap (λ (a : At K). station_at a) was)
-        hook.UpstreamRequestFilter station.broken e (ap (λ (a : At K). treated_at a) is) refl refl
+        breaks_at station.linked (ap (λ (a : At K C). station_at a) was)
+        hook.UpstreamRequestFilter station.broken e (ap (λ (a : At K C). treated_at a) is) refl refl
         call.call.turn
     unsent_breaks was is e (Unprepared.unsettled filtered f settles) =
-        breaks_at station.linked (ap (λ (a : At K). station_at a) was)
-        hook.UpstreamRequestFilter station.sent e (ap (λ (a : At K). treated_at a) is) refl refl
+        breaks_at station.linked (ap (λ (a : At K C). station_at a) was)
+        hook.UpstreamRequestFilter station.sent e (ap (λ (a : At K C). treated_at a) is) refl refl
         f.call.turn
 
     -- the head goes out
@@ -616,7 +604,7 @@ module _ {C M K : Type 0} (allows : Standing → LogEntry → Type 0) (mark_of :
         hook.UpstreamRequestFilter a is refl same stays
         (subst (λ (x : Station). Turns allows hook.UpstreamRequestFilter x station.sent
         QueuesNothing (seen_with c client) (mark_of context) (seen_with d left)
-        (mark_of context')) (sym (ap (λ (a : At K). station_at a) was)) f.call.turn) o
+        (mark_of context')) (sym (ap (λ (a : At K C). station_at a) was)) f.call.turn) o
 
     pub lost_logged : c.at ≡ at.Linked
         → MakesHead allows c client (mark_of context) d left (mark_of context')
@@ -625,7 +613,7 @@ module _ {C M K : Type 0} (allows : Standing → LogEntry → Type 0) (mark_of :
     lost_logged was (inr (filtered, f)) = (station.sent, filtered_logged was filtered f)
 
 -- the end does not begin with the steps to the head
-module _ {M K : Type 0} (allows : Standing → LogEntry → Type 0) (c d : Calls M K)
+module _ {M K X : Type 0} (allows : Standing → LogEntry → Type 0) (c d : Calls M K X)
     (client left : HttpSession) (mark behind : ℕ) (open_to : IsUnended (log_of c))
   where
     filter_unended : (to : Station) → Turns allows hook.UpstreamRequestFilter station.linked to
@@ -638,7 +626,7 @@ module _ {M K : Type 0} (allows : Standing → LogEntry → Type 0) (c d : Calls
         → MakesHead allows c client mark d left behind answer → IsUnended (log_of d)
     made_unended (Ok sent) made = filter_unended station.sent made.filters.call.turn
     made_unended (Err (fail.Error e)) (Unprepared.unready same stays still readies) =
-        subst (λ (x : Calls M K). IsUnended (log_of x)) (sym same) open_to
+        subst (λ (x : Calls M K X). IsUnended (log_of x)) (sym same) open_to
     made_unended (Err (fail.Error e)) (Unprepared.unfiltered ready call) =
         filter_unended station.broken call.call.turn
     made_unended (Err (fail.Error e)) (Unprepared.unsettled filtered f settles) =
@@ -662,13 +650,13 @@ module _ {M K : Type 0} (allows : Standing → LogEntry → Type 0) (c d : Calls
         subst (λ (l : List LogEntry). IsUnended l) (sym same) open_to
 
 -- what is counted of the calls of a head that is not sent
-module _ {M K : Type 0} (allows : Standing → LogEntry → Type 0) (c d : Calls M K)
+module _ {M K X : Type 0} (allows : Standing → LogEntry → Type 0) (c d : Calls M K X)
     (client left : HttpSession) (mark behind : ℕ) (work : Work) (none : work.called ≡ 0)
   where
     pub unsent_counts : (e : Error) → Unprepared allows c client mark d left behind e
         → CountsCalls c d work
     unsent_counts e (Unprepared.unready same stays still readies) =
-        none_called c d work none (ap (λ (x : Calls M K). log_of x) same)
+        none_called c d work none (ap (λ (x : Calls M K X). log_of x) same)
     unsent_counts e (Unprepared.unfiltered ready call) =
         one_called c d work (omega (arith, none)) call.call.turn.e call.call.turn.calls.log
     unsent_counts e (Unprepared.unsettled filtered f settles) =
@@ -785,33 +773,20 @@ module _ {L C : Type 0} (state : L → LinkState) (start_at : L → LinkStart) w
 
   -- the exchange was not begun, when out of memory
   pub not_begun : (s : Start) (p : Passed) (w : World) (context : C) (session : Box HttpSession)
-      (given : RequestHead) (link back : L) (lease : Lease) (why : Fail) (end : Outcome)
-      → back ≡ link → end ≡ outcome_of why
-      → IsMemoryOr (refused_from Internal BadFraming) why
-      → (why ≡ fail.Error (refused_from Internal BadFraming) → request_framing given ≡ None)
-      → (run : RunSoFar {C = C} state start_at s p w [] (Prepare context session link lease))
-      → Sends s.called run.holds.1.connecting.head given
-      → Advances {C = C} state start_at s w (Close back lease false end)
-  not_begun s p w context session given link back lease why end same ends causes refused run sends =
-      record {
-        passed = p;
-        run = record {
-          tells = run.tells;
-          order = run.order;
-          untouched = run.untouched;
-          going = λ limit. no_limit (sym is_memory ∙ limit);
-          calm = tt;
-          holds = (
-            subst (λ (l : L). IsLeased s p (state l) (start_at l) lease) (sym same) run.holds.0,
-            subst (λ (o : Outcome).
-                EndsLinked s p w (state back) (start_at back) false (error_of o) o)
-                (sym is_memory)
-                (inr (run.holds.1.connecting.written, run.holds.1.connecting.unsent), refl),
-          );
-        };
-      }
-    where
-      is_memory : end ≡ outcome.OutOfMemory
-      is_memory = ends ∙ ap (λ (f : Fail). outcome_of f)
-          (memory_alone (refused_from Internal BadFraming) why (request_framing given)
-          sends.settles.1.0 causes refused sends.settles.1.1)
+      (link back : L) (lease : Lease) → back ≡ link
+      → RunSoFar {C = C} state start_at s p w [] (Prepare context session link lease)
+      → Advances {C = C} state start_at s w (Close back lease false outcome.OutOfMemory)
+  not_begun s p w context session link back lease same run = record {
+    passed = p;
+    run = record {
+      tells = run.tells;
+      order = run.order;
+      untouched = run.untouched;
+      going = no_limit;
+      calm = tt;
+      holds = (
+        subst (λ (l : L). IsLeased s p (state l) (start_at l) lease) (sym same) run.holds.0,
+        (inr (run.holds.1.connecting.written, run.holds.1.connecting.unsent), refl),
+      );
+    };
+  }

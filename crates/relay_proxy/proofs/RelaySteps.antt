@@ -35,7 +35,10 @@ use Rattle.relay_attempt.specs.Order as exchange
 use Rattle.relay_attempt.specs.Order.{Leaves}
 use Rattle.relay_attempt.specs.Passed.{Passed}
 use Rattle.relay_attempt.specs.declared.h1_exchange.H1Exchange.{H1Exchange}
-use Rattle.relay_proxy.specs.Calls.{BreaksOff, KeepsCalls}
+use Rattle.relay_closing.specs.Place.{begun}
+use Rattle.relay_proxy.specs.Calls.{BreaksOff, HasFinished, KeepsCalls, closed_with}
+use Rattle.relay_proxy.specs.declared.calls.At.TheVariants as at
+use Rattle.relay_proxy.specs.declared.calls.Calls.{Calls}
 use Rattle.relay_proxy.specs.Relayable.{IsRelayable}
 use Rattle.relay_proxy.specs.Endings.{IsClientReusable, IsRelayedEarly, IsRelayedWhole, IsInOrder, EndsLinked, error_of}
 use Rattle.relay_proxy.specs.Leaving.{LeavesBy}
@@ -431,20 +434,21 @@ of_attempt P phase own is holds a same =
     subst P (same_attempt own a (sym is ∙ same)) holds
 
 -- an attempt that broke off left its context, and a session of the same head
-off_keeps : {L C : Type 0} (a b : Attempt L C) (next : Phase L C) → b.context ≡ a.context
+off_keeps : {L C M K : Type 0} (calls : Calls M K C) (a b : Attempt L C) (next : Phase L C)
+    → b.context ≡ a.context
     → head_of b.exchange.exchange.down.session.reading
     ≡ head_of a.exchange.exchange.down.session.reading
-    → BreaksOff b.context b.exchange.exchange.down.session next → KeepsCalls a next
-off_keeps a b ReadHead same head off = absurd off
-off_keeps a b (Connect context session tries) same head off = absurd off
-off_keeps a b (Prepare context session link lease) same head off = absurd off
-off_keeps a b (Relay k) same head off = absurd off
-off_keeps a b (Broken context session link lease keep error) same head off =
-    (off.0 ∙ same, ap (λ (h : HttpSession). head_of h.reading) off.1 ∙ head)
-off_keeps a b (stage.Fail link lease keep session error) same head off = absurd off
-off_keeps a b (Close link lease keep outcome) same head off = tt
-off_keeps a b (Answer session owed attempts) same head off = absurd off
-off_keeps a b (Ended outcome attempts) same head off = absurd off
+    → BreaksOff b.context b.exchange.exchange.down.session next → KeepsCalls a calls calls next
+off_keeps calls a b ReadHead same head off = absurd off
+off_keeps calls a b (Connect context session tries) same head off = absurd off
+off_keeps calls a b (Prepare context session link lease) same head off = absurd off
+off_keeps calls a b (Relay k) same head off = absurd off
+off_keeps calls a b (Broken context session link lease keep error) same head off =
+    (refl, off.0 ∙ same, ap (λ (h : HttpSession). head_of h.reading) off.1 ∙ head)
+off_keeps calls a b (stage.Fail link lease keep session error) same head off = absurd off
+off_keeps calls a b (Close link lease keep outcome) same head off = inl (refl, off)
+off_keeps calls a b (Answer session owed attempts) same head off = absurd off
+off_keeps calls a b (Ended outcome attempts) same head off = absurd off
 
 module _ {L C : Type 0} (state : L → LinkState) (start_at : L → LinkStart)
     (w x : World) (phase next : Phase L C) (did : Turn) (asked : Bool)
@@ -473,33 +477,48 @@ module _ {L C : Type 0} (state : L → LinkState) (start_at : L → LinkStart)
         subst (λ (k : Phase L C). Advances state start_at s x k) (sym within.stands) advances
 
     -- it leaves the context, and a session of the same head
-    pub kept_within : (a : Box (Attempt L C)) → phase ≡ Relay a → KeepsCalls a.value next
-    kept_within a is =
-        subst (λ (b : Box (Attempt L C)). KeepsCalls b.value next)
+    pub kept_within : {M K : Type 0} (calls : Calls M K C) (a : Box (Attempt L C))
+        → phase ≡ Relay a → KeepsCalls a.value calls calls next
+    kept_within calls a is =
+        subst (λ (b : Box (Attempt L C)). KeepsCalls b.value calls calls next)
         (same_attempt within.attempt a (sym within.was ∙ is))
-        (subst (λ (k : Phase L C). KeepsCalls within.attempt.value k) (sym within.stands)
-        (refl, within.turns.same_head))
+        (subst (λ (k : Phase L C). KeepsCalls within.attempt.value calls calls k)
+        (sym within.stands) (refl, refl, within.turns.same_head))
 
     -- so does one that failed
-    pub failed_keeps : (end : Phase L C)
+    pub failed_keeps : {M K : Type 0} (calls : Calls M K C) (end : Phase L C)
         → ((b : Box (Attempt L C)) → next ≡ Relay b
         → BreaksOff b.value.context b.value.exchange.exchange.down.session end)
-        → (a : Box (Attempt L C)) → phase ≡ Relay a → KeepsCalls a.value end
-    failed_keeps end off a is =
-        subst (λ (b : Box (Attempt L C)). KeepsCalls b.value end)
+        → (a : Box (Attempt L C)) → phase ≡ Relay a → KeepsCalls a.value calls calls end
+    failed_keeps calls end off a is =
+        subst (λ (b : Box (Attempt L C)). KeepsCalls b.value calls calls end)
         (same_attempt within.attempt a (sym within.was ∙ is))
-        (off_keeps within.attempt.value (turned within.attempt within.exchange).value end refl
+        (off_keeps calls within.attempt.value (turned within.attempt within.exchange).value end refl
         within.turns.same_head (off (turned within.attempt within.exchange) within.stands))
 
-    -- and one that finished
-    pub finished_keeps : (end : Phase L C)
+    -- and of one that finished the end begins
+    pub finished_keeps : {M K : Type 0} (calls new : Calls M K C) (end : Phase L C)
         → ((a : Box (Attempt L C)) → next ≡ Relay a
         → end ≡ Close (link_of a.value.exchange) a.value.lease (may_keep a.value.exchange)
         (Served None (client_reusable a.value.exchange x.ahead)))
-        → (a : Box (Attempt L C)) → phase ≡ Relay a → KeepsCalls a.value end
-    finished_keeps end closes a is =
-        subst (λ (k : Phase L C). KeepsCalls a.value k)
-        (sym (closes (turned within.attempt within.exchange) within.stands)) tt
+        → ((a : Box (Attempt L C)) → next ≡ Relay a
+        → new ≡ closed_with (record calls { at = at.Closing a.value.context (begun None) })
+        a.value.exchange.exchange.down.session None)
+        → (a : Box (Attempt L C)) → phase ≡ Relay a → KeepsCalls a.value calls new end
+    finished_keeps calls new end closes calls_are a is =
+        let here = turned within.attempt within.exchange in
+        let done : HasFinished within.attempt.value calls new
+        (Served None (client_reusable within.exchange x.ahead)) = record {
+          client = within.exchange.exchange.down.session;
+          head = within.turns.same_head;
+          calls = calls_are here within.stands;
+          reuse = client_reusable within.exchange x.ahead;
+          served = refl;
+        } in
+        subst (λ (b : Box (Attempt L C)). KeepsCalls b.value calls new end)
+        (same_attempt within.attempt a (sym within.was ∙ is))
+        (subst (λ (k : Phase L C). KeepsCalls within.attempt.value calls new k)
+        (sym (closes here within.stands)) (inr done))
 
     -- a turn that moved
     pub moved_within : did.step ≡ step.Moved → x.connect_faults ≡ w.connect_faults → (s : Start)

@@ -24,7 +24,7 @@ use Rattle.relay_authority.specs.declared.upstream.Upstream.TheVariants as over
 use Rattle.relay_phases.specs.Order.{Station, Accepts, accepted}
 use Rattle.relay_proxy.specs.Ahead.{LetsGo, goes_on}
 use Rattle.relay_proxy.specs.Calls.{IsUnended}
-use Rattle.relay_proxy.specs.Passed.{Start, before_end, begins_end, called_to, closed_to, from_end, opened_to}
+use Rattle.relay_proxy.specs.Passed.{Start, before_end, begins_end, answer_in, called_to, closed_to, opened_to}
 use Rattle.relay_proxy.specs.Sent.{FailsAt, Filters, IsTreated, IsUntreated, RefusesToSend, Sends, is_of, only_treats}
 
 -- a call of another hook is none of that one
@@ -69,13 +69,14 @@ before_all (e ∷ es) none = first (begins_end e.hook) none (before_all es)
     first true is rest = absurd (true≢false is)
     first false is rest = ap (λ (l : List LogEntry). e ∷ l) (rest is)
 
-from_none : (log : List LogEntry) → IsUnended log → from_end log ≡ []
-from_none [] none = refl
-from_none (e ∷ es) none = first (begins_end e.hook) none (from_none es)
+answer_none : (log : List LogEntry) → IsUnended log → answer_in log ≡ []
+answer_none [] none = refl
+answer_none (e ∷ es) none = first (begins_end e.hook) none (answer_none es)
   where
     first : (b : Bool) → (b || list_any (λ x. begins_end x.hook) es) ≡ false
-        → (IsUnended es → from_end es ≡ [])
-        → (if b then e ∷ es else from_end es) ≡ []
+        → (IsUnended es → answer_in es ≡ [])
+        → (if b then (if same_hook hook.FailToProxy e.hook then e ∷ [] else []) else answer_in es)
+        ≡ []
     first true is rest = absurd (true≢false is)
     first false is rest = rest is
 
@@ -83,8 +84,8 @@ from_none (e ∷ es) none = first (begins_end e.hook) none (from_none es)
 pub still_open : (s : Start) (log : List LogEntry) → IsUnended log
     → called_to s log ≡ opened_to s log
 still_open s log none =
-    ap (λ (l : List LogEntry). closed_to s l (from_end log)) (before_all log none)
-    ∙ ap (λ (l : List LogEntry). closed_to s log l) (from_none log none)
+    ap (λ (l : List LogEntry). closed_to s l (answer_in log)) (before_all log none)
+    ∙ ap (λ (l : List LogEntry). closed_to s log l) (answer_none log none)
 
 -- behind a call with which the end begins, the calls before it are those that were made, and it is
 -- the one of the end
@@ -99,25 +100,28 @@ before_one (x ∷ es) e none is = first (begins_end x.hook) none (λ rest. befor
     first true is rest = absurd (true≢false is)
     first false is rest = ap (λ (l : List LogEntry). x ∷ l) (rest is)
 
-from_one : (log : List LogEntry) (e : LogEntry) → IsUnended log → begins_end e.hook ≡ true
-    → from_end (log ++ e ∷ []) ≡ e ∷ []
-from_one [] e none is = rw is refl
-from_one (x ∷ es) e none is = first (begins_end x.hook) none (λ rest. from_one es e rest is)
+answer_one : (log : List LogEntry) (e : LogEntry) → IsUnended log
+    → same_hook hook.FailToProxy e.hook ≡ true → answer_in (log ++ e ∷ []) ≡ e ∷ []
+answer_one [] e none is = rw is refl
+answer_one (x ∷ es) e none is = first (begins_end x.hook) none (λ rest. answer_one es e rest is)
   where
     first : (b : Bool) → (b || list_any (λ y. begins_end y.hook) es) ≡ false
-        → (IsUnended es → from_end (es ++ e ∷ []) ≡ e ∷ [])
-        → (if b then x ∷ (es ++ e ∷ []) else from_end (es ++ e ∷ [])) ≡ e ∷ []
+        → (IsUnended es → answer_in (es ++ e ∷ []) ≡ e ∷ [])
+        → (if b then (if same_hook hook.FailToProxy x.hook then x ∷ [] else [])
+        else answer_in (es ++ e ∷ [])) ≡ e ∷ []
     first true is rest = absurd (true≢false is)
     first false is rest = rest is
 
+-- the end begins with the answer to an error
 pub ends_with : (s : Start) (these those : List LogEntry) (e : LogEntry)
-    → those ≡ these ++ e ∷ [] → IsUnended these → begins_end e.hook ≡ true
+    → those ≡ these ++ e ∷ [] → IsUnended these → same_hook hook.FailToProxy e.hook ≡ true
     → called_to s those ≡ closed_to s these (e ∷ [])
 ends_with s these those e more none is =
+    let begins : begins_end e.hook ≡ true = rw is refl in
     ap (λ (l : List LogEntry). called_to s l) more
-    ∙ (ap (λ (l : List LogEntry). closed_to s l (from_end (these ++ e ∷ [])))
-    (before_one these e none is)
-    ∙ ap (λ (l : List LogEntry). closed_to s these l) (from_one these e none is))
+    ∙ (ap (λ (l : List LogEntry). closed_to s l (answer_in (these ++ e ∷ [])))
+    (before_one these e none begins)
+    ∙ ap (λ (l : List LogEntry). closed_to s these l) (answer_one these e none is))
 
 -- where none was treated, the whole log lets the request go
 pub record LetsAt (called : List LogEntry) : Type 0 where

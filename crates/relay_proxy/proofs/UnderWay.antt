@@ -1,5 +1,5 @@
 -- A request between two steps of one call.
-use Rattle.std.proofs.Common.{◌≡◌, ◌≢◌, ℕ, ◌+◌, min, ◌≤◌, true, false, List, [], ◌++◌, Option, true≢false, refl, sym, ap, subst, ◌∙◌, inl, inr, arith, length}
+use Rattle.std.proofs.Common.{◌≡◌, ◌≢◌, ℕ, ◌+◌, min, ◌≤◌, true, false, List, [], ◌++◌, Option, true≢false, ◌⊎◌, refl, sym, ap, subst, ◌∙◌, inl, inr, arith, length}
 use Rattle.relay_links.specs.Count.{last_count, up}
 use Rattle.relay_links.specs.Connector.{Offer}
 use Rattle.relay_links.specs.Link.{LinkState, LinkStart}
@@ -10,16 +10,21 @@ use Rattle.relay_tasks.specs.declared.Fault.{Fault}
 use Rattle.relay_tasks.specs.declared.took.Pause.TheVariants.{NotReady, Silent}
 use Rattle.relay_attempt.specs.Passed.{Passed}
 use Rattle.relay_proxy.specs.Bound.{IsBounded, IsWithin, OwnGave, PhaseCounts, most_sides}
+use Rattle.relay_proxy.specs.Calls.{is_ending}
+use Rattle.relay_proxy.specs.ClosingHooks.{Gives}
 use Rattle.relay_proxy.specs.Passed.{World, Start, start_of, nothing}
 use Rattle.relay_proxy.specs.Taken.{Takes, offers_before}
 use Rattle.relay_proxy.specs.Phases.{RunSoFar}
 use Rattle.relay_proxy.specs.Refusals.{attempts_in, faults_for, faults_before}
 use Rattle.relay_proxy.specs.Stock.{items_held}
-use Rattle.relay_proxy.specs.Request.{is_stop, Counts, StepsOn, ComesToEnd, Processes}
-use Rattle.relay_proxy.specs.Turn.{IsStalled, HasCause, links_held, is_over, is_end}
+use Rattle.relay_proxy.specs.Request.{is_done, is_stop, CameTo, Counts, StepsOn, ComesToEnd, Processes}
+use Rattle.relay_proxy.specs.Turn.{IsStalled, HasCause, links_held, is_end}
 use Rattle.relay_proxy.specs.Uses.{PhaseUses, OwnUses, StepCounts, CountsAll, ups}
 use Rattle.relay_proxy.specs.declared.machine.Machine.{Machine}
+use Rattle.relay_proxy.specs.declared.calls.At.{At}
 use Rattle.relay_proxy.specs.declared.machine.Phase.{Phase}
+use Rattle.relay_proxy.specs.declared.machine.Phase.TheVariants.{ReadHead, Connect, Prepare, Relay, Broken, Fail, Close, Answer, Ended}
+use Rattle.relay_proxy.specs.declared.outcome.Outcome.{Outcome}
 use Rattle.relay_proxy.specs.declared.machine.RunStep.{RunStep}
 use Rattle.relay_proxy.specs.declared.machine.RunStep.TheVariants as step
 use Rattle.relay_proxy.specs.declared.outcome.Outcome.TheVariants.{TurnLimit}
@@ -217,26 +222,44 @@ module _ {L C : Type 0} (state : L → LinkState) (start_at : L → LinkStart) w
     counted = omega (arith, one, under.counted);
   }
 
+  -- a request of which all is silent has not ended
+  stalled_limit : (w : World) (phase : Phase L C) (came : Outcome) → CameTo phase came
+      → IsStalled state start_at w phase → came ≡ TurnLimit
+  stalled_limit w ReadHead came is stalled = is
+  stalled_limit w (Connect context session tries) came is stalled = absurd stalled
+  stalled_limit w (Prepare context session link lease) came is stalled = absurd stalled
+  stalled_limit w (Relay a) came is stalled = is
+  stalled_limit w (Broken context session link lease keep e) came is stalled = absurd stalled
+  stalled_limit w (Fail link lease keep session e) came is stalled = absurd stalled
+  stalled_limit w (Close link lease keep outcome) came is stalled = absurd stalled
+  stalled_limit w (Answer session owed attempts) came is stalled = is
+  stalled_limit w (Ended outcome attempts) came is stalled = absurd stalled
+
   -- the end of a request whose turns were all taken
   pub all_taken : (s : Start) (w x : World) (before now after : Option (List (Returned L)))
       (t u v : Option (List Fault)) (h k l : Option (List Offer)) (first : LinkState)
-      (m : Machine L C) (turns most : ℕ) (processed : Processed)
+      (m : Machine L C) {K : Type 0} (here : At K C) (turns most : ℕ) (processed : Processed)
       (under : IsUnderWay s w before now t u h k first m turns) → most ≡ turns
-      → ComesToEnd state start_at s under.passed x under.own now after m.phase processed
+      → (ends : ComesToEnd state start_at s under.passed x under.own now after m.phase here
+      processed)
+      → Gives processed.history.log ends.came processed.outcome
       → v ≡ u → l ≡ k → processed.history.turns_taken ≡ m.turns → x.client ≡ w.client
       → x.ahead ≡ w.ahead
       → processed.history.items_used ≡ m.work.used
       → processed.history.tasks_moved ≡ m.work.moved
       → processed.history.sides_ended ≡ m.work.ended → m.turns ≤ total_work m.work
-      → m.work.called ≤ length processed.history.log → Processes state start_at s x before after t v h l first most processed
-  all_taken s w x before now after t u v h k l first m turns most processed under all ends told kept
-      taken same kept_ahead items tasks sides worked logged = record {
+      → m.work.called ≤ length processed.history.log
+      → Processes state start_at s x before after t v h l first most processed
+  all_taken s w x before now after t u v h k l first m here turns most processed under all ends
+      gives told kept taken same kept_ahead items tasks sides worked logged = record {
         passed = under.passed;
         own = under.own ++ ends.handed;
         gained = ends.gained
             ∙ ap (λ (t : Option (List (Returned L))). more t ends.handed) under.gained
             ∙ more-more before under.own ends.handed;
+        came = ends.came;
         ended = ends.ended;
+        given = gives;
         refused = subst (λ (fs : List Fault). Gains t fs v) (sym ends.refused)
             (subst (λ (o : Option (List Fault)). Gains t (faults_before under.own m.phase) o)
             (sym told) under.refused);
@@ -249,26 +272,27 @@ module _ {L C : Type 0} (state : L → LinkState) (start_at : L → LinkStart) w
             under.uses) ends.uses items;
         bounded = bounded_by state start_at s x.client (under.own ++ ends.handed) processed m.turns
             m.work
-            under.tasks under.ends taken items tasks sides worked logged under.tasks_fit under.ends_fit
-            (ends.bounded under.tasks under.ends
+            under.tasks under.ends taken items tasks sides worked logged under.tasks_fit
+            under.ends_fit (ends.bounded under.tasks under.ends
             (still_counts under.tasks under.ends s w x under.own m.phase same kept_ahead
             under.bounded));
         attempts = at_most state start_at s under.passed x (under.own ++ ends.handed)
-            processed.history.attempts processed.outcome ends.ended.ends;
+            processed.history.attempts ends.came ends.ended.ends;
         exact = exact_of state start_at s under.passed x (under.own ++ ends.handed)
-            processed.history.attempts processed.outcome ends.ended;
+            processed.history.attempts ends.came ends.ended;
         limit = λ is. inl (taken ∙ under.counted ∙ sym all);
       }
 
   -- the end of a request after a step that ended it, or that met silence
   pub stopped : (s s' : Start) (w x y : World) (before now mid after : Option (List (Returned L)))
       (t u v z : Option (List Fault)) (h k l a : Option (List Offer)) (first : LinkState)
-      (m n : Machine L C) (turns most : ℕ) (processed : Processed)
+      (m n : Machine L C) {K : Type 0} (here : At K C) (turns most : ℕ) (processed : Processed)
       (under : IsUnderWay s w before now t u h k first m turns)
       (steps : StepsOn state start_at s s' under.passed x under.own now mid u v k l w.client
       w.ahead m.work n.work m.phase n.phase)
-      → ComesToEnd state start_at s' steps.passed y (under.own ++ steps.handed) mid after n.phase
-      processed
+      → (ends : ComesToEnd state start_at s' steps.passed y (under.own ++ steps.handed) mid after
+      n.phase here processed)
+      → Gives processed.history.log ends.came processed.outcome
       → z ≡ v → a ≡ l → (processed.outcome ≡ TurnLimit → IsStalled state start_at y n.phase)
       → y.client ≡ x.client → y.ahead ≡ x.ahead → processed.history.turns_taken ≡ n.turns
       → processed.history.items_used ≡ n.work.used
@@ -276,8 +300,8 @@ module _ {L C : Type 0} (state : L → LinkState) (start_at : L → LinkStart) w
       → processed.history.sides_ended ≡ n.work.ended → n.turns ≤ total_work n.work
       → n.work.called ≤ length processed.history.log
       → Processes state start_at s' y before after t z h a first most processed
-  stopped s s' w x y before now mid after t u v z h k l a first m n turns most processed under steps
-      ends told kept stalled same kept_ahead taken items tasks sides worked logged =
+  stopped s s' w x y before now mid after t u v z h k l a first m n here turns most processed under
+      steps ends gives told kept stalled same kept_ahead taken items tasks sides worked logged =
       record {
         passed = steps.passed;
         own = (under.own ++ steps.handed) ++ ends.handed;
@@ -287,7 +311,9 @@ module _ {L C : Type 0} (state : L → LinkState) (start_at : L → LinkStart) w
             ∙ ap (λ (t : Option (List (Returned L))). more t steps.handed) under.gained
             ∙ more-more before under.own steps.handed)
             ∙ more-more before (under.own ++ steps.handed) ends.handed;
+        came = ends.came;
         ended = ends.ended;
+        given = gives;
         refused = subst (λ (fs : List Fault). Gains t fs z) (steps.refused.are ∙ sym ends.refused)
             (subst (λ (o : Option (List Fault)). Gains t
             (faults_before under.own m.phase ++ steps.refused.faults) o) (sym told)
@@ -319,24 +345,31 @@ module _ {L C : Type 0} (state : L → LinkState) (start_at : L → LinkStart) w
             kept_ahead (steps.bounded under.tasks under.ends under.bounded)));
         attempts = at_most state start_at s' steps.passed y
             ((under.own ++ steps.handed) ++ ends.handed) processed.history.attempts
-            processed.outcome ends.ended.ends;
+            ends.came ends.ended.ends;
         exact = exact_of state start_at s' steps.passed y
             ((under.own ++ steps.handed) ++ ends.handed) processed.history.attempts
-            processed.outcome ends.ended;
-        limit = λ is. inr (ends.quiet is (stalled is));
+            ends.came ends.ended;
+        limit = λ is. inr (ends.quiet
+            (stalled_limit y n.phase ends.came ends.comes (stalled is)) (stalled is));
       }
 
   -- where the call stops and the request has not ended, all that it asks is silent
-  pub stops_at : (w x y : World) (phase next : Phase L C) (did : RunStep) (processed : Processed)
-      → is_stop did ≡ true → HasCause state start_at w x phase next did
-      → is_over next ≡ is_end did → y ≡ x
-      → (is_over next ≡ true → processed.outcome ≢ TurnLimit)
-      → processed.outcome ≡ TurnLimit → IsStalled state start_at y next
-  stops_at w x y phase next step.Moved processed stops cause ends same over limit =
+  pub stops_at : (w x y : World) (phase next : Phase L C) {K : Type 0} (here : At K C)
+      (did : RunStep) (outcome : Outcome) → is_stop did ≡ true
+      → HasCause state start_at w x phase next did
+      ⊎ ((is_ending next here ≡ true) × (did ≡ step.Moved))
+      → is_done next here ≡ is_end did → y ≡ x
+      → (is_done next here ≡ true → outcome ≢ TurnLimit)
+      → outcome ≡ TurnLimit → IsStalled state start_at y next
+  stops_at w x y phase next here step.Moved outcome stops cause ends same over limit =
       absurd (true≢false (sym stops))
-  stops_at w x y phase next (step.Waited NotReady) processed stops cause ends same over limit =
+  stops_at w x y phase next here (step.Waited NotReady) outcome stops cause ends same over limit =
       absurd (true≢false (sym stops))
-  stops_at w x y phase next (step.Waited Silent) processed stops cause ends same over limit =
+  stops_at w x y phase next here (step.Waited Silent) outcome stops (inl cause) ends same over
+      limit =
       subst (λ (z : World). IsStalled state start_at z next) (sym same) cause.stalled
-  stops_at w x y phase next step.Ended processed stops cause ends same over limit =
+  stops_at w x y phase next here (step.Waited Silent) outcome stops (inr moved) ends same over
+      limit =
+      let other : step.Waited Silent ≡ step.Moved = moved.1 in absurd (cc)
+  stops_at w x y phase next here step.Ended outcome stops cause ends same over limit =
       absurd (over ends limit)

@@ -1,6 +1,6 @@
 -- The calls of an application for one request: what its hooks are shown, their log, and where they
 -- stand (RFC 9110, section 3.7).
-use Rattle.std.specs.Prelude.{◌≡◌, ℕ, ◌+◌, ◌≤◌, Bool, IsTrue, true, false, is_some, length, List, [], Option, Some, None, Ok}
+use Rattle.std.specs.Prelude.{◌≡◌, ℕ, ◌+◌, ◌≤◌, ◌⊎◌, Bool, IsSome, IsTrue, true, false, is_some, length, List, [], ◌∷◌, ◌++◌, Option, Some, None, Ok, if◌then◌else◌}
 use Rattle.relay_tasks.specs.declared.Error.{Error}
 use Rattle.relay_tasks.specs.declared.Peer.{Peer}
 use Rattle.relay_tasks.specs.declared.hook.Hook.{Hook}
@@ -11,8 +11,11 @@ use Rattle.std.specs.List.{list_any}
 use Rattle.relay_session.specs.Reading.{head_of}
 use Rattle.relay_session.specs.Response.{has_head}
 use Rattle.relay_session.specs.declared.session.HttpSession.{HttpSession}
+use Rattle.std.specs.Global.{Box}
+use Rattle.relay_tasks.specs.declared.Fault.{Fault}
 use Rattle.relay_modules.specs.Module.{ModuleCall}
 use Rattle.relay_modules.specs.declared.seen.Seen.{Seen}
+use Rattle.relay_hooks.specs.Call.{failure}
 use Rattle.relay_hooks.specs.Session.{moment}
 use Rattle.relay_hooks.specs.Standing.{Standing, standing}
 use Rattle.relay_calls.specs.Log.{IsAllowed, Walk}
@@ -26,9 +29,18 @@ use Rattle.relay_opening.specs.declared.place.End.TheVariants as end
 use Rattle.relay_opening.specs.declared.place.Place.{Place}
 use Rattle.relay_opening.specs.declared.place.Place.TheVariants as place
 use Rattle.relay_trying.specs.Trying.{NamesPeer, may_break}
-use Rattle.relay_closing.specs.Place.{may_fail}
+use Rattle.relay_closing.specs.Closes.{TurnsOn, logged_in, logged_to}
+use Rattle.relay_closing.specs.Place.{begins_at, begun, is_lost, may_begin, may_fail}
+use Rattle.relay_closing.specs.Place.{station_of as closing_at}
 use Rattle.relay_closing.specs.Queued.{QueuesOnce}
+use Rattle.relay_closing.specs.declared.place.End.{End}
+use Rattle.relay_closing.specs.declared.place.Failure.{Failure}
+use Rattle.relay_closing.specs.declared.place.Place.{Place as Last}
+use Rattle.relay_closing.specs.declared.place.Place.TheVariants as closing
+use Rattle.relay_closing.specs.declared.place.Stage.{Stage}
+use Rattle.relay_closing.specs.declared.place.Stage.TheVariants as stage
 use Rattle.relay_proxy.specs.Ahead.{LastFails}
+use Rattle.relay_proxy.specs.ClosingHooks.{IsLeftUnheard, calls_next, error_to, failed_with, given, has_begun, kept_in}
 use Rattle.relay_proxy.specs.Named.{IsNamed}
 use Rattle.relay_proxy.specs.Passed.{begins_end}
 use Rattle.relay_proxy.specs.Sent.{IsTreated, IsUntreated}
@@ -38,22 +50,30 @@ use Rattle.relay_proxy.specs.declared.calls.At.TheVariants as at
 use Rattle.relay_proxy.specs.declared.calls.Calls.{Calls}
 use Rattle.relay_proxy.specs.declared.calls.Opened.{Opened}
 use Rattle.relay_proxy.specs.declared.calls.Opened.TheVariants as led
+use Rattle.relay_proxy.specs.declared.outcome.Outcome.{Outcome}
+use Rattle.relay_proxy.specs.declared.outcome.Outcome.TheVariants.{NoRequest, Refused, Served, TurnLimit, OutOfMemory}
+use Rattle.relay_proxy.specs.Endings.{error_of}
+use Rattle.relay_proxy.specs.Owed.{outcome_failed, outcome_owed}
+use Rattle.relay_proxy.specs.declared.owed.Owed.{Owed}
+use Rattle.relay_proxy.specs.declared.owed.Owed.TheVariants as owing
 use Rattle.relay_proxy.specs.declared.work.Work.{Work}
 use Rattle.relay_proxy.specs.declared.record.AttemptRecord.{AttemptRecord}
+use Rattle.relay_proxy.specs.Work.{added_work, turns_after}
 use Rattle.relay_proxy.specs.declared.machine.Attempt.{Attempt}
+use Rattle.relay_proxy.specs.declared.machine.Machine.{Machine}
 use Rattle.relay_proxy.specs.declared.machine.Phase.{Phase}
 use Rattle.relay_proxy.specs.declared.machine.Phase.TheVariants.{ReadHead, Connect, Prepare, Relay, Broken, Fail, Close, Answer, Ended}
 
 -- the log
-abbrev pub log_of : {M K : Type 0} → Calls M K → List LogEntry
+abbrev pub log_of : {M K X : Type 0} → Calls M K X → List LogEntry
 log_of calls = calls.session.seen.log
 
 -- what hooks are shown: the session, with its client in it
-abbrev pub seen_with : {M K : Type 0} → Calls M K → HttpSession → Seen
+abbrev pub seen_with : {M K X : Type 0} → Calls M K X → HttpSession → Seen
 seen_with calls client = record calls.session.seen { downstream = client }
 
 -- the context was made, and that value was kept from the request before, or none
-abbrev pub HasBegun : {K : Type 0} → At K → Type 0
+abbrev pub HasBegun : {K X : Type 0} → At K X → Type 0
 HasBegun {K} here =
     (kept : Option K) × (here ≡ at.Opening (place.Behind (called.Made kept)))
 
@@ -68,16 +88,16 @@ next_after (place.Ended (end.Unwritten why)) has_modules = None
 next_after (place.Ended (end.Failed error)) has_modules = None
 next_after place.Lost has_modules = None
 
-abbrev pub comes_next : {K : Type 0} → At K → Bool → Option Hook
+abbrev pub comes_next : {K X : Type 0} → At K X → Bool → Option Hook
 comes_next (at.Kept kept) has_modules = None
 comes_next (at.Opening there) has_modules = next_after there has_modules
 comes_next (at.Named peer) has_modules = None
 comes_next at.Linked has_modules = None
 comes_next (at.Treated error) has_modules = None
-comes_next (at.Closing there) has_modules = None
+comes_next (at.Closing held there) has_modules = None
 
 -- one is called next, and no peer was named
-abbrev pub is_calling : {K : Type 0} → At K → Bool
+abbrev pub is_calling : {K X : Type 0} → At K X → Bool
 is_calling here = is_some (comes_next here false)
 
 -- the error that a hook before the attempts answered, which is to be answered
@@ -92,31 +112,92 @@ failed_at (place.Ended (end.Failed error)) = Some error
 failed_at place.Lost = None
 
 -- the same, wherever it stands
-abbrev pub final_at : {K : Type 0} → At K → Option Error
+abbrev pub final_at : {K X : Type 0} → At K X → Option Error
 final_at (at.Kept kept) = None
 final_at (at.Opening there) = failed_at there
 final_at (at.Named peer) = None
 final_at at.Linked = None
 final_at (at.Treated error) = None
-final_at (at.Closing there) = None
+final_at (at.Closing held there) = None
 
 -- the error of an attempt as it was treated, which is to be answered
-abbrev pub treated_at : {K : Type 0} → At K → Option Error
+abbrev pub treated_at : {K X : Type 0} → At K X → Option Error
 treated_at (at.Kept kept) = None
 treated_at (at.Opening there) = None
 treated_at (at.Named peer) = None
 treated_at at.Linked = None
 treated_at (at.Treated error) = Some error
-treated_at (at.Closing there) = None
+treated_at (at.Closing held there) = None
+
+-- a hook of the end is called next; `goes_back` says that the client may ask for more
+abbrev pub has_last : {K X : Type 0} → At K X → Bool → Bool
+has_last (at.Kept kept) goes_back = false
+has_last (at.Opening there) goes_back = false
+has_last (at.Named peer) goes_back = false
+has_last at.Linked goes_back = false
+has_last (at.Treated error) goes_back = false
+has_last (at.Closing held there) goes_back = calls_next there goes_back
+
+-- the end of the request has begun, or begins next
+abbrev pub is_closing_at : {K X : Type 0} → At K X → Bool
+is_closing_at (at.Kept kept) = false
+is_closing_at (at.Opening there) = false
+is_closing_at (at.Named peer) = false
+is_closing_at at.Linked = false
+is_closing_at (at.Treated error) = false
+is_closing_at (at.Closing held there) = true
+
+-- memory was wanted in the hooks of the end
+abbrev pub is_lost_at : {K X : Type 0} → At K X → Bool
+is_lost_at (at.Kept kept) = false
+is_lost_at (at.Opening there) = false
+is_lost_at (at.Named peer) = false
+is_lost_at at.Linked = false
+is_lost_at (at.Treated error) = false
+is_lost_at (at.Closing held there) = is_lost there
+
+-- where the end stands once an error was told, or none
+abbrev pub ended_with : {K X : Type 0} → At K X → Option Error → At K X
+ended_with (at.Kept kept) error = at.Kept kept
+ended_with (at.Opening there) error = at.Opening there
+ended_with (at.Named peer) error = at.Named peer
+ended_with at.Linked error = at.Linked
+ended_with (at.Treated treated) error = at.Treated treated
+ended_with (at.Closing held there) error = at.Closing held (failed_with there error)
+
+-- the session has its client again, of which nothing is written any more
+abbrev pub closed_with : {M K X : Type 0} → Calls M K X → HttpSession → Option Error → Calls M K X
+closed_with calls client error = record {
+  session = record calls.session { seen = seen_with calls client };
+  at = ended_with calls.at error;
+}
+
+-- the outcome that is given of a request that came to that one
+abbrev pub given_at : {K X : Type 0} → At K X → Outcome → Outcome
+given_at (at.Kept kept) came = came
+given_at (at.Opening there) came = came
+given_at (at.Named peer) came = came
+given_at at.Linked came = came
+given_at (at.Treated error) came = came
+given_at (at.Closing held there) came = given there came
+
+-- the value that is kept for the next request of the connection, or none
+abbrev pub kept_at : {K X : Type 0} → At K X → Option K
+kept_at (at.Kept kept) = None
+kept_at (at.Opening there) = None
+kept_at (at.Named peer) = None
+kept_at at.Linked = None
+kept_at (at.Treated error) = None
+kept_at (at.Closing held there) = kept_in there
 
 -- a peer was named
-abbrev pub has_peer : {K : Type 0} → At K → Bool
+abbrev pub has_peer : {K X : Type 0} → At K X → Bool
 has_peer (at.Kept kept) = false
 has_peer (at.Opening there) = false
 has_peer (at.Named peer) = true
 has_peer at.Linked = true
 has_peer (at.Treated error) = true
-has_peer (at.Closing there) = true
+has_peer (at.Closing held there) = true
 
 -- the station at which the order of calls has the request
 abbrev pub place_station : {K : Type 0} → Place K → Station
@@ -124,13 +205,13 @@ place_station (place.Behind last) = station_of last
 place_station (place.Ended how) = end_station how
 place_station place.Lost = station.accepted
 
-abbrev pub station_at : {K : Type 0} → At K → Station
+abbrev pub station_at : {K X : Type 0} → At K X → Station
 station_at (at.Kept kept) = station.accepted
 station_at (at.Opening there) = place_station there
 station_at (at.Named peer) = station.named
 station_at at.Linked = station.linked
 station_at (at.Treated error) = station.failing
-station_at (at.Closing there) = station.told
+station_at (at.Closing held there) = station.told
 
 -- the request goes on there: another hook comes next, an error is to be answered, or the connector is
 -- asked
@@ -144,13 +225,13 @@ Goes (place.Ended (end.Unwritten why)) = ⊥
 Goes (place.Ended (end.Failed error)) = Unit {0}
 Goes place.Lost = ⊥
 
-abbrev pub GoesOn : {K : Type 0} → At K → Type 0
+abbrev pub GoesOn : {K X : Type 0} → At K X → Type 0
 GoesOn (at.Kept kept) = ⊥
 GoesOn (at.Opening there) = Goes there
 GoesOn (at.Named peer) = Unit {0}
 GoesOn at.Linked = Unit {0}
 GoesOn (at.Treated error) = ⊥
-GoesOn (at.Closing there) = ⊥
+GoesOn (at.Closing held there) = ⊥
 
 -- the error that a hook answered is that of the last call of the log
 abbrev pub TellsError : Option Error → List LogEntry → Type 0
@@ -158,13 +239,13 @@ TellsError None log = Unit {0}
 TellsError (Some error) log = LastFails log error
 
 -- the peer that was named is the one that the log tells, and so is the error of a hook
-abbrev pub TellsPeer : {K : Type 0} → At K → List LogEntry → Type 0
+abbrev pub TellsPeer : {K X : Type 0} → At K X → List LogEntry → Type 0
 TellsPeer (at.Kept kept) log = Unit {0}
 TellsPeer (at.Opening there) log = TellsError (failed_at there) log
 TellsPeer (at.Named peer) log = IsNamed log peer
 TellsPeer at.Linked log = Unit {0}
 TellsPeer (at.Treated error) log = Unit {0}
-TellsPeer (at.Closing there) log = Unit {0}
+TellsPeer (at.Closing held there) log = Unit {0}
 
 -- what a call led to, by where the hooks stand behind it; a purge is not done so far
 abbrev pub leads_to : {K : Type 0} → Place K → Opened
@@ -177,19 +258,19 @@ leads_to (place.Ended (end.Unwritten why)) = led.OutOfMemory
 leads_to (place.Ended (end.Failed error)) = led.GoesOn
 leads_to place.Lost = led.OutOfMemory
 
-abbrev pub leads_at : {K : Type 0} → At K → Opened
+abbrev pub leads_at : {K X : Type 0} → At K X → Opened
 leads_at (at.Kept kept) = led.OutOfMemory
 leads_at (at.Opening there) = leads_to there
 leads_at (at.Named peer) = led.GoesOn
 leads_at at.Linked = led.GoesOn
 leads_at (at.Treated error) = led.OutOfMemory
-leads_at (at.Closing there) = led.OutOfMemory
+leads_at (at.Closing held there) = led.OutOfMemory
 
 module _ (allows : Standing → LogEntry → Type 0) where
   -- from there the hook that comes next was called, and led to that; out of memory no entry is new,
   -- wherever it stood
-  pub data TakesNext {K : Type 0} (here : At K) (has_modules : Bool) (old : Seen) (before : ℕ)
-      (new : Seen) (behind : ℕ) (to : At K) : Type 0 where
+  pub data TakesNext {K X : Type 0} (here : At K X) (has_modules : Bool) (old : Seen) (before : ℕ)
+      (new : Seen) (behind : ℕ) (to : At K X) : Type 0 where
     leads : (which : Hook) → comes_next here has_modules ≡ Some which → (there : Place K)
         → to ≡ at.Opening there
         → TurnsTo allows which (station_at here) old before new behind there
@@ -201,7 +282,7 @@ module _ (allows : Standing → LogEntry → Type 0) where
         → TakesNext here has_modules old before new behind to
 
   -- the same of the calls of a request, with its client shown
-  abbrev pub CallsNext : {M K : Type 0} → Calls M K → HttpSession → ℕ → Calls M K → HttpSession → ℕ
+  abbrev pub CallsNext : {M K X : Type 0} → Calls M K X → HttpSession → ℕ → Calls M K X → HttpSession → ℕ
       → Type 0
   CallsNext old client mark new left behind =
       TakesNext old.at (is_some old.session.modules) (seen_with old client) mark
@@ -226,15 +307,28 @@ pub record IsLogged (allows : Standing → LogEntry → Type 0) (log : List LogE
 abbrev pub IsUnended : List LogEntry → Type 0
 IsUnended log = list_any (λ e. begins_end e.hook) log ≡ false
 
+-- `logging` is not called so far of a purge, and of a request to which no link was given
+abbrev pub IsUnheard : (Standing → LogEntry → Type 0) → List LogEntry → Type 0
+IsUnheard allows log =
+    ((at : Station) × IsLogged allows log at) × IsLeftUnheard log
+
+-- the last call asked what is kept for the next request of the connection, and a value is
+pub record KeepsValue (log : List LogEntry) : Type 0 where
+  pub before : List LogEntry
+  pub last : LogEntry
+  pub log_is : log ≡ before ++ last ∷ []
+  pub asks : last.hook ≡ hook.PersistConnectionContext
+  pub keeps : last.output ≡ item.Kept true
+
 -- the error of an attempt may be treated at that station; or it was, and is to be answered there
-abbrev pub BreaksAt : {K : Type 0} → At K → List LogEntry → Error → Station → Type 0
+abbrev pub BreaksAt : {K X : Type 0} → At K X → List LogEntry → Error → Station → Type 0
 BreaksAt (at.Kept kept) log error here = IsTrue (may_break here)
 BreaksAt (at.Opening there) log error here = IsTrue (may_break here)
 BreaksAt (at.Named peer) log error here = IsTrue (may_break here)
 BreaksAt at.Linked log error here = IsTrue (may_break here)
 BreaksAt (at.Treated treated) log error here =
     IsTreated log error treated × IsTrue (may_fail here)
-BreaksAt (at.Closing there) log error here = IsTrue (may_break here)
+BreaksAt (at.Closing held there) log error here = IsTrue (may_break here)
 
 module _ (allows : Standing → LogEntry → Type 0) where
   -- the application answered that error, which was final there: its entry alone is new, and what it
@@ -245,9 +339,93 @@ module _ (allows : Standing → LogEntry → Type 0) where
     pub input : turn.e.input ≡ item.Failure error
 
 module _ {C M K : Type 0} (allows : Standing → LogEntry → Type 0) (mark_of : C → ℕ) where
+  -- the application answered that error, and the end of the request stands behind that, with the
+  -- context that it left
+  pub record HasAnswered (error : Error) (from : Station) (old : Seen) (before : ℕ)
+      (calls : Calls M K C) (client : HttpSession) : Type 0 where
+    pub context : C
+    pub told : Failure
+    pub is_at : calls.at ≡ at.Closing context (closing.At (stage.Told told))
+    pub error_is : told.error ≡ error
+    pub answers : AnswersError allows error from old before (seen_with calls client)
+        (mark_of context)
+
+  -- the hook of the end that comes next was called, or none where no head was read
+  pub record CallsLast (goes_back : Bool) (old new : Calls M K C) : Type 0 where
+    pub held : C
+    pub from : Last K
+    pub was : old.at ≡ at.Closing held from
+    pub left : C
+    pub to : Last K
+    pub is_at : new.at ≡ at.Closing left to
+    pub turns : ((to ≡ closing.Lost) × (log_of new ≡ log_of old))
+        ⊎ ((start : Station) → IsTrue (may_begin start from)
+        → TurnsOn allows start goes_back from old.session.seen (mark_of held) new.session.seen
+        (mark_of left) to)
+
+  -- the hooks of the end stand at that stage: the calls so far lead to where the session and the
+  -- context stand, in order; `logging` was told of that error, once it was called
+  pub record StandsAt (calls : Calls M K C) (context : C) (client : HttpSession)
+      (error : Option Error) (at : Stage) : Type 0 where
+    pub from : Standing
+    pub walks : Walk allows from (log_of calls)
+        (standing None false (moment (seen_with calls client) (mark_of context)))
+    pub start : Station
+    pub begins : IsTrue (begins_at start at)
+    pub order : Accepts accepted (log_of calls) (closing_at start at)
+    pub logged : logged_in (log_of calls) ≡ logged_to at
+    pub begun : list_any (λ e. begins_end e.hook) (log_of calls) ≡ has_begun at
+    pub error_is : error_to at ≡ error
+
+  -- they were called, and that value is kept or none
+  pub record HasClosed (calls : Calls M K C) (error : Option Error) (how : End K) : Type 0 where
+    pub at : Station
+    pub in_order : IsLogged allows (log_of calls) at
+    pub logged : logged_in (log_of calls) ≡ failure error ∷ []
+    pub begun : list_any (λ e. begins_end e.hook) (log_of calls) ≡ true
+    pub keeps : IsSome (kept_in (closing.Ended how)) → KeepsValue (log_of calls)
+
+  -- the same by where they stand; out of memory the log is in order
+  abbrev pub StandsBy : Calls M K C → C → HttpSession → Option Error → Last K → Type 0
+  StandsBy calls context client error (closing.At at) =
+      StandsAt calls context client error at
+  StandsBy calls context client error (closing.Ended how) = HasClosed calls error how
+  StandsBy calls context client error closing.Lost =
+      (at : Station) × IsLogged allows (log_of calls) at
+
+  -- the calls of a request that has ended with that error or without one, or is to be answered for
+  -- it: its end has begun; or it is a purge, or no link was given, which have no such end so far
+  abbrev pub EndsBy : At K C → Calls M K C → HttpSession → Option Error → Type 0
+  EndsBy (at.Kept kept) calls client error = ⊥
+  EndsBy (at.Opening there) calls client error = IsUnheard allows (log_of calls)
+  EndsBy (at.Named peer) calls client error = IsUnheard allows (log_of calls)
+  EndsBy at.Linked calls client error = ⊥
+  EndsBy (at.Treated treated) calls client error = ⊥
+  EndsBy (at.Closing held there) calls client error = StandsBy calls held client error there
+
+  -- the same of what a request owes its client: of one that was turned down none was called; and one
+  -- that hooks answered stands behind their answer
+  abbrev pub IsOwing : Calls M K C → HttpSession → Owed → Type 0
+  IsOwing calls client (owing.Refused error) = log_of calls ≡ []
+  IsOwing calls client (owing.Ahead None) =
+      EndsBy calls.at calls client None
+      × (Accepts accepted (log_of calls) station.answered × IsUnended (log_of calls))
+  IsOwing calls client (owing.Ahead (Some error)) = EndsBy calls.at calls client (Some error)
+  IsOwing calls client (owing.Served error) = EndsBy calls.at calls client (Some error)
+
+  -- and of a request that came to that outcome, and whose session has its client again
+  abbrev pub HasCome : Calls M K C → Outcome → Type 0
+  HasCome calls NoRequest = log_of calls ≡ []
+  HasCome calls (Refused error) = log_of calls ≡ []
+  HasCome calls (Served error reuse) =
+      EndsBy calls.at calls calls.session.seen.downstream error
+  HasCome calls TurnLimit = (at : Station) × IsLogged allows (log_of calls) at
+  HasCome calls OutOfMemory = (at : Station) × IsLogged allows (log_of calls) at
+
+module _ {C M K : Type 0} (allows : Standing → LogEntry → Type 0) (mark_of : C → ℕ) where
   -- the hooks up to the exchange, so far, behind those attempts: each call of them stands in the log,
   -- which ends at the mark of the context that is held, and the request goes on
-  pub record IsOpening (calls : Calls M K) (context : C) (client : HttpSession)
+  pub record IsOpening (calls : Calls M K C) (context : C) (client : HttpSession)
       (tries : List AttemptRecord) : Type 0 where
     pub first : Seen
     pub mark : ℕ
@@ -266,7 +444,7 @@ module _ {C M K : Type 0} (allows : Standing → LogEntry → Type 0) (mark_of :
 
   -- the calls so far of an attempt that failed with that error: the log walks to where the session
   -- and the context stand, and the error may be treated there, or answered
-  pub record IsBreaking (calls : Calls M K) (context : C) (client : HttpSession) (error : Error)
+  pub record IsBreaking (calls : Calls M K C) (context : C) (client : HttpSession) (error : Error)
       : Type 0 where
     pub from : Standing
     pub walks : Walk allows from (log_of calls)
@@ -279,7 +457,7 @@ module _ {C M K : Type 0} (allows : Standing → LogEntry → Type 0) (mark_of :
 module _ {L C M K : Type 0} (allows : Standing → LogEntry → Type 0) (mark_of : C → ℕ) where
   -- the calls so far of an attempt whose exchange is under way: they ended as it began, with a
   -- session that had the same head, and of which no final head was queued
-  pub record IsRelayingCalls (calls : Calls M K) (a : Attempt L C) : Type 0 where
+  pub record IsRelayingCalls (calls : Calls M K C) (a : Attempt L C) : Type 0 where
     pub first : HttpSession
     pub from : Standing
     pub walks : Walk allows from (log_of calls)
@@ -291,7 +469,7 @@ module _ {L C M K : Type 0} (allows : Standing → LogEntry → Type 0) (mark_of
     pub linked : calls.at ≡ at.Linked
 
   -- the calls so far, by the phase in which the request stands
-  abbrev pub CallsSoFar : Calls M K → Phase L C → Type 0
+  abbrev pub CallsSoFar : Calls M K C → Phase L C → Type 0
   CallsSoFar calls ReadHead = log_of calls ≡ []
   CallsSoFar calls (Connect context session tries) =
       IsOpening allows mark_of calls context session.value tries
@@ -302,30 +480,111 @@ module _ {L C M K : Type 0} (allows : Standing → LogEntry → Type 0) (mark_of
   CallsSoFar calls (Broken context session link lease keep error) =
       IsBreaking allows mark_of calls context session.value error
   CallsSoFar calls (Fail link lease keep session error) =
-      (at : Station) × IsLogged allows (log_of calls) at
-  CallsSoFar calls (Close link lease keep outcome) =
-      (at : Station) × IsLogged allows (log_of calls) at
+      IsOwing allows mark_of calls session.value (owing.Served error)
+  CallsSoFar calls (Close link lease keep outcome) = HasCome allows mark_of calls outcome
   CallsSoFar calls (Answer session owed attempts) =
-      (at : Station) × IsLogged allows (log_of calls) at
-  CallsSoFar calls (Ended outcome attempts) =
-      (at : Station) × IsLogged allows (log_of calls) at
+      IsOwing allows mark_of calls session.value owed
+  CallsSoFar calls (Ended outcome attempts) = HasCome allows mark_of calls outcome
 
--- a turn of an exchange left that context, and a session with the same head; or the request has ended
-abbrev pub KeepsCalls : {L C : Type 0} → Attempt L C → Phase L C → Type 0
-KeepsCalls a ReadHead = ⊥
-KeepsCalls a (Connect context session tries) = ⊥
-KeepsCalls a (Prepare context session link lease) = ⊥
-KeepsCalls a (Relay b) =
-    (b.value.context ≡ a.context)
+-- no hook is called of a request that came to that outcome
+abbrev pub IsUncalledEnd : Outcome → Type 0
+IsUncalledEnd NoRequest = Unit {0}
+IsUncalledEnd (Refused error) = Unit {0}
+IsUncalledEnd (Served error reuse) = ⊥
+IsUncalledEnd TurnLimit = Unit {0}
+IsUncalledEnd OutOfMemory = Unit {0}
+
+-- nor of one that owes its client that
+abbrev pub IsUncalledFor : Owed → Type 0
+IsUncalledFor (owing.Refused error) = Unit {0}
+IsUncalledFor (owing.Ahead why) = ⊥
+IsUncalledFor (owing.Served error) = ⊥
+
+-- so far none was called, and none is to be
+abbrev pub IsUncalled : {L C : Type 0} → Phase L C → Type 0
+IsUncalled ReadHead = Unit {0}
+IsUncalled (Connect context session tries) = ⊥
+IsUncalled (Prepare context session link lease) = ⊥
+IsUncalled (Relay a) = ⊥
+IsUncalled (Broken context session link lease keep error) = ⊥
+IsUncalled (Fail link lease keep session error) = ⊥
+IsUncalled (Close link lease keep outcome) = ⊥
+IsUncalled (Answer session owed attempts) = IsUncalledFor owed
+IsUncalled (Ended outcome attempts) = IsUncalledEnd outcome
+
+-- the exchange of an attempt finished: the end of the request begins with its context, and the
+-- session has its client again, with the same head
+pub record HasFinished {L C M K : Type 0} (a : Attempt L C) (old new : Calls M K C)
+    (outcome : Outcome) : Type 0 where
+  pub client : HttpSession
+  pub head : head_of client.reading ≡ head_of a.exchange.exchange.down.session.reading
+  pub calls : new ≡ closed_with (record old { at = at.Closing a.context (begun None) }) client None
+  pub reuse : Bool
+  pub served : outcome ≡ Served None reuse
+
+-- a turn of an exchange left that context, and a session with the same head; or the request has
+-- ended: its exchange finished, and the session has its client again; or memory was wanted
+abbrev pub KeepsCalls : {L C M K : Type 0} → Attempt L C → Calls M K C → Calls M K C → Phase L C
+    → Type 0
+KeepsCalls a old new ReadHead = ⊥
+KeepsCalls a old new (Connect context session tries) = ⊥
+KeepsCalls a old new (Prepare context session link lease) = ⊥
+KeepsCalls a old new (Relay b) =
+    (new ≡ old) × (b.value.context ≡ a.context)
     × (head_of b.value.exchange.exchange.down.session.reading
     ≡ head_of a.exchange.exchange.down.session.reading)
-KeepsCalls a (Broken context session link lease keep error) =
-    (context ≡ a.context)
+KeepsCalls a old new (Broken context session link lease keep error) =
+    (new ≡ old) × (context ≡ a.context)
     × (head_of session.value.reading ≡ head_of a.exchange.exchange.down.session.reading)
-KeepsCalls a (Fail link lease keep session error) = ⊥
-KeepsCalls a (Close link lease keep outcome) = Unit {0}
-KeepsCalls a (Answer session owed attempts) = ⊥
-KeepsCalls a (Ended outcome attempts) = ⊥
+KeepsCalls a old new (Fail link lease keep session error) = ⊥
+KeepsCalls a old new (Close link lease keep outcome) =
+    ((new ≡ old) × (outcome ≡ OutOfMemory)) ⊎ HasFinished a old new outcome
+KeepsCalls a old new (Answer session owed attempts) = ⊥
+KeepsCalls a old new (Ended outcome attempts) = ⊥
+
+-- the client is owed that in that phase, and the session is this one
+abbrev pub OwesIn : {L C : Type 0} → Phase L C → Box HttpSession → Owed → Type 0
+OwesIn ReadHead session owed = ⊥
+OwesIn (Connect context other tries) session owed = ⊥
+OwesIn (Prepare context other link lease) session owed = ⊥
+OwesIn (Relay a) session owed = ⊥
+OwesIn (Broken context other link lease keep error) session owed = ⊥
+OwesIn (Fail link lease keep other error) session owed =
+    (other ≡ session) × (owed ≡ owing.Served error)
+OwesIn (Close link lease keep outcome) session owed = ⊥
+OwesIn (Answer other owes attempts) session owed = (other ≡ session) × (owes ≡ owed)
+OwesIn (Ended outcome attempts) session owed = ⊥
+
+-- a request came to that outcome in that phase
+abbrev pub CameIn : {L C : Type 0} → Phase L C → Outcome → Type 0
+CameIn ReadHead came = ⊥
+CameIn (Connect context session tries) came = ⊥
+CameIn (Prepare context session link lease) came = ⊥
+CameIn (Relay a) came = ⊥
+CameIn (Broken context session link lease keep error) came = ⊥
+CameIn (Fail link lease keep session error) came = ⊥
+CameIn (Close link lease keep outcome) came = outcome ≡ came
+CameIn (Answer session owed attempts) came = ⊥
+CameIn (Ended outcome attempts) came = outcome ≡ came
+
+-- hooks are shown the same of both sessions
+abbrev pub ShowsSame : HttpSession → HttpSession → Type 0
+ShowsSame left client =
+    (left.reading ≡ client.reading) × (left.writing.place ≡ client.writing.place)
+
+-- what a request comes to that owes its client that, where that is its session: it owes it still; it has ended, its answer written or a write of it failed, and the session has its client
+-- again; or memory was wanted. No hook is called
+pub data Owing {L C M K : Type 0} (client : HttpSession) (owed : Owed) (old new : Calls M K C)
+    (next : Phase L C) : Type 0 where
+  waits : (session : Box HttpSession) → OwesIn next session owed → ShowsSame session.value client
+      → new ≡ old → Owing client owed old new next
+  written : (left : HttpSession) (came : Outcome) → CameIn next came → came ≡ outcome_owed owed
+      → ShowsSame left client → new ≡ closed_with old left (error_of came)
+      → Owing client owed old new next
+  failed : (left : HttpSession) (fault : Fault) (came : Outcome) → CameIn next came
+      → came ≡ outcome_failed owed fault → ShowsSame left client
+      → new ≡ closed_with old left (error_of came) → Owing client owed old new next
+  lost : CameIn next OutOfMemory → log_of new ≡ log_of old → Owing client owed old new next
 
 -- an exchange has begun, with that context and that session; or the request has ended
 abbrev pub BeginsCalls : {L C : Type 0} → C → HttpSession → Phase L C → Type 0
@@ -336,7 +595,7 @@ BeginsCalls context session (Relay a) =
     (a.value.context ≡ context) × (a.value.exchange.exchange.down.session ≡ session)
 BeginsCalls context session (Broken other stays link lease keep error) = ⊥
 BeginsCalls context session (Fail link lease keep stays error) = ⊥
-BeginsCalls context session (Close link lease keep outcome) = Unit {0}
+BeginsCalls context session (Close link lease keep outcome) = outcome ≡ OutOfMemory
 BeginsCalls context session (Answer stays owed attempts) = ⊥
 BeginsCalls context session (Ended outcome attempts) = ⊥
 
@@ -350,12 +609,54 @@ BreaksOff context session (Relay a) = ⊥
 BreaksOff context session (Broken other stays link lease keep error) =
     (other ≡ context) × (stays.value ≡ session)
 BreaksOff context session (Fail link lease keep stays error) = ⊥
-BreaksOff context session (Close link lease keep outcome) = Unit {0}
+BreaksOff context session (Close link lease keep outcome) = outcome ≡ OutOfMemory
 BreaksOff context session (Answer stays owed attempts) = ⊥
 BreaksOff context session (Ended outcome attempts) = ⊥
 
+-- whether the client of a request that has ended may ask for more
+abbrev pub reuse_of : Outcome → Option Bool
+reuse_of NoRequest = None
+reuse_of (Refused error) = None
+reuse_of (Served error reuse) = Some reuse
+reuse_of TurnLimit = None
+reuse_of OutOfMemory = None
+
+abbrev pub goes_back_in : {L C : Type 0} → Phase L C → Option Bool
+goes_back_in ReadHead = None
+goes_back_in (Connect context session tries) = None
+goes_back_in (Prepare context session link lease) = None
+goes_back_in (Relay a) = None
+goes_back_in (Broken context session link lease keep error) = None
+goes_back_in (Fail link lease keep session error) = None
+goes_back_in (Close link lease keep outcome) = None
+goes_back_in (Answer session owed attempts) = None
+goes_back_in (Ended outcome attempts) = reuse_of outcome
+
+-- the same where a hook of its end is called next
+abbrev pub last_from : {K X : Type 0} → Option Bool → At K X → Option Bool
+last_from None here = None
+last_from (Some goes_back) here = if has_last here goes_back then Some goes_back else None
+
+abbrev pub last_of : {L C K X : Type 0} → Phase L C → At K X → Option Bool
+last_of phase here = last_from (goes_back_in phase) here
+
+-- one is called next
+abbrev pub is_ending : {L C K X : Type 0} → Phase L C → At K X → Bool
+is_ending phase here = is_some (last_of phase here)
+
 -- what a turn counts of calls: the entries that it added to the log, of which there is one at most;
 -- a call that is out of memory has none
-pub record CountsCalls {M K : Type 0} (old new : Calls M K) (work : Work) : Type 0 where
+pub record CountsCalls {M K X : Type 0} (old new : Calls M K X) (work : Work) : Type 0 where
   pub counted : work.called + length (log_of old) ≤ length (log_of new)
   pub once : length (log_of new) ≤ 1 + length (log_of old)
+
+-- what a turn counts that calls a hook of the end: the call, and nothing else
+pub record CountsLast {L C M K X : Type 0} (old new : Calls M K X) (was now : Machine L C)
+    : Type 0 where
+  pub work : Work
+  pub calls : CountsCalls old new work
+  pub adds : now.work ≡ added_work was.work work
+  pub turns : now.turns ≡ turns_after was.turns work
+  pub unused : work.used ≡ 0
+  pub unmoved : work.moved ≡ 0
+  pub unended : work.ended ≡ 0

@@ -406,11 +406,6 @@ EndsLinked s p w link start keep told (Served (Some e) reuse) =
 EndsLinked s p w link start keep told TurnLimit = IsPart s p w link start keep told
 EndsLinked s p w link start keep told OutOfMemory = IsPart s p w link start keep told
 
--- how a request ends whose exchange failed
-abbrev pub outcome_of : Fail → Outcome
-outcome_of fail.OutOfMemory = OutOfMemory
-outcome_of (fail.Error e) = Served (Some e) false
-
 -- the error that an outcome gives
 abbrev pub error_of : Outcome → Option Error
 error_of NoRequest = None

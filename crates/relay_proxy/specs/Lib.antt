@@ -9,6 +9,7 @@ pub mod Endings
 pub mod Owed
 pub mod Phases
 pub mod Work
+pub mod ClosingHooks
 pub mod Calls
 pub mod Uses
 pub mod Preparing

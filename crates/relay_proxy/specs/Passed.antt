@@ -22,7 +22,7 @@ pub record World : Type 0 where
   pub connect_faults : ℕ
 
 -- the places and counts at which a request began, how many attempts it may make, the calls of hooks
--- that were made for it before its end, and those of its end
+-- that were made for it before its end, and the one in which an error was answered, if any
 pub record Start : Type 0 where
   pub ahead : List ℕ
   pub given : ℕ
@@ -59,12 +59,14 @@ abbrev pub before_end : List LogEntry → List LogEntry
 before_end [] = []
 before_end (e ∷ es) = if begins_end e.hook then [] else e ∷ before_end es
 
--- and those of its end
-abbrev pub from_end : List LogEntry → List LogEntry
-from_end [] = []
-from_end (e ∷ es) = if begins_end e.hook then e ∷ es else from_end es
+-- the call in which an error was answered, where the end begins with it
+abbrev pub answer_in : List LogEntry → List LogEntry
+answer_in [] = []
+answer_in (e ∷ es) =
+    if begins_end e.hook then (if same_hook hook.FailToProxy e.hook then e ∷ [] else [])
+    else answer_in es
 
--- the same start, once these calls were made before the end, and those in it
+-- the same start, once these calls were made before the end, and those answered an error
 abbrev pub closed_to : Start → List LogEntry → List LogEntry → Start
 closed_to s called closed = record s { called = called; closed = closed }
 
@@ -74,9 +76,9 @@ opened_to s called = closed_to s called []
 
 -- once these calls were made, some of them of the end
 abbrev pub called_to : Start → List LogEntry → Start
-called_to s log = closed_to s (before_end log) (from_end log)
+called_to s log = closed_to s (before_end log) (answer_in log)
 
--- what an error was answered with: what the calls of the end queued
+-- what an error was answered with: what the call queued that answered it
 abbrev pub answered : Start → List HttpTask
 answered s = wrote_in s.closed
 

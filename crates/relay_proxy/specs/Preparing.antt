@@ -27,8 +27,8 @@ Settles client filtered answer =
     (asked : RequestHead) → head_of client.reading ≡ Some asked
     → SettlesFramed (client_in client) asked filtered answer
 
-module _ (allows : Standing → LogEntry → Type 0) {M K : Type 0} (old : Calls M K)
-    (client : HttpSession) (mark : ℕ) (new : Calls M K) (left : HttpSession) (behind : ℕ)
+module _ (allows : Standing → LogEntry → Type 0) {M K X : Type 0} (old : Calls M K X)
+    (client : HttpSession) (mark : ℕ) (new : Calls M K X) (left : HttpSession) (behind : ℕ)
   where
     -- the filter was called with what the client's head was made ready to, and left that head
     pub record FiltersReady (filtered : RequestHead) : Type 0 where

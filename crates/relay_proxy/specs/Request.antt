@@ -1,6 +1,6 @@
 -- One request over one proxy: what a step and the end make of its run so far, and what the whole
 -- call promises.
-use Rattle.std.specs.Prelude.{◌≡◌, ◌≢◌, ℕ, ◌+◌, ◌≤◌, ◌⊎◌, Bool, true, false, List, ◌++◌, length, Option}
+use Rattle.std.specs.Prelude.{◌≡◌, ◌≢◌, ℕ, ◌+◌, ◌≤◌, ◌⊎◌, Bool, true, false, ◌&&◌, not, List, ◌++◌, length, Option, None}
 use Rattle.relay_links.specs.Connector.{Offer}
 use Rattle.relay_links.specs.Count.{up}
 use Rattle.relay_links.specs.Link.{LinkState, LinkStart}
@@ -18,9 +18,13 @@ use Rattle.relay_proxy.specs.Phases.{RunSoFar}
 use Rattle.relay_proxy.specs.Refusals.{faults_for, faults_before, AnswersFaults}
 use Rattle.relay_proxy.specs.Turn.{IsStalled, is_over}
 use Rattle.relay_proxy.specs.Uses.{PhaseUses, OwnUses, StepCounts, CountsAll}
+use Rattle.relay_proxy.specs.Calls.{given_at, is_ending}
 use Rattle.relay_proxy.specs.Closing.{IsQuiet}
+use Rattle.relay_proxy.specs.ClosingHooks.{Gives}
+use Rattle.relay_proxy.specs.declared.calls.At.{At}
 use Rattle.relay_proxy.specs.Work.{added_work}
 use Rattle.relay_proxy.specs.declared.machine.Phase.{Phase}
+use Rattle.relay_proxy.specs.declared.machine.Phase.TheVariants.{ReadHead, Connect, Prepare, Relay, Broken, Fail, Close, Answer, Ended}
 use Rattle.relay_proxy.specs.declared.machine.RunStep.{RunStep}
 use Rattle.relay_proxy.specs.declared.machine.RunStep.TheVariants as did
 use Rattle.relay_proxy.specs.declared.outcome.Outcome.{Outcome}
@@ -50,11 +54,40 @@ ended_after ended (Served error reuse) = up ended
 ended_after ended TurnLimit = ended
 ended_after ended OutOfMemory = ended
 
+-- the value that is kept for the next request of a connection: none but of one that was served
+abbrev pub kept_of : {K : Type 0} → Outcome → Option K → Option K
+kept_of NoRequest kept = None
+kept_of (Refused error) kept = None
+kept_of (Served error reuse) kept = kept
+kept_of TurnLimit kept = None
+kept_of OutOfMemory kept = None
+
+-- a request has ended, and no hook is to be called for that
+abbrev pub is_done : {L C K X : Type 0} → Phase L C → At K X → Bool
+is_done phase here = is_over phase && not (is_ending phase here)
+
+-- what is answered behind a turn: it moved, where hooks of the end are to be called
+abbrev pub answer_of : Bool → RunStep → RunStep
+answer_of true said = did.Moved
+answer_of false said = said
+
+-- a request that stands in that phase comes to that outcome: its own, or `TurnLimit`
+abbrev pub CameTo : {L C : Type 0} → Phase L C → Outcome → Type 0
+CameTo ReadHead came = came ≡ TurnLimit
+CameTo (Connect context session tries) came = came ≡ TurnLimit
+CameTo (Prepare context session link lease) came = came ≡ TurnLimit
+CameTo (Relay a) came = came ≡ TurnLimit
+CameTo (Broken context session link lease keep error) came = came ≡ TurnLimit
+CameTo (Fail link lease keep session error) came = came ≡ TurnLimit
+CameTo (Close link lease keep outcome) came = came ≡ outcome
+CameTo (Answer session owed attempts) came = came ≡ TurnLimit
+CameTo (Ended outcome attempts) came = came ≡ outcome
+
 module _ {L C : Type 0} (state : L → LinkState) (start_at : L → LinkStart) where
-  -- a step took the run so far on from one phase to the next, from the one start to the other, which
-  -- differ in the calls that were made, and handed these links back; it took
-  -- no more of the connector's offers than the request's link, or the fault with which the request
-  -- ended; and the connector answered no fault but that one
+  -- a step took the run so far on from one phase to the next, from the one start to the other,
+  -- which differ in the calls that were made, and handed these links back; it took no more of the
+  -- connector's offers than the request's link, or the fault with which the request ended; and the
+  -- connector answered no fault but that one
   pub record StepsOn
       (s t : Start) (p : Passed) (w : World) (own : List (Returned L))
       (before after : Option (List (Returned L))) (told_before told_after : Option (List Fault))
@@ -78,15 +111,18 @@ module _ {L C : Type 0} (state : L → LinkState) (start_at : L → LinkStart) w
     -- a request that has ended passes nothing more
     pub rested : is_over phase ≡ true → passed ≡ p
 
-  -- a request came to its end
-  pub record ComesToEnd
+  -- a request came to its end, the hooks of which stand there
+  pub record ComesToEnd {K : Type 0}
       (s : Start) (p : Passed) (w : World) (own : List (Returned L))
-      (before after : Option (List (Returned L))) (phase : Phase L C) (processed : Processed)
-      : Type 0 where
+      (before after : Option (List (Returned L))) (phase : Phase L C) (here : At K C)
+      (processed : Processed) : Type 0 where
     pub handed : List (Returned L)
     pub gained : after ≡ more before handed
-    pub ended : IsEnded state start_at s p w (own ++ handed) processed.history.attempts
-        processed.outcome
+    -- what it came to, as far as its links go
+    pub came : Outcome
+    pub ended : IsEnded state start_at s p w (own ++ handed) processed.history.attempts came
+    pub given : processed.outcome ≡ given_at here came
+    pub comes : CameTo phase came
     -- it is the request for which the connector answered its faults
     pub refused : faults_for (own ++ handed) processed.history.attempts ≡ faults_before own phase
     -- and the one that took what was taken of the offers
@@ -100,9 +136,9 @@ module _ {L C : Type 0} (state : L → LinkState) (start_at : L → LinkStart) w
         → PhaseCounts state start_at tasks ends s w.client w.ahead own phase
         → IsWithin tasks ends (most_sides (length processed.history.attempts)) s w.client
         (OwnGave state start_at (own ++ handed))
-    -- a request that has ended gives no `TurnLimit`
-    pub over : is_over phase ≡ true → processed.outcome ≢ TurnLimit
-    pub quiet : processed.outcome ≡ TurnLimit → IsStalled state start_at w phase
+    -- a request that has ended gives no `TurnLimit`, but for the hooks of its end
+    pub over : is_over phase ≡ true → came ≢ TurnLimit
+    pub quiet : came ≡ TurnLimit → IsStalled state start_at w phase
         → IsQuiet state start_at s p w (own ++ handed)
 
 -- a whole request: what passed is told by the links, in order; the connector's lists gained the
@@ -115,7 +151,11 @@ pub record Processes {L : Type 0} (state : L → LinkState) (start_at : L → Li
   pub passed : Passed
   pub own : List (Returned L)
   pub gained : after ≡ more before own
-  pub ended : IsEnded state start_at s passed w own processed.history.attempts processed.outcome
+  -- what it came to, as far as its links go; the outcome is that, `logging` having been told of its
+  -- error, or turns or memory ran out in the hooks of its end
+  pub came : Outcome
+  pub ended : IsEnded state start_at s passed w own processed.history.attempts came
+  pub given : Gives processed.history.log came processed.outcome
   -- the connector refused a link exactly where an attempt had none, and its record tells of the
   -- fault
   pub refused : Gains told_before (faults_for own processed.history.attempts) told_after
@@ -128,7 +168,7 @@ pub record Processes {L : Type 0} (state : L → LinkState) (start_at : L → Li
   -- what is recorded of turns, of tasks and of ends is bounded by the bytes that both links gave
   pub bounded : IsBounded state start_at s w.client own processed.history
   -- the other way round: where a cause stands, the outcome is its own
-  pub exact : IsExact state start_at s passed w own processed.outcome
+  pub exact : IsExact state start_at s passed w own came
   -- a request that has not ended took all its turns, or all that it asks is silent
   pub limit : processed.outcome ≡ TurnLimit
       → (processed.history.turns_taken ≡ turns) ⊎ IsQuiet state start_at s passed w own

@@ -1,6 +1,7 @@
 -- What one turn makes of a phase.
 use Rattle.std.specs.Global.{Box}
 use Rattle.std.specs.Prelude.{◌≡◌, ◌⊎◌, ℕ, ◌<◌, Bool, true, false, List, [], ◌∷◌, ◌++◌, Option, None, Some}
+use Rattle.relay_tasks.specs.declared.Error.{Error}
 use Rattle.relay_links.specs.Count.{up}
 use Rattle.relay_links.specs.Link.{LinkState, LinkStart, GivesBytes, TakesBytes}
 use Rattle.relay_links.specs.declared.branch.Branch.{Branch}
@@ -21,6 +22,8 @@ use Rattle.relay_proxy.specs.declared.machine.Phase.{Phase}
 use Rattle.relay_proxy.specs.declared.machine.Phase.TheVariants.{ReadHead, Connect, Prepare, Relay, Broken, Fail, Close, Answer, Ended}
 use Rattle.relay_proxy.specs.declared.machine.RunStep.{RunStep}
 use Rattle.relay_proxy.specs.declared.machine.RunStep.TheVariants as step
+use Rattle.relay_proxy.specs.declared.outcome.Outcome.TheVariants.{OutOfMemory}
+use Rattle.relay_proxy.specs.declared.owed.Owed.TheVariants.{Served}
 use Rattle.relay_proxy.specs.declared.record.AttemptRecord.{AttemptRecord}
 use Rattle.relay_proxy.specs.declared.work.Work.{Work}
 
@@ -65,7 +68,8 @@ is_connecting (Close link lease keep outcome) = false
 is_connecting (Answer session owed attempts) = false
 is_connecting (Ended outcome attempts) = false
 
--- where a link is wanted still, it is for that session and that context
+-- where a link is wanted still, it is for that session and that context; else the client is owed the
+-- answer to a last attempt that had none, or memory was wanted
 abbrev pub KeepsAsked : {L C : Type 0} → C → Box HttpSession → Phase L C → Type 0
 KeepsAsked context session ReadHead = ⊥
 KeepsAsked context session (Connect other stays tries) = (other ≡ context) × (stays ≡ session)
@@ -74,8 +78,8 @@ KeepsAsked context session (Relay a) = Unit {0}
 KeepsAsked context session (Broken other stays link lease keep error) = Unit {0}
 KeepsAsked context session (Fail link lease keep stays error) = Unit {0}
 KeepsAsked context session (Close link lease keep outcome) = Unit {0}
-KeepsAsked context session (Answer stays owed attempts) = Unit {0}
-KeepsAsked context session (Ended outcome attempts) = Unit {0}
+KeepsAsked context session (Answer stays owed attempts) = (e : Error) × (owed ≡ Served e)
+KeepsAsked context session (Ended outcome attempts) = outcome ≡ OutOfMemory
 
 -- the link that a phase holds, as it stands
 abbrev pub held_state : {L C : Type 0} → (L → LinkState) → Phase L C → Option LinkState

@@ -4,6 +4,8 @@ ghost use Rattle.std.specs.Prelude.{◌≡◌, ◌⊎◌, ◌<◌, ℕ, List, []
 ghost use Rattle.relay_attempt.specs.Passed.{Passed};
 ghost use Rattle.relay_session.specs.Response.{pending, MayWrite, WritesPending};
 ghost use Rattle.relay_proxy.specs.Bound.{CountsAnswer};
+ghost use Rattle.relay_proxy.specs.Calls.{Owing, closed_with, log_of};
+ghost use Rattle.relay_proxy.specs.Endings.{error_of};
 ghost use Rattle.relay_proxy.specs.Owed.{outcome_owed};
 ghost use Rattle.relay_proxy.specs.Passed.{Start};
 ghost use Rattle.relay_proxy.specs.Phases.{RunSoFar};
@@ -12,18 +14,28 @@ ghost use Rattle.relay_proxy.specs.Stock.{items_held};
 ghost use Rattle.relay_proxy.specs.Turn.{world_of, DoesWork, is_over, is_end, links_held, AdvancesOn, HasCause};
 ghost use Rattle.relay_proxy.specs.Uses.{ClientUses};
 
+use crate::calls::Calls;
 use crate::machine::{Next, Phase, RunStep};
 use crate::outcome::Outcome;
 use crate::owed::Owed;
 use crate::record::AttemptList;
 use crate::work::Work;
 use relay_h1::Connection;
+use relay_hooks::HttpModule;
 use relay_links::{ByteLink, Put};
 use relay_session::HttpSession;
 use relay_tasks::Pause;
 
 /// One write of what waits for the client. Where nothing does, the request ends.
-pub(crate) fn write_answer<D: ByteLink, U: Drop, L: ByteLink, C>(
+pub(crate) fn write_answer<
+    M: HttpModule + Drop,
+    K: Drop,
+    D: ByteLink,
+    U: Drop,
+    L: ByteLink,
+    C: Drop,
+>(
+    calls: &mut Calls<M, K, C>,
     client: &mut Connection<D, U>,
     session: Box<HttpSession>,
     owed: Owed,
@@ -39,6 +51,8 @@ pub(crate) fn write_answer<D: ByteLink, U: Drop, L: ByteLink, C>(
         (Phase.Answer session owed attempts) result.phase result.step }
     ensures work { DoesWork result.step result.work }
     ensures uncalled { result.work.called ≡ 0 }
+    ensures calls { Owing session.value owed calls.old calls.new result.phase }
+    ensures log { log_of calls.new ≡ log_of calls.old }
     ensures counts { CountsAnswer result.phase result.work }
     ensures gives { (D.state client.new.link).given ≡ (D.state client.old.link).given }
     ensures over { is_over result.phase ≡ is_end result.step }
@@ -50,13 +64,14 @@ pub(crate) fn write_answer<D: ByteLink, U: Drop, L: ByteLink, C>(
     ensures client_start { D.start client.new.link ≡ D.start client.old.link }
 {
     if !session.has_pending() {
-        return ended(owed.outcome(), attempts, Work::ENDED);
+        return ended(calls, session, owed.outcome(), attempts, Work::ENDED);
     }
-    write_on(client, session, owed, attempts)
+    write_on(calls, client, session, owed, attempts)
 }
 
 /// One write of what waits for the client: one byte at least.
-fn write_on<D: ByteLink, U: Drop, L: ByteLink, C>(
+fn write_on<M: HttpModule + Drop, K: Drop, D: ByteLink, U: Drop, L: ByteLink, C: Drop>(
+    calls: &mut Calls<M, K, C>,
     client: &mut Connection<D, U>,
     session: Box<HttpSession>,
     owed: Owed,
@@ -73,6 +88,8 @@ fn write_on<D: ByteLink, U: Drop, L: ByteLink, C>(
         (Phase.Answer session owed attempts) result.phase result.step }
     ensures work { DoesWork result.step result.work }
     ensures uncalled { result.work.called ≡ 0 }
+    ensures calls { Owing session.value owed calls.old calls.new result.phase }
+    ensures log { log_of calls.new ≡ log_of calls.old }
     ensures counts { CountsAnswer result.phase result.work }
     ensures gives { (D.state client.new.link).given ≡ (D.state client.old.link).given }
     ensures over { is_over result.phase ≡ is_end result.step }
@@ -85,7 +102,7 @@ fn write_on<D: ByteLink, U: Drop, L: ByteLink, C>(
 {
     let mut session = session;
     match offer(&mut session, client) {
-        Put::Took(_) => took(session, owed, attempts),
+        Put::Took(_) => took(calls, session, owed, attempts),
         Put::NotReady => Next {
             phase: Phase::Answer(session, owed, attempts),
             step: RunStep::Waited(Pause::NotReady),
@@ -96,19 +113,41 @@ fn write_on<D: ByteLink, U: Drop, L: ByteLink, C>(
             step: RunStep::Waited(Pause::Silent),
             work: Work::NONE,
         },
-        Put::Failed(fault) => ended(owed.outcome_failed(fault), attempts, Work::USED),
-        Put::OutOfMemory => ended(Outcome::OutOfMemory, attempts, Work::USED),
+        Put::Failed(fault) => {
+            ended(
+                calls,
+                session,
+                owed.outcome_failed(fault),
+                attempts,
+                Work::USED,
+            )
+        }
+        Put::OutOfMemory => Next {
+            phase: Phase::Ended(Outcome::OutOfMemory, attempts),
+            step: RunStep::Ended,
+            work: Work::USED,
+        },
     }
 }
 
 /// The client took some: more waits, or the answer was written whole.
-fn took<L, C>(session: Box<HttpSession>, owed: Owed, attempts: AttemptList) -> Next<L, C>
+fn took<M: HttpModule + Drop, K: Drop, L: ByteLink, C: Drop>(
+    calls: &mut Calls<M, K, C>,
+    session: Box<HttpSession>,
+    owed: Owed,
+    attempts: AttemptList,
+) -> Next<L, C>
+    ensures calls { Owing session.value owed calls.old calls.new result.phase }
+    ensures log { log_of calls.new ≡ log_of calls.old }
     ensures left { 0 < length (pending session.value.writing.output)
         → (result.phase ≡ Phase.Answer session owed attempts) × (result.step ≡ RunStep.Moved) }
     ensures whole { pending session.value.writing.output ≡ []
         → (result.phase ≡ Phase.Ended (outcome_owed owed) attempts)
         × (result.step ≡ RunStep.Ended) }
     ensures step { (result.step ≡ RunStep.Moved) ⊎ (result.step ≡ RunStep.Ended) }
+    ensures over { is_over result.phase ≡ is_end result.step }
+    ensures unlinked { links_held L.state L.start result.phase ≡ 0 }
+    ensures no_items { items_held L.start result.phase ≡ [] }
     ensures attempts { attempts_in result.phase ≡ attempts }
     ensures work { result.work ≡ Work.USED }
 {
@@ -119,15 +158,23 @@ fn took<L, C>(session: Box<HttpSession>, owed: Owed, attempts: AttemptList) -> N
             work: Work::USED,
         };
     }
-    ended(owed.outcome(), attempts, Work::USED)
+    ended(calls, session, owed.outcome(), attempts, Work::USED)
 }
 
-/// A request that has ended, with no link to hand back.
-fn ended<L, C>(outcome: Outcome, attempts: AttemptList, work: Work) -> Next<L, C>
+/// A request that has ended, with no link to hand back. Nothing more is written to its client.
+fn ended<M: HttpModule + Drop, K: Drop, L, C: Drop>(
+    calls: &mut Calls<M, K, C>,
+    session: Box<HttpSession>,
+    outcome: Outcome,
+    attempts: AttemptList,
+    work: Work,
+) -> Next<L, C>
     ensures phase { result.phase ≡ Phase.Ended outcome attempts }
+    ensures calls { calls.new ≡ closed_with calls.old session.value (error_of outcome) }
     ensures step { result.step ≡ RunStep.Ended }
     ensures work { result.work ≡ work }
 {
+    calls.take_client(Box::into_inner(session), outcome.error());
     Next {
         phase: Phase::Ended(outcome, attempts),
         step: RunStep::Ended,
@@ -141,6 +188,11 @@ fn offer<D: ByteLink, U: Drop>(session: &mut HttpSession, client: &mut Connectio
     requires { MayWrite session.old.writing.output }
     ensures answer { WritesPending session.old.writing.output (D.state client.old.link)
         (D.state client.new.link) result session.new.writing.output }
+    ensures same { session.new ≡ record session.old {
+      writing = record session.old.writing {
+        output = session.new.writing.output;
+      };
+    } }
     ensures ahead { client.new.ahead ≡ client.old.ahead }
     ensures kept { client.new.kept ≡ client.old.kept }
     ensures client_start { D.start client.new.link ≡ D.start client.old.link }

@@ -1,6 +1,6 @@
 //! The calls of an application for one request: what its hooks are shown, the log of their calls,
 //! and which of them comes next (RFC 9110, section 3.7).
-ghost use Rattle.std.specs.Prelude.{◌≡◌, ◌+◌, [], false, true, length, None, IfOk, IfSome, IsOkUnless, IsSome, IsTrue, OnErr, OnOk, is_some};
+ghost use Rattle.std.specs.Prelude.{◌≡◌, ◌+◌, [], false, true, length, None, IfOk, IfSome, IsOkUnless, IsSome, IsTrue, OnErr, OnOk, is_some, if◌then◌else◌};
 ghost use Rattle.relay_modules.specs.declared.seen.Seen.{Seen};
 ghost use Rattle.relay_session.specs.Reading.{head_of};
 ghost use Rattle.relay_session.specs.Response.{has_head};
@@ -9,9 +9,12 @@ ghost use Rattle.relay_phases.specs.Order.{Station, accepted, made};
 ghost use Rattle.relay_phases.specs.Turns.{HasCalled, QueuesNothing};
 ghost use Rattle.relay_tasks.specs.declared.hook.Hook.{Hook};
 ghost use Rattle.relay_trying.specs.Trying.{FiltersHead, TellsConnected, Treats, may_break};
-ghost use Rattle.relay_closing.specs.Place.{may_fail};
-ghost use Rattle.relay_proxy.specs.Calls.{AnswersError, CallsNext, HasBegun, TakesNext, allowed_by, final_at, is_calling, leads_at, leads_to, log_of, seen_with, treated_at};
+ghost use Rattle.relay_closing.specs.Place.{begun, is_lost, may_fail};
+ghost use Rattle.relay_proxy.specs.Calls.{CallsLast, CallsNext, CountsCalls, HasAnswered, HasBegun, TakesNext, allowed_by, closed_with, ended_with, final_at, given_at, has_last, is_calling, is_closing_at, is_lost_at, kept_at, leads_at, leads_to, log_of, seen_with, treated_at};
 
+use crate::closing_hooks::{calls_next, failed_with, given, kept_in};
+use crate::outcome::Outcome;
+use crate::work::Work;
 use relay_closing as closing;
 use relay_closing::begin_closing;
 use relay_hooks::{HttpModule, ProxyHttp, Session};
@@ -24,7 +27,7 @@ use std::mem;
 
 /// Which hook comes next.
 #[derive(Drop)]
-pub(crate) enum At<K> {
+pub(crate) enum At<K, C> {
     /// None was called, and that value was kept from the request before on the connection.
     Kept(Option<K>),
     /// The hooks before the attempts stand there; behind the last of them a peer is asked for.
@@ -35,11 +38,11 @@ pub(crate) enum At<K> {
     Linked,
     /// The error of an attempt was treated, and is that one: it is to be answered.
     Treated(Error),
-    /// The end of the request has begun, and its hooks stand there.
-    Closing(closing::Place<K>),
+    /// The hooks of the end of the request stand there, and are called with that context.
+    Closing(C, closing::Place<K>),
 }
 
-impl<K> At<K> {
+impl<K: Drop, C: Drop> At<K, C> {
     /// What the last call led to.
     fn leads(&self) -> Opened
         ensures { result ≡ leads_at self.now }
@@ -49,7 +52,7 @@ impl<K> At<K> {
             At::Opening(place) => leads_to(place),
             At::Named(_) => Opened::GoesOn,
             At::Linked => Opened::GoesOn,
-            At::Treated(_) | At::Closing(_) => Opened::OutOfMemory,
+            At::Treated(_) | At::Closing(_, _) => Opened::OutOfMemory,
         }
     }
 
@@ -62,7 +65,7 @@ impl<K> At<K> {
             At::Opening(Place::Ended(End::Answered | End::Purge | End::Declined)) => false,
             At::Opening(Place::Ended(End::Unwritten(_) | End::Failed(_)) | Place::Lost) => false,
             At::Kept(_) | At::Named(_) | At::Linked => false,
-            At::Treated(_) | At::Closing(_) => false,
+            At::Treated(_) | At::Closing(_, _) => false,
         }
     }
 
@@ -76,7 +79,7 @@ impl<K> At<K> {
             At::Opening(Place::Ended(End::Declined | End::Unwritten(_))) => None,
             At::Opening(Place::Behind(_) | Place::Lost) => None,
             At::Kept(_) | At::Named(_) | At::Linked => None,
-            At::Treated(_) | At::Closing(_) => None,
+            At::Treated(_) | At::Closing(_, _) => None,
         }
     }
 
@@ -87,7 +90,48 @@ impl<K> At<K> {
         match self {
             At::Treated(error) => Some(*error),
             At::Kept(_) | At::Opening(_) | At::Named(_) | At::Linked => None,
-            At::Closing(_) => None,
+            At::Closing(_, _) => None,
+        }
+    }
+
+    /// Where the end stands once an error was told, or none.
+    fn ended_with(self, error: Option<Error>) -> At<K, C>
+        ensures { result ≡ ended_with self error }
+    {
+        match self {
+            At::Kept(kept) => At::Kept(kept),
+            At::Opening(place) => At::Opening(place),
+            At::Named(peer) => At::Named(peer),
+            At::Linked => At::Linked,
+            At::Treated(treated) => At::Treated(treated),
+            At::Closing(context, place) => At::Closing(context, failed_with(place, error)),
+        }
+    }
+
+    /// The context and where the end stands.
+    fn into_closing(self) -> (C, closing::Place<K>)
+        requires { is_closing_at self ≡ true }
+        ensures { self ≡ At.Closing result.0 result.1 }
+    {
+        match self {
+            At::Closing(context, place) => (context, place),
+            At::Kept(_kept) => unreachable!(),
+            At::Opening(_place) => unreachable!(),
+            At::Named(_peer) => unreachable!(),
+            At::Linked | At::Treated(_) => unreachable!(),
+        }
+    }
+
+    /// The value that is kept for the next request of the connection, or none.
+    fn into_kept(self) -> Option<K>
+        ensures { result ≡ kept_at self }
+    {
+        match self {
+            At::Closing(_context, place) => kept_in(place),
+            At::Kept(_kept) => None,
+            At::Opening(_place) => None,
+            At::Named(_peer) => None,
+            At::Linked | At::Treated(_) => None,
         }
     }
 }
@@ -121,14 +165,14 @@ fn leads_to<K>(place: &Place<K>) -> Opened
 /// What was called for one request. The session is without its client, which stands in the phase of
 /// the request between two calls.
 #[derive(Drop)]
-pub(crate) struct Calls<M, K> {
+pub(crate) struct Calls<M, K, C> {
     session: Session<M>,
-    at: At<K>,
+    at: At<K, C>,
 }
 
-impl<M: HttpModule + Drop, K: Drop> Calls<M, K> {
+impl<M: HttpModule + Drop, K: Drop, C: Drop> Calls<M, K, C> {
     /// No hook was called.
-    pub(crate) fn new(alloc: Global, kept: Option<K>) -> Calls<M, K>
+    pub(crate) fn new(alloc: Global, kept: Option<K>) -> Calls<M, K, C>
         ensures log { log_of result ≡ [] }
         ensures at { result.at ≡ At.Kept kept }
         ensures modules { result.session.modules ≡ None }
@@ -153,7 +197,7 @@ impl<M: HttpModule + Drop, K: Drop> Calls<M, K> {
         match &self.at {
             At::Named(peer) => peer.copy().ok(),
             At::Kept(_) | At::Opening(_) | At::Linked => None,
-            At::Treated(_) | At::Closing(_) => None,
+            At::Treated(_) | At::Closing(_, _) => None,
         }
     }
 
@@ -172,13 +216,53 @@ impl<M: HttpModule + Drop, K: Drop> Calls<M, K> {
         self.at.treated()
     }
 
-    /// The log of the calls.
-    pub(crate) fn into_log(self) -> PhaseLog
-        ensures { result ≡ log_of self }
+    /// The hooks of the end of a request are called with that context, once its client has what it
+    /// is owed.
+    pub(crate) fn begin_end(&mut self, context: C)
+        ensures { self.new ≡ record self.old { at = At.Closing context (begun None) } }
     {
-        let session = self.session;
+        self.at = At::Closing(context, begin_closing(None));
+    }
+
+    /// Takes the client's session back, to which nothing is written any more. Where hooks had
+    /// answered it, and a write of that failed, the error is final.
+    pub(crate) fn take_client(&mut self, client: HttpSession, error: Option<Error>)
+        ensures { self.new ≡ closed_with self.old client error }
+    {
+        self.session.seen.downstream = client;
+        let at = mem::replace(&mut self.at, At::Linked);
+        self.at = at.ended_with(error);
+    }
+
+    /// Whether a hook of the end is called next; `goes_back` says that the client may ask for more.
+    pub(crate) fn has_last(&self, goes_back: bool) -> bool
+        ensures { result ≡ has_last self.now.at goes_back }
+    {
+        match &self.at {
+            At::Closing(_, place) => calls_next(place, goes_back),
+            At::Kept(_) | At::Opening(_) | At::Named(_) | At::Linked | At::Treated(_) => false,
+        }
+    }
+
+    /// The outcome that is given of a request that came to that: the same, or that turns or memory
+    /// ran out in the hooks of its end.
+    pub(crate) fn outcome(&self, came: Outcome) -> Outcome
+        ensures { result ≡ given_at self.now.at came }
+    {
+        match &self.at {
+            At::Closing(_, place) => given(place, came),
+            At::Kept(_) | At::Opening(_) | At::Named(_) | At::Linked | At::Treated(_) => came,
+        }
+    }
+
+    /// The log of the calls, and the value that is kept for the next request of the connection.
+    pub(crate) fn into_parts(self) -> (PhaseLog, Option<K>)
+        ensures log { result.0 ≡ log_of self }
+        ensures kept { result.1 ≡ kept_at self.at }
+    {
+        let Calls { session, at } = self;
         let seen = session.seen;
-        seen.log
+        (seen.log, at.into_kept())
     }
 }
 
@@ -187,7 +271,7 @@ impl<M: HttpModule + Drop, K: Drop> Calls<M, K> {
 /// Fails out of memory alone.
 pub(crate) fn begin_calls<SV: ProxyHttp>(
     app: &SV,
-    calls: &mut Calls<SV::Modules, SV::Kept>,
+    calls: &mut Calls<SV::Modules, SV::Kept, SV::CTX>,
     client: &mut HttpSession,
 ) -> Result<SV::CTX>
     requires read { IsSome (head_of client.old.reading) }
@@ -204,7 +288,7 @@ pub(crate) fn begin_calls<SV: ProxyHttp>(
     let kept = match mem::replace(&mut calls.at, At::Kept(None)) {
         At::Kept(kept) => kept,
         At::Opening(_) | At::Named(_) | At::Linked => None,
-        At::Treated(_) | At::Closing(_) => None,
+        At::Treated(_) | At::Closing(_, _) => None,
     };
     mem::swap(client, &mut calls.session.seen.downstream);
     let begun = begin_opening(app, &mut calls.session, kept);
@@ -221,7 +305,7 @@ pub(crate) fn begin_calls<SV: ProxyHttp>(
 /// where it is called next that is so, and else this is out of memory.
 pub(crate) fn call_next<SV: ProxyHttp>(
     app: &SV,
-    calls: &mut Calls<SV::Modules, SV::Kept>,
+    calls: &mut Calls<SV::Modules, SV::Kept, SV::CTX>,
     context: &mut SV::CTX,
     client: &mut HttpSession,
 ) -> Opened
@@ -248,8 +332,8 @@ fn take_next<SV: ProxyHttp>(
     app: &SV,
     session: &mut Session<SV::Modules>,
     context: &mut SV::CTX,
-    at: At<SV::Kept>,
-) -> At<SV::Kept>
+    at: At<SV::Kept, SV::CTX>,
+) -> At<SV::Kept, SV::CTX>
     requires calling { is_calling at ≡ true }
     requires open_to { IsTrue (is_open session.old.seen) }
     ensures { TakesNext (allowed_by (SV.allows app.now) SV.Modules.allows) at
@@ -267,7 +351,7 @@ fn take_next<SV: ProxyHttp>(
             Err(Fail::OutOfMemory) => At::Opening(Place::Lost),
         },
         At::Opening(Place::Lost) | At::Kept(_) | At::Named(_) | At::Linked => unreachable!(),
-        At::Treated(_) | At::Closing(_) => unreachable!(),
+        At::Treated(_) | At::Closing(_, _) => unreachable!(),
     }
 }
 
@@ -277,7 +361,7 @@ fn take_next<SV: ProxyHttp>(
 /// not read, which cannot be where this is called.
 pub(crate) fn tell_link<SV: ProxyHttp>(
     app: &SV,
-    calls: &mut Calls<SV::Modules, SV::Kept>,
+    calls: &mut Calls<SV::Modules, SV::Kept, SV::CTX>,
     context: &mut SV::CTX,
     client: &mut HttpSession,
     peer: &Peer,
@@ -307,7 +391,7 @@ pub(crate) fn tell_link<SV: ProxyHttp>(
 /// was not read, which cannot be where this is called.
 pub(crate) fn filter<SV: ProxyHttp>(
     app: &SV,
-    calls: &mut Calls<SV::Modules, SV::Kept>,
+    calls: &mut Calls<SV::Modules, SV::Kept, SV::CTX>,
     context: &mut SV::CTX,
     client: &mut HttpSession,
     ready: RequestHeader,
@@ -333,7 +417,7 @@ pub(crate) fn filter<SV: ProxyHttp>(
 /// cannot be where this is called.
 pub(crate) fn treat<SV: ProxyHttp>(
     app: &SV,
-    calls: &mut Calls<SV::Modules, SV::Kept>,
+    calls: &mut Calls<SV::Modules, SV::Kept, SV::CTX>,
     context: &mut SV::CTX,
     client: &mut HttpSession,
     peer: &Peer,
@@ -360,34 +444,72 @@ pub(crate) fn treat<SV: ProxyHttp>(
 }
 
 /// Has the application answer the client for that error, which is final. With this the end of the
-/// request begins.
+/// request begins, and the context is kept for its other hooks.
 ///
 /// Out of memory alone, where no entry is new; also where the client's head was not read, which
 /// cannot be where this is called.
 pub(crate) fn answer_error<SV: ProxyHttp>(
     app: &SV,
-    calls: &mut Calls<SV::Modules, SV::Kept>,
-    context: &mut SV::CTX,
+    calls: &mut Calls<SV::Modules, SV::Kept, SV::CTX>,
+    context: SV::CTX,
     client: &mut HttpSession,
     error: Error,
 ) -> Result<()>
     ensures answers { (from : Station) → IsTrue (may_fail from) → OnOk result (
-        AnswersError (allowed_by (SV.allows app.now) SV.Modules.allows) error from
-        (seen_with calls.old client.old) (SV.mark_of app.now context.old)
-        (seen_with calls.new client.new) (SV.mark_of app.now context.new)) }
+        HasAnswered (allowed_by (SV.allows app.now) SV.Modules.allows) (SV.mark_of app.now) error
+        from (seen_with calls.old client.old) (SV.mark_of app.now context) calls.new client.new) }
     ensures memory { IsOkUnless result Fail.OutOfMemory }
     ensures lost { OnErr result (log_of calls.new ≡ log_of calls.old) }
 {
     if !client.has_head() {
         return Err(Fail::OutOfMemory);
     }
+    let mut context = context;
     mem::swap(client, &mut calls.session.seen.downstream);
     let failing = begin_closing(Some(error));
-    let place = closing::take_turn(app, &mut calls.session, context, failing, false);
+    let place = closing::take_turn(app, &mut calls.session, &mut context, failing, false);
     mem::swap(client, &mut calls.session.seen.downstream);
     if place.is_lost() {
         return Err(Fail::OutOfMemory);
     }
-    calls.at = At::Closing(place);
+    calls.at = At::Closing(context, place);
     Ok(())
+}
+
+/// Calls the hook of the end of a request that comes next; `goes_back` says that its client may ask
+/// for more. The session has its client again, and the context is that of the calls before.
+///
+/// Where the client's head was not read, which cannot be where this is called, none is called, and
+/// the end stands as out of memory.
+pub(crate) fn call_last<SV: ProxyHttp>(
+    app: &SV,
+    calls: &mut Calls<SV::Modules, SV::Kept, SV::CTX>,
+    goes_back: bool,
+) -> Work
+    requires { has_last calls.old.at goes_back ≡ true }
+    ensures turns { CallsLast (allowed_by (SV.allows app.now) SV.Modules.allows)
+        (SV.mark_of app.now) goes_back calls.old calls.new }
+    ensures counts { CountsCalls calls.old calls.new result }
+    ensures work { result ≡ (if is_lost_at calls.new.at then Work.NONE else Work.CALLED) }
+{
+    let (context, place) = mem::replace(&mut calls.at, At::Linked).into_closing();
+    if !calls.session.seen.downstream.has_head() {
+        calls.at = At::Closing(context, closing::Place::Lost);
+        return Work::NONE;
+    }
+    let mut context = context;
+    let place = closing::take_turn(app, &mut calls.session, &mut context, place, goes_back);
+    let work = work_behind(&place);
+    calls.at = At::Closing(context, place);
+    work
+}
+
+/// The work of a turn that called a hook of the end: that call; or none, where memory was wanted.
+fn work_behind<K>(place: &closing::Place<K>) -> Work
+    ensures { result ≡ (if is_lost place.now then Work.NONE else Work.CALLED) }
+{
+    if place.is_lost() {
+        return Work::NONE;
+    }
+    Work::CALLED
 }

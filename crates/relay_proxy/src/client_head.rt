@@ -8,7 +8,7 @@ ghost use Rattle.relay_proxy.specs.Relayable.{IsConnect};
 ghost use Rattle.relay_proxy.specs.Bound.{CountsHead};
 ghost use Rattle.relay_proxy.specs.Endings.{IsTurnedDown, ended_outcome};
 ghost use Rattle.relay_attempt.specs.Passed.{Passed};
-ghost use Rattle.relay_proxy.specs.Calls.{CallsSoFar, CountsCalls, IsUnended, allowed_by, log_of};
+ghost use Rattle.relay_proxy.specs.Calls.{CallsSoFar, CountsCalls, IsUncalled, IsUncalledEnd, IsUnended, allowed_by, log_of};
 ghost use Rattle.relay_proxy.specs.Passed.{World, Start, opened_to};
 ghost use Rattle.relay_proxy.specs.Phases.{RunSoFar};
 ghost use Rattle.relay_proxy.specs.Refusals.{attempts_in};
@@ -36,7 +36,7 @@ use std::alloc::Global;
 pub(crate) fn read_head<SV: ProxyHttp, D: ByteLink, U, L: ByteLink>(
     alloc: Global,
     hooks: &SV,
-    calls: &mut Calls<SV::Modules, SV::Kept>,
+    calls: &mut Calls<SV::Modules, SV::Kept, SV::CTX>,
     client: &mut Connection<D, U>,
 ) -> Next<L, SV::CTX>
     ensures run { (s : Start) (p : Passed) (faults : ℕ) → log_of calls.old ≡ []
@@ -87,6 +87,7 @@ fn await_head<D: ByteLink, U, L: ByteLink, C>(
     ensures work { DoesWork result.step result.work }
     ensures uncalled { result.work.called ≡ 0 }
     ensures unopened { is_connecting result.phase ≡ false }
+    ensures refuses { IsUncalled result.phase }
     ensures counts { CountsHead result.phase result.work }
     ensures over { is_over result.phase ≡ is_end result.step }
     ensures unlinked { links_held L.state L.start result.phase ≡ 0 }
@@ -134,7 +135,8 @@ fn await_head<D: ByteLink, U, L: ByteLink, C>(
 
 /// The outcome where the client ended, by what had come of its head.
 fn end_of_client(came: &[u8]) -> Outcome
-    ensures { result ≡ ended_outcome came.now }
+    ensures outcome { result ≡ ended_outcome came.now }
+    ensures refuses { IsUncalledEnd result }
 {
     if came.is_empty() {
         Outcome::NoRequest
@@ -151,7 +153,7 @@ fn end_of_client(came: &[u8]) -> Outcome
 fn take_head<SV: ProxyHttp, D: ByteLink, U, L: ByteLink>(
     alloc: Global,
     hooks: &SV,
-    calls: &mut Calls<SV::Modules, SV::Kept>,
+    calls: &mut Calls<SV::Modules, SV::Kept, SV::CTX>,
     client: &mut Connection<D, U>,
     read: RequestRead,
 ) -> Next<L, SV::CTX>
@@ -194,7 +196,7 @@ fn take_head<SV: ProxyHttp, D: ByteLink, U, L: ByteLink>(
 fn accept_head<SV: ProxyHttp, D: ByteLink, U, L: ByteLink>(
     alloc: Global,
     hooks: &SV,
-    calls: &mut Calls<SV::Modules, SV::Kept>,
+    calls: &mut Calls<SV::Modules, SV::Kept, SV::CTX>,
     client: &mut Connection<D, U>,
     read: RequestRead,
 ) -> Next<L, SV::CTX>
@@ -264,6 +266,7 @@ fn give_answer<L: ByteLink, C>(alloc: Global, status: u16, error: Option<Error>)
     ensures work { DoesWork result.step result.work }
     ensures uncalled { result.work.called ≡ 0 }
     ensures unopened { is_connecting result.phase ≡ false }
+    ensures refuses { IsUncalled result.phase }
     ensures counts { CountsHead result.phase result.work }
     ensures over { is_over result.phase ≡ is_end result.step }
     ensures unlinked { links_held L.state L.start result.phase ≡ 0 }

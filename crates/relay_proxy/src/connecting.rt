@@ -68,7 +68,7 @@ pub(crate) fn connect<SV: ProxyHttp, K: Connector>(
     app: &SV,
     connector: &mut K,
     most: usize,
-    calls: &mut Calls<SV::Modules, SV::Kept>,
+    calls: &mut Calls<SV::Modules, SV::Kept, SV::CTX>,
     context: SV::CTX,
     session: Box<HttpSession>,
     tries: AttemptList,
@@ -135,7 +135,7 @@ pub(crate) fn connect<SV: ProxyHttp, K: Connector>(
 /// fails, the link is to go back, not kept, and the client is owed the answer to its error.
 fn tell<SV: ProxyHttp, L: ByteLink>(
     app: &SV,
-    calls: &mut Calls<SV::Modules, SV::Kept>,
+    calls: &mut Calls<SV::Modules, SV::Kept, SV::CTX>,
     context: SV::CTX,
     session: Box<HttpSession>,
     link: L,
@@ -266,6 +266,8 @@ fn answer_unlinked<L: ByteLink, C>(
     ensures work { DoesWork result.step result.work }
     ensures uncalled { result.work.called ≡ 0 }
     ensures unopened { is_connecting result.phase ≡ false }
+    ensures asked { (context : C) (other : Box HttpSession)
+        → KeepsAsked context other result.phase }
     ensures counts { (tries : List AttemptRecord) → length attempts ≡ length tries + 1
         → CountsLink tries result.phase result.work }
     ensures unused { result.work.used ≡ 0 }

@@ -3,7 +3,7 @@
 ghost use Rattle.std.specs.Prelude.{◌≡◌, ◌⊎◌, ◌≤◌, [], ◌∷◌, ℕ, None, Some, true};
 ghost use Rattle.relay_attempt.specs.Passed.{Passed};
 ghost use Rattle.relay_proxy.specs.Bound.{CountsTreat, LeavesLink};
-ghost use Rattle.relay_proxy.specs.Calls.{CallsSoFar, CountsCalls, IsUnended, allowed_by, log_of, treated_at};
+ghost use Rattle.relay_proxy.specs.Calls.{CallsSoFar, CountsCalls, IsUnended, Owing, allowed_by, log_of, treated_at};
 ghost use Rattle.relay_proxy.specs.Leaving.{Answers};
 ghost use Rattle.relay_proxy.specs.Passed.{World, Start, called_to, opened_to};
 ghost use Rattle.relay_proxy.specs.Phases.{RunSoFar};
@@ -20,7 +20,7 @@ use crate::outcome::Outcome;
 use crate::owed::Owed;
 use crate::preparing::closed;
 use crate::work::Work;
-use relay_hooks::ProxyHttp;
+use relay_hooks::{HttpModule, ProxyHttp};
 use relay_links::ByteLink;
 use relay_session::HttpSession;
 use relay_tasks::Error;
@@ -29,7 +29,7 @@ use relay_tasks::Error;
 /// treated, answers the client for it. Its link is to go back then.
 pub(crate) fn fail<SV: ProxyHttp, L: ByteLink>(
     app: &SV,
-    calls: &mut Calls<SV::Modules, SV::Kept>,
+    calls: &mut Calls<SV::Modules, SV::Kept, SV::CTX>,
     context: SV::CTX,
     session: Box<HttpSession>,
     link: L,
@@ -76,7 +76,7 @@ pub(crate) fn fail<SV: ProxyHttp, L: ByteLink>(
 /// Has the application treat the error of an attempt. It is to be answered then.
 fn treat_broken<SV: ProxyHttp, L: ByteLink>(
     app: &SV,
-    calls: &mut Calls<SV::Modules, SV::Kept>,
+    calls: &mut Calls<SV::Modules, SV::Kept, SV::CTX>,
     context: SV::CTX,
     session: Box<HttpSession>,
     link: L,
@@ -134,7 +134,7 @@ fn treat_broken<SV: ProxyHttp, L: ByteLink>(
 /// the client is owed what was queued for it; where nothing waits, the request ends.
 fn answer_broken<SV: ProxyHttp, L: ByteLink>(
     app: &SV,
-    calls: &mut Calls<SV::Modules, SV::Kept>,
+    calls: &mut Calls<SV::Modules, SV::Kept, SV::CTX>,
     context: SV::CTX,
     session: Box<HttpSession>,
     link: L,
@@ -170,16 +170,16 @@ fn answer_broken<SV: ProxyHttp, L: ByteLink>(
     ensures asked { (n : ℕ) → LinkUses L.state L.start n link
         → PhaseUses L.state L.start n [] result.phase }
 {
-    let mut context = context;
     let mut session = session;
-    match answer_error(app, calls, &mut context, &mut session, treated) {
-        Ok(()) => owe(session, link, lease, keep, treated),
+    match answer_error(app, calls, context, &mut session, treated) {
+        Ok(()) => owe(calls, session, link, lease, keep, treated),
         Err(_) => closed(link, lease, false, Outcome::OutOfMemory),
     }
 }
 
 /// What an attempt comes to whose error was answered: what waits for the client is to be written.
-fn owe<L: ByteLink, C>(
+fn owe<M: HttpModule + Drop, K: Drop, L: ByteLink, C: Drop>(
+    calls: &mut Calls<M, K, C>,
     session: Box<HttpSession>,
     link: L,
     lease: Lease,
@@ -187,6 +187,8 @@ fn owe<L: ByteLink, C>(
     error: Error,
 ) -> Next<L, C>
     ensures comes { Answers session.value.writing link lease keep error result.phase }
+    ensures calls { Owing session.value (Owed.Served error) calls.old calls.new
+        result.phase }
     ensures closing { is_closing result.phase ≡ true }
     ensures owes { result.step ≡ RunStep.Moved → OwesAnswer result.phase }
     ensures leaves { LeavesLink link lease result.phase }
@@ -204,6 +206,7 @@ fn owe<L: ByteLink, C>(
         → PhaseUses L.state L.start n [] result.phase }
 {
     if !session.has_pending() {
+        calls.take_client(Box::into_inner(session), Some(error));
         return Next {
             phase: Phase::Close(link, lease, keep, Owed::Served(error).outcome()),
             step: RunStep::Ended,

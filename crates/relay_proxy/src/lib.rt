@@ -4,6 +4,7 @@
 mod answering;
 mod calls;
 mod client_head;
+mod closing_hooks;
 mod connecting;
 mod failing;
 mod finish;

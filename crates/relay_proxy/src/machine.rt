@@ -13,8 +13,9 @@
 //! ```
 
 ghost use Rattle.std.specs.Prelude.{◌≡◌, true};
+ghost use Rattle.relay_proxy.specs.Calls.{goes_back_in};
 ghost use Rattle.relay_proxy.specs.Relaying.{is_relaying, is_closing};
-ghost use Rattle.relay_proxy.specs.Turn.{is_reading_head};
+ghost use Rattle.relay_proxy.specs.Turn.{is_over, is_reading_head};
 
 use crate::outcome::Outcome;
 use crate::owed::Owed;
@@ -138,6 +139,32 @@ impl<L, C> Phase<L, C> {
             Phase::ReadHead | Phase::Connect(_, _, _) | Phase::Prepare(_, _, _, _) => false,
             Phase::Relay(_) | Phase::Broken(_, _, _, _, _, _) => false,
             Phase::Answer(_, _, _) | Phase::Ended(_, _) => false,
+        }
+    }
+
+    /// Whether the request has ended, but for the hooks of its end.
+    pub(crate) fn is_over(&self) -> bool
+        ensures { result ≡ is_over self.now }
+    {
+        match self {
+            Phase::Close(_, _, _, _) | Phase::Ended(_, _) => true,
+            Phase::ReadHead | Phase::Connect(_, _, _) | Phase::Prepare(_, _, _, _) => false,
+            Phase::Relay(_) | Phase::Broken(_, _, _, _, _, _) => false,
+            Phase::Fail(_, _, _, _, _) | Phase::Answer(_, _, _) => false,
+        }
+    }
+
+    /// Whether the client of a request that was served may ask for more.
+    pub(crate) fn goes_back(&self) -> Option<bool>
+        ensures { result ≡ goes_back_in self.now }
+    {
+        match self {
+            Phase::Ended(Outcome::Served { error: _, reuse }, _) => Some(*reuse),
+            Phase::Ended(Outcome::NoRequest | Outcome::Refused { .. }, _) => None,
+            Phase::Ended(Outcome::TurnLimit | Outcome::OutOfMemory, _) => None,
+            Phase::ReadHead | Phase::Connect(_, _, _) | Phase::Prepare(_, _, _, _) => None,
+            Phase::Relay(_) | Phase::Broken(_, _, _, _, _, _) => None,
+            Phase::Fail(_, _, _, _, _) | Phase::Close(_, _, _, _) | Phase::Answer(_, _, _) => None,
         }
     }
 

@@ -5,6 +5,7 @@ ghost use Rattle.std.specs.Global.{Box};
 ghost use Rattle.relay_links.specs.Link.{LinkState};
 ghost use Rattle.relay_session.specs.Asked.{request_of};
 ghost use Rattle.relay_session.specs.Response.{pending};
+ghost use Rattle.relay_session.specs.declared.session.HttpSession.{HttpSession};
 ghost use Rattle.relay_session.specs.declared.task_text.Place.{Place};
 ghost use Rattle.relay_session.specs.declared.writing.Outgoing.{Outgoing};
 ghost use Rattle.relay_tasks.specs.Head.{RequestHead};
@@ -12,7 +13,8 @@ ghost use Rattle.relay_tasks.specs.declared.log.LogEntry.{LogEntry};
 ghost use Rattle.relay_attempt.specs.Passed.{Passed};
 ghost use Rattle.relay_proxy.specs.Bound.{CountsCall, CountsLink};
 ghost use Rattle.relay_phases.specs.Order.{Accepts, accepted, purging};
-ghost use Rattle.relay_proxy.specs.Calls.{CallsSoFar, CountsCalls, IsUnended, allowed_by, final_at, is_calling, log_of};
+ghost use Rattle.relay_proxy.specs.Ahead.{unrelayed};
+ghost use Rattle.relay_proxy.specs.Calls.{CallsSoFar, CountsCalls, IsUnended, Owing, allowed_by, final_at, is_calling, log_of};
 ghost use Rattle.relay_proxy.specs.Passed.{World, Start, called_to, opened_to};
 ghost use Rattle.relay_proxy.specs.Phases.{RunSoFar};
 ghost use Rattle.relay_proxy.specs.Sent.{IsUntreated};
@@ -23,6 +25,7 @@ ghost use Rattle.relay_proxy.specs.Taken.{TakesAfter};
 ghost use Rattle.relay_proxy.specs.Turn.{world_with, DoesWork, is_connecting, is_over, is_end, links_held, Advances, HasCause};
 ghost use Rattle.relay_proxy.specs.Uses.{OwesAnswer, PhaseUses};
 ghost use Rattle.relay_proxy.specs.declared.outcome.Outcome.{Outcome};
+ghost use Rattle.relay_tasks.specs.declared.ErrorSource.{ErrorSource};
 
 use crate::calls::{Calls, Opened, answer_error, call_next};
 use crate::connecting::{connect, lacks_memory};
@@ -30,7 +33,7 @@ use crate::machine::{Next, Phase, RunStep};
 use crate::owed::{Owed, queue_answer};
 use crate::record::AttemptList;
 use crate::work::Work;
-use relay_hooks::ProxyHttp;
+use relay_hooks::{HttpModule, ProxyHttp};
 use relay_links::{ByteLink, Connector};
 use relay_session::HttpSession;
 use relay_tasks::{Error, ErrorType};
@@ -41,7 +44,7 @@ pub(crate) fn reach<SV: ProxyHttp, K: Connector>(
     app: &SV,
     connector: &mut K,
     most: usize,
-    calls: &mut Calls<SV::Modules, SV::Kept>,
+    calls: &mut Calls<SV::Modules, SV::Kept, SV::CTX>,
     context: SV::CTX,
     session: Box<HttpSession>,
     tries: AttemptList,
@@ -90,7 +93,7 @@ pub(crate) fn reach<SV: ProxyHttp, K: Connector>(
 /// Calls the hook that comes next, and no other.
 fn open<SV: ProxyHttp, L: ByteLink>(
     app: &SV,
-    calls: &mut Calls<SV::Modules, SV::Kept>,
+    calls: &mut Calls<SV::Modules, SV::Kept, SV::CTX>,
     context: SV::CTX,
     session: Box<HttpSession>,
     tries: AttemptList,
@@ -128,8 +131,11 @@ fn open<SV: ProxyHttp, L: ByteLink>(
             step: RunStep::Moved,
             work: Work::CALLED,
         },
-        Opened::Answered => owe(session, tries, None),
-        Opened::Purges => turn_down(session, tries),
+        Opened::Answered => {
+            calls.begin_end(context);
+            owe(calls, session, tries, None)
+        }
+        Opened::Purges => turn_down(calls, session, tries),
         Opened::OutOfMemory => lacks_memory(tries),
     }
 }
@@ -138,7 +144,7 @@ fn open<SV: ProxyHttp, L: ByteLink>(
 /// it queued, and the request ends where that is nothing.
 fn answer<SV: ProxyHttp, L: ByteLink>(
     app: &SV,
-    calls: &mut Calls<SV::Modules, SV::Kept>,
+    calls: &mut Calls<SV::Modules, SV::Kept, SV::CTX>,
     context: SV::CTX,
     session: Box<HttpSession>,
     tries: AttemptList,
@@ -167,16 +173,19 @@ fn answer<SV: ProxyHttp, L: ByteLink>(
     ensures no_items { items_held L.start result.phase ≡ [] }
     ensures attempts { attempts_in result.phase ≡ tries }
 {
-    let mut context = context;
     let mut session = session;
-    match answer_error(app, calls, &mut context, &mut session, error) {
-        Ok(()) => owe(session, tries, Some(error)),
+    match answer_error(app, calls, context, &mut session, error) {
+        Ok(()) => owe(calls, session, tries, Some(error)),
         Err(_) => lacks_memory(tries),
     }
 }
 
 /// A request that is a purge, which is not done so far: the client is owed the relay's own answer.
-fn turn_down<L: ByteLink, C>(session: Box<HttpSession>, tries: AttemptList) -> Next<L, C>
+fn turn_down<M: HttpModule + Drop, K: Drop, L: ByteLink, C: Drop>(
+    calls: &mut Calls<M, K, C>,
+    session: Box<HttpSession>,
+    tries: AttemptList,
+) -> Next<L, C>
     ensures run { (s : Start) (these those : List LogEntry) (p : Passed) (w : World) (context : C)
         (client : Box HttpSession) (head : RequestHead)
         → session.value.writing.output ≡ Outgoing.Open []
@@ -187,6 +196,9 @@ fn turn_down<L: ByteLink, C>(session: Box<HttpSession>, tries: AttemptList) -> N
         (Phase.Connect context client tries)
         → Advances {C = C} L.state L.start (opened_to s those) w result.phase }
     ensures owes { result.step ≡ RunStep.Moved → OwesAnswer result.phase }
+    ensures calls { (client : HttpSession)
+        × Owing client (Owed.Ahead (Some (unrelayed ErrorSource.Internal))) calls.old calls.new
+        result.phase }
     ensures step { (result.step ≡ RunStep.Moved) ⊎ (result.step ≡ RunStep.Ended) }
     ensures work { DoesWork result.step result.work }
     ensures counts { CountsCall tries result.phase result.work }
@@ -203,12 +215,13 @@ fn turn_down<L: ByteLink, C>(session: Box<HttpSession>, tries: AttemptList) -> N
     let Ok(()) = queue_answer(&mut session, error) else {
         return lacks_memory(tries);
     };
-    owe(session, tries, Some(error))
+    owe(calls, session, tries, Some(error))
 }
 
 /// A request that hooks ended, for that error or for none: what waits for the client is to be
 /// written.
-fn owe<L: ByteLink, C>(
+fn owe<M: HttpModule + Drop, K: Drop, L: ByteLink, C: Drop>(
+    calls: &mut Calls<M, K, C>,
     session: Box<HttpSession>,
     tries: AttemptList,
     why: Option<Error>,
@@ -220,6 +233,7 @@ fn owe<L: ByteLink, C>(
         → (result.phase ≡ Phase.Ended (Outcome.Served why false) tries)
         × (result.step ≡ RunStep.Ended) }
     ensures owes { result.step ≡ RunStep.Moved → OwesAnswer result.phase }
+    ensures calls { Owing session.value (Owed.Ahead why) calls.old calls.new result.phase }
     ensures step { (result.step ≡ RunStep.Moved) ⊎ (result.step ≡ RunStep.Ended) }
     ensures counts { CountsCall tries result.phase result.work }
     ensures over { is_over result.phase ≡ is_end result.step }
@@ -231,6 +245,7 @@ fn owe<L: ByteLink, C>(
 {
     let owed = Owed::Ahead(why);
     if !session.has_pending() {
+        calls.take_client(Box::into_inner(session), why);
         return Next {
             phase: Phase::Ended(owed.outcome(), tries),
             step: RunStep::Ended,

@@ -2,7 +2,7 @@
 
 ghost use Rattle.std.specs.Prelude.{◌≡◌};
 ghost use Rattle.relay_proxy.specs.Endings.{error_of};
-ghost use Rattle.relay_proxy.specs.Request.{ended_after};
+ghost use Rattle.relay_proxy.specs.Request.{ended_after, kept_of};
 
 use crate::record::RunRecord;
 use relay_tasks::Error;
@@ -45,6 +45,17 @@ pub(crate) fn count_ended(ended: u64, outcome: Outcome) -> u64
     match outcome {
         Outcome::NoRequest | Outcome::TurnLimit | Outcome::OutOfMemory => ended,
         Outcome::Refused { .. } | Outcome::Served { .. } => ended.saturating_add(1),
+    }
+}
+
+/// The value that is kept for the next request of a connection: none but of one that was served.
+pub(crate) fn kept_of<K: Drop>(outcome: Outcome, kept: Option<K>) -> Option<K>
+    ensures { result ≡ kept_of outcome kept }
+{
+    match outcome {
+        Outcome::Served { .. } => kept,
+        Outcome::NoRequest | Outcome::Refused { .. } => None,
+        Outcome::TurnLimit | Outcome::OutOfMemory => None,
     }
 }
 

@@ -14,7 +14,7 @@ ghost use Rattle.relay_links.specs.Link.{IsHandedOut};
 ghost use Rattle.relay_session.specs.Reading.{head_of};
 ghost use Rattle.relay_proxy.specs.Bound.{CountsSend};
 ghost use Rattle.relay_proxy.specs.Calls.{BeginsCalls, CallsSoFar, CountsCalls, IsUnended, allowed_by, log_of};
-ghost use Rattle.relay_proxy.specs.Endings.{IsInOrder, outcome_of};
+ghost use Rattle.relay_proxy.specs.Endings.{IsInOrder};
 ghost use Rattle.relay_proxy.specs.Passed.{World, Start, opened_to, IsUntouched, TellsClient};
 ghost use Rattle.relay_proxy.specs.Phases.{IsConnecting, IsRelaying, RunSoFar};
 ghost use Rattle.relay_proxy.specs.Preparing.{MakesHead, Readies, Settles};
@@ -43,7 +43,7 @@ use std::alloc::Global;
 pub(crate) fn prepare<SV: ProxyHttp, L: ByteLink>(
     alloc: Global,
     app: &SV,
-    calls: &mut Calls<SV::Modules, SV::Kept>,
+    calls: &mut Calls<SV::Modules, SV::Kept, SV::CTX>,
     context: SV::CTX,
     session: Box<HttpSession>,
     link: L,
@@ -87,7 +87,7 @@ pub(crate) fn prepare<SV: ProxyHttp, L: ByteLink>(
 fn sent_of<SV: ProxyHttp>(
     alloc: Global,
     app: &SV,
-    calls: &mut Calls<SV::Modules, SV::Kept>,
+    calls: &mut Calls<SV::Modules, SV::Kept, SV::CTX>,
     context: &mut SV::CTX,
     client: &mut HttpSession,
 ) -> Result<RequestHeader>
@@ -218,7 +218,8 @@ fn begin<L: ByteLink, C: Drop>(
                 context,
             },
         ),
-        Err(Unbegun { link, why }) => closed(link, lease, false, outcome_of(why)),
+        // A head that was settled has a framing, so memory was wanted.
+        Err(Unbegun { link, why: _ }) => closed(link, lease, false, Outcome::OutOfMemory),
     }
 }
 
@@ -262,18 +263,5 @@ fn hold<L: ByteLink, C: Drop>(alloc: Global, attempt: Attempt<L, C>) -> Next<L, 
             } = failed.value;
             closed(exchange.into_link(), lease, false, Outcome::OutOfMemory)
         }
-    }
-}
-
-/// How a request ends whose exchange failed to begin. No head that is sent is refused there.
-fn outcome_of(why: Fail) -> Outcome
-    ensures { result ≡ outcome_of why }
-{
-    match why {
-        Fail::OutOfMemory => Outcome::OutOfMemory,
-        Fail::Error(error) => Outcome::Served {
-            error: Some(error),
-            reuse: false,
-        },
     }
 }

@@ -1,27 +1,28 @@
 //! The proxy: requests are begun, stepped and ended, or processed in one call.
-ghost use Rattle.std.specs.Prelude.{◌≡◌, ◌⊎◌, ◌+◌, ◌≤◌, ℕ, [], List, length, None, true, false};
+ghost use Rattle.std.specs.Prelude.{◌≡◌, ◌⊎◌, ◌+◌, ◌≤◌, ℕ, [], List, length, IsSome, None, Some, true, false};
 ghost use Rattle.std.specs.Global.{Box};
 ghost use Rattle.relay_links.specs.Count.{Rose};
 ghost use Rattle.relay_links.specs.Link.{LinkState};
 ghost use Rattle.relay_attempt.specs.Passed.{Passed};
 ghost use Rattle.relay_proxy.specs.Bound.{PhaseCounts};
 ghost use Rattle.relay_phases.specs.Order.{Station};
-ghost use Rattle.relay_proxy.specs.Calls.{CallsSoFar, IsLogged, allowed_by, log_of};
+ghost use Rattle.relay_proxy.specs.Calls.{CallsLast, CallsSoFar, CountsLast, IsLogged, KeepsValue, allowed_by, is_ending, kept_at, last_of, log_of};
+ghost use Rattle.relay_links.specs.Count.{up};
 ghost use Rattle.relay_proxy.specs.Passed.{Start, called_to, start_of, nothing};
 ghost use Rattle.relay_proxy.specs.Phases.{RunSoFar};
 ghost use Rattle.relay_proxy.specs.Refusals.{attempts_in};
-ghost use Rattle.relay_proxy.specs.Request.{is_stop, ended_after, Counts, StepsOn, ComesToEnd, Processes};
+ghost use Rattle.relay_proxy.specs.Request.{answer_of, is_done, is_stop, ended_after, kept_of, Counts, StepsOn, ComesToEnd, Processes};
 ghost use Rattle.relay_proxy.specs.Stock.{items_held, all_items};
 ghost use Rattle.relay_proxy.specs.Turn.{world_of, held_state, links_held, is_reading_head, is_over, is_end, HasCause};
 ghost use Rattle.relay_proxy.specs.Uses.{CountsUses, MovesOn, OwesAnswer, StandsBehind};
-ghost use Rattle.relay_proxy.specs.Work.{total_work, Grows};
+ghost use Rattle.relay_proxy.specs.Work.{added_work, total_work, Grows};
 ghost use Rattle.relay_proxy.specs.declared.calls.At.{At};
 ghost use Rattle.relay_proxy.specs.declared.machine.Phase.{Phase};
 
-use crate::calls::Calls;
+use crate::calls::{Calls, call_last};
 use crate::finish::{finish, settle};
 use crate::machine::{Did, Machine, RunStep};
-use crate::outcome::{Outcome, Processed, count_ended};
+use crate::outcome::{Outcome, Processed, count_ended, kept_of};
 use crate::record::RunRecord;
 use crate::turn::take_turn;
 use crate::work::{Work, count_turn};
@@ -60,7 +61,7 @@ pub struct HttpProxy<SV, K, P> {
 /// A request under way. It holds the link of its attempt, so it is given to `end`.
 pub struct RequestMachine<SV: ProxyHttp, K: Connector> {
     machine: Machine<K::Byte, SV::CTX>,
-    calls: Calls<SV::Modules, SV::Kept>,
+    calls: Calls<SV::Modules, SV::Kept, SV::CTX>,
 }
 
 impl<SV: ProxyHttp, K: Connector> RequestMachine<SV, K> {
@@ -69,6 +70,47 @@ impl<SV: ProxyHttp, K: Connector> RequestMachine<SV, K> {
         ensures { result ≡ is_reading_head self.now.machine.phase }
     {
         self.machine.phase.is_reading_head()
+    }
+
+    /// Where a hook of the end of a request that has ended is called next, whether its client may
+    /// ask for more.
+    fn goes_on_last(&self) -> Option<bool>
+        ensures { result ≡ last_of self.now.machine.phase self.now.calls.at }
+    {
+        let goes_back = self.machine.phase.goes_back()?;
+        if !self.calls.has_last(goes_back) {
+            return None;
+        }
+        Some(goes_back)
+    }
+
+    /// Whether the request has ended, but for the hooks of its end.
+    fn is_over(&self) -> bool
+        ensures { result ≡ is_over self.now.machine.phase }
+    {
+        self.machine.phase.is_over()
+    }
+
+    /// A turn of a request that has ended, and all of whose hooks were called, does no work.
+    fn rest(&mut self) -> RunStep
+        ensures same { self.new ≡ self.old }
+        ensures adds { self.new.machine.work ≡ added_work self.old.machine.work Work.NONE }
+        ensures ended { result ≡ RunStep.Ended }
+    {
+        self.machine.work = self.machine.work.plus(Work::NONE);
+        RunStep::Ended
+    }
+
+    /// What is answered behind a turn: where it ended the request, and hooks are to be called for
+    /// that, it moved.
+    fn answer(&self, step: RunStep) -> RunStep
+        ensures { result ≡ answer_of (is_ending self.now.machine.phase self.now.calls.at) step }
+    {
+        if self.goes_on_last().is_some() {
+            RunStep::Moved
+        } else {
+            step
+        }
     }
 }
 
@@ -155,15 +197,158 @@ impl<SV: ProxyHttp, K: Connector, P: Purger> HttpProxy<SV, K, P> {
     }
 
     /// Takes one turn of a request: one call of the link that it waits for, one verdict on a head,
-    /// one call of a hook, one of the connector with that of `connected_to_upstream` behind the link
-    /// that it gave, or one branch of the duplex. In the duplex the schedule picks the branch; where
-    /// it names none or one that cannot be taken, the first that can is taken. A branch whose link is
-    /// silent passes the turn on to the next, going round; where all are silent the answer is
-    /// `Waited(Silent)`.
+    /// one call of a hook, one of the connector with that of `connected_to_upstream` behind the
+    /// link that it gave, or one branch of the duplex. In the duplex the schedule picks the branch;
+    /// where it names none or one that cannot be taken, the first that can is taken. A branch whose
+    /// link is silent passes the turn on to the next, going round; where all are silent the answer
+    /// is `Waited(Silent)`.
+    ///
+    /// Once a request that was served has ended, the hooks of its end are called, one a turn, and
+    /// the answer is `Ended` behind the last of them.
     ///
     /// Where the machine holds a link, the connector's number of links that are out is not 0, and
     /// the client is as the machine's last call left it.
     pub fn step<D: ByteLink, H: Schedule, W: ShutdownWatch, Y: Delay>(
+        &mut self,
+        machine: &mut RequestMachine<SV, K>,
+        client: &mut Connection<D, SV::Kept>,
+        outside: &mut Outside<H, W, Y>,
+    ) -> RunStep
+        requires { links_held K.Byte.state K.Byte.start machine.old.machine.phase
+            ≤ K.out self.old.connector }
+        // The run so far goes on, these links were handed back, and of what the connector has the
+        // request took its link, or the one fault of which its attempt's error tells. What it
+        // counts of tasks and ends is bounded by the bytes that both links gave.
+        ensures steps { (s : Start) (p : Passed) (own : List _)
+            → s.most ≡ self.old.conf.max_retries
+            → CallsSoFar (allowed_by (SV.allows self.old.inner) SV.Modules.allows)
+            (SV.mark_of self.old.inner) machine.old.calls machine.old.machine.phase
+            → RunSoFar K.Byte.state K.Byte.start (called_to s (log_of machine.old.calls)) p
+            (world_of D.state client.old (K.fault_count self.old.connector)) own
+            machine.old.machine.phase
+            → StepsOn K.Byte.state K.Byte.start (called_to s (log_of machine.old.calls))
+            (called_to s (log_of machine.new.calls)) p
+            (world_of D.state client.new (K.fault_count self.new.connector)) own
+            (K.returned self.old.connector) (K.returned self.new.connector)
+            (K.refusals self.old.connector) (K.refusals self.new.connector)
+            (K.stock self.old.connector) (K.stock self.new.connector)
+            (D.state client.old.link) client.old.ahead machine.old.machine.work
+            machine.new.machine.work machine.old.machine.phase machine.new.machine.phase }
+        // The log goes on with the call of this step, if it made one: it is allowed where it stood,
+        // and comes in order. The log ends at the mark of the context that is held.
+        ensures calls { CallsSoFar (allowed_by (SV.allows self.old.inner) SV.Modules.allows)
+            (SV.mark_of self.old.inner) machine.old.calls machine.old.machine.phase
+            → CallsSoFar (allowed_by (SV.allows self.old.inner) SV.Modules.allows)
+            (SV.mark_of self.old.inner) machine.new.calls machine.new.machine.phase }
+        ensures logs { machine.old.machine.work.called ≤ length (log_of machine.old.calls)
+            → machine.new.machine.work.called ≤ length (log_of machine.new.calls) }
+        ensures once { length (log_of machine.new.calls)
+            ≤ 1 + length (log_of machine.old.calls) }
+        // Before there is a link it moved something of the client, or went on to its next phase; in
+        // an exchange it asked a link once, or none and it moved a task or brought an end, by the
+        // branch that it took. It waits only where a link answered so in this step; and in silence
+        // all that can be done asks a link that is silent on it, and neither link changed.
+        ensures cause { HasCause K.Byte.state K.Byte.start
+            (world_of D.state client.old (K.fault_count self.old.connector))
+            (world_of D.state client.new (K.fault_count self.new.connector))
+            machine.old.machine.phase machine.new.machine.phase result
+            ⊎ ((is_ending machine.new.machine.phase machine.new.calls.at ≡ true)
+            × (result ≡ RunStep.Moved)) }
+        // What was counted of uses rose by one where one of both links was asked, and else not: the
+        // link that was held is held still, or it was handed back.
+        ensures uses { (s : Start) (p : Passed) (own : List _)
+            → RunSoFar K.Byte.state K.Byte.start s p
+            (world_of D.state client.old (K.fault_count self.old.connector)) own
+            machine.old.machine.phase
+            → CountsUses machine.old.machine.work.used machine.new.machine.work.used
+            (D.state client.old.link) (D.state client.new.link)
+            (held_state K.Byte.state machine.old.machine.phase)
+            (StandsBehind K.Byte.state (K.returned self.old.connector)
+            (K.returned self.new.connector)
+            (held_state K.Byte.state machine.new.machine.phase)) }
+        // In an exchange that moved, a use, a task or an end was counted, by the branch it took; or
+        // it failed, and the client is owed an answer; or it ended, and hooks are called for that.
+        ensures moves { (a : Box _) → machine.old.machine.phase ≡ Phase.Relay a
+            → result ≡ RunStep.Moved → MovesOn K.Byte.state K.Byte.start
+            (world_of D.state client.old (K.fault_count self.old.connector))
+            (world_of D.state client.new (K.fault_count self.new.connector))
+            machine.old.machine.work machine.new.machine.work a.value.exchange
+            machine.new.machine.phase ⊎ (OwesAnswer machine.new.machine.phase
+            ⊎ (is_ending machine.new.machine.phase machine.new.calls.at ≡ true)) }
+        // A step that moved did some work.
+        ensures progress { result ≡ RunStep.Moved
+            → Rose (total_work machine.old.machine.work) (total_work machine.new.machine.work) }
+        // What was counted stays counted.
+        ensures grows { Grows machine.old.machine.work machine.new.machine.work }
+        // Silence is no work, and a request that has ended does none.
+        ensures idle { (result ≡ RunStep.Waited Pause.Silent)
+            ⊎ (is_done machine.old.machine.phase machine.old.calls.at ≡ true)
+            → machine.new.machine.work ≡ machine.old.machine.work }
+        // Each turn that was counted did some work.
+        ensures worked { machine.old.machine.turns ≤ total_work machine.old.machine.work
+            → machine.new.machine.turns ≤ total_work machine.new.machine.work }
+        // The answer says whether the request has ended, and all its hooks were called.
+        ensures ended { is_done machine.new.machine.phase machine.new.calls.at ≡ is_end result }
+        // A request that has ended stays so.
+        ensures rests { is_done machine.old.machine.phase machine.old.calls.at ≡ true
+            → result ≡ RunStep.Ended }
+        ensures counted { Counts machine.old.machine.turns machine.new.machine.turns result }
+        ensures out { K.out self.new.connector
+            + links_held K.Byte.state K.Byte.start machine.old.machine.phase
+            ≡ K.out self.old.connector
+            + links_held K.Byte.state K.Byte.start machine.new.machine.phase }
+        ensures faults { K.fault_count self.old.connector ≤ K.fault_count self.new.connector }
+        // No call of a link changes what it was as it was handed out, and the connector's links are
+        // those that it had: come back, held by the machine, or left, in order.
+        ensures client_start { D.start client.new.link ≡ D.start client.old.link }
+        ensures stock { all_items K.Byte.start (K.returned self.new.connector)
+            (items_held K.Byte.start machine.new.machine.phase) (K.stock self.new.connector)
+            ≡ all_items K.Byte.start (K.returned self.old.connector)
+            (items_held K.Byte.start machine.old.machine.phase) (K.stock self.old.connector) }
+        ensures kept { client.new.kept ≡ client.old.kept }
+        // Beside the links and the connector it asks the schedule alone.
+        ensures outside { outside.new ≡ record outside.old { schedule = outside.new.schedule } }
+        ensures same { self.new ≡ record self.old { connector = self.new.connector } }
+    {
+        if let Some(goes_back) = machine.goes_on_last() {
+            return self.call_last(machine, goes_back);
+        }
+        if machine.is_over() {
+            return machine.rest();
+        }
+        let step = self.advance(machine, client, outside);
+        machine.answer(step)
+    }
+
+    /// Calls the hook that comes next of the end of a request that has ended, and answers whether
+    /// another follows.
+    fn call_last(&self, machine: &mut RequestMachine<SV, K>, goes_back: bool) -> RunStep
+        requires { last_of machine.old.machine.phase machine.old.calls.at ≡ Some goes_back }
+        ensures calls { CallsLast (allowed_by (SV.allows self.now.inner) SV.Modules.allows)
+            (SV.mark_of self.now.inner) goes_back machine.old.calls machine.new.calls }
+        ensures phase { machine.new.machine.phase ≡ machine.old.machine.phase }
+        ensures counts { CountsLast machine.old.calls machine.new.calls machine.old.machine
+            machine.new.machine }
+        ensures counted { Counts machine.old.machine.turns machine.new.machine.turns result }
+        ensures logs { machine.old.machine.work.called ≤ length (log_of machine.old.calls)
+            → machine.new.machine.work.called ≤ length (log_of machine.new.calls) }
+        ensures progress { result ≡ RunStep.Moved
+            → Rose (total_work machine.old.machine.work) (total_work machine.new.machine.work) }
+        ensures grows { Grows machine.old.machine.work machine.new.machine.work }
+        ensures worked { machine.old.machine.turns ≤ total_work machine.old.machine.work
+            → machine.new.machine.turns ≤ total_work machine.new.machine.work }
+        ensures answer { result ≡ answer_of (is_ending machine.new.machine.phase
+            machine.new.calls.at) RunStep.Ended }
+    {
+        let work = call_last(&self.inner, &mut machine.calls, goes_back);
+        machine.machine.turns = count_turn(machine.machine.turns, work);
+        machine.machine.work = machine.machine.work.plus(work);
+        machine.answer(RunStep::Ended)
+    }
+
+    /// Takes one turn of a request that has not ended, or is still to give its link back. The
+    /// answer says whether it has ended, but for the hooks of its end.
+    fn advance<D: ByteLink, H: Schedule, W: ShutdownWatch, Y: Delay>(
         &mut self,
         machine: &mut RequestMachine<SV, K>,
         client: &mut Connection<D, SV::Kept>,
@@ -230,6 +415,10 @@ impl<SV: ProxyHttp, K: Connector, P: Purger> HttpProxy<SV, K, P> {
         // A step that moved did some work.
         ensures progress { result ≡ RunStep.Moved
             → Rose (total_work machine.old.machine.work) (total_work machine.new.machine.work) }
+        // So did one with which the request ended.
+        ensures finishes { is_over machine.old.machine.phase ≡ false → result ≡ RunStep.Ended
+            → Rose (total_work machine.old.machine.work) (total_work machine.new.machine.work)
+            × (machine.new.machine.turns ≡ up machine.old.machine.turns) }
         // What was counted stays counted.
         ensures grows { Grows machine.old.machine.work machine.new.machine.work }
         // Silence is no work, and a request that has ended does none.
@@ -277,9 +466,10 @@ impl<SV: ProxyHttp, K: Connector, P: Purger> HttpProxy<SV, K, P> {
         step
     }
 
-    /// Ends a request: a link that is still held goes back and is not kept. One that has not ended
-    /// gives `TurnLimit`. The value is what was kept for the next request of the connection; no
-    /// hook keeps one yet.
+    /// Ends a request: a link that is still held goes back and is not kept. One that has not ended,
+    /// or of which a hook was to be called, gives `TurnLimit`. The value is what
+    /// `persist_connection_context` kept for the next request of the connection, where this one was
+    /// served.
     ///
     /// Where the machine holds a link, the connector's number of links that are out is not 0, and
     /// the client is as the machine's last call left it.
@@ -297,9 +487,9 @@ impl<SV: ProxyHttp, K: Connector, P: Purger> HttpProxy<SV, K, P> {
             → ComesToEnd K.Byte.state K.Byte.start s p
             (world_of D.state client.new (K.fault_count self.new.connector)) own
             (K.returned self.old.connector) (K.returned self.new.connector)
-            machine.machine.phase result.0 }
+            machine.machine.phase machine.calls.at result.0 }
         // It has not ended exactly where it gives `TurnLimit`.
-        ensures limit { is_over machine.machine.phase ≡ false
+        ensures limit { is_done machine.machine.phase machine.calls.at ≡ false
             → result.0.outcome ≡ Outcome.TurnLimit }
         ensures turns { result.0.history.turns_taken ≡ machine.machine.turns }
         ensures moved { result.0.history.tasks_moved ≡ machine.machine.work.moved }
@@ -315,7 +505,11 @@ impl<SV: ProxyHttp, K: Connector, P: Purger> HttpProxy<SV, K, P> {
         ensures stock { all_items K.Byte.start (K.returned self.new.connector) []
             (K.stock self.new.connector) ≡ all_items K.Byte.start (K.returned self.old.connector)
             (items_held K.Byte.start machine.machine.phase) (K.stock self.old.connector) }
-        ensures kept { result.1 ≡ None }
+        ensures kept { result.1 ≡ kept_of result.0.outcome (kept_at machine.calls.at) }
+        // A value is kept where `persist_connection_context` was called last, and gave one.
+        ensures keeps { CallsSoFar (allowed_by (SV.allows self.old.inner) SV.Modules.allows)
+            (SV.mark_of self.old.inner) machine.calls machine.machine.phase → IsSome result.1
+            → KeepsValue result.0.history.log }
         ensures client { client.new ≡ client.old }
         ensures same { self.new ≡ record self.old {
           connector = self.new.connector;
@@ -325,17 +519,19 @@ impl<SV: ProxyHttp, K: Connector, P: Purger> HttpProxy<SV, K, P> {
         let RequestMachine { machine, calls } = machine;
         let Machine { phase, turns, work } = machine;
         let ending = finish(self.alloc, &mut self.connector, phase);
+        let outcome = calls.outcome(ending.outcome);
+        let (log, kept) = calls.into_parts();
+        let kept = kept_of(outcome, kept);
         let history = RunRecord {
-            log: calls.into_log(),
+            log,
             attempts: ending.attempts,
             turns_taken: turns,
             tasks_moved: work.moved,
             items_used: work.used,
             sides_ended: work.ended,
         };
-        let outcome = ending.outcome;
         self.requests_ended = count_ended(self.requests_ended, outcome);
-        (Processed { outcome, history }, None)
+        (Processed { outcome, history }, kept)
     }
 
     /// Processes one request of a client: it is begun, stepped until it has ended, until `turns`
@@ -375,7 +571,8 @@ impl<SV: ProxyHttp, K: Connector, P: Purger> HttpProxy<SV, K, P> {
             [] (K.stock self.old.connector) }
         // Beside the links and the connector it asks the schedule alone.
         ensures outside { outside.new ≡ record outside.old { schedule = outside.new.schedule } }
-        ensures kept { client.new.kept ≡ None }
+        // A value is kept where `persist_connection_context` was called last, and gave one.
+        ensures kept { IsSome client.new.kept → KeepsValue result.history.log }
         ensures same { self.new ≡ record self.old {
           connector = self.new.connector;
           requests_ended = ended_after self.old.requests_ended result.outcome;
@@ -407,7 +604,7 @@ impl<SV: ProxyHttp, K: Connector, P: Purger> HttpProxy<SV, K, P> {
             → ComesToEnd K.Byte.state K.Byte.start s p
             (world_of D.state client.new (K.fault_count self.new.connector)) own
             (K.returned self.old.connector) (K.returned self.new.connector)
-            machine.machine.phase result }
+            machine.machine.phase machine.calls.at result }
         ensures turns { result.history.turns_taken ≡ machine.machine.turns }
         ensures moved { result.history.tasks_moved ≡ machine.machine.work.moved }
         ensures used { result.history.items_used ≡ machine.machine.work.used }
@@ -421,7 +618,12 @@ impl<SV: ProxyHttp, K: Connector, P: Purger> HttpProxy<SV, K, P> {
         ensures stock { all_items K.Byte.start (K.returned self.new.connector) []
             (K.stock self.new.connector) ≡ all_items K.Byte.start (K.returned self.old.connector)
             (items_held K.Byte.start machine.machine.phase) (K.stock self.old.connector) }
-        ensures client { client.new ≡ client.old }
+        ensures link { client.new.link ≡ client.old.link }
+        ensures ahead { client.new.ahead ≡ client.old.ahead }
+        // A value is kept where `persist_connection_context` was called last, and gave one.
+        ensures keeps { CallsSoFar (allowed_by (SV.allows self.old.inner) SV.Modules.allows)
+            (SV.mark_of self.old.inner) machine.calls machine.machine.phase
+            → client.old.kept ≡ None → IsSome client.new.kept → KeepsValue result.history.log }
         ensures log { result.history.log ≡ log_of machine.calls }
         ensures same { self.new ≡ record self.old {
           connector = self.new.connector;

@@ -13,7 +13,9 @@ ghost use Rattle.relay_attempt.specs.Head.{link_of, may_keep};
 ghost use Rattle.relay_attempt.specs.Passed.{Passed};
 ghost use Rattle.relay_proxy.specs.Bound.{LeavesLink, PhaseCounts, TurnedCounts};
 ghost use Rattle.relay_proxy.specs.Leaving.{LeavesBy};
-ghost use Rattle.relay_proxy.specs.Calls.{BreaksOff, KeepsCalls};
+ghost use Rattle.relay_closing.specs.Place.{begun};
+ghost use Rattle.relay_proxy.specs.Calls.{BreaksOff, KeepsCalls, closed_with, log_of};
+ghost use Rattle.relay_proxy.specs.declared.calls.At.{At};
 ghost use Rattle.relay_proxy.specs.Passed.{World, Start, TellsClient};
 ghost use Rattle.relay_proxy.specs.Phases.{IsLeased, LeavesSession, RunSoFar};
 ghost use Rattle.relay_proxy.specs.Refusals.{attempts_in};
@@ -24,6 +26,7 @@ ghost use Rattle.relay_proxy.specs.Turn.{world_of, DoesWork, is_over, is_end, he
 ghost use Rattle.relay_proxy.specs.Uses.{LinkUses, MovedBy, OwesAnswer, PhaseUses, TurnCounts, TurnUses};
 ghost use Rattle.relay_proxy.specs.Work.{total_work};
 
+use crate::calls::Calls;
 use crate::machine::{Attempt, Did, Lease, Next, Phase, RunStep};
 use crate::outcome::Outcome;
 use crate::owed::{Owed, queue_answer};
@@ -33,6 +36,7 @@ use relay_attempt::H1Exchange;
 use relay_core::Step;
 use relay_exchange::Turn;
 use relay_h1::Connection;
+use relay_hooks::HttpModule;
 use relay_links::{ByteLink, Schedule};
 use relay_session::HttpSession;
 use relay_tasks::{Error, Fail, Pause};
@@ -46,8 +50,17 @@ struct Turned {
 }
 
 /// One turn of a phase that relays, where it stands. The schedule picks the branch of the duplex.
-pub(crate) fn relay<D: ByteLink, U: Drop, L: ByteLink, H: Schedule, C: Drop>(
+pub(crate) fn relay<
+    M: HttpModule + Drop,
+    K: Drop,
+    D: ByteLink,
+    U: Drop,
+    L: ByteLink,
+    H: Schedule,
+    C: Drop,
+>(
     alloc: Global,
+    calls: &mut Calls<M, K, C>,
     client: &mut Connection<D, U>,
     schedule: &mut H,
     phase: &mut Phase<L, C>,
@@ -88,7 +101,8 @@ pub(crate) fn relay<D: ByteLink, U: Drop, L: ByteLink, H: Schedule, C: Drop>(
     ensures items { items_held L.start phase.new ≡ items_held L.start phase.old }
     ensures tries { attempts_in phase.new ≡ attempts_in phase.old }
     ensures calls { (a : Box (Attempt L C)) → phase.old ≡ Phase.Relay a
-        → KeepsCalls a.value phase.new }
+        → KeepsCalls a.value calls.old calls.new phase.new }
+    ensures log { log_of calls.new ≡ log_of calls.old }
     ensures kept { client.new.kept ≡ client.old.kept }
     ensures client_start { D.start client.new.link ≡ D.start client.old.link }
 {
@@ -106,13 +120,14 @@ pub(crate) fn relay<D: ByteLink, U: Drop, L: ByteLink, H: Schedule, C: Drop>(
             step: RunStep::Waited(Pause::Silent),
             work: Work::NONE,
         },
-        Step::Finished => close_finished(client, phase),
+        Step::Finished => close_finished(calls, client, phase),
         Step::Failed(why) => leave_failed(alloc, phase, why, asked),
     }
 }
 
 /// The end of an attempt whose exchange has finished: its link is to go back.
-fn close_finished<D, U, L: ByteLink, C: Drop>(
+fn close_finished<M: HttpModule + Drop, K: Drop, D, U, L: ByteLink, C: Drop>(
+    calls: &mut Calls<M, K, C>,
     client: &Connection<D, U>,
     phase: &mut Phase<L, C>,
 ) -> Did
@@ -120,6 +135,10 @@ fn close_finished<D, U, L: ByteLink, C: Drop>(
     ensures closes { (a : Box (Attempt L C)) → phase.old ≡ Phase.Relay a
         → let x = a.value.exchange in phase.new ≡ Phase.Close (link_of x) a.value.lease (may_keep x)
         (Outcome.Served None (client_reusable x client.now.ahead)) }
+    ensures calls { (a : Box (Attempt L C)) → phase.old ≡ Phase.Relay a
+        → calls.new ≡ closed_with
+        (record calls.old { at = At.Closing a.value.context (begun None) })
+        a.value.exchange.exchange.down.session None }
     ensures leaves { (a : Box (Attempt L C)) → phase.old ≡ Phase.Relay a
         → LeavesLink (link_of a.value.exchange) a.value.lease phase.new }
     ensures over { is_over phase.new ≡ true }
@@ -131,12 +150,15 @@ fn close_finished<D, U, L: ByteLink, C: Drop>(
     let Attempt {
         exchange,
         lease,
-        context: _,
+        context,
     } = Box::into_inner(phase.take_attempt());
     let keep = exchange.may_keep();
     let reuse = is_client_reusable(&exchange, client);
     let served = Outcome::Served { error: None, reuse };
-    phase.put(Phase::Close(exchange.into_link(), lease, keep, served));
+    let (downstream, link) = exchange.into_parts();
+    calls.begin_end(context);
+    calls.take_client(downstream, None);
+    phase.put(Phase::Close(link, lease, keep, served));
     Did {
         step: RunStep::Ended,
         work: Work::ENDED,

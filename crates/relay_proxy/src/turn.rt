@@ -39,7 +39,7 @@ pub(crate) fn take_turn<SV: ProxyHttp, K: Connector, D: ByteLink, U: Drop, H: Sc
     hooks: &SV,
     connector: &mut K,
     most: usize,
-    calls: &mut Calls<SV::Modules, SV::Kept>,
+    calls: &mut Calls<SV::Modules, SV::Kept, SV::CTX>,
     client: &mut Connection<D, U>,
     schedule: &mut H,
     phase: &mut Phase<K::Byte, SV::CTX>,
@@ -119,7 +119,7 @@ pub(crate) fn take_turn<SV: ProxyHttp, K: Connector, D: ByteLink, U: Drop, H: Sc
         (K.stock connector.old) }
 {
     if phase.is_relaying() {
-        return relay(alloc, client, schedule, phase);
+        return relay(alloc, calls, client, schedule, phase);
     }
     move_on(alloc, hooks, connector, most, calls, client, phase)
 }
@@ -131,7 +131,7 @@ fn move_on<SV: ProxyHttp, K: Connector, D: ByteLink, U: Drop>(
     hooks: &SV,
     connector: &mut K,
     most: usize,
-    calls: &mut Calls<SV::Modules, SV::Kept>,
+    calls: &mut Calls<SV::Modules, SV::Kept, SV::CTX>,
     client: &mut Connection<D, U>,
     phase: &mut Phase<K::Byte, SV::CTX>,
 ) -> Did
@@ -223,7 +223,7 @@ fn move_on<SV: ProxyHttp, K: Connector, D: ByteLink, U: Drop>(
             work: Work::ENDED,
         }),
         Phase::Answer(session, owed, attempts) => {
-            phase.go_on(write_answer(client, session, owed, attempts))
+            phase.go_on(write_answer(calls, client, session, owed, attempts))
         }
         Phase::Close(link, lease, keep, outcome) => phase.go_on(Next {
             phase: Phase::Close(link, lease, keep, outcome),

@@ -9,7 +9,9 @@ use Rattle.relay_attempt.specs.Passed.{Passed}
 use Rattle.relay_proxy.specs.Calls.{CallsSoFar, log_of}
 use Rattle.relay_proxy.specs.Passed.{World, Start}
 use Rattle.relay_proxy.specs.Phases.{RunSoFar}
-use Rattle.relay_proxy.specs.Turn.{is_reading_head, is_over}
+use Rattle.relay_proxy.specs.Request.{is_done}
+use Rattle.relay_proxy.specs.Turn.{is_reading_head}
+use Rattle.relay_proxy.specs.declared.calls.At.{At}
 use Rattle.relay_proxy.specs.declared.calls.Calls.{Calls}
 use Rattle.relay_proxy.specs.declared.machine.Phase.{Phase}
 use Rattle.relay_proxy.specs.declared.machine.Phase.TheVariants.{ReadHead, Connect, Prepare, Relay, Broken, Fail, Close, Answer, Ended}
@@ -17,27 +19,27 @@ use Rattle.relay_server.specs.Idle.{is_idle, HasNotBegun}
 use Rattle.relay_server.specs.Serving.{Visit}
 
 -- a request whose head is read has not ended
-reads_on : {L C : Type 0} (phase : Phase L C) (empty : Bool)
-    → (is_reading_head phase && empty) ≡ true → is_over phase ≡ false
-reads_on ReadHead empty idle = refl
-reads_on (Fail l lease keep session error) empty idle = absurd (true≢false (sym idle))
-reads_on (Connect context session tries) empty idle = absurd (true≢false (sym idle))
-reads_on (Prepare context session l lease) empty idle = absurd (true≢false (sym idle))
-reads_on (Relay a) empty idle = absurd (true≢false (sym idle))
-reads_on (Broken context session l lease keep error) empty idle =
+reads_on : {L C K : Type 0} (phase : Phase L C) (here : At K C) (empty : Bool)
+    → (is_reading_head phase && empty) ≡ true → is_done phase here ≡ false
+reads_on ReadHead here empty idle = refl
+reads_on (Fail l lease keep session error) here empty idle = absurd (true≢false (sym idle))
+reads_on (Connect context session tries) here empty idle = absurd (true≢false (sym idle))
+reads_on (Prepare context session l lease) here empty idle = absurd (true≢false (sym idle))
+reads_on (Relay a) here empty idle = absurd (true≢false (sym idle))
+reads_on (Broken context session l lease keep error) here empty idle =
     absurd (true≢false (sym idle))
-reads_on (Close l lease keep outcome) empty idle = absurd (true≢false (sym idle))
-reads_on (Answer session owed attempts) empty idle = absurd (true≢false (sym idle))
-reads_on (Ended outcome attempts) empty idle = absurd (true≢false (sym idle))
+reads_on (Close l lease keep outcome) here empty idle = absurd (true≢false (sym idle))
+reads_on (Answer session owed attempts) here empty idle = absurd (true≢false (sym idle))
+reads_on (Ended outcome attempts) here empty idle = absurd (true≢false (sym idle))
 
 -- the request of an idle connection has not ended
 pub idle_goes : {D U L C M : Type 0} (visit : Visit D U L C M) → is_idle visit ≡ true
-    → is_over visit.phase ≡ false
-idle_goes visit idle = reads_on visit.phase _ idle
+    → is_done visit.phase visit.calls.at ≡ false
+idle_goes visit idle = reads_on visit.phase visit.calls.at _ idle
 
 -- nor was a hook called for one whose head is read
 none_logged : {L C M K : Type 0} (allows : Standing → LogEntry → Type 0) (mark_of : C → ℕ)
-    (calls : Calls M K) (phase : Phase L C) (empty : Bool)
+    (calls : Calls M K C) (phase : Phase L C) (empty : Bool)
     → (is_reading_head phase && empty) ≡ true → CallsSoFar allows mark_of calls phase
     → log_of calls ≡ []
 none_logged allows mark_of calls ReadHead empty idle none = none

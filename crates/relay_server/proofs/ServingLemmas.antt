@@ -1,5 +1,5 @@
 -- Requests under way, and what one turn, one end and one new client make of them.
-use Rattle.std.proofs.Common.{◌≡◌, ℕ, Bool, zero, suc, ◌+◌, ◌≤◌, true, false, true≢false, List, [], ◌∷◌, ◌++◌, length, Option, Some, None, refl, sym, ap, subst, ◌∙◌, arith}
+use Rattle.std.proofs.Common.{◌≡◌, ◌⊎◌, ℕ, Bool, zero, suc, ◌+◌, ◌≤◌, true, false, true≢false, List, [], ◌∷◌, ◌++◌, length, Option, Some, None, refl, sym, ap, subst, ◌∙◌, inl, inr, arith}
 use Rattle.std.specs.List.{insert}
 use Rattle.std.specs.List.Sorted.{IsPermutation}
 use Rattle.std.proofs.lemmas.List.{append-nil, append_assoc}
@@ -18,12 +18,14 @@ use Rattle.relay_attempt.specs.Passed.{Passed}
 use Rattle.relay_session.specs.declared.session.HttpSession.{HttpSession}
 use Rattle.relay_session.specs.declared.writing.Outgoing.{Outgoing}
 use Rattle.relay_proxy.specs.Calls.{CallsSoFar, allowed_by, log_of}
+use Rattle.relay_proxy.specs.Endings.{AttemptsUnlinked, EndsAhead, EndsLinked, EndsReturned, EndsUnlinked, EndsWith, FailsToConnect, IsFailedAttempt, IsGivenAhead, IsRelayedEarly, IsRelayedWhole, IsUnconnected, IsUnsentAttempt}
 use Rattle.relay_proxy.specs.Owed.{Owes, IsAnswering}
 use Rattle.relay_proxy.specs.Passed.{World, Start, called_to}
 use Rattle.relay_proxy.specs.Phases.{RunSoFar, IsBroken, IsCalm, IsConnecting, PhaseHolds, IsAt}
-use Rattle.relay_proxy.specs.Request.{StepsOn, ComesToEnd, ended_after}
+use Rattle.relay_proxy.specs.Request.{StepsOn, ComesToEnd, ended_after, is_done}
 use Rattle.relay_proxy.specs.Tries.{tries_in}
 use Rattle.relay_proxy.specs.Turn.{world_with, world_of, is_over, links_held}
+use Rattle.relay_proxy.specs.declared.calls.At.{At}
 use Rattle.relay_proxy.specs.declared.machine.Lease.{Lease}
 use Rattle.relay_proxy.specs.declared.machine.Phase.{Phase}
 use Rattle.relay_proxy.specs.declared.machine.Phase.TheVariants.{ReadHead, Connect, Prepare, Relay, Broken, Fail, Close, Answer, Ended}
@@ -35,9 +37,15 @@ use Rattle.relay_proxy.specs.declared.owed.Owed.{Owed}
 use Rattle.relay_proxy.specs.declared.owed.Owed.TheVariants as due
 use Rattle.relay_proxy.specs.declared.proxy.HttpProxy.{HttpProxy}
 use Rattle.relay_proxy.specs.declared.record.AttemptRecord.{AttemptRecord}
-use Rattle.relay_proxy.proofs.CallLemmas.{calls_logged}
+use Rattle.relay_proxy.proofs.EndSteps.{gives_by}
+use Rattle.relay_proxy.proofs.LastCalls.{calls_logged}
 use Rattle.relay_server.specs.Serving.{Books, books, CountRises, Visit, HaveEnded, EndedRequest, all_held, AreUnderWay, Serves, EndsOne, ServesOn}
 use Rattle.relay_server.specs.Serving.AreEnded.{none, one_more}
+
+-- a request that has not ended has no hook of its end to call
+pub goes_undone : {L C K : Type 0} (phase : Phase L C) (here : At K C) → is_over phase ≡ false
+    → is_done phase here ≡ false
+goes_undone phase here going = rw going refl
 
 -- one more request that ended lets the count rise
 pub count_rises : (count : ℕ) (outcome : Outcome) → CountRises count (ended_after count outcome)
@@ -115,7 +123,145 @@ broken_later s p client ahead f g link start session lease keep e (IsBroken.ahea
       why = leaves.why;
     })
 
+-- the connector gave no link, at a higher count too
+unconnected_later : (s : Start) (p : Passed) (link : LinkState) (ahead : List ℕ) (f g : ℕ)
+    (e : Error) → f ≤ g → IsUnconnected s p (world_with link ahead f) e
+    → IsUnconnected s p (world_with link ahead g) e
+unconnected_later s p link ahead f g e more_faults missing = record {
+  fault = missing.fault;
+  kind = missing.kind;
+  error = missing.error;
+  rose = λ last. omega (arith, missing.rose (omega (arith, last, more_faults)), more_faults);
+  head = missing.head;
+  accepted = missing.accepted;
+  unsent = missing.unsent;
+}
+
+-- what a client was given of the answer of hooks does not hang on it
+given_later : (s : Start) (p : Passed) (link : LinkState) (ahead : List ℕ) (f g : ℕ)
+    (why : Option Error) (text : List ℕ) (told : Option Error)
+    → IsGivenAhead s p (world_with link ahead f) why text told
+    → IsGivenAhead s p (world_with link ahead g) why text told
+given_later s p link ahead f g None text told (inl whole) = inl whole
+given_later s p link ahead f g None text told (inr fails) = inr (
+  fails.0,
+  record { kind = fails.1.kind; rose = fails.1.rose; told = fails.1.told },
+  fails.2,
+  fails.3,
+)
+given_later s p link ahead f g (Some e) text told given = given
+
+-- nor does what such hooks made of the request
+ahead_later : (s : Start) (p : Passed) (link : LinkState) (ahead : List ℕ) (f g : ℕ)
+    (told : Option Error) → EndsAhead s p (world_with link ahead f) told
+    → EndsAhead s p (world_with link ahead g) told
+ahead_later s p link ahead f g told ends = record {
+  why = ends.why;
+  text = ends.text;
+  owed = ends.owed;
+  given = given_later s p link ahead f g ends.why ends.text told ends.given;
+  unsent = ends.unsent;
+  untreated = ends.untreated;
+}
+
+-- a request that was served without a link stands at a higher count too
+unlinked_later : (s : Start) (p : Passed) (link : LinkState) (ahead : List ℕ) (f g : ℕ)
+    (error : Option Error) (reuse : Bool) → f ≤ g
+    → EndsUnlinked s p (world_with link ahead f) (Served error reuse)
+    → EndsUnlinked s p (world_with link ahead g) (Served error reuse)
+unlinked_later s p link ahead f g None reuse more_faults ends =
+    (ahead_later s p link ahead f g None ends.0, ends.1)
+unlinked_later s p link ahead f g (Some e) reuse more_faults ends = (by ends.0, ends.1)
+  where
+    by : FailsToConnect s p (world_with link ahead f) e
+        ⊎ EndsAhead s p (world_with link ahead f) (Some e)
+        → FailsToConnect s p (world_with link ahead g) e
+        ⊎ EndsAhead s p (world_with link ahead g) (Some e)
+    by (inl fails) = inl (record {
+      unconnected = unconnected_later s p link ahead f g e more_faults fails.unconnected;
+      answered = fails.answered;
+    })
+    by (inr ends) = inr (ahead_later s p link ahead f g (Some e) ends)
+
+-- and so do its attempts
+attempts_later : (s : Start) (p : Passed) (link : LinkState) (ahead : List ℕ) (f g : ℕ)
+    (attempts : List AttemptRecord) (error : Option Error) (reuse : Bool)
+    → AttemptsUnlinked s p (world_with link ahead f) attempts (Served error reuse)
+    → AttemptsUnlinked s p (world_with link ahead g) attempts (Served error reuse)
+attempts_later s p link ahead f g attempts None reuse made = made
+attempts_later s p link ahead f g attempts (Some e) reuse (inl made) = inl made
+attempts_later s p link ahead f g attempts (Some e) reuse (inr ends) =
+    inr (ends.0, ahead_later s p link ahead f g (Some e) ends.1)
+
+-- one that was served over that link does
+linked_later : (s : Start) (p : Passed) (client : LinkState) (ahead : List ℕ) (f g : ℕ)
+    (link : LinkState) (start : LinkStart) (keep : Bool) (told error : Option Error) (reuse : Bool)
+    → EndsLinked s p (world_with client ahead f) link start keep told (Served error reuse)
+    → EndsLinked s p (world_with client ahead g) link start keep told (Served error reuse)
+linked_later s p client ahead f g link start keep told None reuse (inl whole) = inl (record {
+  head = whole.head;
+  sent = whole.sent;
+  relayable = whole.relayable;
+  sends = whole.sends;
+  relayed = whole.relayed;
+  unshort = whole.unshort;
+  calm = whole.calm;
+  kept = whole.kept;
+  faultless = whole.faultless;
+  keeps = whole.keeps;
+  goes_back = whole.goes_back;
+  behind = whole.behind;
+})
+linked_later s p client ahead f g link start keep told None reuse (inr early) = inr (record {
+  head = early.head;
+  sent = early.sent;
+  relayable = early.relayable;
+  sends = early.sends;
+  early = early.early;
+  calm = early.calm;
+  unkept = early.unkept;
+  goes_back = early.goes_back;
+  behind = early.behind;
+})
+linked_later s p client ahead f g link start keep told (Some e) reuse (inl failed) = inl (record {
+  failed = failed.failed;
+  invalid = failed.invalid;
+  answered = failed.answered;
+  not_kept = failed.not_kept;
+  stays = failed.stays;
+})
+linked_later s p client ahead f g link start keep told (Some e) reuse (inr unsent) = inr (record {
+  refused = unsent.refused;
+  answered = unsent.answered;
+  stays = unsent.stays;
+})
+
 module _ {L : Type 0} (state : L → LinkState) (start_at : L → LinkStart) where
+  -- a request that was served stands at a higher count, by the links that it handed back
+  served_later : (s : Start) (p : Passed) (link : LinkState) (ahead : List ℕ) (f g : ℕ)
+      (own : List (Returned L)) (attempts : List AttemptRecord) (error : Option Error)
+      (reuse : Bool) → f ≤ g
+      → EndsWith state start_at s p (world_with link ahead f) own attempts (Served error reuse)
+      → EndsWith state start_at s p (world_with link ahead g) own attempts (Served error reuse)
+  served_later s p link ahead f g [] attempts error reuse more_faults ends = (
+    unlinked_later s p link ahead f g error reuse more_faults ends.0,
+    attempts_later s p link ahead f g attempts error reuse ends.1,
+  )
+  served_later s p link ahead f g (r ∷ []) attempts error reuse more_faults ends = record {
+    tells = ends.tells;
+    peer = ends.peer;
+    tries = ends.tries;
+    attempt = ends.attempt;
+    attempts_are = ends.attempts_are;
+    are_tries = ends.are_tries;
+    is_record = ends.is_record;
+    error = ends.error;
+    ends = linked_later s p link ahead f g (state r.link) (start_at r.link) r.keep
+        ends.attempt.error error reuse ends.ends;
+  }
+  served_later s p link ahead f g (r ∷ q ∷ rest) attempts error reuse more_faults ends =
+      absurd ends
+
   -- a client is owed an answer at a higher count too
   owes_later : (s : Start) (p : Passed) (link : LinkState) (ahead : List ℕ) (f g : ℕ)
       (own : List (Returned L)) (owed : Owed) (text : List ℕ) → f ≤ g
@@ -123,18 +269,8 @@ module _ {L : Type 0} (state : L → LinkState) (start_at : L → LinkStart) whe
       → Owes state start_at s p (world_with link ahead g) own owed text
   owes_later s p link ahead f g [] (due.Refused error) text more_faults owes = owes
   owes_later s p link ahead f g [] (due.Ahead why) text more_faults owes = owes
-  owes_later s p link ahead f g [] (due.Served e) text more_faults owes = (
-    record {
-      fault = owes.0.fault;
-      kind = owes.0.kind;
-      error = owes.0.error;
-      rose = λ last. omega (arith, owes.0.rose (omega (arith, last, more_faults)), more_faults);
-      head = owes.0.head;
-      accepted = owes.0.accepted;
-      unsent = owes.0.unsent;
-    },
-    owes.1,
-  )
+  owes_later s p link ahead f g [] (due.Served e) text more_faults owes =
+      (unconnected_later s p link ahead f g e more_faults owes.0, owes.1)
   owes_later s p link ahead f g (r ∷ own) (due.Refused error) text more_faults owes = owes
   owes_later s p link ahead f g (r ∷ own) (due.Ahead why) text more_faults owes = owes
   owes_later s p link ahead f g (r ∷ own) (due.Served e) text more_faults owes = owes
@@ -154,14 +290,14 @@ module _ {L : Type 0} (state : L → LinkState) (start_at : L → LinkStart) whe
 
 module _ {L C : Type 0} (state : L → LinkState) (start_at : L → LinkStart) where
   -- what has passed in a phase that goes on stands at a higher count of the connector's faults
-  at_later : (s : Start) (p : Passed) (link : LinkState) (ahead : List ℕ) (f g : ℕ)
-      (phase : Phase L C) → is_over phase ≡ false → f ≤ g
+  at_later : {K : Type 0} (s : Start) (p : Passed) (link : LinkState) (ahead : List ℕ) (f g : ℕ)
+      (phase : Phase L C) (here : At K C) → is_done phase here ≡ false → f ≤ g
       → IsAt state start_at s p (world_with link ahead f) phase
       → IsAt state start_at s p (world_with link ahead g) phase
-  at_later s p link ahead f g ReadHead going more_faults at = at
-  at_later s p link ahead f g (Connect context session tries) going more_faults at =
+  at_later s p link ahead f g ReadHead here going more_faults at = at
+  at_later s p link ahead f g (Connect context session tries) here going more_faults at =
       connecting_later s p link ahead f g session.value tries at
-  at_later s p link ahead f g (Prepare context session l lease) going more_faults at = (
+  at_later s p link ahead f g (Prepare context session l lease) here going more_faults at = (
     at.0,
     record {
       connecting = connecting_later s p link ahead f g session.value (tries_in lease)
@@ -169,7 +305,7 @@ module _ {L C : Type 0} (state : L → LinkState) (start_at : L → LinkStart) w
       fresh = at.1.fresh;
     },
   )
-  at_later s p link ahead f g (Relay a) going more_faults at = record {
+  at_later s p link ahead f g (Relay a) here going more_faults at = record {
     leased = at.leased;
     head = at.head;
     sent = at.sent;
@@ -177,20 +313,29 @@ module _ {L C : Type 0} (state : L → LinkState) (start_at : L → LinkStart) w
     sends = at.sends;
     under_way = at.under_way;
   }
-  at_later s p link ahead f g (Broken context session l lease keep error) going more_faults at = (
-    at.0,
-    broken_later s p link ahead f g (state l) (start_at l) session.value lease keep error at.1,
-  )
-  at_later s p link ahead f g (Fail l lease keep session error) going more_faults at = (
+  at_later s p link ahead f g (Broken context session l lease keep error) here going more_faults
+      at = (
+        at.0,
+        broken_later s p link ahead f g (state l) (start_at l) session.value lease keep error at.1,
+      )
+  at_later s p link ahead f g (Fail l lease keep session error) here going more_faults at = (
     at.0,
     record { text = at.1.text; misses = at.1.misses; waits = at.1.waits },
   )
-  at_later s p link ahead f g (Close l lease keep outcome) going more_faults at =
+  at_later s p link ahead f g (Close l lease keep outcome) here going more_faults at =
       absurd (true≢false going)
-  at_later s p link ahead f g (Answer session owed attempts) going more_faults at =
+  at_later s p link ahead f g (Answer session owed attempts) here going more_faults at =
       answers_later state start_at s p link ahead f g [] session.value.writing.output owed
       attempts more_faults at
-  at_later s p link ahead f g (Ended outcome attempts) going more_faults at =
+  at_later s p link ahead f g (Ended NoRequest attempts) here going more_faults at =
+      absurd (true≢false going)
+  at_later s p link ahead f g (Ended (Refused error) attempts) here going more_faults at =
+      absurd (true≢false going)
+  at_later s p link ahead f g (Ended (Served error reuse) attempts) here going more_faults at =
+      served_later state start_at s p link ahead f g [] attempts error reuse more_faults at
+  at_later s p link ahead f g (Ended TurnLimit attempts) here going more_faults at =
+      absurd (true≢false going)
+  at_later s p link ahead f g (Ended OutOfMemory attempts) here going more_faults at =
       absurd (true≢false going)
 
   -- nor do the faults of the client's link hang on it
@@ -208,36 +353,49 @@ module _ {L C : Type 0} (state : L → LinkState) (start_at : L → LinkStart) w
   calm_later s link ahead f g (Ended outcome attempts) calm = calm
 
   -- what has passed, by the links that were handed back
-  holds_later : (s : Start) (p : Passed) (link : LinkState) (ahead : List ℕ) (f g : ℕ)
-      (own : List (Returned L)) (phase : Phase L C) → is_over phase ≡ false → f ≤ g
+  holds_later : {K : Type 0} (s : Start) (p : Passed) (link : LinkState) (ahead : List ℕ)
+      (f g : ℕ) (own : List (Returned L)) (phase : Phase L C) (here : At K C)
+      → is_done phase here ≡ false → f ≤ g
       → PhaseHolds state start_at s p (world_with link ahead f) own phase
       → PhaseHolds state start_at s p (world_with link ahead g) own phase
-  holds_later s p link ahead f g [] phase going more_faults holds =
-      at_later s p link ahead f g phase going more_faults holds
-  holds_later s p link ahead f g (r ∷ own) ReadHead going more_faults holds = absurd holds
-  holds_later s p link ahead f g (r ∷ own) (Connect context session tries) going more_faults holds =
-      absurd holds
-  holds_later s p link ahead f g (r ∷ own) (Prepare context session l lease) going more_faults
+  holds_later s p link ahead f g [] phase here going more_faults holds =
+      at_later s p link ahead f g phase here going more_faults holds
+  holds_later s p link ahead f g (r ∷ own) ReadHead here going more_faults holds = absurd holds
+  holds_later s p link ahead f g (r ∷ own) (Connect context session tries) here going more_faults
       holds = absurd holds
-  holds_later s p link ahead f g (r ∷ own) (Relay a) going more_faults holds = absurd holds
-  holds_later s p link ahead f g (r ∷ own) (Broken context session l lease keep error) going
+  holds_later s p link ahead f g (r ∷ own) (Prepare context session l lease) here going more_faults
+      holds = absurd holds
+  holds_later s p link ahead f g (r ∷ own) (Relay a) here going more_faults holds = absurd holds
+  holds_later s p link ahead f g (r ∷ own) (Broken context session l lease keep error) here going
       more_faults holds = absurd holds
-  holds_later s p link ahead f g (r ∷ own) (Fail l lease keep session error) going more_faults
+  holds_later s p link ahead f g (r ∷ own) (Fail l lease keep session error) here going more_faults
       holds = absurd holds
-  holds_later s p link ahead f g (r ∷ own) (Close l lease keep outcome) going more_faults holds =
-      absurd holds
-  holds_later s p link ahead f g (r ∷ own) (Answer session owed attempts) going more_faults holds =
+  holds_later s p link ahead f g (r ∷ own) (Close l lease keep outcome) here going more_faults
+      holds = absurd holds
+  holds_later s p link ahead f g (r ∷ own) (Answer session owed attempts) here going more_faults
+      holds =
       answers_later state start_at s p link ahead f g (r ∷ own) session.value.writing.output owed
       attempts more_faults holds
-  holds_later s p link ahead f g (r ∷ own) (Ended outcome attempts) going more_faults holds =
-      absurd (true≢false going)
+  holds_later s p link ahead f g (r ∷ own) (Ended NoRequest attempts) here going more_faults
+      holds = absurd (true≢false going)
+  holds_later s p link ahead f g (r ∷ own) (Ended (Refused error) attempts) here going more_faults
+      holds = absurd (true≢false going)
+  holds_later s p link ahead f g (r ∷ own) (Ended (Served error reuse) attempts) here going
+      more_faults holds =
+      served_later state start_at s p link ahead f g (r ∷ own) attempts error reuse more_faults
+      holds
+  holds_later s p link ahead f g (r ∷ own) (Ended TurnLimit attempts) here going more_faults
+      holds = absurd (true≢false going)
+  holds_later s p link ahead f g (r ∷ own) (Ended OutOfMemory attempts) here going more_faults
+      holds = absurd (true≢false going)
 
   -- a request goes on while calls of the connector fail for others
-  pub run_later : (s : Start) (p : Passed) (link : LinkState) (ahead : List ℕ) (f g : ℕ)
-      (own : List (Returned L)) (phase : Phase L C) → is_over phase ≡ false → f ≤ g
+  pub run_later : {K : Type 0} (s : Start) (p : Passed) (link : LinkState) (ahead : List ℕ)
+      (f g : ℕ) (own : List (Returned L)) (phase : Phase L C) (here : At K C)
+      → is_done phase here ≡ false → f ≤ g
       → RunSoFar state start_at s p (world_with link ahead f) own phase
       → RunSoFar state start_at s p (world_with link ahead g) own phase
-  run_later s p link ahead f g own phase going more_faults run = record {
+  run_later s p link ahead f g own phase here going more_faults run = record {
     tells = record {
       came = run.tells.came;
       written = run.tells.written;
@@ -249,7 +407,7 @@ module _ {L C : Type 0} (state : L → LinkState) (start_at : L → LinkStart) w
     untouched = run.untouched;
     going = run.going;
     calm = calm_later s link ahead f g phase run.calm;
-    holds = holds_later s p link ahead f g own phase going more_faults run.holds;
+    holds = holds_later s p link ahead f g own phase here going more_faults run.holds;
   }
 
 module _ {L : Type 0} (state : L → LinkState) (start_at : L → LinkStart)
@@ -358,7 +516,7 @@ module _ {L C D U M : Type 0}
       run = run_later state start_at
           (called_to under_way.of_one.start (log_of visit.calls)) under_way.of_one.passed
           (client_state visit.client.link) visit.client.ahead f g under_way.own visit.phase
-          under_way.of_one.going more_faults under_way.of_one.run;
+          visit.calls.at under_way.of_one.going more_faults under_way.of_one.run;
       going = under_way.of_one.going;
     };
     of_others = all_later most f g more_faults rest under_way.rest under_way.of_others;
@@ -459,7 +617,7 @@ module _ {L C D U M : Type 0}
       (i j : Work)
       → Serves state start_at client_state allows mark_of before old (visit ∷ rest)
       → TakesTurn old now visit next t u h k i j
-      → is_over next.phase ≡ false
+      → is_done next.phase next.calls.at ≡ false
       → Serves state start_at client_state allows mark_of before now (next ∷ rest)
   goes_on before old now visit next rest t u h k i j serves turn going =
       let all = serves.under_way in
@@ -494,7 +652,7 @@ module _ {L C D U M : Type 0}
       (i j : Work)
       → Serves state start_at client_state allows mark_of before old (visit ∷ rest)
       → TakesTurn old now visit next t u h k i j
-      → is_over next.phase ≡ true
+      → is_done next.phase next.calls.at ≡ true
       → EndsOne state start_at client_state allows mark_of before now next rest
   ends_now before old now visit next rest t u h k i j serves turn over =
       let all = serves.under_way in
@@ -528,7 +686,7 @@ module _ {L C D U M : Type 0}
       → s.most ≡ before.most → CallsSoFar allows mark_of visit.calls visit.phase
       → HaveEnded state start_at allows before old.requests_ended old.returned (own ++ links)
       → ComesToEnd state start_at (called_to s (log_of visit.calls)) p x own old.returned
-      now.returned visit.phase processed
+      now.returned visit.phase visit.calls.at processed
       → now.requests_ended ≡ ended_after old.requests_ended processed.outcome
       → HaveEnded state start_at allows before now.requests_ended now.returned links
   comes_to_end before old now visit own links s p x processed limit calls ended comes counted =
@@ -546,7 +704,10 @@ module _ {L C D U M : Type 0}
         passed = p;
         world = x;
         attempts = processed.history.attempts;
+        came = comes.came;
         ended = comes.ended;
+        given = gives_by allows mark_of visit.calls visit.phase comes.came processed.outcome
+            comes.comes comes.given calls;
       })
       (ended_in_order state start_at allows before old.requests_ended now.returned
       ((own ++ links) ++ comes.handed) (all ++ links) (add_last own comes.handed links)
@@ -596,7 +757,8 @@ module _ {L C D U M : Type 0}
       → EndsOne state start_at client_state allows mark_of before old visit rest
       → ((s : Start) (p : Passed) (own : List (Returned L))
       → RunSoFar state start_at s p (world_of client_state visit.client old.faults) own visit.phase
-      → ComesToEnd state start_at s p x own old.returned now.returned visit.phase processed)
+      → ComesToEnd state start_at s p x own old.returned now.returned visit.phase visit.calls.at
+      processed)
       → now.requests_ended ≡ ended_after old.requests_ended processed.outcome
       → now.faults ≡ old.faults → now.most ≡ old.most
       → Serves state start_at client_state allows mark_of before now rest
@@ -616,7 +778,8 @@ module _ {L C D U M : Type 0}
       → Serves state start_at client_state allows mark_of before old (visit ∷ rest)
       → ((s : Start) (p : Passed) (own : List (Returned L))
       → RunSoFar state start_at s p (world_of client_state visit.client old.faults) own visit.phase
-      → ComesToEnd state start_at s p x own old.returned now.returned visit.phase processed)
+      → ComesToEnd state start_at s p x own old.returned now.returned visit.phase visit.calls.at
+      processed)
       → now.requests_ended ≡ ended_after old.requests_ended processed.outcome
       → now.faults ≡ old.faults → now.most ≡ old.most
       → Serves state start_at client_state allows mark_of before now rest
@@ -659,7 +822,7 @@ module _ {L C D U M : Type 0}
         passed = p;
         run = subst (λ (t : Start). RunSoFar state start_at t p
             (world_of client_state visit.client now.faults) [] visit.phase) (sym called) run;
-        going = going;
+        going = goes_undone visit.phase visit.calls.at going;
       };
       of_others = serves.under_way;
       joined = IsPermutation-refl serves.links;

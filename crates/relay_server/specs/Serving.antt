@@ -15,8 +15,9 @@ use Rattle.relay_proxy.specs.Calls.{CallsSoFar, IsLogged, allowed_by, log_of}
 use Rattle.relay_proxy.specs.Endings.{IsEnded}
 use Rattle.relay_proxy.specs.Passed.{World, Start, called_to}
 use Rattle.relay_proxy.specs.Phases.{RunSoFar}
-use Rattle.relay_proxy.specs.Request.{ended_after}
-use Rattle.relay_proxy.specs.Turn.{world_of, links_held, is_over}
+use Rattle.relay_proxy.specs.ClosingHooks.{Gives}
+use Rattle.relay_proxy.specs.Request.{ended_after, is_done}
+use Rattle.relay_proxy.specs.Turn.{world_of, links_held}
 use Rattle.relay_proxy.specs.declared.calls.Calls.{Calls}
 use Rattle.relay_proxy.specs.declared.machine.Phase.{Phase}
 use Rattle.relay_proxy.specs.declared.outcome.Outcome.{Outcome}
@@ -52,7 +53,7 @@ CountRises before after = before ≤ last_count → (before ≤ after) × (after
 pub record Visit (D U L C M : Type 0) : Type 0 where
   pub client : Connection D U
   pub phase : Phase L C
-  pub calls : Calls M U
+  pub calls : Calls M U C
 
 -- the client's connection is kept for another request
 abbrev pub is_reused : Outcome → Bool
@@ -66,7 +67,8 @@ module _ {L : Type 0} (state : L → LinkState) (start_at : L → LinkStart)
     (allows : Standing → LogEntry → Type 0) where
   -- a request that came to its end, and that might make so many attempts: each call of a hook for
   -- it was allowed where it stood, and they came in order; what passed is told by the links, in
-  -- order, and the outcome has its cause, by those calls
+  -- order, and what it came to has its cause, by those calls. The outcome is that, `logging` having
+  -- been told of its error, and once; or turns or memory ran out in the hooks of its end
   pub record EndedRequest (most : ℕ) (own : List (Returned L)) (outcome : Outcome) : Type 0 where
     pub start : Start
     pub limit : start.most ≡ most
@@ -76,7 +78,9 @@ module _ {L : Type 0} (state : L → LinkState) (start_at : L → LinkStart)
     pub passed : Passed
     pub world : World
     pub attempts : List AttemptRecord
-    pub ended : IsEnded state start_at (called_to start log) passed world own attempts outcome
+    pub came : Outcome
+    pub ended : IsEnded state start_at (called_to start log) passed world own attempts came
+    pub given : Gives log came outcome
 
   -- requests came to their ends, one after the other: each that was served or refused is counted
   -- once, and these are the links that they handed back
@@ -124,7 +128,7 @@ module _ {L C D U M : Type 0}
     pub passed : Passed
     pub run : RunSoFar state start_at (called_to start (log_of visit.calls)) passed
         (world_of client_state visit.client faults) own visit.phase
-    pub going : is_over visit.phase ≡ false
+    pub going : is_done visit.phase visit.calls.at ≡ false
 
   -- all requests are under way, and handed these links back
   abbrev pub AreUnderWay : ℕ → ℕ → List (Visit D U L C M) → List (Returned L) → Type 0
@@ -154,7 +158,7 @@ module _ {L C D U M : Type 0}
     pub run : RunSoFar state start_at (called_to start (log_of visit.calls)) passed
         (world_of client_state visit.client now.faults) own visit.phase
     pub limit : start.most ≡ before.most
-    pub over : is_over visit.phase ≡ true
+    pub over : is_done visit.phase visit.calls.at ≡ true
     pub under_way : AreUnderWay now.most now.faults rest links
     pub same_most : now.most ≡ before.most
 

@@ -4,7 +4,8 @@ ghost use Rattle.relay_attempt.specs.Passed.{Passed};
 ghost use Rattle.relay_proxy.specs.Calls.{CallsSoFar, allowed_by, log_of};
 ghost use Rattle.relay_proxy.specs.Passed.{Start};
 ghost use Rattle.relay_proxy.specs.Phases.{RunSoFar};
-ghost use Rattle.relay_proxy.specs.Turn.{links_held, is_over, is_end, world_of};
+ghost use Rattle.relay_proxy.specs.Request.{is_done};
+ghost use Rattle.relay_proxy.specs.Turn.{links_held, is_end, world_of};
 ghost use Rattle.relay_server.specs.Idle.{is_idle, HasNotBegun};
 ghost use Rattle.relay_server.specs.Serving.{Books, Visit, books, CountRises, all_held, Serves, EndsOne, with_next, is_reused};
 
@@ -193,7 +194,7 @@ impl<SV: ProxyHttp, K: Connector, D: ByteLink> OpenConnection<SV, K, D> {
             (books K.returned K.fault_count proxy.new) rest }
         ensures held { K.out proxy.new.connector + links_held K.Byte.state K.Byte.start self.phase
             ≡ K.out proxy.old.connector }
-        ensures uncounted { is_over self.phase ≡ false
+        ensures uncounted { is_done self.phase self.calls.at ≡ false
             → proxy.new.requests_ended ≡ proxy.old.requests_ended }
         ensures counted { CountRises proxy.old.requests_ended proxy.new.requests_ended }
         ensures same { proxy.new ≡ record proxy.old {

@@ -4,6 +4,8 @@ use Rattle.relay_session.specs.declared.session.HttpSession.{HttpSession}
 use Rattle.relay_proxy.specs.Turn.{world_of}
 use Rattle.relay_proxy.specs.declared.machine.Phase.TheVariants.{Answer}
 use Rattle.relay_proxy.proofs.AnswerSteps.{answer_took, answer_waits, answer_silent, answer_fails, answer_memory, taken_of, moved_or_ended}
+use Rattle.relay_proxy.specs.Calls.{Owing}
+use Rattle.relay_proxy.proofs.LastCalls.{owing_as, shows_same}
 use Rattle.relay_proxy.proofs.answering.write_on.Goals as goal
 
 -- the client took some
@@ -47,7 +49,6 @@ returns-in-Failed-clause-run g c = λ s p own faults run.
 -- memory was wanted
 pub returns-in-OutOfMemory-clause-run : goal.returns-in-OutOfMemory-clause-run
 returns-in-OutOfMemory-clause-run g c = λ s p own faults run.
-    rw c.ended-in-OutOfMemory.ensures.phase
     (answer_memory g.L.ByteLink.state g.L.ByteLink.start s p
     (world_of g.D.ByteLink.state c.args.client.now faults)
     (world_of g.D.ByteLink.state c.offer.new.client faults) own c.args.session c.args.owed
@@ -64,3 +65,32 @@ returns-in-Took-clause-cause g c = λ faults.
     c.took.ensures.step
     (λ is. taken_of _ _ _ _ _
     (rw (sym c.deref_mut.ensures.value) at c.requires) c.in-Took.ensures.answer)
+
+-- ---- the calls
+
+-- what was offered leaves a session of which hooks are shown the same
+pub returns-in-Took-clause-calls : goal.returns-in-Took-clause-calls
+returns-in-Took-clause-calls g c =
+    owing_as c.args.session.value c.offer.new.session c.args.owed c.args.calls.now c.took.new.calls c.took.result.phase
+    (rw c.deref_mut.ensures.value at c.offer.ensures.same) c.took.ensures.calls
+
+pub returns-in-NotReady-clause-calls : goal.returns-in-NotReady-clause-calls
+returns-in-NotReady-clause-calls g c =
+    Owing.waits _ (refl, refl)
+    (shows_same c.args.session.value c.offer.new.session (rw c.deref_mut.ensures.value at c.offer.ensures.same)) refl
+
+pub returns-in-Silent-clause-calls : goal.returns-in-Silent-clause-calls
+returns-in-Silent-clause-calls g c =
+    Owing.waits _ (refl, refl)
+    (shows_same c.args.session.value c.offer.new.session (rw c.deref_mut.ensures.value at c.offer.ensures.same)) refl
+
+-- the write failed
+pub returns-in-Failed-clause-calls : goal.returns-in-Failed-clause-calls
+returns-in-Failed-clause-calls g c =
+    Owing.failed _ c.in-Failed.fault _ (rw c.ended.ensures.phase refl) c.outcome_failed.ensures
+    (shows_same c.args.session.value c.offer.new.session
+    (rw c.deref_mut.ensures.value at c.offer.ensures.same)) c.ended.ensures.calls
+
+-- memory was wanted
+pub returns-in-OutOfMemory-clause-calls : goal.returns-in-OutOfMemory-clause-calls
+returns-in-OutOfMemory-clause-calls g c = Owing.lost refl refl

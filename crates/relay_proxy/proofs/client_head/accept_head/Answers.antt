@@ -22,7 +22,7 @@ returns-then-names_upgrade-clause-run g c = λ s p faults none run has entered n
 
 -- and no hook is called for it
 pub returns-then-names_upgrade-clause-calls : goal.returns-then-names_upgrade-clause-calls
-returns-then-names_upgrade-clause-calls g c = λ none. none_logged _ _ none
+returns-then-names_upgrade-clause-calls g c = λ none. none
 
 -- nor was one called where memory was wanted for it
 pub returns-in_default-clause-calls : goal.returns-in_default-clause-calls

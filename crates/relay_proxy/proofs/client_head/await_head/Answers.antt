@@ -60,7 +60,7 @@ pub returns-in-Ok-End-clause-run : goal.returns-in-Ok-End-clause-run
 returns-in-Ok-End-clause-run g c = λ s p faults run open_head.
     let ends = rw c.in-Ok-End.field-0-is at c.in-Ok-End.ensures.ok in
     head_ends g.L.ByteLink.state g.L.ByteLink.start s p _ _ _ _ open_head ends.0 ends.1 refl
-    (c.end_of_client.ensures ∙ ap ended_outcome c.ahead.ensures) c.new.ensures run
+    (c.end_of_client.ensures.outcome ∙ ap ended_outcome c.ahead.ensures) c.new.ensures run
 
 -- the read failed
 pub returns-in-Ok-Failed-clause-run : goal.returns-in-Ok-Failed-clause-run

@@ -24,14 +24,14 @@ returns-in-Ok-None-clause-run g c = λ s p faults none run.
 -- and no hook is called for it
 pub returns-in-Ok-None-clause-calls : goal.returns-in-Ok-None-clause-calls
 returns-in-Ok-None-clause-calls g c = λ none.
-    unopened_calls _ _ c.args.calls.now c.await_head.result.phase c.await_head.result.work none
-    c.await_head.ensures.unopened c.await_head.ensures.counts
+    unopened_calls _ _ c.args.calls.now c.await_head.result.phase none
+    c.await_head.ensures.refuses
 
 -- nor for a bad one
 pub returns-in-Err-Error-clause-calls : goal.returns-in-Err-Error-clause-calls
 returns-in-Err-Error-clause-calls g c = λ none.
-    unopened_calls _ _ c.args.calls.now c.give_answer.result.phase c.give_answer.result.work none
-    c.give_answer.ensures.unopened c.give_answer.ensures.counts
+    unopened_calls _ _ c.args.calls.now c.give_answer.result.phase none
+    c.give_answer.ensures.refuses
 
 -- nor out of memory
 pub returns-in-Err-OutOfMemory-clause-calls : goal.returns-in-Err-OutOfMemory-clause-calls

@@ -47,12 +47,11 @@ returns-clause-run g c = λ s p faults none run has.
 -- no hook is called for a head that is refused
 pub returns-in-Err-clause-calls : goal.returns-in-Err-clause-calls
 returns-in-Err-clause-calls g c = λ none.
-    unopened_calls _ _ c.args.calls.now c.give_answer.result.phase c.give_answer.result.work none
-    c.give_answer.ensures.unopened c.give_answer.ensures.counts
+    unopened_calls _ _ c.args.calls.now c.give_answer.result.phase none
+    c.give_answer.ensures.refuses
 
 -- nor for a request for a tunnel
 pub returns-then-is_connect-clause-calls : goal.returns-then-is_connect-clause-calls
 returns-then-is_connect-clause-calls g c = λ none.
-    unopened_calls _ _ c.args.calls.now c.give_answer-then-is_connect.result.phase
-    c.give_answer-then-is_connect.result.work none
-    c.give_answer-then-is_connect.ensures.unopened c.give_answer-then-is_connect.ensures.counts
+    unopened_calls _ _ c.args.calls.now c.give_answer-then-is_connect.result.phase none
+    c.give_answer-then-is_connect.ensures.refuses

@@ -48,15 +48,15 @@ returns-in-Err-get-clause-run g c = λ s p client ahead limit o run.
     (world_with client ahead (g.K.Connector.fault_count c.args.connector.now))
     (g.K.Connector.fault_count c.get.new.self) limit c.get.ensures.fits.0
     c.in-Err-get.ensures.rose c.in-Err-get.ensures.fault
-    (subst (λ (a : At _). TellsPeer a (log_of c.args.calls.now)) c.in-Some-peer.ensures o.named)
+    (subst (λ (a : At _ _). TellsPeer a (log_of c.args.calls.now)) c.in-Some-peer.ensures o.named)
     (rw (← c.in-Ok.ensures.ok) at run)
 
 -- and no hook is called
 pub returns-in-Err-get-clause-calls : goal.returns-in-Err-get-clause-calls
 returns-in-Err-get-clause-calls g c = λ o.
-    asked_calls _ _ c.args.calls.now c.args.context c.args.session c.args.tries
+    asked_calls _ _ _ c.args.calls.now c.args.context c.args.session c.args.tries
     c.refused_link.result.phase g.K.Byte.ByteLink.state g.K.Byte.ByteLink.start
-    (ap (λ (a : At _). has_peer a) c.in-Some-peer.ensures)
+    c.in-Some-peer.ensures
     c.refused_link.ensures.asked c.refused_link.ensures.unlinked o
 
 pub returns-in-Err-get-clause-called : goal.returns-in-Err-get-clause-called

@@ -56,3 +56,7 @@ returns-clause-told g c =
     c.fill-attempts.ensures refl
     ∙ ap (λ (e : Error). faults_told c.args.room.items.items ++ connect_fault e.retry ∷ [])
     (sided _ _ _ _ c.of_fault.ensures c.into_up-error.ensures)
+
+-- and it is for the error of the last
+pub returns-clause-asked : goal.returns-clause-asked
+returns-clause-asked g c = c.answer_unlinked.ensures.asked c.args.context c.args.session

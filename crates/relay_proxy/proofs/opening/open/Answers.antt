@@ -1,8 +1,13 @@
 -- The hook that comes next is called, and the request goes on, or ends.
-use Rattle.std.proofs.Common.{[], arith, refl, sym}
-use Rattle.relay_proxy.specs.Calls.{log_of}
-use Rattle.relay_proxy.proofs.CallLemmas.{ended_calls}
-use Rattle.relay_proxy.proofs.HookSteps.{answered, counts_called, goes_connecting, known_at, memory_called, memory_logged, opening_on, purged, unended, unnamed, untreated}
+use Rattle.std.proofs.Common.{List, [], None, ap, arith, refl, subst, sym, ◌∙◌}
+use Rattle.relay_tasks.specs.declared.log.LogEntry.{LogEntry}
+use Rattle.relay_proxy.specs.Calls.{IsOwing, IsUnended, allowed_by, log_of}
+use Rattle.relay_proxy.specs.Passed.{opened_to}
+use Rattle.relay_proxy.specs.Turn.{Advances}
+use Rattle.relay_proxy.specs.declared.calls.Calls.{Calls}
+use Rattle.relay_proxy.specs.declared.owed.Owed.TheVariants as owing
+use Rattle.relay_proxy.proofs.LastCalls.{counted_still, owing_log, owing_on}
+use Rattle.relay_proxy.proofs.HookSteps.{answered, answered_owing, counts_called, goes_connecting, known_at, memory_called, memory_logged, opening_on, purged, purged_owing, unended, unnamed, untreated}
 use Rattle.relay_proxy.proofs.OpenSteps.{hooks_leave, hooks_lost, opened_on}
 use Rattle.relay_proxy.proofs.opening.open.Goals as goal
 
@@ -39,29 +44,42 @@ returns-in-Answered-clause-run g c = λ s p w o run.
     c.call_next.new.calls c.args.context c.call_next.new.context c.args.session.value
     c.call_next.new.client (rw c.deref_mut.ensures.value at c.in-Answered.ensures.turns)
     (sym c.in-Answered.ensures.shown) s p w c.args.tries o run.holds in
-    hooks_leave g.L.ByteLink.state g.L.ByteLink.start (log_of c.args.calls.now)
+    subst (λ (l : List LogEntry). Advances g.L.ByteLink.state g.L.ByteLink.start (opened_to s l) w
+    c.owe.result.phase)
+    (sym (owing_log _ _ _ _ _ c.owe.ensures.calls
+    ∙ ap (λ (k : Calls _ _ _). log_of k) c.begin_end.ensures))
+    (hooks_leave g.L.ByteLink.state g.L.ByteLink.start (log_of c.args.calls.now)
     (log_of c.call_next.new.calls) [] s p w c.args.context c.args.session _ c.args.tries _ done.text
     c.owe.result.phase done.is_open (λ some. (c.owe.ensures.some some).0)
     (λ none. (c.owe.ensures.none none).0) done.owed
     (untreated _ (g.SV.ProxyHttp.mark_of c.args.app.now) c.args.calls.now c.call_next.new.calls
     c.args.context c.call_next.new.context c.args.session.value c.call_next.new.client
     (rw c.deref_mut.ensures.value at c.in-Answered.ensures.turns) o.untreated)
-    (o.untried (unnamed c.args.calls.now.at c.requires)) run
+    (o.untried (unnamed c.args.calls.now.at c.requires)) run)
 
 pub returns-in-Answered-clause-calls : goal.returns-in-Answered-clause-calls
 returns-in-Answered-clause-calls g c = λ o.
-    ended_calls _ _ c.call_next.new.calls c.args.tries c.owe.result.phase c.owe.result.work
-    c.owe.ensures.counts c.owe.ensures.unopened
-    (memory_logged _ (g.SV.ProxyHttp.mark_of c.args.app.now) c.args.calls.now
-    c.call_next.new.calls c.args.context c.call_next.new.context c.args.session.value
-    c.call_next.new.client (rw c.deref_mut.ensures.value at c.in-Answered.ensures.turns) c.args.tries o)
+    owing_on _ (g.SV.ProxyHttp.mark_of c.args.app.now) c.begin_end.new.self c.owe.new.calls _ _
+    c.owe.result.phase c.owe.ensures.calls
+    (subst (λ (k : Calls _ _ _). IsOwing
+    (allowed_by (g.SV.ProxyHttp.allows c.args.app.now) g.SV.Modules.HttpModule.allows)
+    (g.SV.ProxyHttp.mark_of c.args.app.now) k c.call_next.new.client (owing.Ahead None))
+    (sym c.begin_end.ensures) (answered_owing _ (g.SV.ProxyHttp.mark_of c.args.app.now)
+    c.args.calls.now c.call_next.new.calls c.args.context c.call_next.new.context
+    c.args.session.value c.call_next.new.client
+    (rw c.deref_mut.ensures.value at c.in-Answered.ensures.turns)
+    (sym c.in-Answered.ensures.shown) c.args.tries o))
 
 pub returns-in-Answered-clause-called : goal.returns-in-Answered-clause-called
 returns-in-Answered-clause-called g c =
-    counts_called _ (g.SV.ProxyHttp.mark_of c.args.app.now) c.args.calls.now
+    counted_still c.args.calls.now c.call_next.new.calls c.owe.new.calls c.owe.result.work
+    (owing_log _ _ _ _ _ c.owe.ensures.calls
+    ∙ ap (λ (k : Calls _ _ _). log_of k) c.begin_end.ensures)
+    (counts_called _ (g.SV.ProxyHttp.mark_of c.args.app.now) c.args.calls.now
     c.call_next.new.calls c.args.context c.call_next.new.context c.args.session.value
-    c.call_next.new.client (rw c.deref_mut.ensures.value at c.in-Answered.ensures.turns) c.owe.result.work
-    (known_at _ _ c.in-Answered.ensures.shown (λ lost. cc)) (rw c.owe.ensures.work (omega arith))
+    c.call_next.new.client (rw c.deref_mut.ensures.value at c.in-Answered.ensures.turns)
+    c.owe.result.work (known_at _ _ c.in-Answered.ensures.shown (λ lost. cc))
+    (rw c.owe.ensures.work (omega arith)))
 
 -- or it is a purge
 pub returns-in-Purges-clause-run : goal.returns-in-Purges-clause-run
@@ -70,30 +88,34 @@ returns-in-Purges-clause-run g c = λ s p w o run.
     c.call_next.new.calls c.args.context c.call_next.new.context c.args.session.value
     c.call_next.new.client (rw c.deref_mut.ensures.value at c.in-Purges.ensures.turns)
     (sym c.in-Purges.ensures.shown) s p w c.args.tries o run.holds in
-    c.turn_down.ensures.run s (log_of c.args.calls.now) (log_of c.call_next.new.calls) p w
+    subst (λ (l : List LogEntry). Advances g.L.ByteLink.state g.L.ByteLink.start (opened_to s l) w
+    c.turn_down.result.phase) (sym (owing_log _ _ _ _ _ c.turn_down.ensures.calls.1))
+    (c.turn_down.ensures.run s (log_of c.args.calls.now) (log_of c.call_next.new.calls) p w
     c.args.context c.args.session done.head done.is_open done.request done.place done.accepted
     done.order
     (untreated _ (g.SV.ProxyHttp.mark_of c.args.app.now) c.args.calls.now c.call_next.new.calls
     c.args.context c.call_next.new.context c.args.session.value c.call_next.new.client
     (rw c.deref_mut.ensures.value at c.in-Purges.ensures.turns) o.untreated)
-    (o.untried (unnamed c.args.calls.now.at c.requires)) run
+    (o.untried (unnamed c.args.calls.now.at c.requires)) run)
 
 pub returns-in-Purges-clause-calls : goal.returns-in-Purges-clause-calls
 returns-in-Purges-clause-calls g c = λ o.
-    ended_calls _ _ c.call_next.new.calls c.args.tries c.turn_down.result.phase
-    c.turn_down.result.work c.turn_down.ensures.counts c.turn_down.ensures.unopened
-    (memory_logged _ (g.SV.ProxyHttp.mark_of c.args.app.now) c.args.calls.now
+    owing_on _ (g.SV.ProxyHttp.mark_of c.args.app.now) c.call_next.new.calls c.turn_down.new.calls
+    c.turn_down.ensures.calls.0 _ c.turn_down.result.phase c.turn_down.ensures.calls.1
+    (purged_owing _ (g.SV.ProxyHttp.mark_of c.args.app.now) c.args.calls.now
     c.call_next.new.calls c.args.context c.call_next.new.context c.args.session.value
-    c.call_next.new.client (rw c.deref_mut.ensures.value at c.in-Purges.ensures.turns) c.args.tries
-    o)
+    c.call_next.new.client (rw c.deref_mut.ensures.value at c.in-Purges.ensures.turns)
+    (sym c.in-Purges.ensures.shown) c.args.tries c.turn_down.ensures.calls.0 _ o)
 
 pub returns-in-Purges-clause-called : goal.returns-in-Purges-clause-called
 returns-in-Purges-clause-called g c =
-    counts_called _ (g.SV.ProxyHttp.mark_of c.args.app.now) c.args.calls.now
+    counted_still c.args.calls.now c.call_next.new.calls c.turn_down.new.calls
+    c.turn_down.result.work (owing_log _ _ _ _ _ c.turn_down.ensures.calls.1)
+    (counts_called _ (g.SV.ProxyHttp.mark_of c.args.app.now) c.args.calls.now
     c.call_next.new.calls c.args.context c.call_next.new.context c.args.session.value
     c.call_next.new.client (rw c.deref_mut.ensures.value at c.in-Purges.ensures.turns)
     c.turn_down.result.work (known_at _ _ c.in-Purges.ensures.shown (λ lost. cc))
-    c.turn_down.ensures.called
+    c.turn_down.ensures.called)
 
 -- or memory was wanted
 pub returns-in-OutOfMemory-clause-run : goal.returns-in-OutOfMemory-clause-run
@@ -125,15 +147,20 @@ returns-in-GoesOn-clause-unended g c = λ none.
 
 pub returns-in-Answered-clause-unended : goal.returns-in-Answered-clause-unended
 returns-in-Answered-clause-unended g c = λ none.
-    unended _ (g.SV.ProxyHttp.mark_of c.args.app.now) c.args.calls.now c.call_next.new.calls
+    subst (λ (l : List LogEntry). IsUnended l)
+    (sym (owing_log _ _ _ _ _ c.owe.ensures.calls
+    ∙ ap (λ (k : Calls _ _ _). log_of k) c.begin_end.ensures))
+    (unended _ (g.SV.ProxyHttp.mark_of c.args.app.now) c.args.calls.now c.call_next.new.calls
     c.args.context c.call_next.new.context c.args.session.value c.call_next.new.client
-    (rw c.deref_mut.ensures.value at c.in-Answered.ensures.turns) none
+    (rw c.deref_mut.ensures.value at c.in-Answered.ensures.turns) none)
 
 pub returns-in-Purges-clause-unended : goal.returns-in-Purges-clause-unended
 returns-in-Purges-clause-unended g c = λ none.
-    unended _ (g.SV.ProxyHttp.mark_of c.args.app.now) c.args.calls.now c.call_next.new.calls
+    subst (λ (l : List LogEntry). IsUnended l)
+    (sym (owing_log _ _ _ _ _ c.turn_down.ensures.calls.1))
+    (unended _ (g.SV.ProxyHttp.mark_of c.args.app.now) c.args.calls.now c.call_next.new.calls
     c.args.context c.call_next.new.context c.args.session.value c.call_next.new.client
-    (rw c.deref_mut.ensures.value at c.in-Purges.ensures.turns) none
+    (rw c.deref_mut.ensures.value at c.in-Purges.ensures.turns) none)
 
 pub returns-in-OutOfMemory-clause-unended : goal.returns-in-OutOfMemory-clause-unended
 returns-in-OutOfMemory-clause-unended g c = λ none.

@@ -1,6 +1,9 @@
 -- The relay's own answer to a purge is what waits for the client, or memory was wanted for it.
-use Rattle.std.proofs.Common.{[], refl}
+use Rattle.std.proofs.Common.{[], Some, refl, subst}
+use Rattle.relay_tasks.specs.declared.Error.{Error}
+use Rattle.relay_proxy.specs.Calls.{Owing}
 use Rattle.relay_proxy.specs.Ahead.{IsOwedAhead}
+use Rattle.relay_proxy.specs.declared.owed.Owed.TheVariants as owing
 use Rattle.relay_proxy.proofs.HookSteps.{stop_text}
 use Rattle.relay_proxy.proofs.OpenSteps.{hooks_leave, hooks_lost}
 use Rattle.relay_proxy.proofs.opening.turn_down.Goals as goal
@@ -24,3 +27,17 @@ returns-in_default-clause-run g c =
     rw c.lacks_memory.ensures.phase
     (hooks_lost g.L.ByteLink.state g.L.ByteLink.start these those s p w context client c.args.tries
     untried run)
+
+-- what is owed goes by the answer
+pub returns-clause-calls : goal.returns-clause-calls
+returns-clause-calls g c = (
+  c.queue_answer.new.session,
+  subst (λ (e : Error). Owing c.queue_answer.new.session (owing.Ahead (Some e))
+      c.args.calls.now c.owe.new.calls
+      c.owe.result.phase) c.new_in-error.ensures c.owe.ensures.calls,
+)
+
+-- or memory was wanted, and nothing was called
+pub returns-in_default-clause-calls : goal.returns-in_default-clause-calls
+returns-in_default-clause-calls g c =
+    (c.args.session.value, Owing.lost (rw c.lacks_memory.ensures.phase refl) refl)

@@ -18,9 +18,7 @@ pub returns-in-Err-clause-run : goal.returns-in-Err-clause-run
 returns-in-Err-clause-run g c = λ s p w run sends.
     rw c.closed.ensures.phase
     (not_begun g.L.ByteLink.state g.L.ByteLink.start s p w c.args.context c.args.session
-    c.args.head c.args.link c.in-Err.field-0.link c.args.lease c.in-Err.field-0.why _
-    c.in-Err.ensures.link c.outcome_of.ensures c.in-Err.ensures.causes
-    (λ is. c.in-Err.ensures.refused.0 (c.in-Err.field-0, refl, is)) run sends)
+    c.args.link _ c.args.lease c.in-Err.ensures.link run)
 
 -- the link was asked as often as it was
 pub returns-in-Ok-clause-asked : goal.returns-in-Ok-clause-asked

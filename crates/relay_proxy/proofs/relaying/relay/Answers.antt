@@ -83,35 +83,36 @@ returns-in-Moved-clause-calls g c =
     kept_within g.L.ByteLink.state g.L.ByteLink.start
     (world_of g.D.ByteLink.state c.args.client.now 0)
     (world_of g.D.ByteLink.state c.turn_within-asked.new.client 0) _ _ _ _
-    c.turn_within-asked.ensures.turns
+    c.turn_within-asked.ensures.turns c.args.calls.now
 
 pub returns-in-Waited-NotReady-clause-calls : goal.returns-in-Waited-NotReady-clause-calls
 returns-in-Waited-NotReady-clause-calls g c =
     kept_within g.L.ByteLink.state g.L.ByteLink.start
     (world_of g.D.ByteLink.state c.args.client.now 0)
     (world_of g.D.ByteLink.state c.turn_within-asked.new.client 0) _ _ _ _
-    c.turn_within-asked.ensures.turns
+    c.turn_within-asked.ensures.turns c.args.calls.now
 
 pub returns-in-Waited-Silent-clause-calls : goal.returns-in-Waited-Silent-clause-calls
 returns-in-Waited-Silent-clause-calls g c =
     kept_within g.L.ByteLink.state g.L.ByteLink.start
     (world_of g.D.ByteLink.state c.args.client.now 0)
     (world_of g.D.ByteLink.state c.turn_within-asked.new.client 0) _ _ _ _
-    c.turn_within-asked.ensures.turns
+    c.turn_within-asked.ensures.turns c.args.calls.now
 
 pub returns-in-Finished-clause-calls : goal.returns-in-Finished-clause-calls
 returns-in-Finished-clause-calls g c =
     finished_keeps g.L.ByteLink.state g.L.ByteLink.start
     (world_of g.D.ByteLink.state c.args.client.now 0)
     (world_of g.D.ByteLink.state c.turn_within-asked.new.client 0) _ _ _ _
-    c.turn_within-asked.ensures.turns _ c.close_finished.ensures.closes
+    c.turn_within-asked.ensures.turns c.args.calls.now c.close_finished.new.calls _
+    c.close_finished.ensures.closes c.close_finished.ensures.calls
 
 pub returns-in-Failed-clause-calls : goal.returns-in-Failed-clause-calls
 returns-in-Failed-clause-calls g c =
     failed_keeps g.L.ByteLink.state g.L.ByteLink.start
     (world_of g.D.ByteLink.state c.args.client.now 0)
     (world_of g.D.ByteLink.state c.turn_within-asked.new.client 0) _ _ _ _
-    c.turn_within-asked.ensures.turns _ c.leave_failed.ensures.calls
+    c.turn_within-asked.ensures.turns c.args.calls.now _ c.leave_failed.ensures.calls
 
 -- and its work is that of the branch
 pub returns-in-Moved-clause-moves : goal.returns-in-Moved-clause-moves

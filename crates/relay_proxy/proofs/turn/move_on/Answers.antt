@@ -12,6 +12,8 @@ use Rattle.relay_proxy.proofs.BoundLemmas.{answer_bounds, head_turn_bounds, link
 use Rattle.relay_proxy.proofs.RefusalLemmas.{none_added, none_unmade, others_told}
 use Rattle.relay_proxy.proofs.TakenLemmas.{takes_nothing, takes_more, took_more, one_out, no_offers}
 use Rattle.relay_proxy.proofs.TurnLemmas.{broken_counts, broken_faults, broken_offers, broken_turn, head_turn, connect_turn, none_unended, open_step, prepare_turn, head_counts, still_counts, connect_counts, prepare_counts, prepare_faults, prepare_offers, unlinked_open, answer_offers}
+use Rattle.relay_proxy.proofs.CallLemmas.{none_called}
+use Rattle.relay_proxy.proofs.LastCalls.{owing_on}
 use Rattle.relay_proxy.proofs.turn.move_on.Goals as goal
 
 -- a turn that reads the head is a turn
@@ -33,7 +35,11 @@ returns-in-ReadHead-clause-turn g c =
 -- a write of the answer is a turn
 pub returns-in-Answer-clause-turn : goal.returns-in-Answer-clause-turn
 returns-in-Answer-clause-turn g c =
-    rw (c.go_on-in-Answer.ensures.phase, sym c.replace.ensures.value ∙ c.in-Answer.is)
+    rw (
+      c.write_answer.ensures.log,
+      c.go_on-in-Answer.ensures.phase,
+      sym c.replace.ensures.value ∙ c.in-Answer.is,
+    )
     (λ s p own most calls run. record {
       advances = c.write_answer.ensures.run (called_to s (log_of c.args.calls.now)) p own
           (g.K.Connector.fault_count c.args.connector.now) run;
@@ -317,6 +323,7 @@ returns-in-Connect-clause-bounds g c =
 pub returns-in-Answer-clause-bounds : goal.returns-in-Answer-clause-bounds
 returns-in-Answer-clause-bounds g c =
     rw (
+      c.write_answer.ensures.log,
       c.go_on-in-Answer.ensures.phase,
       c.go_on-in-Answer.ensures.work,
       sym c.replace.ensures.value ∙ c.in-Answer.is,
@@ -535,3 +542,16 @@ returns-in-Broken-clause-tells g c =
     append-nil _ ∙ broken_faults g.K.Byte.ByteLink.state g.K.Byte.ByteLink.start
     c.in-Broken.context c.in-Broken.session c.in-Broken.link c.in-Broken.lease c.in-Broken.keep
     c.in-Broken.error c.fail.result.phase c.fail.ensures.tries)
+
+-- the answer goes by its calls, which are those that were made
+pub returns-in-Answer-clause-calls : goal.returns-in-Answer-clause-calls
+returns-in-Answer-clause-calls g c =
+    rw (c.go_on-in-Answer.ensures.phase, sym c.replace.ensures.value ∙ c.in-Answer.is) (λ so_far.
+    owing_on _ _ c.args.calls.now c.write_answer.new.calls c.in-Answer.session.value
+    c.in-Answer.owed c.write_answer.result.phase c.write_answer.ensures.calls so_far)
+
+pub returns-in-Answer-clause-called : goal.returns-in-Answer-clause-called
+returns-in-Answer-clause-called g c =
+    rw c.go_on-in-Answer.ensures.work
+    (none_called c.args.calls.now c.write_answer.new.calls c.write_answer.result.work
+    c.write_answer.ensures.uncalled c.write_answer.ensures.log)

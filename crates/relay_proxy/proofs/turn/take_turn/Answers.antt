@@ -4,7 +4,8 @@ use Rattle.relay_proxy.specs.Calls.{log_of}
 use Rattle.relay_proxy.specs.Passed.{called_to}
 use Rattle.relay_proxy.specs.Turn.{world_of}
 use Rattle.relay_proxy.proofs.BoundLemmas.{relay_turn_bounds}
-use Rattle.relay_proxy.proofs.CallLemmas.{relaying_calls}
+use Rattle.relay_proxy.proofs.CallLemmas.{none_called}
+use Rattle.relay_proxy.proofs.LastCalls.{relaying_calls}
 use Rattle.relay_proxy.proofs.RefusalLemmas.{none_added}
 use Rattle.relay_proxy.proofs.TakenLemmas.{takes_nothing}
 use Rattle.relay_proxy.proofs.TurnLemmas.{relaying_turn, relaying_rests, relaying_uses, relaying_counts, relaying_works, relaying_tells, relaying_unrefused, relaying_takes, relaying_carries, not_relaying}
@@ -13,7 +14,7 @@ use Rattle.relay_proxy.proofs.turn.take_turn.Goals as goal
 -- a turn of the attempt is a turn
 pub returns-then-is_relaying-clause-turn : goal.returns-then-is_relaying-clause-turn
 returns-then-is_relaying-clause-turn g c =
-    λ s p own most calls run.
+    rw c.relay.ensures.log (λ s p own most calls run.
     relaying_turn g.K.Byte.ByteLink.state g.K.Byte.ByteLink.start
     (called_to s (log_of c.args.calls.now)) p
     (world_of g.D.ByteLink.state c.args.client.now
@@ -22,7 +23,7 @@ returns-then-is_relaying-clause-turn g c =
     (g.K.Connector.fault_count c.args.connector.now)) own
     c.args.phase.now c.relay.new.phase (sym c.is_relaying.ensures ∙ c.if-is_relaying.true) run
     (λ first. c.relay.ensures.run (called_to s (log_of c.args.calls.now)) p
-    (g.K.Connector.fault_count c.args.connector.now) first)
+    (g.K.Connector.fault_count c.args.connector.now) first))
 
 -- its cause is that of the attempt
 pub returns-then-is_relaying-clause-cause : goal.returns-then-is_relaying-clause-cause
@@ -83,7 +84,8 @@ returns-then-is_relaying-clause-uses g c = λ s p own run.
 
 -- what it counted of tasks and ends is that of the exchange
 pub returns-then-is_relaying-clause-bounds : goal.returns-then-is_relaying-clause-bounds
-returns-then-is_relaying-clause-bounds g c = λ s p own tasks ends most calls run had.
+returns-then-is_relaying-clause-bounds g c =
+    rw c.relay.ensures.log (λ s p own tasks ends most calls run had.
     relay_turn_bounds g.K.Byte.ByteLink.state g.K.Byte.ByteLink.start
     (called_to s (log_of c.args.calls.now)) p
     (world_of g.D.ByteLink.state c.args.client.now
@@ -93,7 +95,7 @@ returns-then-is_relaying-clause-bounds g c = λ s p own tasks ends most calls ru
     ends (c.relay.result.work.moved + tasks) (c.relay.result.work.ended + ends)
     (sym c.is_relaying.ensures ∙ c.if-is_relaying.true) run
     (λ counted. c.relay.ensures.bounds (called_to s (log_of c.args.calls.now)) tasks ends counted)
-    had
+    had)
 
 -- and what it moved is what the exchange moved
 pub returns-then-is_relaying-clause-moves : goal.returns-then-is_relaying-clause-moves
@@ -118,5 +120,11 @@ returns-then-is_relaying-clause-counts g c = λ s p own n run had.
 -- it calls no hook
 pub returns-then-is_relaying-clause-calls : goal.returns-then-is_relaying-clause-calls
 returns-then-is_relaying-clause-calls g c = λ so_far.
-    relaying_calls _ _ c.args.calls.now c.args.phase.now c.relay.new.phase
+    relaying_calls _ _ c.args.calls.now c.relay.new.calls c.args.phase.now c.relay.new.phase
     (sym c.is_relaying.ensures ∙ c.if-is_relaying.true) c.relay.ensures.calls so_far
+
+-- nor is one counted
+pub returns-then-is_relaying-clause-called : goal.returns-then-is_relaying-clause-called
+returns-then-is_relaying-clause-called g c =
+    none_called c.args.calls.now c.relay.new.calls c.relay.result.work c.relay.ensures.uncalled
+    c.relay.ensures.log

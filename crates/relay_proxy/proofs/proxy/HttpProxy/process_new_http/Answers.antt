@@ -9,7 +9,8 @@ use Rattle.relay_proxy.specs.Request.{Processes}
 use Rattle.relay_proxy.specs.Turn.{world_of}
 use Rattle.relay_proxy.specs.declared.proxy.HttpProxy.{HttpProxy}
 use Rattle.relay_proxy.specs.declared.proxy.Outside.{Outside}
-use Rattle.relay_proxy.proofs.CallLemmas.{calls_logged}
+use Rattle.relay_proxy.proofs.EndSteps.{done_gives, gives_by}
+use Rattle.relay_proxy.proofs.LastCalls.{calls_logged}
 use Rattle.relay_proxy.proofs.UnderWay.{begun, goes_on, all_taken, stopped, one_more, no_end, stops_at}
 use Rattle.relay_proxy.proofs.proxy.HttpProxy.process_new_http.Goals as goal
 
@@ -32,7 +33,7 @@ loop-turn-init g c =
       rw c.begin-machine.ensures.no_items refl,
       omega (arith, c.begin-machine.ensures.no_link),
       rw (c.begin-machine.ensures.client, c.take_kept-kept.ensures.after) refl,
-      c.begin-machine.ensures.going,
+      rw c.begin-machine.ensures.going refl,
       refl,
       omega (arith, c.begin-machine.ensures.no_turns),
       refl,
@@ -54,6 +55,11 @@ returns-then-is_stop-clause-processes g c =
     (sym c.loop-turn.invariant.6)) c.loop-turn.invariant.9 under.run in
     let now = called_to s (log_of c.step-step.new.machine.calls) in
     let ends = c.close.ensures.ends now steps.passed _ steps.run in
+    let allows = allowed_by (g.SV.ProxyHttp.allows c.loop-turn.self.inner)
+    g.SV.Modules.HttpModule.allows in
+    let mark_of = g.SV.ProxyHttp.mark_of c.loop-turn.self.inner in
+    let calls = c.step-step.ensures.calls c.loop-turn.invariant.9 in
+    let counts = steps.bounded under.tasks under.ends under.bounded in
     subst (λ (l : List LogEntry). Processes state start (called_to s l)
     (world_of g.D.ByteLink.state c.close.new.client
     (g.K.Connector.fault_count c.close.new.self.connector))
@@ -65,19 +71,27 @@ returns-then-is_stop-clause-processes g c =
     (g.K.Connector.stock c.close.new.self.connector)
     (g.D.ByteLink.state c.args.client.now.link) c.args.turns c.close.result)
     (sym c.close.ensures.log)
-    (stopped state start (called_to s (log_of c.loop-turn.machine.calls)) now _ _ _ _ _ _ _ _ _ _ _ _ _ _ _ _ c.loop-turn.machine.machine
-    c.step-step.new.machine.machine _ _ c.close.result under steps ends c.close.ensures.refusals
-    c.close.ensures.offers
+    (stopped state start (called_to s (log_of c.loop-turn.machine.calls)) now _ _ _ _ _ _ _ _ _ _ _
+    _ _ _ _ _ c.loop-turn.machine.machine c.step-step.new.machine.machine
+    c.step-step.new.machine.calls.at _ _ c.close.result under steps ends
+    (rw c.close.ensures.log (gives_by allows mark_of c.step-step.new.machine.calls
+    c.step-step.new.machine.machine.phase ends.came c.close.result.outcome ends.comes ends.given
+    calls)) c.close.ensures.refusals c.close.ensures.offers
     (stops_at state start _
     (world_of g.D.ByteLink.state c.step-step.new.client
     (g.K.Connector.fault_count c.step-step.new.self.connector))
     (world_of g.D.ByteLink.state c.close.new.client
-    (g.K.Connector.fault_count c.close.new.self.connector)) _ _ c.step-step.result c.close.result
+    (g.K.Connector.fault_count c.close.new.self.connector)) _ _ c.step-step.new.machine.calls.at
+    c.step-step.result c.close.result.outcome
     (sym c.is_stop.ensures ∙ c.if-is_stop.true) c.step-step.ensures.cause c.step-step.ensures.ended
-    (rw (c.close.ensures.client, c.close.ensures.faults) (refl
+    (rw (c.close.ensures.link, c.close.ensures.ahead, c.close.ensures.faults) (refl
     {a = world_of g.D.ByteLink.state c.step-step.new.client
-    (g.K.Connector.fault_count c.step-step.new.self.connector)})) ends.over)
-    (rw c.close.ensures.client refl) (rw c.close.ensures.client refl) c.close.ensures.turns
+    (g.K.Connector.fault_count c.step-step.new.self.connector)}))
+    (λ done. done_gives state start _ _ now
+    (g.D.ByteLink.state c.step-step.new.client.link) c.step-step.new.client.ahead _
+    c.step-step.new.machine.machine.phase c.step-step.new.machine.calls.at ends.came
+    c.close.result.outcome counts ends.comes ends.given done ends.over))
+    (rw c.close.ensures.link refl) c.close.ensures.ahead c.close.ensures.turns
     c.close.ensures.used c.close.ensures.moved c.close.ensures.sides
     (c.step-step.ensures.worked c.loop-turn.invariant.7)
     (rw c.close.ensures.log (c.step-step.ensures.logs c.loop-turn.invariant.10)))
@@ -98,8 +112,8 @@ loop-turn-preserved g c =
     let few : c.loop-turn._turn + 1 ≤ last_count =
     omega (arith, c.loop-turn-test.true, c.ranges.turns.fits) in (
       goes_on state start (called_to s (log_of c.loop-turn.machine.calls))
-          (called_to s (log_of c.step-step.new.machine.calls)) _ _ _ _ _ _ _ _ _ _ _ _ c.loop-turn.machine.machine
-          c.step-step.new.machine.machine _ under steps
+          (called_to s (log_of c.step-step.new.machine.calls)) _ _ _ _ _ _ _ _ _ _ _ _
+          c.loop-turn.machine.machine c.step-step.new.machine.machine _ under steps
           (one_more _ _ c.step-step.result c.step-step.ensures.counted goes) few,
       c.step-step.ensures.client_start ∙ c.loop-turn.invariant.1,
       c.step-step.ensures.stock ∙ c.loop-turn.invariant.2,
@@ -142,10 +156,15 @@ returns-clause-processes g c =
     (g.K.Connector.stock c.close-2.new.self.connector)
     (g.D.ByteLink.state c.args.client.now.link) c.args.turns c.close-2.result)
     (sym c.close-2.ensures.log)
-    (all_taken state start now _ _ _ _ _ _ _ _ _ _ _ _ c.loop-turn.machine.machine _ _ c.close-2.result
-    under all ends c.close-2.ensures.refusals c.close-2.ensures.offers
+    (all_taken state start now _ _ _ _ _ _ _ _ _ _ _ _ c.loop-turn.machine.machine
+    c.loop-turn.machine.calls.at _ _ c.close-2.result under all ends
+    (rw c.close-2.ensures.log (gives_by
+    (allowed_by (g.SV.ProxyHttp.allows c.loop-turn.self.inner) g.SV.Modules.HttpModule.allows)
+    (g.SV.ProxyHttp.mark_of c.loop-turn.self.inner) c.loop-turn.machine.calls
+    c.loop-turn.machine.machine.phase ends.came c.close-2.result.outcome ends.comes ends.given
+    c.loop-turn.invariant.9)) c.close-2.ensures.refusals c.close-2.ensures.offers
     c.close-2.ensures.turns
-    (rw c.close-2.ensures.client refl) (rw c.close-2.ensures.client refl) c.close-2.ensures.used
+    (rw c.close-2.ensures.link refl) c.close-2.ensures.ahead c.close-2.ensures.used
     c.close-2.ensures.moved c.close-2.ensures.sides c.loop-turn.invariant.7
     (rw c.close-2.ensures.log c.loop-turn.invariant.10))
 
@@ -170,4 +189,17 @@ returns-clause-logged g c =
     (ap (λ (k : HttpProxy g.row.SV.Denot g.row.K.Denot g.row.P.Denot). k.inner)
     c.loop-turn.invariant.6)
     (rw c.close-2.ensures.log
-    (calls_logged _ _ c.loop-turn.machine.calls c.loop-turn.machine.machine.phase c.loop-turn.invariant.9))
+    (calls_logged _ _ c.loop-turn.machine.calls c.loop-turn.machine.machine.phase
+    c.loop-turn.invariant.9))
+
+-- a value is kept where it was asked for last, where a step stopped
+pub returns-then-is_stop-clause-kept : goal.returns-then-is_stop-clause-kept
+returns-then-is_stop-clause-kept g c = λ some.
+    c.close.ensures.keeps
+    (rw c.step-step.ensures.same (c.step-step.ensures.calls c.loop-turn.invariant.9))
+    (c.step-step.ensures.kept ∙ c.loop-turn.invariant.4) some
+
+-- and where all turns were taken
+pub returns-clause-kept : goal.returns-clause-kept
+returns-clause-kept g c = λ some.
+    c.close-2.ensures.keeps c.loop-turn.invariant.9 c.loop-turn.invariant.4 some

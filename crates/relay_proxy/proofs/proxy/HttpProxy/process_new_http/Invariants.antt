@@ -2,8 +2,9 @@
 use Rattle.std.proofs.Common.{◌≡◌, ◌+◌, ◌≤◌, [], length, None, false}
 use Rattle.relay_proxy.specs.Calls.{CallsSoFar, allowed_by, log_of}
 use Rattle.relay_proxy.specs.Passed.{called_to, start_of}
+use Rattle.relay_proxy.specs.Request.{is_done}
 use Rattle.relay_proxy.specs.Stock.{items_held, all_items}
-use Rattle.relay_proxy.specs.Turn.{world_of, links_held, is_over}
+use Rattle.relay_proxy.specs.Turn.{world_of, links_held}
 use Rattle.relay_proxy.specs.Work.{total_work}
 use Rattle.relay_proxy.proofs.UnderWay.{IsUnderWay}
 use Rattle.relay_proxy.proofs.proxy.HttpProxy.process_new_http.Given as goal
@@ -30,7 +31,7 @@ invariant-loop-turn g l =
     ≡ g.K.Connector.out l.fn.self.connector
     + links_held g.K.Byte.ByteLink.state g.K.Byte.ByteLink.start l.machine.machine.phase)
     × (l.client.kept ≡ None)
-    × (is_over l.machine.machine.phase ≡ false)
+    × (is_done l.machine.machine.phase l.machine.calls.at ≡ false)
     × (l.self ≡ record l.fn.self { connector = l.self.connector })
     × (l.machine.machine.turns ≤ total_work l.machine.machine.work)
     × (l.outside ≡ record l.fn.outside { schedule = l.outside.schedule })

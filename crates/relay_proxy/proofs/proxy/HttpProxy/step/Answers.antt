@@ -1,60 +1,88 @@
--- The turn and its settling are a step.
-use Rattle.std.proofs.Common.{List, ap}
-use Rattle.relay_tasks.specs.declared.log.LogEntry.{LogEntry}
-use Rattle.relay_proxy.specs.Calls.{log_of}
+-- A step is a turn, or a call of a hook of the end.
+use Rattle.std.proofs.Common.{refl, sym, ◌∙◌, ap, subst}
+use Rattle.relay_proxy.specs.Calls.{CallsSoFar, allowed_by, log_of}
 use Rattle.relay_proxy.specs.Passed.{called_to}
+use Rattle.relay_proxy.specs.Request.{StepsOn}
+use Rattle.relay_proxy.specs.Turn.{held_state, world_of}
+use Rattle.relay_proxy.specs.declared.machine.Phase.{Phase}
 use Rattle.relay_proxy.specs.declared.work.Work.{Work}
-use Rattle.relay_proxy.proofs.StepLemmas.{step_on, settled_cause}
-use Rattle.relay_proxy.proofs.UseLemmas.{moves_on, settled_moves, settled_uses}
+use Rattle.relay_proxy.specs.declared.work.TheConstants.Work.{NONE}
+use Rattle.relay_proxy.proofs.EndSteps.{calls_last, last_on, rests_on, rests_uses}
 use Rattle.relay_proxy.proofs.proxy.HttpProxy.step.Goals as goal
 
--- a turn that was settled is a step
-pub returns-clause-steps : goal.returns-clause-steps
-returns-clause-steps g c = λ s p own most calls run.
-    let old = called_to s (log_of c.args.machine.now.calls) in
-    let new = called_to s (log_of c.take_turn-step.new.calls) in
-    rw (c.settle.ensures.faults, c.settle.ensures.refusals, c.settle.ensures.offers)
-    (step_on g.K.Byte.ByteLink.state g.K.Byte.ByteLink.start old new p own _ _
-    c.args.machine.now.machine.phase c.take_turn-step.new.phase c.settle.new.phase
-    c.take_turn-step.result.step _ _ _ _ _ _ _
-    (c.take_turn-step.ensures.turn s p own most calls)
-    (λ over. ap (λ (l : List LogEntry). called_to s l) (c.take_turn-step.ensures.still over))
-    c.take_turn-step.ensures.rests c.take_turn-step.ensures.returned c.settle.ensures.settles
-    c.take_turn-step.ensures.refusals c.take_turn-step.ensures.offers
-    c.take_turn-step.ensures.carries c.take_turn-step.ensures.tells run
-    (g.D.ByteLink.state c.args.client.now.link)
-    c.args.client.now.ahead c.args.machine.now.machine.work _ c.take_turn-step.result.work
-    c.plus-machine.ensures.sum (λ n had. c.take_turn-step.ensures.counts old p own n run had)
-    (λ tasks ends had. c.take_turn-step.ensures.bounds s p own tasks ends most calls run had))
+-- the calls so far go on with that of such a hook
+pub returns-in-Some-clause-calls : goal.returns-in-Some-clause-calls
+returns-in-Some-clause-calls g c = λ so_far.
+    subst (λ (k : Phase g.row.K-Byte.Denot g.row.SV-CTX.Denot). CallsSoFar
+    (allowed_by (g.SV.ProxyHttp.allows c.args.self.now.inner) g.SV.Modules.HttpModule.allows)
+    (g.SV.ProxyHttp.mark_of c.args.self.now.inner) c.call_last.new.machine.calls k)
+    (sym c.call_last.ensures.phase)
+    (calls_last (allowed_by (g.SV.ProxyHttp.allows c.args.self.now.inner)
+    g.SV.Modules.HttpModule.allows) (g.SV.ProxyHttp.mark_of c.args.self.now.inner)
+    c.args.machine.now.calls c.call_last.new.machine.calls c.args.machine.now.machine.phase
+    c.in-Some.goes_back (sym c.goes_on_last.ensures ∙ c.in-Some.is) c.call_last.ensures.calls
+    so_far)
 
--- its cause is that of the turn
-pub returns-clause-cause : goal.returns-clause-cause
-returns-clause-cause g c =
-    rw c.settle.ensures.faults
-    (settled_cause g.K.Byte.ByteLink.state g.K.Byte.ByteLink.start _ _
-    c.args.machine.now.machine.phase c.take_turn-step.new.phase c.settle.new.phase
-    c.take_turn-step.result.step _ _ c.settle.ensures.settles c.take_turn-step.ensures.over
-    c.take_turn-step.ensures.hands_on c.take_turn-step.ensures.cause)
+-- and so does the run so far
+pub returns-in-Some-clause-steps : goal.returns-in-Some-clause-steps
+returns-in-Some-clause-steps g c = λ s p own most so_far run.
+    let w = world_of g.D.ByteLink.state c.args.client.now
+    (g.K.Connector.fault_count c.args.self.now.connector) in
+    let counts = c.call_last.ensures.counts in
+    subst (λ (k : Phase g.row.K-Byte.Denot g.row.SV-CTX.Denot).
+    StepsOn g.K.Byte.ByteLink.state g.K.Byte.ByteLink.start
+    (called_to s (log_of c.args.machine.now.calls))
+    (called_to s (log_of c.call_last.new.machine.calls)) p w own
+    (g.K.Connector.returned c.args.self.now.connector)
+    (g.K.Connector.returned c.args.self.now.connector)
+    (g.K.Connector.refusals c.args.self.now.connector)
+    (g.K.Connector.refusals c.args.self.now.connector)
+    (g.K.Connector.stock c.args.self.now.connector)
+    (g.K.Connector.stock c.args.self.now.connector) (g.D.ByteLink.state c.args.client.now.link)
+    c.args.client.now.ahead c.args.machine.now.machine.work
+    c.call_last.new.machine.machine.work c.args.machine.now.machine.phase k)
+    (sym c.call_last.ensures.phase)
+    (last_on (allowed_by (g.SV.ProxyHttp.allows c.args.self.now.inner)
+    g.SV.Modules.HttpModule.allows) (g.SV.ProxyHttp.mark_of c.args.self.now.inner)
+    c.args.machine.now.calls c.call_last.new.machine.calls c.args.machine.now.machine.phase
+    c.in-Some.goes_back (sym c.goes_on_last.ensures ∙ c.in-Some.is) c.call_last.ensures.calls so_far
+    g.K.Byte.ByteLink.state g.K.Byte.ByteLink.start s p w own
+    (g.K.Connector.returned c.args.self.now.connector)
+    (g.K.Connector.refusals c.args.self.now.connector)
+    (g.K.Connector.stock c.args.self.now.connector) c.args.machine.now.machine.work
+    c.call_last.new.machine.machine.work (record {
+      work = counts.work;
+      adds = counts.adds;
+      unused = counts.unused;
+      unmoved = counts.unmoved;
+      unended = counts.unended;
+    }) run)
 
--- its uses are those of the turn
-pub returns-clause-uses : goal.returns-clause-uses
-returns-clause-uses g c = λ s p own run. (
-  c.take_turn-step.result.work.used,
-  ap (λ (work : Work). work.used) c.plus-machine.ensures.sum,
-  settled_uses g.K.Byte.ByteLink.state g.K.Byte.ByteLink.start
-      c.take_turn-step.result.work.used (g.D.ByteLink.state c.args.client.now.link)
-      (g.D.ByteLink.state c.take_turn-step.new.client.link) _ c.take_turn-step.new.phase
-      c.settle.new.phase _ _ _ c.take_turn-step.ensures.returned c.settle.ensures.settles
-      (c.take_turn-step.ensures.uses s p own run),
+-- where none is called nothing passes
+pub returns-then-is_over-clause-steps : goal.returns-then-is_over-clause-steps
+returns-then-is_over-clause-steps g c = λ s p own most so_far run.
+    rw c.rest.ensures.same (rests_on g.K.Byte.ByteLink.state g.K.Byte.ByteLink.start
+    (called_to s (log_of c.args.machine.now.calls)) (called_to s (log_of c.args.machine.now.calls))
+    p (world_of g.D.ByteLink.state c.args.client.now
+    (g.K.Connector.fault_count c.args.self.now.connector)) own
+    (g.K.Connector.returned c.args.self.now.connector)
+    (g.K.Connector.refusals c.args.self.now.connector)
+    (g.K.Connector.stock c.args.self.now.connector) c.args.machine.now.machine.work
+    c.args.machine.now.machine.work c.args.machine.now.machine.phase run (record {
+      work = NONE;
+      adds = rw c.rest.ensures.same at c.rest.ensures.adds;
+      unused = refl;
+      unmoved = refl;
+      unended = refl;
+    }) (λ tasks ends counted. counted))
+
+-- and no link is used
+pub returns-then-is_over-clause-uses : goal.returns-then-is_over-clause-uses
+returns-then-is_over-clause-uses g c = λ s p own run. (
+  0,
+  ap (λ (k : Work). k.used) c.rest.ensures.adds,
+  rw c.rest.ensures.same (rests_uses g.K.Byte.ByteLink.state 0
+      (g.D.ByteLink.state c.args.client.now.link)
+      (held_state g.K.Byte.ByteLink.state c.args.machine.now.machine.phase)
+      (g.K.Connector.returned c.args.self.now.connector) refl),
 )
-
--- and what it moved in an exchange
-pub returns-clause-moves : goal.returns-clause-moves
-returns-clause-moves g c = λ a is did.
-    moves_on g.K.Byte.ByteLink.state g.K.Byte.ByteLink.start c.args.machine.now.machine.work
-    _ c.take_turn-step.result.work _ _ a.value.exchange c.settle.new.phase
-    c.plus-machine.ensures.sum
-    (rw c.settle.ensures.faults
-    (settled_moves g.K.Byte.ByteLink.state g.K.Byte.ByteLink.start _ _
-    c.take_turn-step.result.work a.value.exchange c.take_turn-step.new.phase
-    c.settle.new.phase _ _ c.settle.ensures.settles (c.take_turn-step.ensures.moves a is did)))

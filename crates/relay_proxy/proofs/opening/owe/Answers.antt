@@ -1,0 +1,14 @@
+-- What was queued waits, or nothing does.
+use Rattle.std.proofs.Common.{refl}
+use Rattle.relay_proxy.specs.Calls.{Owing}
+use Rattle.relay_proxy.proofs.opening.owe.Goals as goal
+
+-- it waits
+pub returns-clause-calls : goal.returns-clause-calls
+returns-clause-calls g c = Owing.waits c.args.session (refl, refl) (refl, refl) refl
+
+-- nothing waits, and the session has its client again
+pub returns-then-not-has_pending-clause-calls : goal.returns-then-not-has_pending-clause-calls
+returns-then-not-has_pending-clause-calls g c =
+    Owing.written c.args.session.value _ refl (rw c.outcome.ensures refl) (refl, refl)
+    (rw (← c.into_inner.ensures, c.outcome.ensures) c.take_client.ensures)
