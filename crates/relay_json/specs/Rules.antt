@@ -153,8 +153,8 @@ abbrev pub listed_of : Data → Option (List Rule)
 listed_of value = list_of rule_of value
 
 -- the hooks that are called: those in front of the attempts, those of an attempt up to the head that
--- is sent, the one that treats the error of an attempt that had a link, and those of the end. The
--- others are taken once they are
+-- is sent, those that look at the error of an attempt, and those of the end. The others are taken
+-- once they are
 abbrev pub is_called : Hook → Bool
 is_called hook.EarlyRequestFilter = true
 is_called hook.AllowSpawningSubrequest = true
@@ -164,9 +164,11 @@ is_called hook.RequestFilter = true
 is_called hook.IsPurge = true
 is_called hook.ProxyUpstreamFilter = true
 is_called hook.UpstreamPeer = true
+is_called hook.FailToConnect = true
 is_called hook.ConnectedToUpstream = true
 is_called hook.UpstreamRequestFilter = true
 is_called hook.ErrorWhileProxy = true
+is_called hook.SuppressProxyWarnLog = true
 is_called hook.SuppressErrorLog = true
 is_called hook.PersistConnectionContext = true
 is_called _ = false

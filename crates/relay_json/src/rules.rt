@@ -50,9 +50,8 @@ fn are_called(rules: &[Rule]) -> bool
 }
 
 /// Whether the proxy calls the hook: those in front of the attempts, those of an attempt up to the
-/// head that is sent, the one that treats the error of an attempt that had a link, and those of the
-/// end. A rule on another hook is taken once that is called, so that no script is taken that is not
-/// followed.
+/// head that is sent, those that look at the error of an attempt, and those of the end. A rule on
+/// another hook is taken once that is called, so that no script is taken that is not followed.
 fn is_called(hook: Hook) -> bool
     ensures { result ≡ is_called hook }
 {
@@ -66,9 +65,11 @@ fn is_called(hook: Hook) -> bool
             | Hook::IsPurge
             | Hook::ProxyUpstreamFilter
             | Hook::UpstreamPeer
+            | Hook::FailToConnect
             | Hook::ConnectedToUpstream
             | Hook::UpstreamRequestFilter
             | Hook::ErrorWhileProxy
+            | Hook::SuppressProxyWarnLog
             | Hook::SuppressErrorLog
             | Hook::PersistConnectionContext
     )

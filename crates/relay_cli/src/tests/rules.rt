@@ -141,7 +141,7 @@ fn taken(alloc: Global, hooks: &str) -> Result<Result<usize, ScriptError>, Fail>
     Ok(read_script(alloc, text.as_bytes()).map(|script| script.rules.as_slice().len()))
 }
 
-const TAKEN: [(&str, usize); 7] = [
+const TAKEN: [(&str, usize); 8] = [
     ("[]", 0),
     (
         r#"[{"hook":"early_request_filter","do":"error","type":"ReadError"}]"#,
@@ -165,6 +165,11 @@ const TAKEN: [(&str, usize); 7] = [
     (
         r#"[{"hook":"error_while_proxy","do":"retry","on":"reused"}]"#,
         1,
+    ),
+    (
+        "[{\"hook\":\"fail_to_connect\",\"do\":\"retry\",\"on\":true},\
+      {\"hook\":\"suppress_proxy_warn_log\",\"do\":\"say\",\"on\":true}]",
+        2,
     ),
     (
         "[{\"hook\":\"suppress_error_log\",\"do\":\"say\",\"on\":true},\
@@ -209,8 +214,6 @@ fn takes_rules_on_hooks_that_are_called(rt: HostRuntime) -> Result<(), Fail> {
     }
     let later = r#"[{"hook":"response_filter","do":"status","code":418}]"#;
     assert_eq!(rt; taken(alloc, later)?, Err(ScriptError::HookNotCalled));
-    let unlinked = r#"[{"hook":"fail_to_connect","do":"retry","on":true}]"#;
-    assert_eq!(rt; taken(alloc, unlinked)?, Err(ScriptError::HookNotCalled));
     Ok(())
 }
 
