@@ -61,7 +61,7 @@ use Rattle.relay_proxy.specs.declared.outcome.Outcome.{Outcome}
 use Rattle.relay_proxy.specs.declared.outcome.Outcome.TheVariants as outcome
 use Rattle.relay_proxy.specs.declared.owed.Owed.{Owed}
 use Rattle.relay_proxy.specs.declared.owed.Owed.TheVariants as owing
-use Rattle.relay_proxy.specs.declared.machine.Phase.TheVariants.{ReadHead, Connect, Prepare, Relay, Broken, Fail, Close, Answer, Ended}
+use Rattle.relay_proxy.specs.declared.machine.Phase.TheVariants.{ReadHead, Connect, Unlinked, Prepare, Relay, Broken, Fail, Close, Answer, Ended}
 use Rattle.relay_proxy.specs.declared.record.AttemptRecord.{AttemptRecord}
 use Rattle.relay_proxy.specs.declared.work.Work.{Work}
 use Rattle.relay_proxy.proofs.TreatLemmas.{treats_last, unended_more}

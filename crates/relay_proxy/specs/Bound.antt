@@ -11,7 +11,7 @@ use Rattle.relay_proxy.specs.Tries.{tries_in}
 use Rattle.relay_proxy.specs.declared.machine.Attempt.{Attempt}
 use Rattle.relay_proxy.specs.declared.machine.Lease.{Lease}
 use Rattle.relay_proxy.specs.declared.machine.Phase.{Phase}
-use Rattle.relay_proxy.specs.declared.machine.Phase.TheVariants.{ReadHead, Connect, Prepare, Relay, Broken, Fail, Close, Answer, Ended}
+use Rattle.relay_proxy.specs.declared.machine.Phase.TheVariants.{ReadHead, Connect, Unlinked, Prepare, Relay, Broken, Fail, Close, Answer, Ended}
 use Rattle.relay_proxy.specs.declared.record.AttemptRecord.{AttemptRecord}
 use Rattle.relay_proxy.specs.declared.record.RunRecord.{RunRecord}
 use Rattle.relay_proxy.specs.declared.work.Work.{Work}
@@ -76,6 +76,8 @@ module _ {L C : Type 0} (state : L → LinkState) (start_at : L → LinkStart) w
   PhaseCounts tasks ends s client ahead own ReadHead = (tasks ≡ 0) × (ends ≡ 0)
   PhaseCounts tasks ends s client ahead own (Connect context session tries) =
       (tasks ≡ 0) × (ends ≡ 1 + length tries)
+  PhaseCounts tasks ends s client ahead own (Unlinked context session attempts error) =
+      (tasks ≡ 0) × (ends ≡ 1 + length attempts)
   PhaseCounts tasks ends s client ahead own (Prepare context session link lease) =
       (tasks ≡ 0) × (ends ≡ 1 + length (tries_in lease))
   PhaseCounts tasks ends s client ahead own (Relay a) =
@@ -97,6 +99,8 @@ module _ {L C : Type 0} (state : L → LinkState) (start_at : L → LinkStart) w
       PhaseCounts tasks ends s client ahead own ReadHead
   TurnedCounts tasks ends s client ahead own (Connect context session tries) =
       PhaseCounts tasks ends s client ahead own (Connect context session tries)
+  TurnedCounts tasks ends s client ahead own (Unlinked context session attempts error) =
+      PhaseCounts tasks ends s client ahead own (Unlinked context session attempts error)
   TurnedCounts tasks ends s client ahead own (Prepare context session link lease) =
       PhaseCounts tasks ends s client ahead own (Prepare context session link lease)
   TurnedCounts tasks ends s client ahead own (Relay a) =
@@ -119,6 +123,7 @@ abbrev pub CountsHead : {L C : Type 0} → Phase L C → Work → Type 0
 CountsHead ReadHead work = (work.moved ≡ 0) × (work.ended ≡ 0)
 CountsHead (Connect context session tries) work =
     (work.moved ≡ 0) × (work.ended ≡ 1) × (tries ≡ [])
+CountsHead (Unlinked context session attempts error) work = ⊥
 CountsHead (Prepare context session link lease) work = ⊥
 CountsHead (Relay a) work = ⊥
 CountsHead (Broken context session link lease keep error) work = ⊥
@@ -133,6 +138,7 @@ abbrev pub CountsCall : {L C : Type 0} → List AttemptRecord → Phase L C → 
 CountsCall before ReadHead work = ⊥
 CountsCall before (Connect context session tries) work =
     (work.moved ≡ 0) × (work.ended ≡ 0) × (tries ≡ before)
+CountsCall before (Unlinked context session attempts error) work = ⊥
 CountsCall before (Prepare context session link lease) work = ⊥
 CountsCall before (Relay a) work = ⊥
 CountsCall before (Broken context session link lease keep error) work = ⊥
@@ -149,6 +155,8 @@ abbrev pub CountsLink : {L C : Type 0} → List AttemptRecord → Phase L C → 
 CountsLink before ReadHead work = ⊥
 CountsLink before (Connect context session tries) work =
     (work.moved ≡ 0) × (work.ended ≡ 1) × (length tries ≡ 1 + length before)
+CountsLink before (Unlinked context session attempts error) work =
+    (work.moved ≡ 0) × (work.ended ≡ 1) × (length attempts ≡ 1 + length before)
 CountsLink before (Prepare context session link lease) work =
     (work.moved ≡ 0) × (work.ended ≡ 0) × (tries_in lease ≡ before)
 CountsLink before (Relay a) work = ⊥
@@ -167,6 +175,7 @@ CountsLink before (Ended outcome attempts) work =
 abbrev pub CountsSend : {L C : Type 0} → List AttemptRecord → Phase L C → Work → Type 0
 CountsSend before ReadHead work = ⊥
 CountsSend before (Connect context session tries) work = ⊥
+CountsSend before (Unlinked context session attempts error) work = ⊥
 CountsSend before (Prepare context session link lease) work = ⊥
 CountsSend before (Relay a) work =
     (work.moved ≡ 1) × (work.ended ≡ 0) × (tries_in a.value.lease ≡ before)
@@ -183,6 +192,7 @@ CountsSend before (Ended outcome attempts) work = ⊥
 abbrev pub CountsTreat : {L C : Type 0} → List AttemptRecord → Phase L C → Work → Type 0
 CountsTreat before ReadHead work = ⊥
 CountsTreat before (Connect context session tries) work = ⊥
+CountsTreat before (Unlinked context session attempts error) work = ⊥
 CountsTreat before (Prepare context session link lease) work = ⊥
 CountsTreat before (Relay a) work = ⊥
 CountsTreat before (Broken context session link lease keep error) work =
@@ -198,6 +208,7 @@ CountsTreat before (Ended outcome attempts) work = ⊥
 abbrev pub CountsAnswer : {L C : Type 0} → Phase L C → Work → Type 0
 CountsAnswer ReadHead work = ⊥
 CountsAnswer (Connect context session tries) work = ⊥
+CountsAnswer (Unlinked context session attempts error) work = ⊥
 CountsAnswer (Prepare context session link lease) work = ⊥
 CountsAnswer (Relay a) work = ⊥
 CountsAnswer (Broken context session link lease keep error) work = ⊥
@@ -210,6 +221,7 @@ CountsAnswer (Ended outcome attempts) work = (work.moved ≡ 0) × (work.ended �
 abbrev pub LeavesLink : {L C : Type 0} → L → Lease → Phase L C → Type 0
 LeavesLink link lease ReadHead = ⊥
 LeavesLink link lease (Connect context session tries) = ⊥
+LeavesLink link lease (Unlinked context session attempts error) = ⊥
 LeavesLink link lease (Prepare context session left by) = ⊥
 LeavesLink link lease (Relay a) = ⊥
 LeavesLink link lease (Broken context session left by keep error) = (left ≡ link) × (by ≡ lease)

@@ -28,7 +28,7 @@ use Rattle.relay_opening.specs.declared.place.Called.TheVariants as called
 use Rattle.relay_opening.specs.declared.place.End.TheVariants as end
 use Rattle.relay_opening.specs.declared.place.Place.{Place}
 use Rattle.relay_opening.specs.declared.place.Place.TheVariants as place
-use Rattle.relay_trying.specs.Trying.{NamesPeer, may_break}
+use Rattle.relay_trying.specs.Trying.{may_break}
 use Rattle.relay_closing.specs.Closes.{TurnsOn, logged_in, logged_to}
 use Rattle.relay_closing.specs.Place.{begins_at, begun, is_lost, may_begin, may_fail}
 use Rattle.relay_closing.specs.Place.{station_of as closing_at}
@@ -62,7 +62,7 @@ use Rattle.relay_proxy.specs.Work.{added_work, turns_after}
 use Rattle.relay_proxy.specs.declared.machine.Attempt.{Attempt}
 use Rattle.relay_proxy.specs.declared.machine.Machine.{Machine}
 use Rattle.relay_proxy.specs.declared.machine.Phase.{Phase}
-use Rattle.relay_proxy.specs.declared.machine.Phase.TheVariants.{ReadHead, Connect, Prepare, Relay, Broken, Fail, Close, Answer, Ended}
+use Rattle.relay_proxy.specs.declared.machine.Phase.TheVariants.{ReadHead, Connect, Unlinked, Prepare, Relay, Broken, Fail, Close, Answer, Ended}
 
 -- the log
 abbrev pub log_of : {M K X : Type 0} → Calls M K X → List LogEntry
@@ -92,6 +92,8 @@ abbrev pub comes_next : {K X : Type 0} → At K X → Bool → Option Hook
 comes_next (at.Kept kept) has_modules = None
 comes_next (at.Opening there) has_modules = next_after there has_modules
 comes_next (at.Named peer) has_modules = None
+comes_next (at.Repeatable error) has_modules = Some hook.SuppressProxyWarnLog
+comes_next at.Warning has_modules = Some hook.RequestSummary
 comes_next at.Linked has_modules = None
 comes_next (at.Treated error) has_modules = None
 comes_next (at.Closing held there) has_modules = None
@@ -116,6 +118,8 @@ abbrev pub final_at : {K X : Type 0} → At K X → Option Error
 final_at (at.Kept kept) = None
 final_at (at.Opening there) = failed_at there
 final_at (at.Named peer) = None
+final_at (at.Repeatable error) = None
+final_at at.Warning = None
 final_at at.Linked = None
 final_at (at.Treated error) = None
 final_at (at.Closing held there) = None
@@ -125,6 +129,8 @@ abbrev pub treated_at : {K X : Type 0} → At K X → Option Error
 treated_at (at.Kept kept) = None
 treated_at (at.Opening there) = None
 treated_at (at.Named peer) = None
+treated_at (at.Repeatable error) = None
+treated_at at.Warning = None
 treated_at at.Linked = None
 treated_at (at.Treated error) = Some error
 treated_at (at.Closing held there) = None
@@ -134,6 +140,8 @@ abbrev pub has_last : {K X : Type 0} → At K X → Bool → Bool
 has_last (at.Kept kept) goes_back = false
 has_last (at.Opening there) goes_back = false
 has_last (at.Named peer) goes_back = false
+has_last (at.Repeatable error) goes_back = false
+has_last at.Warning goes_back = false
 has_last at.Linked goes_back = false
 has_last (at.Treated error) goes_back = false
 has_last (at.Closing held there) goes_back = calls_next there goes_back
@@ -143,6 +151,8 @@ abbrev pub is_closing_at : {K X : Type 0} → At K X → Bool
 is_closing_at (at.Kept kept) = false
 is_closing_at (at.Opening there) = false
 is_closing_at (at.Named peer) = false
+is_closing_at (at.Repeatable error) = false
+is_closing_at at.Warning = false
 is_closing_at at.Linked = false
 is_closing_at (at.Treated error) = false
 is_closing_at (at.Closing held there) = true
@@ -152,6 +162,8 @@ abbrev pub is_lost_at : {K X : Type 0} → At K X → Bool
 is_lost_at (at.Kept kept) = false
 is_lost_at (at.Opening there) = false
 is_lost_at (at.Named peer) = false
+is_lost_at (at.Repeatable error) = false
+is_lost_at at.Warning = false
 is_lost_at at.Linked = false
 is_lost_at (at.Treated error) = false
 is_lost_at (at.Closing held there) = is_lost there
@@ -161,6 +173,8 @@ abbrev pub ended_with : {K X : Type 0} → At K X → Option Error → At K X
 ended_with (at.Kept kept) error = at.Kept kept
 ended_with (at.Opening there) error = at.Opening there
 ended_with (at.Named peer) error = at.Named peer
+ended_with (at.Repeatable treated) error = at.Repeatable treated
+ended_with at.Warning error = at.Warning
 ended_with at.Linked error = at.Linked
 ended_with (at.Treated treated) error = at.Treated treated
 ended_with (at.Closing held there) error = at.Closing held (failed_with there error)
@@ -177,6 +191,8 @@ abbrev pub given_at : {K X : Type 0} → At K X → Outcome → Outcome
 given_at (at.Kept kept) came = came
 given_at (at.Opening there) came = came
 given_at (at.Named peer) came = came
+given_at (at.Repeatable error) came = came
+given_at at.Warning came = came
 given_at at.Linked came = came
 given_at (at.Treated error) came = came
 given_at (at.Closing held there) came = given there came
@@ -186,18 +202,24 @@ abbrev pub kept_at : {K X : Type 0} → At K X → Option K
 kept_at (at.Kept kept) = None
 kept_at (at.Opening there) = None
 kept_at (at.Named peer) = None
+kept_at (at.Repeatable error) = None
+kept_at at.Warning = None
 kept_at at.Linked = None
 kept_at (at.Treated error) = None
 kept_at (at.Closing held there) = kept_in there
 
--- a peer was named
-abbrev pub has_peer : {K X : Type 0} → At K X → Bool
-has_peer (at.Kept kept) = false
-has_peer (at.Opening there) = false
-has_peer (at.Named peer) = true
-has_peer at.Linked = true
-has_peer (at.Treated error) = true
-has_peer (at.Closing held there) = true
+-- a hook before the attempts is called next
+abbrev pub is_before : {K X : Type 0} → At K X → Bool
+is_before (at.Kept kept) = false
+is_before (at.Opening (place.Behind last)) = true
+is_before (at.Opening (place.Ended how)) = false
+is_before (at.Opening place.Lost) = false
+is_before (at.Named peer) = false
+is_before (at.Repeatable error) = false
+is_before at.Warning = false
+is_before at.Linked = false
+is_before (at.Treated error) = false
+is_before (at.Closing held there) = false
 
 -- the station at which the order of calls has the request
 abbrev pub place_station : {K : Type 0} → Place K → Station
@@ -209,6 +231,8 @@ abbrev pub station_at : {K X : Type 0} → At K X → Station
 station_at (at.Kept kept) = station.accepted
 station_at (at.Opening there) = place_station there
 station_at (at.Named peer) = station.named
+station_at (at.Repeatable error) = station.repeatable
+station_at at.Warning = station.warning
 station_at at.Linked = station.linked
 station_at (at.Treated error) = station.failing
 station_at (at.Closing held there) = station.told
@@ -229,6 +253,8 @@ abbrev pub GoesOn : {K X : Type 0} → At K X → Type 0
 GoesOn (at.Kept kept) = ⊥
 GoesOn (at.Opening there) = Goes there
 GoesOn (at.Named peer) = Unit {0}
+GoesOn (at.Repeatable error) = Unit {0}
+GoesOn at.Warning = Unit {0}
 GoesOn at.Linked = Unit {0}
 GoesOn (at.Treated error) = ⊥
 GoesOn (at.Closing held there) = ⊥
@@ -243,6 +269,8 @@ abbrev pub TellsPeer : {K X : Type 0} → At K X → List LogEntry → Type 0
 TellsPeer (at.Kept kept) log = Unit {0}
 TellsPeer (at.Opening there) log = TellsError (failed_at there) log
 TellsPeer (at.Named peer) log = IsNamed log peer
+TellsPeer (at.Repeatable error) log = Unit {0}
+TellsPeer at.Warning log = Unit {0}
 TellsPeer at.Linked log = Unit {0}
 TellsPeer (at.Treated error) log = Unit {0}
 TellsPeer (at.Closing held there) log = Unit {0}
@@ -262,21 +290,46 @@ abbrev pub leads_at : {K X : Type 0} → At K X → Opened
 leads_at (at.Kept kept) = led.OutOfMemory
 leads_at (at.Opening there) = leads_to there
 leads_at (at.Named peer) = led.GoesOn
+leads_at (at.Repeatable error) = led.GoesOn
+leads_at at.Warning = led.GoesOn
 leads_at at.Linked = led.GoesOn
 leads_at (at.Treated error) = led.OutOfMemory
 leads_at (at.Closing held there) = led.OutOfMemory
 
+-- what a hook of an attempt is told that only looks: the error for which it is called
+abbrev pub IsToldOf : {K X : Type 0} → At K X → LogEntry → Type 0
+IsToldOf (at.Kept kept) e = Unit {0}
+IsToldOf (at.Opening there) e = Unit {0}
+IsToldOf (at.Named peer) e = Unit {0}
+IsToldOf (at.Repeatable error) e = e.input ≡ item.Failure error
+IsToldOf at.Warning e = Unit {0}
+IsToldOf at.Linked e = Unit {0}
+IsToldOf (at.Treated error) e = Unit {0}
+IsToldOf (at.Closing held there) e = Unit {0}
+
 module _ (allows : Standing → LogEntry → Type 0) where
-  -- from there the hook that comes next was called, and led to that; out of memory no entry is new,
-  -- wherever it stood
+  -- a hook of an attempt was called, which queued nothing, and behind which the request goes on; the
+  -- log tells the peer that was named, or the error
+  pub record CallsOfAttempt {K X : Type 0} (here : At K X) (has_modules : Bool) (old : Seen)
+      (before : ℕ) (new : Seen) (behind : ℕ) (to : At K X) : Type 0 where
+    pub later : is_before here ≡ false
+    pub which : Hook
+    pub comes : comes_next here has_modules ≡ Some which
+    pub turn : Turns allows which (station_at here) (station_at to) QueuesNothing old before new
+        behind
+    pub told : IsToldOf here turn.e
+    pub goes : GoesOn to
+    pub tells : TellsPeer to new.log
+
+  -- from there the hook that comes next was called, and led to that: one before the attempts, or one
+  -- of an attempt; out of memory no entry is new, wherever it stood
   pub data TakesNext {K X : Type 0} (here : At K X) (has_modules : Bool) (old : Seen) (before : ℕ)
       (new : Seen) (behind : ℕ) (to : At K X) : Type 0 where
-    leads : (which : Hook) → comes_next here has_modules ≡ Some which → (there : Place K)
-        → to ≡ at.Opening there
+    leads : is_before here ≡ true → (which : Hook) → comes_next here has_modules ≡ Some which
+        → (there : Place K) → to ≡ at.Opening there
         → TurnsTo allows which (station_at here) old before new behind there
         → TakesNext here has_modules old before new behind to
-    names : here ≡ at.Opening (place.Ended end.Attempts) → (peer : Peer) → to ≡ at.Named peer
-        → NamesPeer allows old before new behind (Ok peer)
+    tried : CallsOfAttempt here has_modules old before new behind to
         → TakesNext here has_modules old before new behind to
     lost : to ≡ at.Opening place.Lost → new.log ≡ old.log
         → TakesNext here has_modules old before new behind to
@@ -307,7 +360,7 @@ pub record IsLogged (allows : Standing → LogEntry → Type 0) (log : List LogE
 abbrev pub IsUnended : List LogEntry → Type 0
 IsUnended log = list_any (λ e. begins_end e.hook) log ≡ false
 
--- `logging` is not called so far of a purge, and of a request to which no link was given
+-- `logging` is not called so far of a purge
 abbrev pub IsUnheard : (Standing → LogEntry → Type 0) → List LogEntry → Type 0
 IsUnheard allows log =
     ((at : Station) × IsLogged allows log at) × IsLeftUnheard log
@@ -325,6 +378,8 @@ abbrev pub BreaksAt : {K X : Type 0} → At K X → List LogEntry → Error → 
 BreaksAt (at.Kept kept) log error here = IsTrue (may_break here)
 BreaksAt (at.Opening there) log error here = IsTrue (may_break here)
 BreaksAt (at.Named peer) log error here = IsTrue (may_break here)
+BreaksAt (at.Repeatable treated) log error here = IsTrue (may_break here)
+BreaksAt at.Warning log error here = IsTrue (may_break here)
 BreaksAt at.Linked log error here = IsTrue (may_break here)
 BreaksAt (at.Treated treated) log error here =
     IsTreated log error treated × IsTrue (may_fail here)
@@ -394,11 +449,13 @@ module _ {C M K : Type 0} (allows : Standing → LogEntry → Type 0) (mark_of :
       (at : Station) × IsLogged allows (log_of calls) at
 
   -- the calls of a request that has ended with that error or without one, or is to be answered for
-  -- it: its end has begun; or it is a purge, or no link was given, which have no such end so far
+  -- it: its end has begun; or it is a purge, which has no such end so far
   abbrev pub EndsBy : At K C → Calls M K C → HttpSession → Option Error → Type 0
   EndsBy (at.Kept kept) calls client error = ⊥
   EndsBy (at.Opening there) calls client error = IsUnheard allows (log_of calls)
-  EndsBy (at.Named peer) calls client error = IsUnheard allows (log_of calls)
+  EndsBy (at.Named peer) calls client error = ⊥
+  EndsBy (at.Repeatable treated) calls client error = ⊥
+  EndsBy at.Warning calls client error = ⊥
   EndsBy at.Linked calls client error = ⊥
   EndsBy (at.Treated treated) calls client error = ⊥
   EndsBy (at.Closing held there) calls client error = StandsBy calls held client error there
@@ -434,8 +491,8 @@ module _ {C M K : Type 0} (allows : Standing → LogEntry → Type 0) (mark_of :
         (seen_with calls client) (mark_of context)
     pub goes : GoesOn calls.at
     pub named : TellsPeer calls.at (log_of calls)
-    -- until a peer is named no attempt was made
-    pub untried : has_peer calls.at ≡ false → tries ≡ []
+    -- as long as hooks before the attempts are called no attempt was made
+    pub untried : is_before calls.at ≡ true → tries ≡ []
     -- none of an attempt that had a link has failed
     pub untreated : IsUntreated (log_of calls)
     -- no final head was queued for the client
@@ -452,6 +509,17 @@ module _ {C M K : Type 0} (allows : Standing → LogEntry → Type 0) (mark_of :
     pub at : Station
     pub order : Accepts accepted (log_of calls) at
     pub breaks : BreaksAt calls.at (log_of calls) error at
+    pub unended : IsUnended (log_of calls)
+
+  -- the calls so far of a request whose last attempt was given no link: the log walks to where the
+  -- session and the context stand, and the error is final there
+  pub record IsLackingCalls (calls : Calls M K C) (context : C) (client : HttpSession) : Type 0 where
+    pub from : Standing
+    pub walks : Walk allows from (log_of calls)
+        (standing None false (moment (seen_with calls client) (mark_of context)))
+    pub at : Station
+    pub order : Accepts accepted (log_of calls) at
+    pub fails : IsTrue (may_fail at)
     pub unended : IsUnended (log_of calls)
 
 module _ {L C M K : Type 0} (allows : Standing → LogEntry → Type 0) (mark_of : C → ℕ) where
@@ -473,6 +541,8 @@ module _ {L C M K : Type 0} (allows : Standing → LogEntry → Type 0) (mark_of
   CallsSoFar calls ReadHead = log_of calls ≡ []
   CallsSoFar calls (Connect context session tries) =
       IsOpening allows mark_of calls context session.value tries
+  CallsSoFar calls (Unlinked context session attempts error) =
+      IsLackingCalls allows mark_of calls context session.value
   CallsSoFar calls (Prepare context session link lease) =
       IsOpening allows mark_of calls context session.value (tries_in lease)
       × (calls.at ≡ at.Linked)
@@ -504,6 +574,7 @@ IsUncalledFor (owing.Served error) = ⊥
 abbrev pub IsUncalled : {L C : Type 0} → Phase L C → Type 0
 IsUncalled ReadHead = Unit {0}
 IsUncalled (Connect context session tries) = ⊥
+IsUncalled (Unlinked context session attempts error) = ⊥
 IsUncalled (Prepare context session link lease) = ⊥
 IsUncalled (Relay a) = ⊥
 IsUncalled (Broken context session link lease keep error) = ⊥
@@ -528,6 +599,7 @@ abbrev pub KeepsCalls : {L C M K : Type 0} → Attempt L C → Calls M K C → C
     → Type 0
 KeepsCalls a old new ReadHead = ⊥
 KeepsCalls a old new (Connect context session tries) = ⊥
+KeepsCalls a old new (Unlinked context session attempts error) = ⊥
 KeepsCalls a old new (Prepare context session link lease) = ⊥
 KeepsCalls a old new (Relay b) =
     (new ≡ old) × (b.value.context ≡ a.context)
@@ -546,6 +618,7 @@ KeepsCalls a old new (Ended outcome attempts) = ⊥
 abbrev pub OwesIn : {L C : Type 0} → Phase L C → Box HttpSession → Owed → Type 0
 OwesIn ReadHead session owed = ⊥
 OwesIn (Connect context other tries) session owed = ⊥
+OwesIn (Unlinked context other attempts error) session owed = ⊥
 OwesIn (Prepare context other link lease) session owed = ⊥
 OwesIn (Relay a) session owed = ⊥
 OwesIn (Broken context other link lease keep error) session owed = ⊥
@@ -559,6 +632,7 @@ OwesIn (Ended outcome attempts) session owed = ⊥
 abbrev pub CameIn : {L C : Type 0} → Phase L C → Outcome → Type 0
 CameIn ReadHead came = ⊥
 CameIn (Connect context session tries) came = ⊥
+CameIn (Unlinked context session attempts error) came = ⊥
 CameIn (Prepare context session link lease) came = ⊥
 CameIn (Relay a) came = ⊥
 CameIn (Broken context session link lease keep error) came = ⊥
@@ -572,8 +646,9 @@ abbrev pub ShowsSame : HttpSession → HttpSession → Type 0
 ShowsSame left client =
     (left.reading ≡ client.reading) × (left.writing.place ≡ client.writing.place)
 
--- what a request comes to that owes its client that, where that is its session: it owes it still; it has ended, its answer written or a write of it failed, and the session has its client
--- again; or memory was wanted. No hook is called
+-- what a request comes to that owes its client that, where that is its session: it owes it still; it
+-- has ended, its answer written or a write of it failed, and the session has its client again; or
+-- memory was wanted. No hook is called
 pub data Owing {L C M K : Type 0} (client : HttpSession) (owed : Owed) (old new : Calls M K C)
     (next : Phase L C) : Type 0 where
   waits : (session : Box HttpSession) → OwesIn next session owed → ShowsSame session.value client
@@ -590,6 +665,7 @@ pub data Owing {L C M K : Type 0} (client : HttpSession) (owed : Owed) (old new 
 abbrev pub BeginsCalls : {L C : Type 0} → C → HttpSession → Phase L C → Type 0
 BeginsCalls context session ReadHead = ⊥
 BeginsCalls context session (Connect other stays tries) = ⊥
+BeginsCalls context session (Unlinked other stays attempts error) = ⊥
 BeginsCalls context session (Prepare other stays link lease) = ⊥
 BeginsCalls context session (Relay a) =
     (a.value.context ≡ context) × (a.value.exchange.exchange.down.session ≡ session)
@@ -604,6 +680,7 @@ BeginsCalls context session (Ended outcome attempts) = ⊥
 abbrev pub BreaksOff : {L C : Type 0} → C → HttpSession → Phase L C → Type 0
 BreaksOff context session ReadHead = ⊥
 BreaksOff context session (Connect other stays tries) = ⊥
+BreaksOff context session (Unlinked other stays attempts error) = ⊥
 BreaksOff context session (Prepare other stays link lease) = ⊥
 BreaksOff context session (Relay a) = ⊥
 BreaksOff context session (Broken other stays link lease keep error) =
@@ -624,6 +701,7 @@ reuse_of OutOfMemory = None
 abbrev pub goes_back_in : {L C : Type 0} → Phase L C → Option Bool
 goes_back_in ReadHead = None
 goes_back_in (Connect context session tries) = None
+goes_back_in (Unlinked context session attempts error) = None
 goes_back_in (Prepare context session link lease) = None
 goes_back_in (Relay a) = None
 goes_back_in (Broken context session link lease keep error) = None

@@ -24,7 +24,7 @@ use Rattle.relay_proxy.specs.Uses.{PhaseUses, OwnUses}
 use Rattle.relay_proxy.specs.declared.finish.Ending.{Ending}
 use Rattle.relay_proxy.specs.declared.machine.Lease.{Lease}
 use Rattle.relay_proxy.specs.declared.machine.Phase.{Phase}
-use Rattle.relay_proxy.specs.declared.machine.Phase.TheVariants.{ReadHead, Connect, Prepare, Relay, Broken, Fail, Close, Answer, Ended}
+use Rattle.relay_proxy.specs.declared.machine.Phase.TheVariants.{ReadHead, Connect, Unlinked, Prepare, Relay, Broken, Fail, Close, Answer, Ended}
 use Rattle.relay_proxy.specs.declared.machine.RunStep.{RunStep}
 use Rattle.relay_proxy.specs.declared.machine.RunStep.TheVariants as step
 use Rattle.relay_proxy.specs.declared.outcome.Outcome.{Outcome}
@@ -62,6 +62,8 @@ abbrev pub Settles : {L C : Type 0} → Phase L C → Option (List (Returned L))
 Settles ReadHead before after next = (next ≡ ReadHead) × (after ≡ before)
 Settles (Connect context session tries) before after next =
     (next ≡ Connect context session tries) × (after ≡ before)
+Settles (Unlinked context session attempts error) before after next =
+    (next ≡ Unlinked context session attempts error) × (after ≡ before)
 Settles (Prepare context session link lease) before after next =
     (next ≡ Prepare context session link lease) × (after ≡ before)
 Settles (Relay a) before after next = (next ≡ Relay a) × (after ≡ before)
@@ -106,6 +108,8 @@ abbrev pub Finishes : {L C : Type 0} → Phase L C → Option (List (Returned L)
     → Option (List (Returned L)) → Ending → Type 0
 Finishes ReadHead before after ending = GivesUp [] before after ending
 Finishes (Connect context session tries) before after ending = GivesUp tries before after ending
+Finishes (Unlinked context session attempts error) before after ending =
+    GivesUp attempts before after ending
 Finishes (Prepare context session link lease) before after ending =
     GivesLinkUp link lease before after ending
 Finishes (Relay a) before after ending =
@@ -125,6 +129,7 @@ Finishes (Ended outcome attempts) before after ending =
 abbrev pub Rests : {L C : Type 0} → World → World → Phase L C → Phase L C → RunStep → Type 0
 Rests w x ReadHead next did = Unit {0}
 Rests w x (Connect context session tries) next did = Unit {0}
+Rests w x (Unlinked context session attempts error) next did = Unit {0}
 Rests w x (Prepare context session link lease) next did = Unit {0}
 Rests w x (Relay a) next did = Unit {0}
 Rests w x (Broken context session link lease keep error) next did = Unit {0}
@@ -171,6 +176,8 @@ module _ {L C : Type 0} (state : L → LinkState) (start_at : L → LinkStart) w
   abbrev pub TurnOf : Start → World → List (Returned L) → Phase L C → Phase L C → Type 0
   TurnOf s x own ReadHead next = AdvancesOn state start_at s x own next
   TurnOf s x own (Connect context session tries) next = AdvancesOn state start_at s x own next
+  TurnOf s x own (Unlinked context session attempts error) next =
+      AdvancesOn state start_at s x own next
   TurnOf s x own (Prepare context session link lease) next = AdvancesOn state start_at s x own next
   TurnOf s x own (Relay a) next = AdvancesOn state start_at s x own next
   TurnOf s x own (Broken context session link lease keep error) next =

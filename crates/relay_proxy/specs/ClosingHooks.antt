@@ -4,7 +4,7 @@ use Rattle.std.specs.Prelude.{◌≡◌, ◌⊎◌, Bool, false, true, is_some, 
 use Rattle.relay_tasks.specs.declared.Error.{Error}
 use Rattle.relay_tasks.specs.declared.log.LogEntry.{LogEntry}
 use Rattle.relay_hooks.specs.Call.{failure}
-use Rattle.relay_phases.specs.Order.{Accepts, accepted, named, purging}
+use Rattle.relay_phases.specs.Order.{Accepts, accepted, purging}
 use Rattle.relay_closing.specs.Closes.{logged_in}
 use Rattle.relay_closing.specs.Place.{error_of, is_lost, next_hook}
 use Rattle.relay_closing.specs.Queued.{cause_of}
@@ -81,9 +81,9 @@ kept_in place.Lost = None
 
 -- ---- what `logging` was told
 
--- it is not called so far of a purge, and of a request to which no link was given
+-- it is not called so far of a purge
 abbrev pub IsLeftUnheard : List LogEntry → Type 0
-IsLeftUnheard log = Accepts accepted log purging ⊎ Accepts accepted log named
+IsLeftUnheard log = Accepts accepted log purging
 
 -- the hooks of a request that came to that outcome were called: none of one whose head was not
 -- accepted; else `logging` was told of the error that the outcome gives, and once

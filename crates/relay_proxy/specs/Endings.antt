@@ -15,7 +15,6 @@ use Rattle.relay_tasks.specs.declared.Fault.{Fault}
 use Rattle.relay_tasks.specs.declared.log.LogEntry.{LogEntry}
 use Rattle.relay_tasks.specs.declared.task.HttpTask.{HttpTask}
 use Rattle.relay_links.specs.Count.{Rose}
-use Rattle.relay_links.specs.Connector.{IsConnectFault}
 use Rattle.relay_links.specs.Link.{LinkState, LinkStart, IsHandedOut, IsReadFault, IsWriteFault}
 use Rattle.relay_links.specs.declared.Returned.{Returned}
 use Rattle.relay_h1.specs.Options.{closes}
@@ -39,7 +38,7 @@ use Rattle.relay_proxy.specs.Named.{IsNamed}
 use Rattle.relay_proxy.specs.Relayable.{IsAccepted, IsConnect, IsRelayable, NamesUpgrade}
 use Rattle.relay_proxy.specs.Passed.{World, Start, answered, origin_of, asked, TellsClient, TellsLink, IsUnsent, IsUntouched}
 use Rattle.relay_proxy.specs.Sent.{Sends, RefusesToSend, IsAnswered, IsTreated, IsUntreated}
-use Rattle.relay_proxy.specs.Tries.{AreTries, EndsTrying, fault_error}
+use Rattle.relay_proxy.specs.Tries.{AreTries, EndsTrying, IsRefusedFor, LosesTry, fault_error}
 use Rattle.relay_proxy.specs.declared.outcome.Outcome.{Outcome}
 use Rattle.relay_proxy.specs.declared.outcome.Outcome.TheVariants.{NoRequest, Refused, Served, TurnLimit, OutOfMemory}
 use Rattle.relay_proxy.specs.declared.record.AttemptRecord.{AttemptRecord}
@@ -80,8 +79,9 @@ pub data IsInOrder (s : Start) (p : Passed) : Type 0 where
       → IsRelayable head → Sends s.called head sent
       → (order : IsInOrderWith cut (origin_of s head sent reused) p closed) → IsNext cut order
       → IsInOrder s p
-  is_unlinked : (head : RequestHead) → IsAccepted s p head
-      → IsFrontOf p.written (generated 502) → p.sent ≡ [] → IsInOrder s p
+  is_unlinked : (head : RequestHead) (e : Error) → IsAccepted s p head → IsRefusedFor s.called e
+      → IsAnswered s.closed e → IsFrontOf p.written (answer_to head (answered s)) → p.sent ≡ []
+      → IsInOrder s p
   is_unsent : (head : RequestHead) (keep : Bool) (raised e : Error) → IsAccepted s p head
       → RefusesToSend s.called head keep raised → IsTreated s.called raised e
       → IsAnswered s.closed e → IsFrontOf p.written (answer_to head (answered s)) → p.sent ≡ [] → IsInOrder s p
@@ -183,20 +183,26 @@ abbrev pub IsGiven : Start → Passed → World → List ℕ → Type 0
 IsGiven s p w text =
     (p.written ≡ text) ⊎ (FailsToWrite s w.client × IsFrontOf p.written text)
 
--- the connector gave no link
+-- the last attempt was given no link, for that error
 pub record IsUnconnected (s : Start) (p : Passed) (w : World) (e : Error) : Type 0 where
-  pub fault : Fault
-  pub kind : IsConnectFault fault
-  pub error : e ≡ fault_error Upstream fault
+  pub refused : IsRefusedFor s.called e
   pub rose : Rose s.connect_faults w.connect_faults
   pub head : RequestHead
   pub accepted : IsAccepted s p head
   pub unsent : IsUnsent p
 
--- the connector gave no link, for which the client was given an answer
-pub record FailsToConnect (s : Start) (p : Passed) (w : World) (e : Error) : Type 0 where
+-- and the client is owed that text, which the application answered the error with
+pub record IsOwedUnlinked (s : Start) (p : Passed) (w : World) (e : Error) (text : List ℕ)
+    : Type 0 where
   pub unconnected : IsUnconnected s p w e
-  pub answered : IsGiven s p w (generated 502)
+  pub told : IsAnswered s.closed e
+  pub text_is : text ≡ answer_to unconnected.head (answered s)
+
+-- and it was given that, or a write of its link failed
+pub record FailsToConnect (s : Start) (p : Passed) (w : World) (e : Error) : Type 0 where
+  pub text : List ℕ
+  pub owed : IsOwedUnlinked s p w e text
+  pub given : IsGiven s p w text
 
 -- a write of the client's link failed, and its fault is the last that the link tells of its writes
 -- since the request began
@@ -430,41 +436,64 @@ IsErrorOf told (Served error reuse) = told ≡ error
 IsErrorOf told TurnLimit = Unit {0}
 IsErrorOf told OutOfMemory = Unit {0}
 
--- the connector gave the attempts no link, and the client was given a part of the answer
+-- the attempts were given no link, and the client nothing, or a part of the answer to the error of
+-- the last
 pub record IsHalfRefused (s : Start) (p : Passed) (w : World) (attempts : List AttemptRecord)
     : Type 0 where
   pub e : Error
   pub unconnected : IsUnconnected s p w e
-  pub part : IsFrontOf p.written (generated 502)
   pub made : EndsTrying s attempts e
+  pub part : (p.written ≡ [])
+      ⊎ (IsAnswered s.closed e × IsFrontOf p.written (answer_to unconnected.head (answered s)))
 
 -- what the client was given of a request that made no attempt, where it was not brought to an end:
--- nothing, or the front of the answer to a head that is turned down, or of what it is owed by hooks
+-- nothing, or the front of the answer to a head that is turned down
 abbrev pub IsPartRefused : Start → Passed → Type 0
 IsPartRefused s p =
     (p.written ≡ [])
-    ⊎ (((answer : List ℕ) × (error : Option Error) × IsTurnedDown (asked s p) answer error
+    ⊎ ((answer : List ℕ) × (error : Option Error) × IsTurnedDown (asked s p) answer error
     × IsFrontOf p.written answer)
-    ⊎ ((why : Option Error) × (text : List ℕ) × IsOwedAhead s p why text
-    × IsFrontOf p.written text))
+
+-- the attempts of a request that hooks ended: none where they answered it; where they stopped it with
+-- an error, those that were given no link before
+abbrev pub MadeAhead : Start → Option Error → List AttemptRecord → Type 0
+MadeAhead s None attempts = attempts ≡ []
+MadeAhead s (Some e) attempts = AreTries s attempts
+
+-- the same of one that was not brought to an end: its client was given a part of what it is owed
+pub record IsPartAhead (s : Start) (p : Passed) (attempts : List AttemptRecord) : Type 0 where
+  pub why : Option Error
+  pub text : List ℕ
+  pub owed : IsOwedAhead s p why text
+  pub part : IsFrontOf p.written text
+  pub made : MadeAhead s why attempts
 
 -- the attempts of a request that had no link and was not brought to an end: none; those before
--- another one, with nothing written; or those behind which the client was owed an answer
+-- another one, with nothing written; those behind which hooks ended it; or those of which the last
+-- was given no link, and none followed
 abbrev pub AttemptsUnfinished : Start → Passed → World → List AttemptRecord → Type 0
 AttemptsUnfinished s p w attempts =
     ((attempts ≡ []) × IsPartRefused s p)
-    ⊎ ((AreTries s attempts × (p.written ≡ [])) ⊎ IsHalfRefused s p w attempts)
+    ⊎ ((AreTries s attempts × (p.written ≡ []))
+    ⊎ (IsPartAhead s p attempts ⊎ IsHalfRefused s p w attempts))
 
--- the attempts of a request that had no link: those to which the connector gave none; and none
--- where hooks ended it before
+-- those of a request that ended with that error: its last attempt was given no link; or hooks ended
+-- it
+pub data AttemptsFailed (s : Start) (p : Passed) (w : World) (attempts : List AttemptRecord)
+    (e : Error) : Type 0 where
+  unlinked : EndsTrying s attempts e → AttemptsFailed s p w attempts e
+  ahead : (ends : EndsAhead s p w (Some e)) → MadeAhead s ends.why attempts
+      → AttemptsFailed s p w attempts e
+
+-- the attempts of a request that had no link: those that were given none
 abbrev pub AttemptsUnlinked : Start → Passed → World → List AttemptRecord → Outcome → Type 0
 AttemptsUnlinked s p w attempts NoRequest = attempts ≡ []
 AttemptsUnlinked s p w attempts (Refused error) = attempts ≡ []
 AttemptsUnlinked s p w attempts (Served None reuse) = attempts ≡ []
-AttemptsUnlinked s p w attempts (Served (Some e) reuse) =
-    EndsTrying s attempts e ⊎ ((attempts ≡ []) × EndsAhead s p w (Some e))
+AttemptsUnlinked s p w attempts (Served (Some e) reuse) = AttemptsFailed s p w attempts e
 AttemptsUnlinked s p w attempts TurnLimit = AttemptsUnfinished s p w attempts
-AttemptsUnlinked s p w attempts OutOfMemory = AttemptsUnfinished s p w attempts
+AttemptsUnlinked s p w attempts OutOfMemory =
+    AttemptsUnfinished s p w attempts ⊎ (LosesTry s attempts × (p.written ≡ []))
 
 module _ {L : Type 0} (state : L → LinkState) (start_at : L → LinkStart) where
   -- how a request ends that handed back this link, which its last attempt had

@@ -1,17 +1,16 @@
 -- What a request still owes its client: why it is given a generated answer, and how it ends then.
-use Rattle.std.specs.Prelude.{◌≡◌, ◌≢◌, ℕ, false, List, [], ◌∷◌, ◌++◌, None, Some}
+use Rattle.std.specs.Prelude.{◌≡◌, ◌≢◌, ℕ, Bool, true, false, List, [], ◌∷◌, ◌++◌, None, Some}
 use Rattle.relay_tasks.specs.declared.Error.{Error}
 use Rattle.relay_tasks.specs.declared.ErrorSource.TheVariants.{Downstream}
 use Rattle.relay_tasks.specs.declared.Fault.{Fault}
 use Rattle.relay_links.specs.Link.{LinkState, LinkStart}
 use Rattle.relay_links.specs.declared.Returned.{Returned}
-use Rattle.relay_h1.specs.Wire.{generated}
 use Rattle.relay_session.specs.declared.writing.Outgoing.{Outgoing}
 use Rattle.relay_peer.specs.Body.{IsFrontOf}
 use Rattle.relay_attempt.specs.Passed.{Passed}
 use Rattle.relay_proxy.specs.Ahead.{IsOwedAhead}
 use Rattle.relay_proxy.specs.Answer.{WaitsOf}
-use Rattle.relay_proxy.specs.Endings.{IsTurnedDown, IsUnconnected, Misses, IsRecordOf}
+use Rattle.relay_proxy.specs.Endings.{IsOwedUnlinked, IsTurnedDown, MadeAhead, Misses, IsRecordOf}
 use Rattle.relay_proxy.specs.Passed.{World, Start, asked, TellsLink, IsUnsent}
 use Rattle.relay_proxy.specs.Named.{IsNamed}
 use Rattle.relay_proxy.specs.Sent.{IsUntreated}
@@ -21,6 +20,12 @@ use Rattle.relay_proxy.specs.declared.outcome.Outcome.TheVariants as outcome
 use Rattle.relay_proxy.specs.declared.owed.Owed.{Owed}
 use Rattle.relay_proxy.specs.declared.owed.Owed.TheVariants.{Refused, Ahead, Served}
 use Rattle.relay_proxy.specs.declared.record.AttemptRecord.{AttemptRecord}
+
+-- its head was accepted
+abbrev pub is_served : Owed → Bool
+is_served (Refused error) = false
+is_served (Ahead why) = true
+is_served (Served e) = true
 
 -- the outcome of a request whose answer was written whole
 abbrev pub outcome_owed : Owed → Outcome
@@ -37,13 +42,13 @@ outcome_failed (Served e) fault = outcome.Served (Some e) false
 
 module _ {L : Type 0} (state : L → LinkState) (start_at : L → LinkStart) where
   -- why the client is given that text, by the links that the request handed back: its head was
-  -- turned down; hooks answered it or stopped it; the connector gave no link; or the attempt over its
-  -- link failed
+  -- turned down; hooks answered it or stopped it; the last attempt was given no link; or the attempt
+  -- over its link failed
   abbrev pub Owes : Start → Passed → World → List (Returned L) → Owed → List ℕ → Type 0
   Owes s p w [] (Refused error) text = IsTurnedDown (asked s p) text error × IsUnsent p
   Owes s p w [] (Ahead why) text =
       IsOwedAhead s p why text × IsUnsent p × IsUntreated s.called
-  Owes s p w [] (Served e) text = IsUnconnected s p w e × (text ≡ generated 502)
+  Owes s p w [] (Served e) text = IsOwedUnlinked s p w e text
   Owes s p w (r ∷ own) (Refused error) text = ⊥
   Owes s p w (r ∷ own) (Ahead why) text = ⊥
   Owes s p w (r ∷ own) (Served e) text =
@@ -64,7 +69,7 @@ module _ {L : Type 0} (state : L → LinkState) (start_at : L → LinkStart) whe
   -- the attempts of a request that owes its client an answer
   abbrev pub HasAttempts : Start → Passed → List (Returned L) → Owed → List AttemptRecord → Type 0
   HasAttempts s p [] (Refused error) attempts = attempts ≡ []
-  HasAttempts s p [] (Ahead why) attempts = attempts ≡ []
+  HasAttempts s p [] (Ahead why) attempts = MadeAhead s why attempts
   HasAttempts s p [] (Served e) attempts = EndsTrying s attempts e
   HasAttempts s p (r ∷ []) (Refused error) attempts = ⊥
   HasAttempts s p (r ∷ []) (Ahead why) attempts = ⊥

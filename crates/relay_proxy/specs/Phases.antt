@@ -21,16 +21,16 @@ use Rattle.relay_proxy.specs.Relayable.{IsAccepted, IsRelayable}
 use Rattle.relay_proxy.specs.Passed.{World, Start, origin_of, asked, TellsClient, TellsLink, IsUnsent, IsUntouched}
 use Rattle.relay_proxy.specs.Sent.{Sends, RefusesToSend}
 use Rattle.relay_proxy.specs.Answer.{WaitsOf}
-use Rattle.relay_proxy.specs.Endings.{FailsToWrite, IsInOrder, Misses, error_of, EndsUnlinked, EndsLinked, EndsWith, AttemptsUnlinked}
+use Rattle.relay_proxy.specs.Endings.{FailsToWrite, IsInOrder, IsUnconnected, Misses, error_of, EndsUnlinked, EndsLinked, EndsWith, AttemptsUnlinked}
 use Rattle.relay_proxy.specs.Owed.{IsAnswering}
 use Rattle.relay_proxy.specs.Named.{IsNamed}
-use Rattle.relay_proxy.specs.Tries.{AreTries, tries_in}
+use Rattle.relay_proxy.specs.Tries.{AreTries, EndsTrying, tries_in}
 use Rattle.relay_proxy.specs.declared.outcome.Outcome.TheVariants.{TurnLimit}
 use Rattle.relay_proxy.specs.declared.machine.Attempt.{Attempt}
 use Rattle.relay_proxy.specs.declared.machine.Lease.{Lease}
 use Rattle.relay_proxy.specs.declared.machine.Phase.{Phase}
 use Rattle.relay_proxy.specs.declared.record.AttemptRecord.{AttemptRecord}
-use Rattle.relay_proxy.specs.declared.machine.Phase.TheVariants.{ReadHead, Connect, Prepare, Relay, Broken, Fail, Close, Answer, Ended}
+use Rattle.relay_proxy.specs.declared.machine.Phase.TheVariants.{ReadHead, Connect, Unlinked, Prepare, Relay, Broken, Fail, Close, Answer, Ended}
 
 -- the client's head is read: nothing was taken from what is ahead
 pub record IsReadingHead (s : Start) (p : Passed) (ahead : List ℕ) : Type 0 where
@@ -51,6 +51,16 @@ pub record IsConnecting (s : Start) (p : Passed) (w : World) (session : HttpSess
   pub written : p.written ≡ []
   pub unsent : IsUnsent p
   pub are_tries : AreTries s tries
+
+-- the last attempt was given no link, for that error, which is to be answered to the client of the
+-- session that begins behind the head
+pub record LacksLink (s : Start) (p : Passed) (w : World) (session : HttpSession)
+    (attempts : List AttemptRecord) (e : Error) : Type 0 where
+  pub unconnected : IsUnconnected s p w e
+  pub made : EndsTrying s attempts e
+  pub begins : BeginsBehind (origin_of s unconnected.head unconnected.head false) p.came w.client
+      w.ahead session
+  pub written : p.written ≡ []
 
 -- the link of an attempt tells what passed, and the lease says of it what it was
 pub record IsLeased (s : Start) (p : Passed) (link : LinkState) (start : LinkStart) (lease : Lease)
@@ -126,6 +136,8 @@ module _ {L C : Type 0} (state : L → LinkState) (start_at : L → LinkStart) w
   abbrev pub IsAt : Start → Passed → World → Phase L C → Type 0
   IsAt s p w ReadHead = IsReadingHead s p w.ahead
   IsAt s p w (Connect context session tries) = IsConnecting s p w session.value tries
+  IsAt s p w (Unlinked context session attempts error) =
+      LacksLink s p w session.value attempts error
   IsAt s p w (Prepare context session link lease) =
       IsLeased s p (state link) (start_at link) lease
       × IsPreparing s p w (state link) (start_at link) session.value lease
@@ -150,6 +162,7 @@ module _ {L C : Type 0} (state : L → LinkState) (start_at : L → LinkStart) w
   PhaseHolds s p w [] phase = IsAt s p w phase
   PhaseHolds s p w (r ∷ own) ReadHead = ⊥
   PhaseHolds s p w (r ∷ own) (Connect context session tries) = ⊥
+  PhaseHolds s p w (r ∷ own) (Unlinked context session attempts error) = ⊥
   PhaseHolds s p w (r ∷ own) (Prepare context session link lease) = ⊥
   PhaseHolds s p w (r ∷ own) (Relay a) = ⊥
   PhaseHolds s p w (r ∷ own) (Broken context session link lease keep error) = ⊥
@@ -164,6 +177,7 @@ module _ {L C : Type 0} (state : L → LinkState) (start_at : L → LinkStart) w
   abbrev pub IsGoing : Phase L C → Type 0
   IsGoing ReadHead = Unit {0}
   IsGoing (Connect context session tries) = Unit {0}
+  IsGoing (Unlinked context session attempts error) = Unit {0}
   IsGoing (Prepare context session link lease) = Unit {0}
   IsGoing (Relay a) = Unit {0}
   IsGoing (Broken context session link lease keep error) = Unit {0}
@@ -176,6 +190,7 @@ module _ {L C : Type 0} (state : L → LinkState) (start_at : L → LinkStart) w
   abbrev pub IsCalm : Start → World → Phase L C → Type 0
   IsCalm s w ReadHead = w.client.faults ≡ s.faults
   IsCalm s w (Connect context session tries) = w.client.faults ≡ s.faults
+  IsCalm s w (Unlinked context session attempts error) = w.client.faults ≡ s.faults
   IsCalm s w (Prepare context session link lease) = w.client.faults ≡ s.faults
   IsCalm s w (Relay a) = w.client.faults ≡ s.faults
   IsCalm s w (Broken context session link lease keep error) = Unit {0}

@@ -1,25 +1,22 @@
 -- The faults with which the connector refused a request its links.
 use Rattle.std.specs.Prelude.{◌≡◌, List, [], ◌∷◌, ◌++◌, drop, length, Option, None, Some}
-use Rattle.relay_tasks.specs.declared.Error.{Error}
 use Rattle.relay_tasks.specs.declared.Fault.{Fault}
-use Rattle.relay_links.specs.Connector.{connect_fault}
 use Rattle.relay_links.specs.Told.{Gains}
 use Rattle.relay_links.specs.declared.Returned.{Returned}
 use Rattle.relay_proxy.specs.Tries.{tries_in, tries_of}
 use Rattle.relay_proxy.specs.declared.machine.Phase.{Phase}
-use Rattle.relay_proxy.specs.declared.machine.Phase.TheVariants.{ReadHead, Connect, Prepare, Relay, Broken, Fail, Close, Answer, Ended}
+use Rattle.relay_proxy.specs.declared.machine.Phase.TheVariants.{ReadHead, Connect, Unlinked, Prepare, Relay, Broken, Fail, Close, Answer, Ended}
 use Rattle.relay_proxy.specs.declared.record.AttemptRecord.{AttemptRecord}
 
--- the fault of which the error of a record tells, where it is the connector's: it has the error's
--- mark
-abbrev pub fault_told : Option Error → List Fault
+-- the fault of a record, where it has one
+abbrev pub fault_told : Option Fault → List Fault
 fault_told None = []
-fault_told (Some e) = connect_fault e.retry ∷ []
+fault_told (Some fault) = fault ∷ []
 
--- the same of attempts, in order
+-- those of attempts, in order
 abbrev pub faults_told : List AttemptRecord → List Fault
 faults_told [] = []
-faults_told (a ∷ attempts) = fault_told a.error ++ faults_told attempts
+faults_told (a ∷ attempts) = fault_told a.fault ++ faults_told attempts
 
 -- the faults that the connector answered for a request, by the links that it handed back and its
 -- attempts: of one that handed a link back the last attempt had it
@@ -31,6 +28,7 @@ faults_for (r ∷ own) attempts = faults_told (tries_of attempts)
 abbrev pub attempts_in : {L C : Type 0} → Phase L C → List AttemptRecord
 attempts_in ReadHead = []
 attempts_in (Connect context session tries) = tries
+attempts_in (Unlinked context session attempts error) = attempts
 attempts_in (Prepare context session link lease) = tries_in lease
 attempts_in (Relay a) = tries_in a.value.lease
 attempts_in (Broken context session link lease keep error) = tries_in lease
@@ -48,6 +46,7 @@ abbrev pub faults_of_turn : {L C : Type 0} → Phase L C → Phase L C → List 
 faults_of_turn ReadHead next = faults_before [] next
 faults_of_turn (Connect context session tries) next =
     drop (length (faults_told tries)) (faults_before [] next)
+faults_of_turn (Unlinked context session attempts error) next = []
 faults_of_turn (Prepare context session link lease) next = []
 faults_of_turn (Relay a) next = []
 faults_of_turn (Broken context session link lease keep error) next = []

@@ -18,12 +18,13 @@ use Rattle.relay_attempt.specs.declared.h1_exchange.H1Exchange.{H1Exchange}
 use Rattle.relay_proxy.specs.Uses.{Measured}
 use Rattle.relay_proxy.specs.declared.machine.Attempt.{Attempt}
 use Rattle.relay_proxy.specs.declared.machine.Phase.{Phase}
-use Rattle.relay_proxy.specs.declared.machine.Phase.TheVariants.{ReadHead, Connect, Prepare, Relay, Broken, Fail, Close, Answer, Ended}
+use Rattle.relay_proxy.specs.declared.machine.Phase.TheVariants.{ReadHead, Connect, Unlinked, Prepare, Relay, Broken, Fail, Close, Answer, Ended}
 
 -- the exchange of an attempt is under way
 abbrev pub is_relaying : {L C : Type 0} → Phase L C → Bool
 is_relaying ReadHead = false
 is_relaying (Connect context session tries) = false
+is_relaying (Unlinked context session attempts error) = false
 is_relaying (Prepare context session link lease) = false
 is_relaying (Relay a) = true
 is_relaying (Broken context session link lease keep error) = false
@@ -36,6 +37,7 @@ is_relaying (Ended outcome attempts) = false
 abbrev pub is_closing : {L C : Type 0} → Phase L C → Bool
 is_closing ReadHead = false
 is_closing (Connect context session tries) = false
+is_closing (Unlinked context session attempts error) = false
 is_closing (Prepare context session link lease) = false
 is_closing (Relay a) = false
 is_closing (Broken context session link lease keep error) = false

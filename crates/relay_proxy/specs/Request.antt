@@ -24,7 +24,7 @@ use Rattle.relay_proxy.specs.ClosingHooks.{Gives}
 use Rattle.relay_proxy.specs.declared.calls.At.{At}
 use Rattle.relay_proxy.specs.Work.{added_work}
 use Rattle.relay_proxy.specs.declared.machine.Phase.{Phase}
-use Rattle.relay_proxy.specs.declared.machine.Phase.TheVariants.{ReadHead, Connect, Prepare, Relay, Broken, Fail, Close, Answer, Ended}
+use Rattle.relay_proxy.specs.declared.machine.Phase.TheVariants.{ReadHead, Connect, Unlinked, Prepare, Relay, Broken, Fail, Close, Answer, Ended}
 use Rattle.relay_proxy.specs.declared.machine.RunStep.{RunStep}
 use Rattle.relay_proxy.specs.declared.machine.RunStep.TheVariants as did
 use Rattle.relay_proxy.specs.declared.outcome.Outcome.{Outcome}
@@ -75,6 +75,7 @@ answer_of false said = said
 abbrev pub CameTo : {L C : Type 0} → Phase L C → Outcome → Type 0
 CameTo ReadHead came = came ≡ TurnLimit
 CameTo (Connect context session tries) came = came ≡ TurnLimit
+CameTo (Unlinked context session attempts error) came = came ≡ TurnLimit
 CameTo (Prepare context session link lease) came = came ≡ TurnLimit
 CameTo (Relay a) came = came ≡ TurnLimit
 CameTo (Broken context session link lease keep error) came = came ≡ TurnLimit

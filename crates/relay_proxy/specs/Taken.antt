@@ -9,7 +9,7 @@ use Rattle.relay_links.specs.declared.Returned.{Returned}
 use Rattle.relay_proxy.specs.Refusals.{faults_for, faults_before, faults_told}
 use Rattle.relay_proxy.specs.Stock.{items_held, items_back}
 use Rattle.relay_proxy.specs.declared.machine.Phase.{Phase}
-use Rattle.relay_proxy.specs.declared.machine.Phase.TheVariants.{ReadHead, Connect, Prepare, Relay, Broken, Fail, Close, Answer, Ended}
+use Rattle.relay_proxy.specs.declared.machine.Phase.TheVariants.{ReadHead, Connect, Unlinked, Prepare, Relay, Broken, Fail, Close, Answer, Ended}
 use Rattle.relay_proxy.specs.declared.record.AttemptRecord.{AttemptRecord}
 
 -- these were the next of the offers, in order, and those are left; past the last of them there are
@@ -44,6 +44,7 @@ abbrev pub offers_of_turn : {L C : Type 0} → (L → LinkStart) → Phase L C �
 offers_of_turn start ReadHead next = offers_before start [] next
 offers_of_turn start (Connect context session tries) next =
     drop (length (faults_told tries)) (offers_before start [] next)
+offers_of_turn start (Unlinked context session attempts error) next = []
 offers_of_turn start (Prepare context session link lease) next = []
 offers_of_turn start (Relay a) next = []
 offers_of_turn start (Broken context session link lease keep error) next = []

@@ -19,7 +19,7 @@ use Rattle.relay_proxy.specs.Relaying.{is_closing, is_relaying}
 use Rattle.relay_proxy.specs.Uses.{ExchangeMoved, OwesAnswer}
 use Rattle.relay_proxy.specs.Work.{total_work}
 use Rattle.relay_proxy.specs.declared.machine.Phase.{Phase}
-use Rattle.relay_proxy.specs.declared.machine.Phase.TheVariants.{ReadHead, Connect, Prepare, Relay, Broken, Fail, Close, Answer, Ended}
+use Rattle.relay_proxy.specs.declared.machine.Phase.TheVariants.{ReadHead, Connect, Unlinked, Prepare, Relay, Broken, Fail, Close, Answer, Ended}
 use Rattle.relay_proxy.specs.declared.machine.RunStep.{RunStep}
 use Rattle.relay_proxy.specs.declared.machine.RunStep.TheVariants as step
 use Rattle.relay_proxy.specs.declared.outcome.Outcome.TheVariants.{OutOfMemory}
@@ -48,6 +48,7 @@ DoesWork (step.Waited Silent) work = total_work work ≡ 0
 abbrev pub is_reading_head : {L C : Type 0} → Phase L C → Bool
 is_reading_head ReadHead = true
 is_reading_head (Connect context session tries) = false
+is_reading_head (Unlinked context session attempts error) = false
 is_reading_head (Prepare context session link lease) = false
 is_reading_head (Relay a) = false
 is_reading_head (Broken context session link lease keep error) = false
@@ -60,6 +61,7 @@ is_reading_head (Ended outcome attempts) = false
 abbrev pub is_connecting : {L C : Type 0} → Phase L C → Bool
 is_connecting ReadHead = false
 is_connecting (Connect context session tries) = true
+is_connecting (Unlinked context session attempts error) = false
 is_connecting (Prepare context session link lease) = false
 is_connecting (Relay a) = false
 is_connecting (Broken context session link lease keep error) = false
@@ -68,23 +70,11 @@ is_connecting (Close link lease keep outcome) = false
 is_connecting (Answer session owed attempts) = false
 is_connecting (Ended outcome attempts) = false
 
--- where a link is wanted still, it is for that session and that context; else the client is owed the
--- answer to a last attempt that had none, or memory was wanted
-abbrev pub KeepsAsked : {L C : Type 0} → C → Box HttpSession → Phase L C → Type 0
-KeepsAsked context session ReadHead = ⊥
-KeepsAsked context session (Connect other stays tries) = (other ≡ context) × (stays ≡ session)
-KeepsAsked context session (Prepare other stays link lease) = Unit {0}
-KeepsAsked context session (Relay a) = Unit {0}
-KeepsAsked context session (Broken other stays link lease keep error) = Unit {0}
-KeepsAsked context session (Fail link lease keep stays error) = Unit {0}
-KeepsAsked context session (Close link lease keep outcome) = Unit {0}
-KeepsAsked context session (Answer stays owed attempts) = (e : Error) × (owed ≡ Served e)
-KeepsAsked context session (Ended outcome attempts) = outcome ≡ OutOfMemory
-
 -- the link that a phase holds, as it stands
 abbrev pub held_state : {L C : Type 0} → (L → LinkState) → Phase L C → Option LinkState
 held_state state ReadHead = None
 held_state state (Connect context session tries) = None
+held_state state (Unlinked context session attempts error) = None
 held_state state (Prepare context session link lease) = Some (state link)
 held_state state (Relay a) = Some (state (link_of a.value.exchange))
 held_state state (Broken context session link lease keep error) = Some (state link)
@@ -112,6 +102,7 @@ module _ {L C : Type 0} (state : L → LinkState) (start_at : L → LinkStart) w
   abbrev pub links_held : Phase L C → ℕ
   links_held ReadHead = 0
   links_held (Connect context session tries) = 0
+  links_held (Unlinked context session attempts error) = 0
   links_held (Prepare context session link lease) = 1
   links_held (Relay a) = 1
   links_held (Broken context session link lease keep error) = 1
@@ -136,6 +127,7 @@ module _ {L C : Type 0} (state : L → LinkState) (start_at : L → LinkStart) w
   abbrev pub IsStalled : World → Phase L C → Type 0
   IsStalled w ReadHead = IsOpen w.ahead × (w.client.silent_on_read ≡ true)
   IsStalled w (Connect context session tries) = ⊥
+  IsStalled w (Unlinked context session attempts error) = ⊥
   IsStalled w (Prepare context session link lease) = ⊥
   IsStalled w (Relay a) =
       SilentIn state start_at w.client a.value.exchange
@@ -145,7 +137,7 @@ module _ {L C : Type 0} (state : L → LinkState) (start_at : L → LinkStart) w
   IsStalled w (Answer session owed attempts) = w.client.silent_on_write ≡ true
   IsStalled w (Ended outcome attempts) = ⊥
 
-  -- a link is asked for once more, behind one more attempt
+  -- another attempt follows, behind one more
   pub record TriesOn (tries : List AttemptRecord) (next : Phase L C) : Type 0 where
     pub context : C
     pub session : Box HttpSession
@@ -159,13 +151,14 @@ module _ {L C : Type 0} (state : L → LinkState) (start_at : L → LinkStart) w
     pub goes_on : next ≡ Connect context session tries
 
   -- what a turn moved: bytes of the client's head came, or it was judged; a hook was called; a link
-  -- was given, or none and another is asked for; the exchange over that link began; the client is
+  -- was given, or none and another attempt follows; the exchange over that link began; the client is
   -- owed an answer for one of these; a branch of the exchange moved, or it failed and the client is
   -- owed an answer, which the treatment of an attempt's error leads to; or bytes of that were taken
   abbrev pub HasMoved : World → World → Phase L C → Phase L C → Type 0
   HasMoved w x ReadHead next = HasGiven w.client x.client ⊎ (is_reading_head next ≡ false)
   HasMoved w x (Connect context session tries) next =
       (links_held next ≡ 1) ⊎ (TriesOn tries next ⊎ (CallsOn tries next ⊎ OwesAnswer next))
+  HasMoved w x (Unlinked context session attempts error) next = OwesAnswer next
   HasMoved w x (Prepare context session link lease) next =
       (is_relaying next ≡ true) ⊎ OwesAnswer next
   HasMoved w x (Relay a) next =
@@ -204,6 +197,7 @@ HandsOn next did = is_closing next ≡ true → (did ≡ step.Moved) ⊎ (did �
 abbrev pub WorksIn : {L C : Type 0} → Phase L C → RunStep → Work → Type 0
 WorksIn ReadHead did work = DoesWork did work
 WorksIn (Connect context session tries) did work = DoesWork did work
+WorksIn (Unlinked context session attempts error) did work = DoesWork did work
 WorksIn (Prepare context session link lease) did work = DoesWork did work
 WorksIn (Relay a) did work = DoesWork did work
 WorksIn (Broken context session link lease keep error) did work = DoesWork did work
@@ -216,6 +210,7 @@ WorksIn (Ended outcome attempts) did work = (total_work work ≡ 0) × (did ≡ 
 abbrev pub is_over : {L C : Type 0} → Phase L C → Bool
 is_over ReadHead = false
 is_over (Connect context session tries) = false
+is_over (Unlinked context session attempts error) = false
 is_over (Prepare context session link lease) = false
 is_over (Relay a) = false
 is_over (Broken context session link lease keep error) = false

@@ -17,7 +17,7 @@ use Rattle.relay_proxy.specs.Passed.{World}
 use Rattle.relay_proxy.specs.Work.{added_work}
 use Rattle.relay_proxy.specs.declared.machine.Attempt.{Attempt}
 use Rattle.relay_proxy.specs.declared.machine.Phase.{Phase}
-use Rattle.relay_proxy.specs.declared.machine.Phase.TheVariants.{ReadHead, Connect, Prepare, Relay, Broken, Fail, Close, Answer, Ended}
+use Rattle.relay_proxy.specs.declared.machine.Phase.TheVariants.{ReadHead, Connect, Unlinked, Prepare, Relay, Broken, Fail, Close, Answer, Ended}
 use Rattle.relay_proxy.specs.declared.owed.Owed.TheVariants.{Refused, Ahead, Served}
 use Rattle.relay_proxy.specs.declared.work.Work.{Work}
 
@@ -92,6 +92,7 @@ module _ {L C : Type 0} (state : L → LinkState) (start_at : L → LinkStart) w
   abbrev pub PhaseUses : ℕ → List (Returned L) → Phase L C → Type 0
   PhaseUses n own ReadHead = OwnUses state start_at n own
   PhaseUses n own (Connect context session tries) = OwnUses state start_at n own
+  PhaseUses n own (Unlinked context session attempts error) = OwnUses state start_at n own
   PhaseUses n own (Prepare context session link lease) = LinkUses state start_at n link
   PhaseUses n own (Relay a) = LinkUses state start_at n (link_of a.value.exchange)
   PhaseUses n own (Broken context session link lease keep error) = LinkUses state start_at n link
@@ -123,6 +124,7 @@ module _ {L C : Type 0} (state : L → LinkState) (start_at : L → LinkStart) w
 abbrev pub OwesAnswer : {L C : Type 0} → Phase L C → Type 0
 OwesAnswer ReadHead = ⊥
 OwesAnswer (Connect context session tries) = ⊥
+OwesAnswer (Unlinked context session attempts error) = Unit {0}
 OwesAnswer (Prepare context session link lease) = ⊥
 OwesAnswer (Relay a) = ⊥
 OwesAnswer (Broken context session link lease keep error) = Unit {0}

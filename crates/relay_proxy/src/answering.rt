@@ -1,18 +1,18 @@
 //! The generated answer of a request, and what was queued before it: written to the client (RFC
 //! 9110, section 15).
-ghost use Rattle.std.specs.Prelude.{◌≡◌, ◌⊎◌, ◌<◌, ℕ, List, [], length};
+ghost use Rattle.std.specs.Prelude.{◌≡◌, ◌⊎◌, ◌<◌, ℕ, List, [], length, false, true};
 ghost use Rattle.relay_attempt.specs.Passed.{Passed};
 ghost use Rattle.relay_session.specs.Response.{pending, MayWrite, WritesPending};
-ghost use Rattle.relay_proxy.specs.Bound.{CountsAnswer};
+ghost use Rattle.relay_proxy.specs.Bound.{CountsAnswer, CountsCall};
 ghost use Rattle.relay_proxy.specs.Calls.{Owing, closed_with, log_of};
 ghost use Rattle.relay_proxy.specs.Endings.{error_of};
-ghost use Rattle.relay_proxy.specs.Owed.{outcome_owed};
+ghost use Rattle.relay_proxy.specs.Owed.{is_served, outcome_owed};
 ghost use Rattle.relay_proxy.specs.Passed.{Start};
 ghost use Rattle.relay_proxy.specs.Phases.{RunSoFar};
 ghost use Rattle.relay_proxy.specs.Refusals.{attempts_in};
 ghost use Rattle.relay_proxy.specs.Stock.{items_held};
-ghost use Rattle.relay_proxy.specs.Turn.{world_of, DoesWork, is_over, is_end, links_held, AdvancesOn, HasCause};
-ghost use Rattle.relay_proxy.specs.Uses.{ClientUses};
+ghost use Rattle.relay_proxy.specs.Turn.{world_of, DoesWork, is_connecting, is_over, is_end, links_held, AdvancesOn, HasCause};
+ghost use Rattle.relay_proxy.specs.Uses.{ClientUses, OwesAnswer};
 
 use crate::calls::Calls;
 use crate::machine::{Next, Phase, RunStep};
@@ -179,6 +179,41 @@ fn ended<M: HttpModule + Drop, K: Drop, L, C: Drop>(
         phase: Phase::Ended(outcome, attempts),
         step: RunStep::Ended,
         work,
+    }
+}
+
+/// What a request comes to that owes its client that, behind a call of a hook: what waits is to be
+/// written, and where nothing does the request has ended.
+pub(crate) fn owe<M: HttpModule + Drop, K: Drop, L: ByteLink, C: Drop>(
+    calls: &mut Calls<M, K, C>,
+    session: Box<HttpSession>,
+    owed: Owed,
+    attempts: AttemptList,
+) -> Next<L, C>
+    requires { is_served owed ≡ true }
+    ensures some { 0 < length (pending session.value.writing.output)
+        → (result.phase ≡ Phase.Answer session owed attempts) × (result.step ≡ RunStep.Moved) }
+    ensures none { pending session.value.writing.output ≡ []
+        → (result.phase ≡ Phase.Ended (outcome_owed owed) attempts)
+        × (result.step ≡ RunStep.Ended) }
+    ensures owes { result.step ≡ RunStep.Moved → OwesAnswer result.phase }
+    ensures calls { Owing session.value owed calls.old calls.new result.phase }
+    ensures step { (result.step ≡ RunStep.Moved) ⊎ (result.step ≡ RunStep.Ended) }
+    ensures counts { CountsCall attempts result.phase result.work }
+    ensures over { is_over result.phase ≡ is_end result.step }
+    ensures unlinked { links_held L.state L.start result.phase ≡ 0 }
+    ensures no_items { items_held L.start result.phase ≡ [] }
+    ensures attempts { attempts_in result.phase ≡ attempts }
+    ensures unopened { is_connecting result.phase ≡ false }
+    ensures work { result.work ≡ Work.CALLED }
+{
+    if !session.has_pending() {
+        return ended(calls, session, owed.outcome(), attempts, Work::CALLED);
+    }
+    Next {
+        phase: Phase::Answer(session, owed, attempts),
+        step: RunStep::Moved,
+        work: Work::CALLED,
     }
 }
 

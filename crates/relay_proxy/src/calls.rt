@@ -5,7 +5,7 @@ ghost use Rattle.relay_modules.specs.declared.seen.Seen.{Seen};
 ghost use Rattle.relay_session.specs.Reading.{head_of};
 ghost use Rattle.relay_session.specs.Response.{has_head};
 ghost use Rattle.relay_opening.specs.Place.{is_open};
-ghost use Rattle.relay_phases.specs.Order.{Station, accepted, made};
+ghost use Rattle.relay_phases.specs.Order.{Station, accepted, made, named};
 ghost use Rattle.relay_phases.specs.Turns.{HasCalled, QueuesNothing};
 ghost use Rattle.relay_tasks.specs.declared.hook.Hook.{Hook};
 ghost use Rattle.relay_trying.specs.Trying.{FiltersHead, TellsConnected, Treats, may_break};
@@ -21,7 +21,9 @@ use relay_hooks::{HttpModule, ProxyHttp, Session};
 use relay_opening::{End, Place, begin_opening, take_turn};
 use relay_session::HttpSession;
 use relay_tasks::{Error, Fail, Peer, PhaseLog, RequestHeader, Result};
-use relay_trying::{filter_head, name_peer, tell_connected, treat_failure};
+use relay_trying::{
+    filter_head, name_peer, summarize, tell_connected, treat_failure, treat_refusal, warn,
+};
 use std::alloc::Global;
 use std::mem;
 
@@ -34,6 +36,11 @@ pub(crate) enum At<K, C> {
     Opening(Place<K>),
     /// That peer was named, and the connector is asked for a link to it.
     Named(Peer),
+    /// The connector gave none. Another attempt follows, and it is asked whether the error of this
+    /// one, as it was treated, is not to be written as a warning.
+    Repeatable(Error),
+    /// The warning is to be written, and the request is asked for in one line.
+    Warning,
     /// The application was told of the link, and the head is to be filtered.
     Linked,
     /// The error of an attempt was treated, and is that one: it is to be answered.
@@ -51,6 +58,7 @@ impl<K: Drop, C: Drop> At<K, C> {
             At::Kept(_) => Opened::OutOfMemory,
             At::Opening(place) => leads_to(place),
             At::Named(_) => Opened::GoesOn,
+            At::Repeatable(_) | At::Warning => Opened::GoesOn,
             At::Linked => Opened::GoesOn,
             At::Treated(_) | At::Closing(_, _) => Opened::OutOfMemory,
         }
@@ -64,6 +72,7 @@ impl<K: Drop, C: Drop> At<K, C> {
             At::Opening(Place::Behind(_) | Place::Ended(End::Attempts)) => true,
             At::Opening(Place::Ended(End::Answered | End::Purge | End::Declined)) => false,
             At::Opening(Place::Ended(End::Unwritten(_) | End::Failed(_)) | Place::Lost) => false,
+            At::Repeatable(_) | At::Warning => true,
             At::Kept(_) | At::Named(_) | At::Linked => false,
             At::Treated(_) | At::Closing(_, _) => false,
         }
@@ -78,8 +87,8 @@ impl<K: Drop, C: Drop> At<K, C> {
             At::Opening(Place::Ended(End::Attempts | End::Answered | End::Purge)) => None,
             At::Opening(Place::Ended(End::Declined | End::Unwritten(_))) => None,
             At::Opening(Place::Behind(_) | Place::Lost) => None,
-            At::Kept(_) | At::Named(_) | At::Linked => None,
-            At::Treated(_) | At::Closing(_, _) => None,
+            At::Kept(_) | At::Named(_) | At::Repeatable(_) | At::Warning => None,
+            At::Linked | At::Treated(_) | At::Closing(_, _) => None,
         }
     }
 
@@ -90,7 +99,7 @@ impl<K: Drop, C: Drop> At<K, C> {
         match self {
             At::Treated(error) => Some(*error),
             At::Kept(_) | At::Opening(_) | At::Named(_) | At::Linked => None,
-            At::Closing(_, _) => None,
+            At::Repeatable(_) | At::Warning | At::Closing(_, _) => None,
         }
     }
 
@@ -102,6 +111,8 @@ impl<K: Drop, C: Drop> At<K, C> {
             At::Kept(kept) => At::Kept(kept),
             At::Opening(place) => At::Opening(place),
             At::Named(peer) => At::Named(peer),
+            At::Repeatable(error) => At::Repeatable(error),
+            At::Warning => At::Warning,
             At::Linked => At::Linked,
             At::Treated(treated) => At::Treated(treated),
             At::Closing(context, place) => At::Closing(context, failed_with(place, error)),
@@ -118,6 +129,7 @@ impl<K: Drop, C: Drop> At<K, C> {
             At::Kept(_kept) => unreachable!(),
             At::Opening(_place) => unreachable!(),
             At::Named(_peer) => unreachable!(),
+            At::Repeatable(_) | At::Warning => unreachable!(),
             At::Linked | At::Treated(_) => unreachable!(),
         }
     }
@@ -131,6 +143,7 @@ impl<K: Drop, C: Drop> At<K, C> {
             At::Kept(_kept) => None,
             At::Opening(_place) => None,
             At::Named(_peer) => None,
+            At::Repeatable(_) | At::Warning => None,
             At::Linked | At::Treated(_) => None,
         }
     }
@@ -196,8 +209,8 @@ impl<M: HttpModule + Drop, K: Drop, C: Drop> Calls<M, K, C> {
     {
         match &self.at {
             At::Named(peer) => peer.copy().ok(),
-            At::Kept(_) | At::Opening(_) | At::Linked => None,
-            At::Treated(_) | At::Closing(_, _) => None,
+            At::Kept(_) | At::Opening(_) | At::Repeatable(_) | At::Warning => None,
+            At::Linked | At::Treated(_) | At::Closing(_, _) => None,
         }
     }
 
@@ -214,6 +227,13 @@ impl<M: HttpModule + Drop, K: Drop, C: Drop> Calls<M, K, C> {
         ensures { result ≡ treated_at self.now.at }
     {
         self.at.treated()
+    }
+
+    /// Another attempt follows the one that was given no link, for that error.
+    pub(crate) fn repeat(&mut self, error: Error)
+        ensures { self.new ≡ record self.old { at = At.Repeatable error } }
+    {
+        self.at = At::Repeatable(error);
     }
 
     /// The hooks of the end of a request are called with that context, once its client has what it
@@ -240,7 +260,8 @@ impl<M: HttpModule + Drop, K: Drop, C: Drop> Calls<M, K, C> {
     {
         match &self.at {
             At::Closing(_, place) => calls_next(place, goes_back),
-            At::Kept(_) | At::Opening(_) | At::Named(_) | At::Linked | At::Treated(_) => false,
+            At::Kept(_) | At::Opening(_) | At::Named(_) | At::Repeatable(_) => false,
+            At::Warning | At::Linked | At::Treated(_) => false,
         }
     }
 
@@ -251,7 +272,8 @@ impl<M: HttpModule + Drop, K: Drop, C: Drop> Calls<M, K, C> {
     {
         match &self.at {
             At::Closing(_, place) => given(place, came),
-            At::Kept(_) | At::Opening(_) | At::Named(_) | At::Linked | At::Treated(_) => came,
+            At::Kept(_) | At::Opening(_) | At::Named(_) | At::Repeatable(_) => came,
+            At::Warning | At::Linked | At::Treated(_) => came,
         }
     }
 
@@ -287,8 +309,8 @@ pub(crate) fn begin_calls<SV: ProxyHttp>(
 {
     let kept = match mem::replace(&mut calls.at, At::Kept(None)) {
         At::Kept(kept) => kept,
-        At::Opening(_) | At::Named(_) | At::Linked => None,
-        At::Treated(_) | At::Closing(_, _) => None,
+        At::Opening(_) | At::Named(_) | At::Repeatable(_) | At::Warning => None,
+        At::Linked | At::Treated(_) | At::Closing(_, _) => None,
     };
     mem::swap(client, &mut calls.session.seen.downstream);
     let begun = begin_opening(app, &mut calls.session, kept);
@@ -350,6 +372,15 @@ fn take_next<SV: ProxyHttp>(
             Err(Fail::Error(error)) => At::Opening(Place::Ended(End::Failed(error))),
             Err(Fail::OutOfMemory) => At::Opening(Place::Lost),
         },
+        At::Repeatable(error) => match warn(app, session, context, &error) {
+            Ok(true) => At::Opening(Place::Ended(End::Attempts)),
+            Ok(false) => At::Warning,
+            Err(_) => At::Opening(Place::Lost),
+        },
+        At::Warning => match summarize(app, session, context) {
+            Ok(_summary) => At::Opening(Place::Ended(End::Attempts)),
+            Err(_) => At::Opening(Place::Lost),
+        },
         At::Opening(Place::Lost) | At::Kept(_) | At::Named(_) | At::Linked => unreachable!(),
         At::Treated(_) | At::Closing(_, _) => unreachable!(),
     }
@@ -383,6 +414,36 @@ pub(crate) fn tell_link<SV: ProxyHttp>(
         calls.at = At::Linked;
     }
     told
+}
+
+/// Has the application treat the error of an attempt at that peer to which the connector gave no
+/// link, and answers the error as it made it.
+///
+/// Out of memory alone, where no entry is new; also where the client's head was not read, which
+/// cannot be where this is called.
+pub(crate) fn treat_unlinked<SV: ProxyHttp>(
+    app: &SV,
+    calls: &mut Calls<SV::Modules, SV::Kept, SV::CTX>,
+    context: &mut SV::CTX,
+    client: &mut HttpSession,
+    peer: &Peer,
+    error: Error,
+) -> Result<Error>
+    ensures treats { IfOk result (λ treated.
+        Treats (allowed_by (SV.allows app.now) SV.Modules.allows) Hook.FailToConnect peer.now
+        false named error (seen_with calls.old client.old) (SV.mark_of app.now context.old)
+        (seen_with calls.new client.new) (SV.mark_of app.now context.new) treated) }
+    ensures memory { IsOkUnless result Fail.OutOfMemory }
+    ensures lost { OnErr result (log_of calls.new ≡ log_of calls.old) }
+    ensures at { calls.new.at ≡ calls.old.at }
+{
+    if !client.has_head() {
+        return Err(Fail::OutOfMemory);
+    }
+    mem::swap(client, &mut calls.session.seen.downstream);
+    let treated = treat_refusal(app, &mut calls.session, context, peer, error);
+    mem::swap(client, &mut calls.session.seen.downstream);
+    treated
 }
 
 /// Calls the filter of the head that is sent, and answers the head as it left it.

@@ -1,37 +1,35 @@
 //! The connector: asked for a link to the peer that was named, of which the application is told, and
-//! over which the attempt then goes. Where it refuses one with a fault that lets it be asked again, it
-//! is, while the request may make a further attempt (RFC 9110, section 9.2.2): nothing of the request
-//! was sent then.
+//! over which the attempt then goes. Where it refuses one the application treats the error, and
+//! another attempt follows where that lets one, while the request may make a further attempt (RFC
+//! 9110, section 9.2.2): nothing of the request was sent then.
 ghost use Rattle.std.specs.Prelude.{◌≡◌, ◌⊎◌, ◌↔◌, ◌+◌, ◌≤◌, [], ◌∷◌, ◌++◌, length, ℕ, List, IsTrue, false};
 ghost use Rattle.std.specs.Global.{Box};
-ghost use Rattle.relay_links.specs.Connector.{IsConnectFault, connect_fault};
+ghost use Rattle.relay_links.specs.Connector.{IsConnectFault};
 ghost use Rattle.relay_links.specs.Count.{last_count, Rose};
 ghost use Rattle.relay_links.specs.Link.{LinkState, IsHandedOut};
 ghost use Rattle.relay_attempt.specs.Passed.{Passed};
 ghost use Rattle.relay_proxy.specs.declared.calls.At.{At};
 ghost use Rattle.relay_proxy.specs.Bound.{CountsLink};
 ghost use Rattle.relay_proxy.specs.Calls.{CallsSoFar, CountsCalls, IsUnended, allowed_by, is_calling, log_of};
-ghost use Rattle.relay_proxy.specs.Named.{IsNamed};
 ghost use Rattle.relay_proxy.specs.Taken.{TakesAfter};
 ghost use Rattle.relay_proxy.specs.Passed.{World, Start, opened_to};
 ghost use Rattle.relay_proxy.specs.Phases.{RunSoFar};
-ghost use Rattle.relay_proxy.specs.Refusals.{attempts_in, faults_before, faults_told};
+ghost use Rattle.relay_proxy.specs.Refusals.{faults_before, faults_told};
 ghost use Rattle.relay_proxy.specs.Stock.{items_held};
 ghost use Rattle.relay_proxy.specs.Uses.{PhaseUses};
-ghost use Rattle.relay_proxy.specs.Tries.{EndsTrying, MayTry, fault_error, tries_in};
-ghost use Rattle.relay_proxy.specs.Turn.{world_with, DoesWork, KeepsAsked, is_connecting, is_over, is_end, links_held, Advances, HasCause};
+ghost use Rattle.relay_proxy.specs.Tries.{MayTry, tries_in, unlinked_record};
+ghost use Rattle.relay_proxy.specs.Turn.{world_with, DoesWork, is_over, is_end, links_held, Advances, HasCause};
 
-use crate::calls::{Calls, tell_link};
+use crate::calls::{Calls, tell_link, treat_unlinked};
 use crate::machine::{Lease, Next, Phase, RunStep};
 use crate::outcome::Outcome;
-use crate::owed::Owed;
 use crate::preparing::{closed, fail_ahead};
 use crate::record::{AttemptList, AttemptRecord, AttemptRoom};
 use crate::work::Work;
-use relay_hooks::ProxyHttp;
+use relay_hooks::{HttpModule, ProxyHttp};
 use relay_links::{ByteLink, Connector};
 use relay_session::HttpSession;
-use relay_tasks::{Error, ErrorSource, Fail, Fault, Peer};
+use relay_tasks::{Error, Fail, Fault, Peer};
 use std::alloc::Global;
 
 /// A request that ended without a link, when out of memory.
@@ -60,10 +58,42 @@ pub(crate) fn lacks_memory<L, C>(attempts: AttemptList) -> Next<L, C>
     }
 }
 
+/// What is known of an attempt to which the connector gave no link: the peer, twice, since the
+/// application is told of it and it is recorded; room for the record; and the connector's fault.
+#[derive(Drop)]
+struct Lacking {
+    peer: Peer,
+    recorded: Peer,
+    room: AttemptRoom,
+    fault: Fault,
+}
+
+impl Lacking {
+    /// The attempts so far, and this one, with that error.
+    fn record(self, error: Error) -> AttemptList
+        ensures { result ≡ self.room.items.items ++ unlinked_record self.recorded self.fault error
+            ∷ [] }
+    {
+        let Lacking {
+            peer: _,
+            recorded,
+            room,
+            fault,
+        } = self;
+        room.fill(AttemptRecord {
+            peer: recorded,
+            reused: false,
+            kept: false,
+            error: Some(error),
+            fault: Some(fault),
+        })
+    }
+}
+
 /// Asks the connector for a link to the peer that was named, behind those attempts, and tells the
-/// application of the link. Room for the attempt's record is made first, and both peers. Where the
-/// connector gives none it may be asked again, while the request has made less than `most` attempts;
-/// else the client is answered with 502.
+/// application of the link, or that there is none. Room for the attempt's record is made first, and
+/// both peers. Where the connector gives none another attempt may follow, while the request has made
+/// less than `most`; else the client is to be answered.
 pub(crate) fn connect<SV: ProxyHttp, K: Connector>(
     app: &SV,
     connector: &mut K,
@@ -127,7 +157,15 @@ pub(crate) fn connect<SV: ProxyHttp, K: Connector>(
             };
             tell(app, calls, context, session, link, lease)
         }
-        Err(fault) => refused_link(most, context, session, room, recorded, fault),
+        Err(fault) => {
+            let lacking = Lacking {
+                peer,
+                recorded,
+                room,
+                fault,
+            };
+            refused_link(app, most, calls, context, session, lacking)
+        }
     }
 }
 
@@ -188,52 +226,104 @@ fn tell<SV: ProxyHttp, L: ByteLink>(
     }
 }
 
-/// A request to which the connector gave no link: its attempt is recorded, and the connector is
-/// asked again where that may be.
-fn refused_link<L: ByteLink, C: Drop>(
+/// An attempt to which the connector gave no link, with that fault: the application treats its error,
+/// and it is recorded with that. Another attempt follows where one may; else the client is to be
+/// answered. Room for the record was made before.
+fn refused_link<SV: ProxyHttp, L: ByteLink>(
+    app: &SV,
     most: usize,
-    context: C,
+    calls: &mut Calls<SV::Modules, SV::Kept, SV::CTX>,
+    context: SV::CTX,
     session: Box<HttpSession>,
-    room: AttemptRoom,
-    peer: Peer,
-    fault: Fault,
-) -> Next<L, C>
+    lacking: Lacking,
+) -> Next<L, SV::CTX>
     ensures run { (s : Start) (p : Passed) (w : World) (failed : ℕ) → s.most ≡ most
-        → w.connect_faults ≤ last_count → Rose w.connect_faults failed → IsConnectFault fault
-        → IsNamed s.called peer
-        → RunSoFar {C = C} L.state L.start s p w []
-        (Phase.Connect context session room.items.items)
-        → Advances {C = C} L.state L.start s (world_with w.client w.ahead failed) result.phase }
-    ensures cause { (w x : World) → HasCause {C = C} L.state L.start w x
-        (Phase.Connect context session room.items.items) result.phase result.step }
+        → w.connect_faults ≤ last_count → Rose w.connect_faults failed
+        → IsConnectFault lacking.fault
+        → CallsSoFar {L = L} (allowed_by (SV.allows app.now) SV.Modules.allows)
+        (SV.mark_of app.now) calls.old
+        (Phase.Connect context session lacking.room.items.items)
+        → calls.old.at ≡ At.Named lacking.peer → lacking.recorded ≡ lacking.peer
+        → RunSoFar {C = SV.CTX} L.state L.start (opened_to s (log_of calls.old)) p w []
+        (Phase.Connect context session lacking.room.items.items)
+        → Advances {C = SV.CTX} L.state L.start (opened_to s (log_of calls.new))
+        (world_with w.client w.ahead failed) result.phase }
+    ensures calls { calls.old.at ≡ At.Named lacking.peer
+        → CallsSoFar {L = L} (allowed_by (SV.allows app.now) SV.Modules.allows)
+        (SV.mark_of app.now) calls.old
+        (Phase.Connect context session lacking.room.items.items)
+        → CallsSoFar {L = L} (allowed_by (SV.allows app.now) SV.Modules.allows)
+        (SV.mark_of app.now) calls.new result.phase }
+    ensures cause { (w x : World) → HasCause L.state L.start w x
+        (Phase.Connect context session lacking.room.items.items) result.phase result.step }
     ensures step { (result.step ≡ RunStep.Moved) ⊎ (result.step ≡ RunStep.Ended) }
     ensures over { is_over result.phase ≡ is_end result.step }
     ensures unlinked { links_held L.state L.start result.phase ≡ 0 }
     ensures no_items { items_held L.start result.phase ≡ [] }
     ensures told { faults_before [] result.phase
-        ≡ faults_told room.items.items ++ connect_fault fault.retry ∷ [] }
+        ≡ faults_told lacking.room.items.items ++ lacking.fault ∷ [] }
     ensures work { DoesWork result.step result.work }
-    ensures uncalled { result.work.called ≡ 0 }
-    ensures asked { KeepsAsked context session result.phase }
-    ensures counts { CountsLink room.items.items result.phase result.work }
+    ensures called { CountsCalls calls.old calls.new result.work }
+    ensures counts { CountsLink lacking.room.items.items result.phase result.work }
     ensures unused { result.work.used ≡ 0 }
     ensures fresh { PhaseUses L.state L.start 0 [] result.phase }
+    ensures unended { IsUnended (log_of calls.old) → IsUnended (log_of calls.new) }
 {
-    let error = Error::of_fault(fault).into_up();
-    let attempts = room.fill(AttemptRecord {
-        peer,
-        reused: false,
-        kept: false,
-        error: Some(error),
-    });
+    let mut context = context;
+    let mut session = session;
+    let raised = Error::of_fault(lacking.fault);
+    match treat_unlinked(
+        app,
+        calls,
+        &mut context,
+        &mut session,
+        &lacking.peer,
+        raised,
+    ) {
+        Ok(treated) => {
+            let error = treated.into_up();
+            let attempts = lacking.record(error);
+            go_on(most, calls, context, session, attempts, error)
+        }
+        Err(_) => lacks_memory(lacking.record(raised.into_up())),
+    }
+}
+
+/// What follows an attempt that was given no link, for that error: another attempt, where one may; or
+/// the answer to its client.
+fn go_on<M: HttpModule + Drop, K: Drop, L, C: Drop>(
+    most: usize,
+    calls: &mut Calls<M, K, C>,
+    context: C,
+    session: Box<HttpSession>,
+    attempts: AttemptList,
+    error: Error,
+) -> Next<L, C>
+    ensures again { MayTry most (length attempts) error
+        → (result.phase ≡ Phase.Connect context session attempts)
+        × (calls.new ≡ record calls.old { at = At.Repeatable error }) }
+    ensures ends { ¬ (MayTry most (length attempts) error)
+        → (result.phase ≡ Phase.Unlinked context session attempts error)
+        × (calls.new ≡ calls.old) }
+    ensures follows { (result.phase ≡ Phase.Connect context session attempts)
+        ⊎ (result.phase ≡ Phase.Unlinked context session attempts error) }
+    ensures log { log_of calls.new ≡ log_of calls.old }
+    ensures step { result.step ≡ RunStep.Moved }
+    ensures work { result.work ≡ Work.REFUSED }
+{
     if may_try(most, attempts.len(), &error) {
+        calls.repeat(error);
         return Next {
             phase: Phase::Connect(context, session, attempts),
             step: RunStep::Moved,
-            work: Work::ENDED,
+            work: Work::REFUSED,
         };
     }
-    answer_unlinked(session, attempts, error)
+    Next {
+        phase: Phase::Unlinked(context, session, attempts, error),
+        step: RunStep::Moved,
+        work: Work::REFUSED,
+    }
 }
 
 /// Whether a further attempt may be made behind so many, the last of which failed with that error.
@@ -241,45 +331,4 @@ fn may_try(most: usize, made: usize, error: &Error) -> bool
     ensures { IsTrue result ↔ MayTry most made error.now }
 {
     error.retry() && made < most
-}
-
-/// A request whose last attempt was given no link, with that error: the client is owed 502.
-fn answer_unlinked<L: ByteLink, C>(
-    session: Box<HttpSession>,
-    attempts: AttemptList,
-    error: Error,
-) -> Next<L, C>
-    ensures run { (s : Start) (p : Passed) (w : World) (failed : ℕ) (context : C)
-        (tries : List AttemptRecord) (fault : Fault)
-        → w.connect_faults ≤ last_count → Rose w.connect_faults failed → IsConnectFault fault
-        → error ≡ fault_error ErrorSource.Upstream fault → EndsTrying s attempts error
-        → RunSoFar {C = C} L.state L.start s p w [] (Phase.Connect context session tries)
-        → Advances {C = C} L.state L.start s (world_with w.client w.ahead failed) result.phase }
-    ensures cause { (w x : World) (context : C) (tries : List AttemptRecord)
-        → HasCause {C = C} L.state L.start w x
-        (Phase.Connect context session tries) result.phase result.step }
-    ensures step { (result.step ≡ RunStep.Moved) ⊎ (result.step ≡ RunStep.Ended) }
-    ensures over { is_over result.phase ≡ is_end result.step }
-    ensures unlinked { links_held L.state L.start result.phase ≡ 0 }
-    ensures no_items { items_held L.start result.phase ≡ [] }
-    ensures attempts { attempts_in result.phase ≡ attempts }
-    ensures work { DoesWork result.step result.work }
-    ensures uncalled { result.work.called ≡ 0 }
-    ensures unopened { is_connecting result.phase ≡ false }
-    ensures asked { (context : C) (other : Box HttpSession)
-        → KeepsAsked context other result.phase }
-    ensures counts { (tries : List AttemptRecord) → length attempts ≡ length tries + 1
-        → CountsLink tries result.phase result.work }
-    ensures unused { result.work.used ≡ 0 }
-    ensures fresh { PhaseUses L.state L.start 0 [] result.phase }
-{
-    let mut session = session;
-    let Ok(()) = session.respond_error(502) else {
-        return lacks_memory(attempts);
-    };
-    Next {
-        phase: Phase::Answer(session, Owed::Served(error), attempts),
-        step: RunStep::Moved,
-        work: Work::ENDED,
-    }
 }

@@ -51,6 +51,7 @@ fn release<K: Connector>(
         reused,
         kept: keep,
         error: outcome.error(),
+        fault: None,
     })
 }
 
@@ -105,6 +106,7 @@ fn close<K: Connector, C: Drop>(connector: &mut K, phase: &mut Phase<K::Byte, C>
         }
         Phase::ReadHead => unreachable!(),
         Phase::Connect(_context, _session, _tries) => unreachable!(),
+        Phase::Unlinked(_context, _session, _attempts, _error) => unreachable!(),
         Phase::Prepare(_context, _session, _link, _lease) => unreachable!(),
         Phase::Relay(_attempt) => unreachable!(),
         Phase::Broken(_context, _session, _link, _lease, _keep, _error) => unreachable!(),
@@ -164,6 +166,7 @@ pub(crate) fn finish<K: Connector, C: Drop>(
     match phase {
         Phase::ReadHead => give_up(AttemptList::new(alloc)),
         Phase::Connect(_context, _session, tries) => give_up(tries),
+        Phase::Unlinked(_context, _session, attempts, _error) => give_up(attempts),
         Phase::Prepare(_context, _session, link, lease) => give_link_up(connector, link, lease),
         Phase::Relay(attempt) => {
             let Attempt {

@@ -18,6 +18,7 @@ mod record;
 mod relayable;
 mod relaying;
 mod turn;
+mod unlinked;
 mod uses;
 mod work;
 

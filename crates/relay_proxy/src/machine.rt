@@ -5,7 +5,8 @@
 //!    |         |    |        |        |
 //!    |         | (a hook,    |        +-> Broken (the exchange failed)
 //!    |         |  or again)  +-> Broken (no head was sent)
-//!    |         +-> Answer -> Ended (hooks ended it, or no link was given)
+//!    |         +-> Answer -> Ended (hooks ended it)
+//!    |         +-> Unlinked -> Answer -> Ended (no link was given, and none is asked for again)
 //!    |         +-> Broken (a hook failed that was told of the link)
 //!    |                 +-> Fail -> Answer -> Ended (the application treated the error)
 //!    +-> Answer -> Ended (the head was turned down)
@@ -62,8 +63,11 @@ pub(crate) enum Phase<L, C> {
     ReadHead,
     /// The head was accepted. The hooks before the attempts are called one a turn, and the one that
     /// names a peer; then a link to it is wanted for the session that begins behind the head. These
-    /// attempts were refused one, and the connector may be asked again.
+    /// attempts were given none, and another may follow.
     Connect(C, Box<HttpSession>, AttemptList),
+    /// The last of these attempts was given no link, and no other follows. That is its error, as the
+    /// application treated it, which is to be answered.
+    Unlinked(C, Box<HttpSession>, AttemptList, Error),
     /// A link was given, of which nothing was asked yet, and the head is to be filtered and sent.
     Prepare(C, Box<HttpSession>, L, Lease),
     /// The request is sent, and the response comes back, over the attempt's link.
@@ -110,7 +114,8 @@ impl<L, C> Phase<L, C> {
     {
         match self {
             Phase::ReadHead => true,
-            Phase::Connect(_, _, _) | Phase::Prepare(_, _, _, _) | Phase::Relay(_) => false,
+            Phase::Connect(_, _, _) | Phase::Unlinked(_, _, _, _) => false,
+            Phase::Prepare(_, _, _, _) | Phase::Relay(_) => false,
             Phase::Broken(_, _, _, _, _, _) => false,
             Phase::Fail(_, _, _, _, _) | Phase::Close(_, _, _, _) => false,
             Phase::Answer(_, _, _) | Phase::Ended(_, _) => false,
@@ -124,7 +129,7 @@ impl<L, C> Phase<L, C> {
         match self {
             Phase::Relay(_) => true,
             Phase::ReadHead | Phase::Connect(_, _, _) | Phase::Prepare(_, _, _, _) => false,
-            Phase::Broken(_, _, _, _, _, _) => false,
+            Phase::Unlinked(_, _, _, _) | Phase::Broken(_, _, _, _, _, _) => false,
             Phase::Fail(_, _, _, _, _) | Phase::Close(_, _, _, _) => false,
             Phase::Answer(_, _, _) | Phase::Ended(_, _) => false,
         }
@@ -138,7 +143,7 @@ impl<L, C> Phase<L, C> {
             Phase::Fail(_, _, _, _, _) | Phase::Close(_, _, _, _) => true,
             Phase::ReadHead | Phase::Connect(_, _, _) | Phase::Prepare(_, _, _, _) => false,
             Phase::Relay(_) | Phase::Broken(_, _, _, _, _, _) => false,
-            Phase::Answer(_, _, _) | Phase::Ended(_, _) => false,
+            Phase::Unlinked(_, _, _, _) | Phase::Answer(_, _, _) | Phase::Ended(_, _) => false,
         }
     }
 
@@ -151,6 +156,7 @@ impl<L, C> Phase<L, C> {
             Phase::ReadHead | Phase::Connect(_, _, _) | Phase::Prepare(_, _, _, _) => false,
             Phase::Relay(_) | Phase::Broken(_, _, _, _, _, _) => false,
             Phase::Fail(_, _, _, _, _) | Phase::Answer(_, _, _) => false,
+            Phase::Unlinked(_, _, _, _) => false,
         }
     }
 
@@ -165,6 +171,7 @@ impl<L, C> Phase<L, C> {
             Phase::ReadHead | Phase::Connect(_, _, _) | Phase::Prepare(_, _, _, _) => None,
             Phase::Relay(_) | Phase::Broken(_, _, _, _, _, _) => None,
             Phase::Fail(_, _, _, _, _) | Phase::Close(_, _, _, _) | Phase::Answer(_, _, _) => None,
+            Phase::Unlinked(_, _, _, _) => None,
         }
     }
 
@@ -178,6 +185,7 @@ impl<L, C> Phase<L, C> {
             Phase::Relay(attempt) => attempt,
             Phase::ReadHead => unreachable!(),
             Phase::Connect(_context, _session, _tries) => unreachable!(),
+            Phase::Unlinked(_context, _session, _attempts, _error) => unreachable!(),
             Phase::Prepare(_context, _session, _link, _lease) => unreachable!(),
             Phase::Broken(_context, _session, _link, _lease, _keep, _error) => unreachable!(),
             Phase::Fail(_link, _lease, _keep, _session, _error) => unreachable!(),
@@ -195,6 +203,7 @@ impl<L, C> Phase<L, C> {
         match mem::replace(self, phase) {
             Phase::ReadHead => {}
             Phase::Connect(_context, _session, _tries) => unreachable!(),
+            Phase::Unlinked(_context, _session, _attempts, _error) => unreachable!(),
             Phase::Prepare(_context, _session, _link, _lease) => unreachable!(),
             Phase::Relay(_attempt) => unreachable!(),
             Phase::Broken(_context, _session, _link, _lease, _keep, _error) => unreachable!(),

@@ -27,6 +27,7 @@ ghost use Rattle.relay_proxy.specs.Uses.{OwesAnswer, PhaseUses};
 ghost use Rattle.relay_proxy.specs.declared.outcome.Outcome.{Outcome};
 ghost use Rattle.relay_tasks.specs.declared.ErrorSource.{ErrorSource};
 
+use crate::answering::owe;
 use crate::calls::{Calls, Opened, answer_error, call_next};
 use crate::connecting::{connect, lacks_memory};
 use crate::machine::{Next, Phase, RunStep};
@@ -133,7 +134,7 @@ fn open<SV: ProxyHttp, L: ByteLink>(
         },
         Opened::Answered => {
             calls.begin_end(context);
-            owe(calls, session, tries, None)
+            owe(calls, session, Owed::Ahead(None), tries)
         }
         Opened::Purges => turn_down(calls, session, tries),
         Opened::OutOfMemory => lacks_memory(tries),
@@ -175,7 +176,7 @@ fn answer<SV: ProxyHttp, L: ByteLink>(
 {
     let mut session = session;
     match answer_error(app, calls, context, &mut session, error) {
-        Ok(()) => owe(calls, session, tries, Some(error)),
+        Ok(()) => owe(calls, session, Owed::Ahead(Some(error)), tries),
         Err(_) => lacks_memory(tries),
     }
 }
@@ -215,46 +216,5 @@ fn turn_down<M: HttpModule + Drop, K: Drop, L: ByteLink, C: Drop>(
     let Ok(()) = queue_answer(&mut session, error) else {
         return lacks_memory(tries);
     };
-    owe(calls, session, tries, Some(error))
-}
-
-/// A request that hooks ended, for that error or for none: what waits for the client is to be
-/// written.
-fn owe<M: HttpModule + Drop, K: Drop, L: ByteLink, C: Drop>(
-    calls: &mut Calls<M, K, C>,
-    session: Box<HttpSession>,
-    tries: AttemptList,
-    why: Option<Error>,
-) -> Next<L, C>
-    ensures some { 0 < length (pending session.value.writing.output)
-        → (result.phase ≡ Phase.Answer session (Owed.Ahead why) tries)
-        × (result.step ≡ RunStep.Moved) }
-    ensures none { pending session.value.writing.output ≡ []
-        → (result.phase ≡ Phase.Ended (Outcome.Served why false) tries)
-        × (result.step ≡ RunStep.Ended) }
-    ensures owes { result.step ≡ RunStep.Moved → OwesAnswer result.phase }
-    ensures calls { Owing session.value (Owed.Ahead why) calls.old calls.new result.phase }
-    ensures step { (result.step ≡ RunStep.Moved) ⊎ (result.step ≡ RunStep.Ended) }
-    ensures counts { CountsCall tries result.phase result.work }
-    ensures over { is_over result.phase ≡ is_end result.step }
-    ensures unlinked { links_held L.state L.start result.phase ≡ 0 }
-    ensures no_items { items_held L.start result.phase ≡ [] }
-    ensures attempts { attempts_in result.phase ≡ tries }
-    ensures unopened { is_connecting result.phase ≡ false }
-    ensures work { result.work ≡ Work.CALLED }
-{
-    let owed = Owed::Ahead(why);
-    if !session.has_pending() {
-        calls.take_client(Box::into_inner(session), why);
-        return Next {
-            phase: Phase::Ended(owed.outcome(), tries),
-            step: RunStep::Ended,
-            work: Work::CALLED,
-        };
-    }
-    Next {
-        phase: Phase::Answer(session, owed, tries),
-        step: RunStep::Moved,
-        work: Work::CALLED,
-    }
+    owe(calls, session, Owed::Ahead(Some(error)), tries)
 }

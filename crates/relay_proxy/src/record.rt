@@ -1,18 +1,21 @@
 //! What was done for a request: its attempts, and how much work they took.
 ghost use Rattle.std.specs.Prelude.{◌≡◌, [], ◌∷◌, ◌++◌, length, slice_get, vec_len, vec_capacity, IsTrue, OnErr, OnOk, IfOk, IfErr, IfSome, IsSome, ◌↔◌, ◌<◌};
 
-use relay_tasks::{Error, Peer, PhaseLog};
+use relay_tasks::{Error, Fault, Peer, PhaseLog};
 use std::alloc::{AllocError, Global};
 use std::marker::Model;
 
 /// One attempt at a peer: whom it asked for, whether its connection had been used before, whether
-/// that connection was kept for another request, and the error that ended it.
+/// that connection was kept for another request, and the error that ended it, as the application
+/// treated it.
 #[derive(Drop)]
 pub struct AttemptRecord {
     pub peer: Peer,
     pub reused: bool,
     pub kept: bool,
     pub error: Option<Error>,
+    /// The fault with which the connector refused the attempt its link, if it did.
+    pub(crate) fault: Option<Fault>,
 }
 
 /// The attempts of a request, in order.

@@ -312,6 +312,7 @@ fn turn_within<D: ByteLink, U: Drop, L: ByteLink, H: Schedule, C>(
         Phase::Relay(attempt) => turn_counted(&mut attempt.exchange, client, schedule),
         Phase::ReadHead => unreachable!(),
         Phase::Connect(_, _, _) => unreachable!(),
+        Phase::Unlinked(_, _, _, _) => unreachable!(),
         Phase::Prepare(_, _, _, _) => unreachable!(),
         Phase::Broken(_, _, _, _, _, _) => unreachable!(),
         Phase::Fail(_, _, _, _, _) => unreachable!(),

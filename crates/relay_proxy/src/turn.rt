@@ -24,6 +24,7 @@ use crate::machine::{Did, Next, Phase, RunStep};
 use crate::opening::reach;
 use crate::preparing::prepare;
 use crate::relaying::relay;
+use crate::unlinked::answer_unlinked;
 use crate::work::Work;
 use relay_h1::Connection;
 use relay_hooks::ProxyHttp;
@@ -209,6 +210,11 @@ fn move_on<SV: ProxyHttp, K: Connector, D: ByteLink, U: Drop>(
         Phase::ReadHead => phase.go_on(read_head(alloc, hooks, calls, client)),
         Phase::Connect(context, session, tries) => {
             phase.go_on(reach(hooks, connector, most, calls, context, session, tries))
+        }
+        Phase::Unlinked(context, session, attempts, error) => {
+            phase.go_on(answer_unlinked(
+                hooks, calls, context, session, attempts, error,
+            ))
         }
         Phase::Prepare(context, session, link, lease) => {
             phase.go_on(prepare(alloc, hooks, calls, context, session, link, lease))

@@ -76,6 +76,14 @@ impl Work {
         ended: 1,
         called: 1,
     };
+
+    /// An attempt was given no link, and a hook was told so.
+    pub(crate) const REFUSED: Work = Work {
+        used: 0,
+        moved: 0,
+        ended: 1,
+        called: 1,
+    };
 }
 
 impl Work {

@@ -1,7 +1,7 @@
 -- What was queued waits, or nothing does.
 use Rattle.std.proofs.Common.{refl}
 use Rattle.relay_proxy.specs.Calls.{Owing}
-use Rattle.relay_proxy.proofs.opening.owe.Goals as goal
+use Rattle.relay_proxy.proofs.answering.owe.Goals as goal
 
 -- it waits
 pub returns-clause-calls : goal.returns-clause-calls
