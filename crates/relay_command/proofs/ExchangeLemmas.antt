@@ -12,7 +12,7 @@ use Rattle.relay_tasks.specs.declared.ErrorSource.TheVariants.{Upstream}
 use Rattle.relay_tasks.specs.declared.error.RetryType.{RetryType}
 use Rattle.relay_tasks.specs.declared.fault.Fault.{Fault}
 use Rattle.relay_tasks.specs.declared.log.LogEntry.{LogEntry}
-use Rattle.relay_links.specs.Connector.{Offer, connect_fault}
+use Rattle.relay_links.specs.Connector.{Offer}
 use Rattle.relay_links.specs.Link.{LinkItems, LinkStart}
 use Rattle.relay_links.specs.ScriptLink.{script_state, script_start, AnswersBy}
 use Rattle.relay_links.specs.ScriptEntries.{entry_offer, offer_of, next_entries, links_returned, offers_left, faults_answered, gets_failed}
@@ -21,9 +21,9 @@ use Rattle.relay_links.specs.declared.connector.Returned.{Returned}
 use Rattle.relay_links.specs.declared.script_connector.PeerScript.{PeerScript}
 use Rattle.relay_links.specs.declared.script_link.ScriptLink.{ScriptLink}
 use Rattle.relay_proxy.specs.ClosingHooks.{Gives}
-use Rattle.relay_proxy.specs.Endings.{EndsAhead, EndsReturned, EndsUnlinked, EndsWith, AttemptsUnfinished, AttemptsUnlinked, FailsToConnect, IsFailedAttempt, IsRelayedEarly, IsRelayedWhole, IsUnsentAttempt}
+use Rattle.relay_proxy.specs.Endings.{EndsAhead, EndsReturned, EndsUnlinked, EndsWith, AttemptsFailed, AttemptsUnfinished, AttemptsUnlinked, FailsToConnect, IsFailedAttempt, IsRelayedEarly, IsRelayedWhole, IsUnsentAttempt, MadeAhead}
 use Rattle.relay_proxy.specs.Refusals.{fault_told, faults_told}
-use Rattle.relay_proxy.specs.Tries.{EndsTrying, IsTry, fault_error, tries_of}
+use Rattle.relay_proxy.specs.Tries.{AreTries, EndsTrying, LosesTry, Refusal, fault_error, fault_of, record_of, refusals_in, tries_of, unlinked_record}
 use Rattle.relay_proxy.proofs.TryLemmas.{tries_before}
 use Rattle.relay_attempt.specs.Passed.{Passed}
 use Rattle.relay_proxy.specs.Passed.{World, Start, called_to, start_of}
@@ -126,79 +126,101 @@ one_taken [] (Err fault) left next = sym next
 one_taken (peer ∷ peers) (Ok items) left next = sym next.1
 one_taken (peer ∷ peers) (Err fault) left next = sym next.1
 
--- an attempt that was given no link has an error
-abbrev pub HasFailed : AttemptRecord → Type 0
-HasFailed a = (e : Error) × (a.error ≡ Some e)
+-- the record of an attempt that was given no link has the connector's fault
+abbrev pub HasFault : AttemptRecord → Type 0
+HasFault a = (fault : Fault) × (a.fault ≡ Some fault)
 
--- the error of an attempt tells of one fault, and those of others follow
-one_told : (told : Option Error) (e : Error) (faults : List Fault) (rest offers left : List Offer)
-    → told ≡ Some e → AreNext (map Err (fault_told told ++ faults) ++ rest) offers left
-    → AreNext (Err (connect_fault e.retry) ∷ (map Err faults ++ rest)) offers left
-one_told told e faults rest offers left is next =
-    subst (λ (o : Option Error). AreNext (map Err (fault_told o ++ faults) ++ rest) offers left) is
+-- that is the first of the faults that attempts tell, and those of others follow
+one_told : (told : Option Fault) (fault : Fault) (faults : List Fault)
+    (rest offers left : List Offer) → told ≡ Some fault
+    → AreNext (map Err (fault_told told ++ faults) ++ rest) offers left
+    → AreNext (Err fault ∷ (map Err faults ++ rest)) offers left
+one_told told fault faults rest offers left is next =
+    subst (λ (o : Option Fault). AreNext (map Err (fault_told o ++ faults) ++ rest) offers left) is
     next
 
 -- behind the faults of such attempts the peers are left that they did not ask
 behind_faults : (peers : List PeerSpec) (tries : List AttemptRecord) (rest left : List Offer)
-    → All HasFailed tries
+    → All HasFault tries
     → AreNext (map Err (faults_told tries) ++ rest) (offers_of peers) left
     → AreNext rest (offers_of (drop (length tries) peers)) left
 behind_faults peers [] rest left failed next = next
 behind_faults [] (a ∷ tries) rest left failed next =
-    let one = All-head HasFailed a tries failed in
+    let one = All-head HasFault a tries failed in
     subst (λ (ps : List PeerSpec). AreNext rest (offers_of ps) left)
     (drop-nil (length tries) ∙ sym (drop-nil (length (a ∷ tries))))
-    (behind_faults [] tries rest left (All-tail HasFailed a tries failed)
-    (one_told a.error one.0 (faults_told tries) rest [] left one.1 next))
+    (behind_faults [] tries rest left (All-tail HasFault a tries failed)
+    (one_told a.fault one.0 (faults_told tries) rest [] left one.1 next))
 behind_faults (peer ∷ peers) (a ∷ tries) rest left failed next =
-    let one = All-head HasFailed a tries failed in
-    behind_faults peers tries rest left (All-tail HasFailed a tries failed)
-    (one_told a.error one.0 (faults_told tries) rest (offers_of (peer ∷ peers)) left one.1 next).1
+    let one = All-head HasFault a tries failed in
+    behind_faults peers tries rest left (All-tail HasFault a tries failed)
+    (one_told a.fault one.0 (faults_told tries) rest (offers_of (peer ∷ peers)) left one.1 next).1
 
--- attempts behind which another followed have errors
-tries_failed : (called : List LogEntry) (tries : List AttemptRecord) → All (IsTry called) tries
-    → All HasFailed tries
-tries_failed called [] each = All-nil HasFailed
-tries_failed called (a ∷ tries) each =
-    All-cons HasFailed a tries (
-      fault_error Upstream (All-head (IsTry called) a tries each).fault,
-      (All-head (IsTry called) a tries each).is_record.error,
-    )
-    (tries_failed called tries (All-tail (IsTry called) a tries each))
+-- those of which calls tell have one
+told_failed : (refusals : List Refusal) → All HasFault (map record_of refusals)
+told_failed [] = All-nil HasFault
+told_failed (r ∷ refusals) =
+    All-cons HasFault (record_of r) (map record_of refusals) (fault_of r.raised, refl)
+    (told_failed refusals)
 
--- and so have all that ended without a link
+-- and so have attempts that are those
+are_failed : (called : List LogEntry) (attempts : List AttemptRecord)
+    → attempts ≡ map record_of (refusals_in called) → All HasFault attempts
+are_failed called attempts told =
+    subst (λ (xs : List AttemptRecord). All HasFault xs) (sym told)
+    (told_failed (refusals_in called))
+
+-- attempts behind which another followed
+tries_failed : (s : Start) (tries : List AttemptRecord) → AreTries s tries → All HasFault tries
+tries_failed s tries are = are_failed s.called tries are.told
+
+-- all that ended without a link
 ends_failed : (s : Start) (attempts : List AttemptRecord) (e : Error) → EndsTrying s attempts e
-    → All HasFailed attempts
-ends_failed s attempts e ends =
-    subst (λ (xs : List AttemptRecord). All HasFailed xs) (sym ends.attempts_are)
-    (All-append HasFailed ends.tries (ends.last ∷ [])
-    (tries_failed s.called ends.tries ends.are_tries.each)
-    (All-cons HasFailed ends.last [] (e, ends.is_record.error) (All-nil HasFailed)))
+    → All HasFault attempts
+ends_failed s attempts e ends = are_failed s.called attempts ends.told
 
--- and where there are none
-none_failed : (attempts : List AttemptRecord) → attempts ≡ [] → All HasFailed attempts
+-- those of which the last was not told
+loses_failed : (s : Start) (attempts : List AttemptRecord) → LosesTry s attempts
+    → All HasFault attempts
+loses_failed s attempts loses =
+    let last = unlinked_record loses.peer loses.fault (fault_error Upstream loses.fault) in
+    subst (λ (xs : List AttemptRecord). All HasFault xs) (sym loses.attempts_are)
+    (All-append HasFault loses.tries (last ∷ []) (tries_failed s loses.tries loses.are_tries)
+    (All-cons HasFault last [] (loses.fault, refl) (All-nil HasFault)))
+
+-- where there are none
+none_failed : (attempts : List AttemptRecord) → attempts ≡ [] → All HasFault attempts
 none_failed attempts none =
-    subst (λ (xs : List AttemptRecord). All HasFailed xs) (sym none) (All-nil HasFailed)
+    subst (λ (xs : List AttemptRecord). All HasFault xs) (sym none) (All-nil HasFault)
 
--- a request without a link has attempts with errors alone
+-- and where hooks ended the request
+ahead_failed : (s : Start) (why : Option Error) (attempts : List AttemptRecord)
+    → MadeAhead s why attempts → All HasFault attempts
+ahead_failed s None attempts made = none_failed attempts made
+ahead_failed s (Some e) attempts made = tries_failed s attempts made
+
+-- a request without a link has attempts with faults alone
 unfinished_failed : (s : Start) (p : Passed) (w : World) (attempts : List AttemptRecord)
-    → AttemptsUnfinished s p w attempts → All HasFailed attempts
+    → AttemptsUnfinished s p w attempts → All HasFault attempts
 unfinished_failed s p w attempts (inl none) = none_failed attempts none.0
-unfinished_failed s p w attempts (inr (inl between)) =
-    tries_failed s.called attempts between.0.each
-unfinished_failed s p w attempts (inr (inr half)) = ends_failed s attempts half.e half.made
+unfinished_failed s p w attempts (inr (inl between)) = tries_failed s attempts between.0
+unfinished_failed s p w attempts (inr (inr (inl ahead))) =
+    ahead_failed s ahead.why attempts ahead.made
+unfinished_failed s p w attempts (inr (inr (inr half))) = ends_failed s attempts half.e half.made
 
 unlinked_failed : (s : Start) (p : Passed) (w : World) (attempts : List AttemptRecord)
-    (outcome : Outcome) → AttemptsUnlinked s p w attempts outcome → All HasFailed attempts
+    (outcome : Outcome) → AttemptsUnlinked s p w attempts outcome → All HasFault attempts
 unlinked_failed s p w attempts ended.NoRequest none = none_failed attempts none
 unlinked_failed s p w attempts (ended.Refused error) none = none_failed attempts none
 unlinked_failed s p w attempts (ended.Served None reuse) none = none_failed attempts none
-unlinked_failed s p w attempts (ended.Served (Some e) reuse) (inl made) =
+unlinked_failed s p w attempts (ended.Served (Some e) reuse) (AttemptsFailed.unlinked made) =
     ends_failed s attempts e made
-unlinked_failed s p w attempts (ended.Served (Some e) reuse) (inr none) =
-    none_failed attempts none.0
+unlinked_failed s p w attempts (ended.Served (Some e) reuse) (AttemptsFailed.ahead ends made) =
+    ahead_failed s ends.why attempts made
 unlinked_failed s p w attempts ended.TurnLimit made = unfinished_failed s p w attempts made
-unlinked_failed s p w attempts ended.OutOfMemory made = unfinished_failed s p w attempts made
+unlinked_failed s p w attempts ended.OutOfMemory (inl made) =
+    unfinished_failed s p w attempts made
+unlinked_failed s p w attempts ended.OutOfMemory (inr lost) = loses_failed s attempts lost.0
 
 -- the attempts before one that had a link are all but the last
 linked_next : (s : Start) (p : Passed) (w : World) (r : Returned ScriptLink)
@@ -208,9 +230,9 @@ linked_next : (s : Start) (p : Passed) (w : World) (r : Returned ScriptLink)
     → AreNext (Ok (script_start r.link).items ∷ []) (offers_of (peers_behind peers attempts)) left
 linked_next s p w r peers attempts outcome left ends next =
     behind_faults peers (tries_of attempts) (Ok (script_start r.link).items ∷ []) left
-    (subst (λ (xs : List AttemptRecord). All HasFailed xs)
+    (subst (λ (xs : List AttemptRecord). All HasFault xs)
     (sym (tries_before ends.tries attempts ends.attempt ends.attempts_are))
-    (tries_failed s.called ends.tries ends.are_tries.each)) next
+    (tries_failed s ends.tries ends.are_tries)) next
 
 -- one peer is behind those of the attempts before
 behind_last : (peers : List PeerSpec) (tries attempts : List AttemptRecord) (a : AttemptRecord)
@@ -280,7 +302,7 @@ names_left (suc n) (peer ∷ peers) = names_left n peers
 -- a request that was given no link sent nothing, nor did one that hooks ended before
 ahead_sent : (s : Start) (p : Passed) (w : World) (e : Error)
     → FailsToConnect s p w e ⊎ EndsAhead s p w (Some e) → [] ≡ p.sent
-ahead_sent s p w e (inl fails) = sym fails.unconnected.unsent.sent
+ahead_sent s p w e (inl fails) = sym fails.owed.unconnected.unsent.sent
 ahead_sent s p w e (inr ends) = sym ends.unsent.sent
 
 -- so a request that had no link sent nothing

@@ -24,6 +24,8 @@ reads_on : {L C K : Type 0} (phase : Phase L C) (here : At K C) (empty : Bool)
 reads_on ReadHead here empty idle = refl
 reads_on (Fail l lease keep session error) here empty idle = absurd (true≢false (sym idle))
 reads_on (Connect context session tries) here empty idle = absurd (true≢false (sym idle))
+reads_on (Unlinked context session attempts error) here empty idle =
+    absurd (true≢false (sym idle))
 reads_on (Prepare context session l lease) here empty idle = absurd (true≢false (sym idle))
 reads_on (Relay a) here empty idle = absurd (true≢false (sym idle))
 reads_on (Broken context session l lease keep error) here empty idle =
@@ -44,6 +46,8 @@ none_logged : {L C M K : Type 0} (allows : Standing → LogEntry → Type 0) (ma
     → log_of calls ≡ []
 none_logged allows mark_of calls ReadHead empty idle none = none
 none_logged allows mark_of calls (Connect context session tries) empty idle so_far =
+    absurd (true≢false (sym idle))
+none_logged allows mark_of calls (Unlinked context session attempts error) empty idle so_far =
     absurd (true≢false (sym idle))
 none_logged allows mark_of calls (Prepare context session l lease) empty idle so_far =
     absurd (true≢false (sym idle))
@@ -86,6 +90,8 @@ not_begun state start_at s p w [] ReadHead idle run = record {
 }
 not_begun state start_at s p w (r ∷ own) ReadHead idle run = absurd run.holds
 not_begun state start_at s p w own (Connect context session tries) idle run =
+    absurd (true≢false (sym idle))
+not_begun state start_at s p w own (Unlinked context session attempts error) idle run =
     absurd (true≢false (sym idle))
 not_begun state start_at s p w own (Prepare context session l lease) idle run =
     absurd (true≢false (sym idle))

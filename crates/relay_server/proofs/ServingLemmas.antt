@@ -18,11 +18,11 @@ use Rattle.relay_attempt.specs.Passed.{Passed}
 use Rattle.relay_session.specs.declared.session.HttpSession.{HttpSession}
 use Rattle.relay_session.specs.declared.writing.Outgoing.{Outgoing}
 use Rattle.relay_proxy.specs.Calls.{CallsSoFar, allowed_by, log_of}
-use Rattle.relay_proxy.specs.Endings.{AttemptsUnlinked, EndsAhead, EndsLinked, EndsReturned, EndsUnlinked, EndsWith, FailsToConnect, IsFailedAttempt, IsGivenAhead, IsRelayedEarly, IsRelayedWhole, IsUnconnected, IsUnsentAttempt}
+use Rattle.relay_proxy.specs.Endings.{AttemptsFailed, AttemptsUnlinked, EndsAhead, EndsLinked, EndsReturned, EndsUnlinked, EndsWith, FailsToConnect, IsFailedAttempt, IsGivenAhead, IsOwedUnlinked, IsRelayedEarly, IsRelayedWhole, IsUnconnected, IsUnsentAttempt}
 use Rattle.relay_proxy.specs.Owed.{Owes, IsAnswering}
 use Rattle.relay_proxy.specs.Passed.{World, Start, called_to}
-use Rattle.relay_proxy.specs.Phases.{RunSoFar, IsBroken, IsCalm, IsConnecting, PhaseHolds, IsAt}
-use Rattle.relay_proxy.specs.Request.{StepsOn, ComesToEnd, ended_after, is_done}
+use Rattle.relay_proxy.specs.Phases.{RunSoFar, IsBroken, IsCalm, IsConnecting, LacksLink, PhaseHolds, IsAt}
+use Rattle.relay_proxy.specs.Request.{StepsOn, ComesToEnd, ended_after, is_done, kept_of}
 use Rattle.relay_proxy.specs.Tries.{tries_in}
 use Rattle.relay_proxy.specs.Turn.{world_with, world_of, is_over, links_held}
 use Rattle.relay_proxy.specs.declared.calls.At.{At}
@@ -39,7 +39,7 @@ use Rattle.relay_proxy.specs.declared.proxy.HttpProxy.{HttpProxy}
 use Rattle.relay_proxy.specs.declared.record.AttemptRecord.{AttemptRecord}
 use Rattle.relay_proxy.proofs.EndSteps.{gives_by}
 use Rattle.relay_proxy.proofs.LastCalls.{calls_logged}
-use Rattle.relay_server.specs.Serving.{Books, books, CountRises, Visit, HaveEnded, EndedRequest, all_held, AreUnderWay, Serves, EndsOne, ServesOn}
+use Rattle.relay_server.specs.Serving.{Books, books, CountRises, Visit, HaveEnded, EndedRequest, all_held, AreUnderWay, Serves, EndsOne, ServesOn, is_reused}
 use Rattle.relay_server.specs.Serving.AreEnded.{none, one_more}
 
 -- a request that has not ended has no hook of its end to call
@@ -54,6 +54,15 @@ count_rises count (Refused error) fits = (omega (arith, fits), omega arith)
 count_rises count (Served error reuse) fits = (omega (arith, fits), omega arith)
 count_rises count TurnLimit fits = (omega arith, fits)
 count_rises count OutOfMemory fits = (omega arith, fits)
+
+-- what a request kept is handed on where its connection is reused
+pub kept_reused : {K : Type 0} (outcome : Outcome) (kept : Option K) → is_reused outcome ≡ true
+    → kept_of outcome kept ≡ kept
+kept_reused NoRequest kept reused = absurd (true≢false (sym reused))
+kept_reused (Refused error) kept reused = absurd (true≢false (sym reused))
+kept_reused (Served error reuse) kept reused = refl
+kept_reused TurnLimit kept reused = absurd (true≢false (sym reused))
+kept_reused OutOfMemory kept reused = absurd (true≢false (sym reused))
 
 -- a list that gained nothing
 pub more-nil : {X : Type 0} (told : Option (List X)) → more told [] ≡ told
@@ -128,13 +137,35 @@ unconnected_later : (s : Start) (p : Passed) (link : LinkState) (ahead : List �
     (e : Error) → f ≤ g → IsUnconnected s p (world_with link ahead f) e
     → IsUnconnected s p (world_with link ahead g) e
 unconnected_later s p link ahead f g e more_faults missing = record {
-  fault = missing.fault;
-  kind = missing.kind;
-  error = missing.error;
+  refused = missing.refused;
   rose = λ last. omega (arith, missing.rose (omega (arith, last, more_faults)), more_faults);
   head = missing.head;
   accepted = missing.accepted;
   unsent = missing.unsent;
+}
+
+-- and so it is with what the client is owed for that
+owed_later : (s : Start) (p : Passed) (link : LinkState) (ahead : List ℕ) (f g : ℕ) (e : Error)
+    (text : List ℕ) → f ≤ g → IsOwedUnlinked s p (world_with link ahead f) e text
+    → IsOwedUnlinked s p (world_with link ahead g) e text
+unfolding unconnected_later
+owed_later s p link ahead f g e text more_faults owes = record {
+  unconnected = unconnected_later s p link ahead f g e more_faults owes.unconnected;
+  told = owes.told;
+  text_is = owes.text_is;
+}
+
+-- and with a request that is to be answered for it
+lacking_later : (s : Start) (p : Passed) (link : LinkState) (ahead : List ℕ) (f g : ℕ)
+    (session : HttpSession) (attempts : List AttemptRecord) (e : Error) → f ≤ g
+    → LacksLink s p (world_with link ahead f) session attempts e
+    → LacksLink s p (world_with link ahead g) session attempts e
+unfolding unconnected_later
+lacking_later s p link ahead f g session attempts e more_faults lacks = record {
+  unconnected = unconnected_later s p link ahead f g e more_faults lacks.unconnected;
+  made = lacks.made;
+  begins = lacks.begins;
+  written = lacks.written;
 }
 
 -- what a client was given of the answer of hooks does not hang on it
@@ -178,8 +209,9 @@ unlinked_later s p link ahead f g (Some e) reuse more_faults ends = (by ends.0, 
         → FailsToConnect s p (world_with link ahead g) e
         ⊎ EndsAhead s p (world_with link ahead g) (Some e)
     by (inl fails) = inl (record {
-      unconnected = unconnected_later s p link ahead f g e more_faults fails.unconnected;
-      answered = fails.answered;
+      text = fails.text;
+      owed = owed_later s p link ahead f g e fails.text more_faults fails.owed;
+      given = fails.given;
     })
     by (inr ends) = inr (ahead_later s p link ahead f g (Some e) ends)
 
@@ -188,10 +220,12 @@ attempts_later : (s : Start) (p : Passed) (link : LinkState) (ahead : List ℕ) 
     (attempts : List AttemptRecord) (error : Option Error) (reuse : Bool)
     → AttemptsUnlinked s p (world_with link ahead f) attempts (Served error reuse)
     → AttemptsUnlinked s p (world_with link ahead g) attempts (Served error reuse)
+unfolding ahead_later
 attempts_later s p link ahead f g attempts None reuse made = made
-attempts_later s p link ahead f g attempts (Some e) reuse (inl made) = inl made
-attempts_later s p link ahead f g attempts (Some e) reuse (inr ends) =
-    inr (ends.0, ahead_later s p link ahead f g (Some e) ends.1)
+attempts_later s p link ahead f g attempts (Some e) reuse (AttemptsFailed.unlinked made) =
+    AttemptsFailed.unlinked made
+attempts_later s p link ahead f g attempts (Some e) reuse (AttemptsFailed.ahead ends made) =
+    AttemptsFailed.ahead (ahead_later s p link ahead f g (Some e) ends) made
 
 -- one that was served over that link does
 linked_later : (s : Start) (p : Passed) (client : LinkState) (ahead : List ℕ) (f g : ℕ)
@@ -270,7 +304,7 @@ module _ {L : Type 0} (state : L → LinkState) (start_at : L → LinkStart) whe
   owes_later s p link ahead f g [] (due.Refused error) text more_faults owes = owes
   owes_later s p link ahead f g [] (due.Ahead why) text more_faults owes = owes
   owes_later s p link ahead f g [] (due.Served e) text more_faults owes =
-      (unconnected_later s p link ahead f g e more_faults owes.0, owes.1)
+      owed_later s p link ahead f g e text more_faults owes
   owes_later s p link ahead f g (r ∷ own) (due.Refused error) text more_faults owes = owes
   owes_later s p link ahead f g (r ∷ own) (due.Ahead why) text more_faults owes = owes
   owes_later s p link ahead f g (r ∷ own) (due.Served e) text more_faults owes = owes
@@ -297,6 +331,8 @@ module _ {L C : Type 0} (state : L → LinkState) (start_at : L → LinkStart) w
   at_later s p link ahead f g ReadHead here going more_faults at = at
   at_later s p link ahead f g (Connect context session tries) here going more_faults at =
       connecting_later s p link ahead f g session.value tries at
+  at_later s p link ahead f g (Unlinked context session attempts e) here going more_faults at =
+      lacking_later s p link ahead f g session.value attempts e more_faults at
   at_later s p link ahead f g (Prepare context session l lease) here going more_faults at = (
     at.0,
     record {
@@ -344,6 +380,7 @@ module _ {L C : Type 0} (state : L → LinkState) (start_at : L → LinkStart) w
       → IsCalm state start_at s (world_with link ahead g) phase
   calm_later s link ahead f g ReadHead calm = calm
   calm_later s link ahead f g (Connect context session tries) calm = calm
+  calm_later s link ahead f g (Unlinked context session attempts e) calm = calm
   calm_later s link ahead f g (Prepare context session l lease) calm = calm
   calm_later s link ahead f g (Relay a) calm = calm
   calm_later s link ahead f g (Broken context session l lease keep error) calm = calm
@@ -363,6 +400,8 @@ module _ {L C : Type 0} (state : L → LinkState) (start_at : L → LinkStart) w
   holds_later s p link ahead f g (r ∷ own) ReadHead here going more_faults holds = absurd holds
   holds_later s p link ahead f g (r ∷ own) (Connect context session tries) here going more_faults
       holds = absurd holds
+  holds_later s p link ahead f g (r ∷ own) (Unlinked context session attempts e) here going
+      more_faults holds = absurd holds
   holds_later s p link ahead f g (r ∷ own) (Prepare context session l lease) here going more_faults
       holds = absurd holds
   holds_later s p link ahead f g (r ∷ own) (Relay a) here going more_faults holds = absurd holds

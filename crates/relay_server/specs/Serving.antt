@@ -11,13 +11,15 @@ use Rattle.relay_modules.specs.Module.{ModuleCall}
 use Rattle.relay_hooks.specs.Standing.{Standing}
 use Rattle.relay_phases.specs.Order.{Station}
 use Rattle.relay_attempt.specs.Passed.{Passed}
-use Rattle.relay_proxy.specs.Calls.{CallsSoFar, IsLogged, allowed_by, log_of}
+use Rattle.relay_proxy.specs.Calls.{CallsSoFar, IsLogged, allowed_by, kept_at, log_of}
 use Rattle.relay_proxy.specs.Endings.{IsEnded}
 use Rattle.relay_proxy.specs.Passed.{World, Start, called_to}
 use Rattle.relay_proxy.specs.Phases.{RunSoFar}
 use Rattle.relay_proxy.specs.ClosingHooks.{Gives}
 use Rattle.relay_proxy.specs.Request.{ended_after, is_done}
 use Rattle.relay_proxy.specs.Turn.{world_of, links_held}
+use Rattle.relay_proxy.specs.declared.calls.At.{At}
+use Rattle.relay_proxy.specs.declared.calls.At.TheVariants.{Kept}
 use Rattle.relay_proxy.specs.declared.calls.Calls.{Calls}
 use Rattle.relay_proxy.specs.declared.machine.Phase.{Phase}
 use Rattle.relay_proxy.specs.declared.outcome.Outcome.{Outcome}
@@ -167,6 +169,12 @@ abbrev pub with_next : {D U L C M : Type 0} → AfterRequest (Visit D U L C M) D
     → List (Visit D U L C M) → List (Visit D U L C M)
 with_next (Goes visit) rest = visit ∷ rest
 with_next (Ends link) rest = rest
+
+-- the next request of a connection is handed the value that the one before kept for it, by where the
+-- hooks of its end stood
+abbrev pub IsHanded : {D U L C M : Type 0} → At U C → AfterRequest (Visit D U L C M) D → Type 0
+IsHanded here (Goes visit) = visit.calls.at ≡ Kept (kept_at here)
+IsHanded here (Ends link) = Unit {0}
 
 -- a server goes on: whatever it began with, it serves on, no count falls, and the links that are
 -- out are those that its requests hold; its application allows what it allowed

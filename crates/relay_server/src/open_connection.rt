@@ -7,7 +7,7 @@ ghost use Rattle.relay_proxy.specs.Phases.{RunSoFar};
 ghost use Rattle.relay_proxy.specs.Request.{is_done};
 ghost use Rattle.relay_proxy.specs.Turn.{links_held, is_end, world_of};
 ghost use Rattle.relay_server.specs.Idle.{is_idle, HasNotBegun};
-ghost use Rattle.relay_server.specs.Serving.{Books, Visit, books, CountRises, all_held, Serves, EndsOne, with_next, is_reused};
+ghost use Rattle.relay_server.specs.Serving.{Books, Visit, books, CountRises, all_held, Serves, EndsOne, IsHanded, with_next, is_reused};
 
 use crate::serving_schedule::ServingSchedule;
 use crate::stillness::Stillness;
@@ -152,6 +152,8 @@ impl<SV: ProxyHttp, K: Connector, D: ByteLink> OpenConnection<SV, K, D> {
             ≡ K.out proxy.old.connector }
         ensures no_link { all_held K.Byte.state K.Byte.start
             (with_next result []) ≡ 0 }
+        // The next one is handed the value that this one kept.
+        ensures kept { IsHanded self.calls.at result }
         ensures counted { CountRises proxy.old.requests_ended proxy.new.requests_ended }
         ensures same { proxy.new ≡ record proxy.old {
           connector = proxy.new.connector;
