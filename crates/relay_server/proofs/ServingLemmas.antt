@@ -22,7 +22,7 @@ use Rattle.relay_proxy.specs.Endings.{AttemptsFailed, AttemptsUnlinked, EndsAhea
 use Rattle.relay_proxy.specs.Owed.{Owes, IsAnswering}
 use Rattle.relay_proxy.specs.Passed.{World, Start, called_to}
 use Rattle.relay_proxy.specs.Phases.{RunSoFar, IsBroken, IsCalm, IsConnecting, LacksLink, PhaseHolds, IsAt}
-use Rattle.relay_proxy.specs.Request.{StepsOn, ComesToEnd, ended_after, is_done, kept_of}
+use Rattle.relay_proxy.specs.Request.{StepsOn, ComesToEnd, ended_after, is_done}
 use Rattle.relay_proxy.specs.Tries.{tries_in}
 use Rattle.relay_proxy.specs.Turn.{world_with, world_of, is_over, links_held}
 use Rattle.relay_proxy.specs.declared.calls.At.{At}
@@ -39,7 +39,7 @@ use Rattle.relay_proxy.specs.declared.proxy.HttpProxy.{HttpProxy}
 use Rattle.relay_proxy.specs.declared.record.AttemptRecord.{AttemptRecord}
 use Rattle.relay_proxy.proofs.EndSteps.{gives_by}
 use Rattle.relay_proxy.proofs.LastCalls.{calls_logged}
-use Rattle.relay_server.specs.Serving.{Books, books, CountRises, Visit, HaveEnded, EndedRequest, all_held, AreUnderWay, Serves, EndsOne, ServesOn, is_reused}
+use Rattle.relay_server.specs.Serving.{Books, books, CountRises, Visit, HaveEnded, EndedRequest, all_held, AreUnderWay, Serves, EndsOne, ServesOn}
 use Rattle.relay_server.specs.Serving.AreEnded.{none, one_more}
 
 -- a request that has not ended has no hook of its end to call
@@ -54,15 +54,6 @@ count_rises count (Refused error) fits = (omega (arith, fits), omega arith)
 count_rises count (Served error reuse) fits = (omega (arith, fits), omega arith)
 count_rises count TurnLimit fits = (omega arith, fits)
 count_rises count OutOfMemory fits = (omega arith, fits)
-
--- what a request kept is handed on where its connection is reused
-pub kept_reused : {K : Type 0} (outcome : Outcome) (kept : Option K) → is_reused outcome ≡ true
-    → kept_of outcome kept ≡ kept
-kept_reused NoRequest kept reused = absurd (true≢false (sym reused))
-kept_reused (Refused error) kept reused = absurd (true≢false (sym reused))
-kept_reused (Served error reuse) kept reused = refl
-kept_reused TurnLimit kept reused = absurd (true≢false (sym reused))
-kept_reused OutOfMemory kept reused = absurd (true≢false (sym reused))
 
 -- a list that gained nothing
 pub more-nil : {X : Type 0} (told : Option (List X)) → more told [] ≡ told
