@@ -9,6 +9,7 @@ pub mod HeadSteps
 pub mod ClosingSteps
 pub mod ConnectSteps
 pub mod OpenSteps
+pub mod UnlinkedSteps
 pub mod CallLemmas
 pub mod LastCalls
 pub mod NamedLemmas
