@@ -6,10 +6,9 @@
 --   stays_connecting               a call behind which the request goes on
 --   hooks_answer, hooks_stop       calls that end it
 use Rattle.std.specs.Global.{Box}
-use Rattle.std.proofs.Common.{◌≡◌, ℕ, ◌+◌, ◌<◌, Bool, true, false, List, [], ◌∷◌, ◌++◌, length, drop, Option, Some, None, refl, sym, ap, subst, ◌∙◌, inl, inr, true≢false, arith, append-nil, unwrap_or, is_some}
+use Rattle.std.proofs.Common.{◌≡◌, ℕ, ◌+◌, ◌<◌, Bool, true, false, List, [], ◌∷◌, ◌++◌, length, drop, map, Option, Some, None, refl, sym, ap, subst, ◌∙◌, inl, inr, true≢false, arith, append-nil, unwrap_or, is_some}
 use Rattle.std.specs.List.{All}
-use Rattle.std.specs.Prelude.{IsSome, ◌⊎◌, map}
-use Rattle.std.proofs.lemmas.List.Elements.{All-nil}
+use Rattle.std.specs.Prelude.{IsSome, ◌⊎◌}
 use Rattle.relay_tasks.specs.Head.{RequestHead, new_request}
 use Rattle.relay_tasks.specs.declared.Error.{Error}
 use Rattle.relay_tasks.specs.Hooks.{same_hook}
@@ -70,6 +69,7 @@ use Rattle.relay_proxy.proofs.AnswerSteps.{answer_on}
 use Rattle.relay_proxy.proofs.HeadSteps.{StandsBehind, begins_behind}
 use Rattle.relay_proxy.proofs.Tells.{client_still}
 use Rattle.relay_proxy.proofs.NamedLemmas.{refusals_still}
+use Rattle.relay_proxy.proofs.TryLemmas.{no_tries}
 
 -- ---- the same start, once more calls were made
 
@@ -94,12 +94,13 @@ called_accepted s these those p head accepted = record {
   relayable = accepted.relayable;
 }
 
--- nor, where they tell the same ones, the attempts that were made
+-- nor, where they tell the same of them, the attempts that were made
 pub called_tries : (s : Start) (these those : List LogEntry) (tries : List AttemptRecord)
     → refusals_in those ≡ refusals_in these
     → AreTries (opened_to s these) tries → AreTries (opened_to s those) tries
 called_tries s these those tries same are = record {
-  told = are.told ∙ ap (λ (rs : List Refusal). map record_of rs) (sym same);
+  told = are.told
+      ∙ ap (λ (rs : List Refusal). map (λ (r : Refusal). record_of r) rs) (sym same);
   each = subst (λ (rs : List Refusal). All IsTry rs) (sym same) are.each;
   allowed = are.allowed;
 }
@@ -135,15 +136,6 @@ lone_untold : (es : List LogEntry) → length es ≡ 1 → refusals_in es ≡ []
 lone_untold [] one = refl
 lone_untold (e ∷ []) one = refl
 lone_untold (e ∷ x ∷ es) one = absurd (omega (arith, one))
-
--- nor does a request make one of which no call tells
-pub tries_untold : (s : Start) (tries : List AttemptRecord) → tries ≡ []
-    → refusals_in s.called ≡ [] → AreTries s tries
-tries_untold s tries none untold = record {
-  told = none ∙ ap (λ (rs : List Refusal). map record_of rs) (sym untold);
-  each = subst (λ (rs : List Refusal). All IsTry rs) (sym untold) (All-nil IsTry);
-  allowed = λ some. absurd (some none);
-}
 
 -- ---- the session
 
@@ -217,15 +209,16 @@ module _ {M K X : Type 0} (allows : Standing → LogEntry → Type 0) (c d : Cal
         ∙ ap (λ (l : List HttpTask). l ++ (t.e.wrote ++ [])) none
         ∙ append-nil t.e.wrote
 
--- a call that queued nothing leaves a request that wants a link as it stood
-abbrev pub stays_connecting : {M K X : Type 0} (allows : Standing → LogEntry → Type 0) (c d : Calls M K X)
+-- a call that queued nothing leaves a request that wants a link as it stood, with the attempts that the
+-- log tells then
+abbrev pub stays_with : {M K X : Type 0} (allows : Standing → LogEntry → Type 0) (c d : Calls M K X)
     (client left : HttpSession) (mark behind : ℕ) (which : Hook) (from to : Station)
     → Turns allows which from to QueuesNothing (seen_with c client) mark (seen_with d left) behind
-    → (s : Start) (p : Passed) (w : World) (tries : List AttemptRecord)
-    → same_hook hook.FailToConnect which ≡ false
+    → (s : Start) (p : Passed) (w : World) (tries attempts : List AttemptRecord)
+    → AreTries (opened_to s (log_of d)) attempts
     → IsConnecting (opened_to s (log_of c)) p w client tries
-    → IsConnecting (opened_to s (log_of d)) p w left tries
-stays_connecting allows c d client left mark behind which from to t s p w tries other k = record {
+    → IsConnecting (opened_to s (log_of d)) p w left attempts
+stays_with allows c d client left mark behind which from to t s p w tries attempts are k = record {
   head = k.head;
   accepted = called_accepted s (log_of c) (log_of d) p k.head k.accepted;
   is_left = left_on allows c d client left mark behind which from to QueuesNothing t k.head
@@ -236,10 +229,23 @@ stays_connecting allows c d client left mark behind which from to t s p w tries 
       (seen_with c client) (seen_with d left) t.calls.reads t.queued.same (k.begins sent reused);
   written = k.written;
   unsent = k.unsent;
-  are_tries = called_tries s (log_of c) (log_of d) tries
-      (ap (λ (l : List LogEntry). refusals_in l) t.calls.log
-      ∙ refusals_still (log_of c) t.e which t.hook other) k.are_tries;
+  are_tries = are;
 }
+
+-- and with the same ones, but for a call that tells of an attempt without a link
+abbrev pub stays_connecting : {M K X : Type 0} (allows : Standing → LogEntry → Type 0) (c d : Calls M K X)
+    (client left : HttpSession) (mark behind : ℕ) (which : Hook) (from to : Station)
+    → Turns allows which from to QueuesNothing (seen_with c client) mark (seen_with d left) behind
+    → (s : Start) (p : Passed) (w : World) (tries : List AttemptRecord)
+    → same_hook hook.FailToConnect which ≡ false
+    → IsConnecting (opened_to s (log_of c)) p w client tries
+    → IsConnecting (opened_to s (log_of d)) p w left tries
+stays_connecting allows c d client left mark behind which from to t s p w tries other k =
+    stays_with allows c d client left mark behind which from to t s p w tries tries
+    (called_tries s (log_of c) (log_of d) tries
+    (ap (λ (l : List LogEntry). refusals_in l)
+    (log_on allows c d client left mark behind which from to QueuesNothing t)
+    ∙ refusals_still (log_of c) t.e which t.hook other) k.are_tries) k
 
 -- ---- what waits
 
@@ -601,7 +607,7 @@ module _ {L C : Type 0} (state : L → LinkState) (start_at : L → LinkStart) w
                 (ahead ∙ ap (λ (xs : List ℕ). drop len xs) run.holds.whole) behind);
             written = run.holds.written;
             unsent = run.holds.unsent;
-            are_tries = tries_untold (opened_to s (log_of d)) tries none
+            are_tries = no_tries (opened_to s (log_of d)) tries none
                 (lone_untold (log_of d)
                 (one ∙ ap (λ (l : List LogEntry). length l + 1) no_log));
           };
