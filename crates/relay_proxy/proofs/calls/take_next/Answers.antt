@@ -1,9 +1,10 @@
 -- A peer is asked for, the hook before the attempts that comes next is called, or one of an attempt
 -- that was given no link.
-use Rattle.std.proofs.Common.{◌≡◌, refl, ap, is_some, true, false, Ok, Err, ◌∙◌}
+use Rattle.std.proofs.Common.{◌≡◌, List, refl, ap, is_some, true, false, Ok, Err, ◌∙◌}
 use Rattle.relay_tasks.specs.declared.error.Fail.TheVariants as fail
 use Rattle.relay_tasks.specs.declared.hook.Hook.TheVariants as hook
 use Rattle.relay_tasks.specs.declared.log.Item.TheVariants as item
+use Rattle.relay_tasks.specs.declared.log.LogEntry.{LogEntry}
 use Rattle.relay_modules.specs.Module.{ModuleCall}
 use Rattle.relay_hooks.specs.Call.{only}
 use Rattle.relay_hooks.specs.Session.{request_head}
@@ -15,6 +16,7 @@ use Rattle.relay_phases.specs.Order.{Station as station}
 use Rattle.relay_trying.specs.Trying.{warned_at}
 use Rattle.relay_trying.proofs.WithinLemmas.{LooksOnce-within, NamesPeer-within}
 use Rattle.relay_proxy.specs.Calls.{TakesNext}
+use Rattle.relay_proxy.specs.Named.{peer_in}
 use Rattle.relay_proxy.specs.declared.calls.At.TheVariants as at
 use Rattle.relay_proxy.proofs.CallLemmas.{calling_ended, turn_allowed}
 use Rattle.relay_proxy.proofs.NamedLemmas.{names_one, peer_last}
@@ -55,8 +57,9 @@ returns-in-Ok g c =
       told = tt;
       past = refl;
       goes = tt;
-      tells = rw names.turn.calls.log (peer_last _ names.turn.e c.in-Ok.peer
-          (names_one names.turn.e c.in-Ok.peer names.turn.hook names.output));
+      tells = ap (λ (l : List LogEntry). peer_in l) names.turn.calls.log
+          ∙ peer_last c.args.session.now.seen.log names.turn.e c.in-Ok.peer
+          (names_one names.turn.e c.in-Ok.peer names.turn.hook names.output);
     }))
 
 -- or it failed
@@ -81,7 +84,7 @@ returns-in-Err-Error g c =
       past = refl;
       goes = tt;
       tells = record {
-        before = _;
+        before = c.args.session.now.seen.log;
         last = call.turn.e;
         is_last = call.turn.calls.log;
         error = call.error;
@@ -89,13 +92,13 @@ returns-in-Err-Error g c =
     }))
 
 -- no warning is to be written
-pub returns-in-Repeatable-Ok-true : goal.returns-in-Repeatable-Ok-true
-returns-in-Repeatable-Ok-true g c =
+pub returns-in-Ok-true : goal.returns-in-Ok-true
+returns-in-Ok-true g c =
     let looks = LooksOnce-within (g.SV.ProxyHttp.allows c.args.app.now)
     (λ (call : ModuleCall). (made : g.row.SV-Modules.Denot)
     × g.SV.Modules.HttpModule.allows made call) hook.SuppressProxyWarnLog refl station.repeatable
     (warned_at true) (item.Failure c.in-Repeatable.error) (only (item.Answer true)) _ _ _
-    c.in-Ok-true.ensures.warns in
+    (rw c.in-Ok-true.field-0-is at c.in-Ok-true.ensures.warns) in
     rw c.in-Repeatable.is
     (TakesNext.tried (record {
       later = refl;
@@ -103,6 +106,46 @@ returns-in-Repeatable-Ok-true g c =
       comes = refl;
       turn = looks.call.turn;
       told = looks.call.input;
+      past = refl;
+      goes = tt;
+      tells = tt;
+    }))
+
+-- or one is
+pub returns-in-Ok-false : goal.returns-in-Ok-false
+returns-in-Ok-false g c =
+    let looks = LooksOnce-within (g.SV.ProxyHttp.allows c.args.app.now)
+    (λ (call : ModuleCall). (made : g.row.SV-Modules.Denot)
+    × g.SV.Modules.HttpModule.allows made call) hook.SuppressProxyWarnLog refl station.repeatable
+    (warned_at false) (item.Failure c.in-Repeatable.error) (only (item.Answer false)) _ _ _
+    (rw c.in-Ok-false.field-0-is at c.in-Ok-false.ensures.warns) in
+    rw c.in-Repeatable.is
+    (TakesNext.tried (record {
+      later = refl;
+      which = hook.SuppressProxyWarnLog;
+      comes = refl;
+      turn = looks.call.turn;
+      told = looks.call.input;
+      past = refl;
+      goes = tt;
+      tells = tt;
+    }))
+
+-- the request was asked for in one line
+pub returns-in-Ok-summarize : goal.returns-in-Ok-summarize
+returns-in-Ok-summarize g c =
+    let looks = LooksOnce-within (g.SV.ProxyHttp.allows c.args.app.now)
+    (λ (call : ModuleCall). (made : g.row.SV-Modules.Denot)
+    × g.SV.Modules.HttpModule.allows made call) hook.RequestSummary refl station.warning
+    station.trying (item.Request (request_head c.args.session.now.seen))
+    (only (item.Text c.in-Ok-summarize._summary)) _ _ _ c.in-Ok-summarize.ensures.summarizes in
+    rw c.in-Warning.is
+    (TakesNext.tried (record {
+      later = refl;
+      which = hook.RequestSummary;
+      comes = refl;
+      turn = looks.call.turn;
+      told = tt;
       past = refl;
       goes = tt;
       tells = tt;
