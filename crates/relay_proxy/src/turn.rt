@@ -212,9 +212,7 @@ fn move_on<SV: ProxyHttp, K: Connector, D: ByteLink, U: Drop>(
             phase.go_on(reach(hooks, connector, most, calls, context, session, tries))
         }
         Phase::Unlinked(context, session, attempts, error) => {
-            phase.go_on(answer_unlinked(
-                hooks, calls, context, session, attempts, error,
-            ))
+            phase.go_on(answer_unlinked(hooks, calls, context, session, attempts, error))
         }
         Phase::Prepare(context, session, link, lease) => {
             phase.go_on(prepare(alloc, hooks, calls, context, session, link, lease))
