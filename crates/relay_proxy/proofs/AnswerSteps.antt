@@ -407,6 +407,7 @@ module _ {L : Type 0} (state : L → LinkState) (start_at : L → LinkStart) whe
       → Owes state start_at s p w own (Ahead why) text → IsGivenAhead s p w why text told
       → HasAttempts state start_at s p own (Ahead why) attempts
       → EndsWith state start_at s p w own attempts (outcome.Served told false)
+  unfolding ended_ahead
   ends_ahead s p w [] None None text attempts owes given made =
       ((ended_ahead s p w None None text owes given, refl), made)
   ends_ahead s p w [] (Some e) None text attempts owes given made = absurd (cc given.0)

@@ -288,6 +288,7 @@ module _ (s : Start) (log closed : List LogEntry) where
   attempts_on : (p : Passed) (w : World) (attempts : List AttemptRecord) (e : Error)
       → AttemptsFailed (opened_to s log) p w attempts e
       → AttemptsFailed (closed_to s log closed) p w attempts e
+  unfolding ahead_on
   attempts_on p w attempts e (AttemptsFailed.unlinked made) =
       AttemptsFailed.unlinked (record {
         refused = made.refused;
