@@ -8,6 +8,7 @@ pub mod FailSteps
 pub mod HeadSteps
 pub mod ClosingSteps
 pub mod ConnectSteps
+pub mod RefusedCalls
 pub mod OpenSteps
 pub mod CallLemmas
 pub mod LastCalls

@@ -6,12 +6,14 @@
 --   stays_connecting               a call behind which the request goes on
 --   hooks_answer, hooks_stop       calls that end it
 use Rattle.std.specs.Global.{Box}
-use Rattle.std.proofs.Common.{◌≡◌, ℕ, ◌<◌, Bool, true, false, List, [], ◌∷◌, ◌++◌, length, drop, Option, Some, None, refl, sym, ap, subst, ◌∙◌, inl, inr, true≢false, arith, append-nil, unwrap_or, is_some}
+use Rattle.std.proofs.Common.{◌≡◌, ℕ, ◌<◌, Bool, true, false, List, [], ◌∷◌, ◌++◌, length, drop, map, Option, Some, None, refl, sym, ap, subst, ◌∙◌, inl, inr, true≢false, arith, append-nil, unwrap_or, is_some}
 use Rattle.std.specs.List.{All}
 use Rattle.std.specs.Prelude.{IsSome, ◌⊎◌}
 use Rattle.relay_tasks.specs.Head.{RequestHead, new_request}
 use Rattle.relay_tasks.specs.declared.Error.{Error}
+use Rattle.relay_tasks.specs.Hooks.{same_hook}
 use Rattle.relay_tasks.specs.declared.hook.Hook.{Hook}
+use Rattle.relay_tasks.specs.declared.hook.Hook.TheVariants as hook
 use Rattle.relay_tasks.specs.declared.log.LogEntry.{LogEntry}
 use Rattle.relay_tasks.specs.declared.task.HttpTask.{HttpTask}
 use Rattle.relay_links.specs.Link.{LinkState, LinkStart}
@@ -54,9 +56,8 @@ use Rattle.relay_proxy.specs.Endings.{IsInOrder, AttemptsUnlinked, EndsAhead, En
 use Rattle.relay_proxy.specs.Passed.{World, Start, asked, closed_to, opened_to, origin_of, IsUnsent, TellsClient}
 use Rattle.relay_proxy.specs.Phases.{IsConnecting, RunSoFar}
 use Rattle.relay_proxy.specs.Relayable.{IsAccepted, IsRelayable}
-use Rattle.relay_proxy.specs.Named.{peer_in}
 use Rattle.relay_proxy.specs.Sent.{IsAnswered, IsUntreated}
-use Rattle.relay_proxy.specs.Tries.{AreTries, IsTry}
+use Rattle.relay_proxy.specs.Tries.{AreTries, IsTry, Refusal, record_of, refusals_in}
 use Rattle.relay_proxy.specs.Turn.{Advances}
 use Rattle.relay_proxy.specs.declared.calls.Calls.{Calls}
 use Rattle.relay_proxy.specs.declared.machine.Phase.{Phase}
@@ -67,29 +68,10 @@ use Rattle.relay_proxy.specs.declared.record.AttemptRecord.{AttemptRecord}
 use Rattle.relay_proxy.proofs.AnswerSteps.{answer_on}
 use Rattle.relay_proxy.proofs.HeadSteps.{StandsBehind, begins_behind}
 use Rattle.relay_proxy.proofs.Tells.{client_still}
+use Rattle.relay_proxy.proofs.NamedLemmas.{refusals_still}
 use Rattle.relay_proxy.proofs.TryLemmas.{no_tries}
 
 -- ---- the same start, once more calls were made
-
--- an attempt at a peer is one, where the calls name the same
-named_try : (these those : List LogEntry) → peer_in those ≡ peer_in these → (a : AttemptRecord)
-    → IsTry these a → IsTry those a
-named_try these those same a try = record {
-  fault = try.fault;
-  kind = try.kind;
-  is_record = record {
-    peer = same ∙ try.is_record.peer;
-    reused = try.is_record.reused;
-    kept = try.is_record.kept;
-    error = try.is_record.error;
-  };
-  again = try.again;
-}
-
--- and so are all of them
-all_named : (these those : List LogEntry) → peer_in those ≡ peer_in these
-    → (tries : List AttemptRecord) → All (IsTry these) tries → All (IsTry those) tries
-all_named these those same tries all = λ k d within. named_try these those same _ (all k d within)
 
 -- what the client's link tells does not depend on the calls
 pub called_tells : (s : Start) (these those : List LogEntry) (p : Passed) (w : World)
@@ -112,12 +94,14 @@ called_accepted s these those p head accepted = record {
   relayable = accepted.relayable;
 }
 
--- nor, where they name the same peer, the attempts that were made
+-- nor, where they tell the same of them, the attempts that were made
 pub called_tries : (s : Start) (these those : List LogEntry) (tries : List AttemptRecord)
-    → peer_in those ≡ peer_in these
+    → refusals_in those ≡ refusals_in these
     → AreTries (opened_to s these) tries → AreTries (opened_to s those) tries
 called_tries s these those tries same are = record {
-  each = all_named these those same tries are.each;
+  told = are.told
+      ∙ ap (λ (rs : List Refusal). map (λ (r : Refusal). record_of r) rs) (sym same);
+  each = subst (λ (rs : List Refusal). All IsTry rs) (sym same) are.each;
   allowed = are.allowed;
 }
 
@@ -213,15 +197,16 @@ module _ {M K X : Type 0} (allows : Standing → LogEntry → Type 0) (c d : Cal
         ∙ ap (λ (l : List HttpTask). l ++ (t.e.wrote ++ [])) none
         ∙ append-nil t.e.wrote
 
--- a call that queued nothing leaves a request that wants a link as it stood
-abbrev pub stays_connecting : {M K X : Type 0} (allows : Standing → LogEntry → Type 0) (c d : Calls M K X)
+-- a call that queued nothing leaves a request that wants a link as it stood, with the attempts that the
+-- log tells then
+abbrev pub stays_with : {M K X : Type 0} (allows : Standing → LogEntry → Type 0) (c d : Calls M K X)
     (client left : HttpSession) (mark behind : ℕ) (which : Hook) (from to : Station)
     → Turns allows which from to QueuesNothing (seen_with c client) mark (seen_with d left) behind
-    → (s : Start) (p : Passed) (w : World) (tries : List AttemptRecord)
-    → (tries ≡ []) ⊎ (peer_in (log_of d) ≡ peer_in (log_of c))
+    → (s : Start) (p : Passed) (w : World) (tries attempts : List AttemptRecord)
+    → AreTries (opened_to s (log_of d)) attempts
     → IsConnecting (opened_to s (log_of c)) p w client tries
-    → IsConnecting (opened_to s (log_of d)) p w left tries
-stays_connecting allows c d client left mark behind which from to t s p w tries same k = record {
+    → IsConnecting (opened_to s (log_of d)) p w left attempts
+stays_with allows c d client left mark behind which from to t s p w tries attempts are k = record {
   head = k.head;
   accepted = called_accepted s (log_of c) (log_of d) p k.head k.accepted;
   is_left = left_on allows c d client left mark behind which from to QueuesNothing t k.head
@@ -232,11 +217,23 @@ stays_connecting allows c d client left mark behind which from to t s p w tries 
       (seen_with c client) (seen_with d left) t.calls.reads t.queued.same (k.begins sent reused);
   written = k.written;
   unsent = k.unsent;
-  are_tries = elim same [
-    | inl none ↦ no_tries (opened_to s (log_of d)) tries none
-    | inr peers ↦ called_tries s (log_of c) (log_of d) tries peers k.are_tries
-  ];
+  are_tries = are;
 }
+
+-- and with the same ones, but for a call that tells of an attempt without a link
+abbrev pub stays_connecting : {M K X : Type 0} (allows : Standing → LogEntry → Type 0) (c d : Calls M K X)
+    (client left : HttpSession) (mark behind : ℕ) (which : Hook) (from to : Station)
+    → Turns allows which from to QueuesNothing (seen_with c client) mark (seen_with d left) behind
+    → (s : Start) (p : Passed) (w : World) (tries : List AttemptRecord)
+    → same_hook hook.FailToConnect which ≡ false
+    → IsConnecting (opened_to s (log_of c)) p w client tries
+    → IsConnecting (opened_to s (log_of d)) p w left tries
+stays_connecting allows c d client left mark behind which from to t s p w tries other k =
+    stays_with allows c d client left mark behind which from to t s p w tries tries
+    (called_tries s (log_of c) (log_of d) tries
+    (ap (λ (l : List LogEntry). refusals_in l)
+    (log_on allows c d client left mark behind which from to QueuesNothing t)
+    ∙ refusals_still (log_of c) t.e which t.hook other) k.are_tries) k
 
 -- ---- what waits
 
