@@ -318,6 +318,7 @@ module _ (allows : Standing → LogEntry → Type 0) where
     pub turn : Turns allows which (station_at here) (station_at to) QueuesNothing old before new
         behind
     pub told : IsToldOf here turn.e
+    pub past : is_before to ≡ false
     pub goes : GoesOn to
     pub tells : TellsPeer to new.log
 
