@@ -281,7 +281,7 @@ pub refused_moved : {L C : Type 0} (state : L → LinkState) (start_at : L → L
     → attempts ≡ tries ++ a ∷ []
     → (next ≡ Connect context' session' attempts) ⊎ (next ≡ Unlinked context' session' attempts e)
     → HasCause state start_at w x (Connect context session tries) next did
-refused_moved state start_at w x context context' session session' tries attempts a e next did moved
+refused_moved {L = L} {C = C} state start_at w x context context' session session' tries attempts a e next did moved
     are follows =
     subst (λ (k : RunStep). HasCause state start_at w x (Connect context session tries) next k)
     (sym moved)

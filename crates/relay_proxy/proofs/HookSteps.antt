@@ -200,7 +200,7 @@ final_fails (at.Treated error) log e is tells = cc
 final_fails (at.Closing held there) log e is tells = cc
 
 -- nothing was queued twice
-pub pub quiet_twice : (a b c : Writing) (v w : List HttpTask) → QueuesNothing a b v
+pub quiet_twice : (a b c : Writing) (v w : List HttpTask) → QueuesNothing a b v
     → QueuesNothing b c w → QueuesNothing a c (v ++ w)
 quiet_twice a b c v w first then = record {
   same = then.same ∙ first.same;
