@@ -1,5 +1,5 @@
 -- Turns of the connector that gave no link: another attempt follows, or the client is to be answered.
-use Rattle.std.proofs.Common.{◌≡◌, ◌≢◌, ℕ, ◌≤◌, Bool, false, true, List, [], ◌∷◌, ◌++◌, length, Some, None, refl, sym, ap, subst, ◌∙◌, inl, inr, arith}
+use Rattle.std.proofs.Common.{◌≡◌, ◌≢◌, ◌⊎◌, ℕ, ◌≤◌, Bool, false, true, List, [], ◌∷◌, ◌++◌, length, Some, None, refl, sym, ap, subst, ◌∙◌, inl, inr, arith}
 use Rattle.std.specs.Global.{Box}
 use Rattle.relay_tasks.specs.Error.{error_of_fault, may_retry}
 use Rattle.relay_tasks.specs.declared.Error.{Error}
@@ -29,8 +29,12 @@ use Rattle.relay_proxy.specs.Named.{IsNamed}
 use Rattle.relay_proxy.specs.Tries.{AreTries, IsRaised, MayTry, Refusal, fault_error, record_of, refusals_in, unlinked_record, upstream_error}
 use Rattle.relay_proxy.specs.Passed.{World, Start, opened_to, origin_of, TellsClient}
 use Rattle.relay_proxy.specs.Phases.{IsConnecting, LacksLink, RunSoFar}
-use Rattle.relay_proxy.specs.Turn.{Advances, world_with}
+use Rattle.relay_proxy.specs.Turn.{Advances, HasCause, world_with}
+use Rattle.relay_proxy.specs.Uses.{OwesAnswer}
 use Rattle.relay_proxy.specs.declared.calls.Calls.{Calls}
+use Rattle.relay_proxy.specs.declared.machine.Phase.{Phase}
+use Rattle.relay_proxy.specs.declared.machine.RunStep.{RunStep}
+use Rattle.relay_proxy.specs.declared.machine.RunStep.TheVariants as step
 use Rattle.relay_proxy.specs.declared.machine.Phase.TheVariants.{Connect, Unlinked, Ended}
 use Rattle.relay_proxy.specs.declared.record.AttemptRecord.{AttemptRecord}
 use Rattle.relay_proxy.specs.declared.outcome.Outcome.TheVariants as outcome
@@ -38,7 +42,7 @@ use Rattle.relay_proxy.proofs.NamedLemmas.{refusals_one}
 use Rattle.relay_proxy.proofs.OpenSteps.{begins_on, called_accepted, called_tells, called_tries, stays_with}
 use Rattle.relay_peer.proofs.FaultLemmas.{grew_same}
 use Rattle.relay_proxy.proofs.Tells.{Rose-le, client_still}
-use Rattle.relay_proxy.proofs.TryLemmas.{last_one, one_more, raised_so, recorded_so, refused_last}
+use Rattle.relay_proxy.proofs.TryLemmas.{last_one, may_or_not, one_more, raised_so, recorded_so, refused_last}
 
 -- out of memory is no limit of turns
 pub no_limit : outcome.OutOfMemory ≢ outcome.TurnLimit
@@ -160,7 +164,7 @@ module _ {L M K C : Type 0} (state : L → LinkState) (start_at : L → LinkStar
     (Connect context session tries))
   where
     -- what the call tells of the attempt
-    refusal : Refusal
+    abbrev refusal : Refusal
     refusal = record { peer = peer; raised = raised; treated = treated }
 
     -- the log tells of one more
@@ -249,3 +253,44 @@ module _ {L M K C : Type 0} (state : L → LinkState) (start_at : L → LinkStar
             });
       };
     }
+
+    -- whichever it is, with more that calls no hook
+    pub refused_on : (f : Calls M K C) (context' : C) (session' : Box HttpSession)
+        (next : Phase L C) → log_of f ≡ log_of d
+        → (MayTry most (length attempts) e → next ≡ Connect context' session' attempts)
+        → ((¬ (MayTry most (length attempts) e)) → next ≡ Unlinked context' session' attempts e)
+        → session'.value ≡ left
+        → Advances {C = C} state start_at (opened_to s (log_of f))
+        (world_with w.client w.ahead failed) next
+    refused_on f context' session' next log again ends stays =
+        subst (λ (l : List LogEntry). Advances {C = C} state start_at (opened_to s l)
+        (world_with w.client w.ahead failed) next) (sym log)
+        (elim (may_or_not most (length attempts) e) [
+          | inl may ↦ subst (λ (n : Phase L C). Advances {C = C} state start_at
+              (opened_to s (log_of d)) (world_with w.client w.ahead failed) n) (sym (again may))
+              (tried_again context' session' stays may)
+          | inr over ↦ subst (λ (n : Phase L C). Advances {C = C} state start_at
+              (opened_to s (log_of d)) (world_with w.client w.ahead failed) n) (sym (ends over))
+              (not_connected context' session' stays over)
+        ])
+
+-- what the turn moved: another attempt follows, or its client is to be answered
+pub refused_moved : {L C : Type 0} (state : L → LinkState) (start_at : L → LinkStart) (w x : World)
+    (context context' : C) (session session' : Box HttpSession) (tries attempts : List AttemptRecord)
+    (a : AttemptRecord) (e : Error) (next : Phase L C) (did : RunStep) → did ≡ step.Moved
+    → attempts ≡ tries ++ a ∷ []
+    → (next ≡ Connect context' session' attempts) ⊎ (next ≡ Unlinked context' session' attempts e)
+    → HasCause state start_at w x (Connect context session tries) next did
+refused_moved {L = L} {C = C} state start_at w x context context' session session' tries attempts a e next did moved
+    are follows =
+    subst (λ (k : RunStep). HasCause state start_at w x (Connect context session tries) next k)
+    (sym moved)
+    (inr (elim follows [
+      | inl is ↦ inl (record {
+        context = context';
+        session = session';
+        attempt = a;
+        again = is ∙ ap (λ (xs : List AttemptRecord). Connect context' session' xs) are;
+      })
+      | inr is ↦ inr (inr (subst (λ (n : Phase L C). OwesAnswer n) (sym is) tt))
+    ]))

@@ -1,6 +1,9 @@
 -- The faults of the connector that a turn answered: that with which it refused a link, or none.
-use Rattle.std.proofs.Common.{◌≡◌, List, [], ◌∷◌, ◌++◌, drop, length, Option, Some, refl, sym, ap, subst, ◌∙◌, append_assoc}
+use Rattle.std.specs.Global.{Box}
+use Rattle.std.proofs.Common.{◌≡◌, ◌⊎◌, ◌+◌, List, [], ◌∷◌, ◌++◌, drop, length, length-append, Option, Some, refl, sym, ap, subst, ◌∙◌, inl, inr, arith, append_assoc}
 use Rattle.std.proofs.Math.Seq.{drop-append_seam}
+use Rattle.relay_session.specs.declared.session.HttpSession.{HttpSession}
+use Rattle.relay_tasks.specs.declared.Error.{Error}
 use Rattle.relay_tasks.specs.declared.Fault.{Fault}
 use Rattle.relay_tasks.specs.declared.fault.FaultKind.{FaultKind}
 use Rattle.relay_links.specs.Connector.{IsConnectFault, connect_fault}
@@ -41,6 +44,34 @@ pub told_once : (tries attempts : List AttemptRecord) (a : AttemptRecord) (fault
 told_once tries attempts a fault are is =
     ap (λ (xs : List AttemptRecord). faults_told xs) are ∙ told_append tries (a ∷ [])
     ∙ ap (λ (o : Option Fault). faults_told tries ++ (fault_told o ++ [])) is
+
+-- and those of the phase that follows, in which another attempt is made or its client is answered
+pub told_on : {L C : Type 0} (next : Phase L C) (context : C) (session : Box HttpSession)
+    (attempts : List AttemptRecord) (e : Error) (told : List Fault)
+    → (next ≡ Connect context session attempts) ⊎ (next ≡ Unlinked context session attempts e)
+    → faults_told attempts ≡ told → faults_before [] next ≡ told
+told_on {L = L} {C = C} next context session attempts e told (inl is) all =
+    ap (λ (n : Phase L C). faults_before [] n) is ∙ all
+told_on {L = L} {C = C} next context session attempts e told (inr is) all =
+    ap (λ (n : Phase L C). faults_before [] n) is ∙ all
+
+-- the turn counts an end, and one attempt more
+pub refused_counts : {L C : Type 0} (next : Phase L C) (context : C) (session : Box HttpSession)
+    (tries attempts : List AttemptRecord) (a : AttemptRecord) (e : Error) (work : Work)
+    → work.moved ≡ 0 → work.ended ≡ 1 → attempts ≡ tries ++ a ∷ []
+    → (next ≡ Connect context session attempts) ⊎ (next ≡ Unlinked context session attempts e)
+    → CountsLink tries next work
+refused_counts {L = L} {C = C} next context session tries attempts a e work moved ended are follows =
+    let more : length attempts ≡ 1 + length tries =
+    omega (
+      arith,
+      ap (λ (xs : List AttemptRecord). length xs) are,
+      length-append tries (a ∷ []),
+    ) in
+    elim follows [
+      | inl is ↦ subst (λ (n : Phase L C). CountsLink tries n work) (sym is) (moved, ended, more)
+      | inr is ↦ subst (λ (n : Phase L C). CountsLink tries n work) (sym is) (moved, ended, more)
+    ]
 
 -- a request that holds a link was refused those of the attempts before
 pub told_before_link : {L C : Type 0} (state : L → LinkState) (start_at : L → LinkStart)

@@ -1,8 +1,10 @@
 -- The calls of a request that the connector gave no link, behind the one of `fail_to_connect`.
 --
---   repeats      another attempt follows
---   lacks        none does, and the error is final
-use Rattle.std.proofs.Common.{◌≡◌, ℕ, Bool, true, false, ◌&&◌, not, true≢false, List, Option, None, refl, sym, ap, subst, ◌∙◌}
+--   repeats          another attempt follows
+--   lacks            none does, and the error is final
+--   refused_calls    whichever it is
+use Rattle.std.specs.Global.{Box}
+use Rattle.std.proofs.Common.{◌≡◌, ℕ, Bool, true, false, ◌&&◌, not, true≢false, List, length, None, refl, sym, ap, subst, ◌∙◌, inl, inr}
 use Rattle.std.specs.Prelude.{IsTrue}
 use Rattle.relay_tasks.specs.Error.{may_retry}
 use Rattle.relay_tasks.specs.declared.Error.{Error}
@@ -22,14 +24,18 @@ use Rattle.relay_phases.proofs.TurnLemmas.{HasCalled-more}
 use Rattle.relay_trying.specs.Trying as leads
 use Rattle.relay_trying.specs.Trying.{Treats, may_follow}
 use Rattle.relay_closing.specs.Place.{may_fail}
-use Rattle.relay_proxy.specs.Calls.{IsLackingCalls, IsOpening, IsUnended, log_of, seen_with, station_at}
+use Rattle.relay_proxy.specs.Calls.{CallsSoFar, IsLackingCalls, IsOpening, IsUnended, log_of, seen_with, station_at}
+use Rattle.relay_proxy.specs.Tries.{MayTry, upstream_error}
 use Rattle.relay_proxy.specs.declared.calls.At.{At}
 use Rattle.relay_proxy.specs.declared.calls.At.TheVariants as at
 use Rattle.relay_proxy.specs.declared.calls.Calls.{Calls}
+use Rattle.relay_proxy.specs.declared.machine.Phase.{Phase}
+use Rattle.relay_proxy.specs.declared.machine.Phase.TheVariants.{Connect, Unlinked}
 use Rattle.relay_proxy.specs.declared.record.AttemptRecord.{AttemptRecord}
 use Rattle.relay_proxy.proofs.CallLemmas.{all_entries}
 use Rattle.relay_proxy.proofs.HookSteps.{quiet_twice}
 use Rattle.relay_proxy.proofs.TreatLemmas.{unended_more, untreated_more}
+use Rattle.relay_proxy.proofs.TryLemmas.{may_or_not}
 
 -- the error is final where that leads
 may_end : (follows : Bool) → IsTrue (may_fail (leads.treated_at follows))
@@ -105,3 +111,25 @@ module _ {C M K : Type 0} (allows : Standing → LogEntry → Type 0) (mark_of :
       fails = may_end (may_follow treated (seen_with c client));
       unended = unended;
     }
+
+    -- whichever it is, by the phase in which the request stands then
+    pub refused_calls : {L : Type 0} (f : Calls M K C) (session' : Box HttpSession) (next : Phase L C)
+        (most : ℕ) (attempts : List AttemptRecord) (e : Error) → e ≡ upstream_error treated
+        → (MayTry most (length attempts) e → (next ≡ Connect context' session' attempts)
+        × (f ≡ record d { at = at.Repeatable e }))
+        → ((¬ (MayTry most (length attempts) e))
+        → (next ≡ Unlinked context' session' attempts e) × (f ≡ d))
+        → session'.value ≡ left → CallsSoFar {L = L} allows mark_of f next
+    refused_calls {L = L} f session' next most attempts e made again ends stays =
+        elim (may_or_not most (length attempts) e) [
+          | inl may ↦ subst (λ (n : Phase L C). CallsSoFar {L = L} allows mark_of f n)
+              (sym (again may).0)
+              (subst (λ (h : HttpSession). IsOpening allows mark_of f context' h attempts) (sym stays)
+              (repeats e attempts f (sym (ap (λ (x : Error). may_retry x.retry) made) ∙ may.0)
+              (again may).1))
+          | inr over ↦ subst (λ (n : Phase L C). CallsSoFar {L = L} allows mark_of f n)
+              (sym (ends over).0)
+              (subst (λ (h : HttpSession). IsLackingCalls allows mark_of f context' h) (sym stays)
+              (subst (λ (x : Calls M K C). IsLackingCalls allows mark_of x context' left)
+              (sym (ends over).1) lacks))
+        ]
