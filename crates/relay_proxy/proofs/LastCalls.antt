@@ -541,6 +541,14 @@ module _ {C M K : Type 0} (allows : Standing → LogEntry → Type 0) (mark_of :
     record { from = o.from; to = _; walks = o.walks; order = o.order },
   )
 
+  -- also behind no call more
+  pub lacking_same : (c d : Calls M K C) (context : C) (client : HttpSession)
+      → log_of d ≡ log_of c → IsLackingCalls allows mark_of c context client
+      → (at : Station) × IsLogged allows (log_of d) at
+  lacking_same c d context client same o =
+      subst (λ (l : List LogEntry). (at : Station) × IsLogged allows l at) (sym same)
+      (lacking_logged c context client o)
+
   -- and the application answered the error of its last attempt
   pub lacking_ends : (c d : Calls M K C) (context : C) (client left : HttpSession) (e : Error)
       → (o : IsLackingCalls allows mark_of c context client)

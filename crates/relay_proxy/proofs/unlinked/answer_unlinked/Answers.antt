@@ -5,7 +5,7 @@ use Rattle.relay_tasks.specs.declared.hook.Hook.{Hook}
 use Rattle.relay_tasks.specs.declared.hook.Hook.TheVariants as hook
 use Rattle.relay_tasks.specs.declared.log.LogEntry.{LogEntry}
 use Rattle.relay_phases.specs.Order.{Station as station}
-use Rattle.relay_proxy.specs.Calls.{IsLogged, IsUnended, log_of}
+use Rattle.relay_proxy.specs.Calls.{log_of}
 use Rattle.relay_proxy.specs.Passed.{Start, called_to}
 use Rattle.relay_proxy.specs.Phases.{RunSoFar}
 use Rattle.relay_proxy.specs.Turn.{Advances}
@@ -13,7 +13,7 @@ use Rattle.relay_proxy.specs.declared.machine.Phase.TheVariants as phase
 use Rattle.relay_proxy.specs.declared.outcome.Outcome.TheVariants as outcome
 use Rattle.relay_proxy.proofs.CallLemmas.{none_called, one_called}
 use Rattle.relay_proxy.proofs.ClosingSteps.{answered_by, queued_by}
-use Rattle.relay_proxy.proofs.LastCalls.{counted_still, lacking_ends, lacking_logged, owing_log, owing_on}
+use Rattle.relay_proxy.proofs.LastCalls.{counted_still, lacking_ends, lacking_same, owing_log, owing_on}
 use Rattle.relay_proxy.proofs.TreatLemmas.{ends_with, still_open}
 use Rattle.relay_proxy.proofs.UnlinkedSteps.{left_answered, unlinked_leave, unlinked_lost}
 use Rattle.relay_proxy.proofs.unlinked.answer_unlinked.Goals as goal
@@ -81,9 +81,8 @@ returns-in-Err-clause-run g c = λ s p w o run.
 pub returns-in-Err-clause-calls : goal.returns-in-Err-clause-calls
 returns-in-Err-clause-calls g c = λ o.
     rw c.lacks_memory.ensures.phase
-    (subst (λ (l : List LogEntry). (at : station) × IsLogged _ l at) (sym c.in-Err.ensures.lost)
-    (lacking_logged _ (g.SV.ProxyHttp.mark_of c.args.app.now) c.args.calls.now c.args.context
-    c.args.session.value o))
+    (lacking_same _ (g.SV.ProxyHttp.mark_of c.args.app.now) c.args.calls.now
+    c.answer_error.new.calls c.args.context c.args.session.value c.in-Err.ensures.lost o)
 
 pub returns-in-Err-clause-called : goal.returns-in-Err-clause-called
 returns-in-Err-clause-called g c =
