@@ -1,6 +1,6 @@
 -- A peer is asked for, the hook before the attempts that comes next is called, or one of an attempt
 -- that was given no link.
-use Rattle.std.proofs.Common.{◌≡◌, List, refl, ap, is_some, true, false, Ok, Err, ◌∙◌}
+use Rattle.std.proofs.Common.{◌≡◌, List, refl, ap, arith, is_some, true, false, Ok, Err, ◌∙◌}
 use Rattle.relay_tasks.specs.declared.error.Fail.TheVariants as fail
 use Rattle.relay_tasks.specs.declared.hook.Hook.TheVariants as hook
 use Rattle.relay_tasks.specs.declared.log.Item.TheVariants as item
@@ -94,11 +94,12 @@ returns-in-Err-Error g c =
 -- no warning is to be written
 pub returns-in-Ok-true : goal.returns-in-Ok-true
 returns-in-Ok-true g c =
+    let is_yes : c.in-Ok-true.field-0 ≡ true = grind (arith, c.in-Ok-true.field-0-test) in
     let looks = LooksOnce-within (g.SV.ProxyHttp.allows c.args.app.now)
     (λ (call : ModuleCall). (made : g.row.SV-Modules.Denot)
     × g.SV.Modules.HttpModule.allows made call) hook.SuppressProxyWarnLog refl station.repeatable
     (warned_at true) (item.Failure c.in-Repeatable.error) (only (item.Answer true)) _ _ _
-    (rw c.in-Ok-true.field-0-is at c.in-Ok-true.ensures.warns) in
+    (rw is_yes at c.in-Ok-true.ensures.warns) in
     rw c.in-Repeatable.is
     (TakesNext.tried (record {
       later = refl;
@@ -114,11 +115,12 @@ returns-in-Ok-true g c =
 -- or one is
 pub returns-in-Ok-false : goal.returns-in-Ok-false
 returns-in-Ok-false g c =
+    let is_no : c.in-Ok-false.field-0 ≡ false = grind (arith, c.in-Ok-false.field-0-test) in
     let looks = LooksOnce-within (g.SV.ProxyHttp.allows c.args.app.now)
     (λ (call : ModuleCall). (made : g.row.SV-Modules.Denot)
     × g.SV.Modules.HttpModule.allows made call) hook.SuppressProxyWarnLog refl station.repeatable
     (warned_at false) (item.Failure c.in-Repeatable.error) (only (item.Answer false)) _ _ _
-    (rw c.in-Ok-false.field-0-is at c.in-Ok-false.ensures.warns) in
+    (rw is_no at c.in-Ok-false.ensures.warns) in
     rw c.in-Repeatable.is
     (TakesNext.tried (record {
       later = refl;
